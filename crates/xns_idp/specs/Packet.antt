@@ -1,0 +1,67 @@
+-- Packets, and the bytes that spell them.
+use Rattle.std.specs.Prelude.{◌≡◌, ℕ, ◌+◌, ◌%◌, ◌<◌, ◌≤◌, ◌^◌, Bool, if◌then◌else◌, List, [], ◌∷◌, ◌++◌, length, take, replicate}
+use Rattle.std.specs.Int.{w16, w32, to_be_bytes}
+use Rattle.std.specs.Prelude.{All}
+use Rattle.xns_idp.specs.Checksum.{words, cycle_checksum}
+use Rattle.xns_idp.specs.declared.address.Address.{Address}
+use Rattle.xns_idp.specs.declared.packet.Packet.{Packet}
+
+abbrev pub AreBytes : List ℕ → Type 0
+AreBytes b = All (λ x. x < 256) b
+
+-- a packet without where it lies in memory
+pub record PacketModel : Type 0 where
+  pub summed : Bool
+  pub control : ℕ
+  pub kind : ℕ
+  pub target : Address
+  pub source : Address
+  pub body : List ℕ
+
+abbrev pub packet_model : Packet → PacketModel
+packet_model p = record { summed = p.summed; control = p.control; kind = p.kind; target = p.target; source = p.source; body = p.body.now }
+
+-- the numbers are within their types' bounds
+pub record IsAddress (a : Address) : Type 0 where
+  pub network : a.network < 2 ^ 32
+  pub host_length : length a.host ≡ 6
+  pub host : AreBytes a.host
+  pub socket : a.socket < 2 ^ 16
+
+pub record IsPacket (p : PacketModel) : Type 0 where
+  pub control : p.control < 256
+  pub kind : p.kind < 256
+  pub target : IsAddress p.target
+  pub source : IsAddress p.source
+  pub body : AreBytes p.body
+
+-- network, host, socket
+abbrev pub address_bytes : Address → List ℕ
+address_bytes a = to_be_bytes w32 a.network ++ a.host ++ to_be_bytes w16 a.socket
+
+-- all after the checksum field: length, transport control, packet type, target, source, body, garbage
+unfoldable pub after_checksum : PacketModel → List ℕ → List ℕ
+after_checksum p garbage =
+    to_be_bytes w16 (30 + length p.body) ++ (p.control ∷ p.kind ∷ []) ++ address_bytes p.target ++ address_bytes p.source ++ p.body ++ garbage
+
+-- a packet with this behind its body
+unfoldable pub packet_bytes : PacketModel → List ℕ → List ℕ
+packet_bytes p garbage = to_be_bytes w16 (if p.summed then cycle_checksum (words (after_checksum p garbage)) else 65535) ++ after_checksum p garbage
+
+-- the bytes spell the packet: one byte of any value is behind an odd body
+pub record SpellsPacket (p : PacketModel) (b : List ℕ) : Type 0 where
+  pub size : length p.body ≤ 546
+  pub garbage : List ℕ
+  pub garbage_length : length garbage ≡ length p.body % 2
+  pub garbage_bytes : AreBytes garbage
+  pub spells : b ≡ packet_bytes p garbage
+
+-- the bytes that are written: the garbage byte is 0
+unfoldable pub packet_spelling : PacketModel → List ℕ
+packet_spelling p = packet_bytes p (replicate (length p.body % 2) 0)
+
+-- the packet and its length are at the front of the bytes
+pub record IsPacketAtFront (b : List ℕ) (p : PacketModel) (k : ℕ) : Type 0 where
+  pub fits : IsPacket p
+  pub length : k ≤ length b
+  pub spells : SpellsPacket p (take k b)
