@@ -1,6 +1,7 @@
-ghost use Rattle.std.specs.Prelude.{◌≡◌, ◌≤◌, ◌++◌, ◌%◌, length, OnOk, OnErr, if◌then◌else◌, replicate};
+ghost use Rattle.std.specs.Prelude.{◌≡◌, ◌+◌, ◌<◌, ◌≤◌, ◌++◌, ◌%◌, length, OnOk, OnErr, if◌then◌else◌, replicate, vec_len, vec_capacity};
 ghost use Rattle.xns_idp.specs.Checksum.{words, cycle_checksum};
 ghost use Rattle.xns_idp.specs.Packet.{packet_model, packet_spelling};
+ghost use Rattle.xns_idp.specs.Reading.{made_even};
 
 use crate::checksum::sum_on;
 use crate::packet::{HEADER, NO_SUM, Packet};
@@ -17,6 +18,8 @@ pub fn encode(_alloc: Global, packet: &Packet<'_>, out: &mut Vec<u8>) -> Result<
     requires { length packet.now.body.now ≤ 546 }
     ensures ok { OnOk result (out.new.items ≡ out.old.items ++ packet_spelling (packet_model packet.now)) }
     ensures err { OnErr result (out.new.items ≡ out.old.items) }
+    // It is refused memory only where `out` has no room for the packet's bytes.
+    ensures memory { OnErr result (vec_capacity out.old < vec_len out.old + made_even (30 + length packet.now.body.now)) }
 {
     let body = packet.body;
     let [high, low] = (HEADER + body.len() as u16).to_be_bytes();
