@@ -1,0 +1,7 @@
+pub mod Blanks
+pub mod Cuts
+pub mod Headers
+pub mod Pairs
+pub mod Stopping
+pub mod Takes
+pub mod Writes
