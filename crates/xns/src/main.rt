@@ -41,7 +41,6 @@ fn run(rt: &HostRuntime) -> u8 {
     };
     match mode(alloc, words.as_slice()) {
         Ok(Mode::Dump) => finish(rt, dump(alloc, &mut rt.reader(), &mut io::writer(rt))),
-        Ok(Mode::Sim) => 2,
         Err(error) => refuse(rt, &error),
     }
 }
