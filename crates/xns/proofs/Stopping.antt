@@ -1,16 +1,15 @@
 -- Where the dumper stops, and what is written by then.
-use Rattle.std.proofs.Common.{◌≡◌, ◌∙◌, ap, sym, refl, arith, ℕ, ◌+◌, ◌<◌, ◌≤◌, Bool, true, false, List, [], ◌∷◌, ◌++◌, length, length-append, append_assoc, append-nil, subst, ◌⊎◌, inl, inr, Option, Some, None, Result, Ok, Err}
-use Rattle.std.specs.List.{list_any}
+use Rattle.std.proofs.Common.{◌≡◌, ◌∙◌, ap, sym, refl, arith, ℕ, ◌+◌, ◌<◌, ◌≤◌, List, [], ◌∷◌, ◌++◌, length, length-append, append_assoc, append-nil, subst, ◌⊎◌, inl, inr, Option, Some, None, Result, Ok, Err}
 use Rattle.std.specs.Prelude.{IfErr, IfSome, OnOk}
 use Rattle.std.specs.Io.KnownBytes.{Appends, Consumes, Keeps}
-use Rattle.xns.specs.Dump.{AppendsFront, Begins, HasWritten, Shows, Stops, StopsIn, dump_text, text_from}
+use Rattle.xns.specs.Dump.{AppendsFront, HasWritten, Shows, Stops, StopsIn, dump_text, text_from}
 use Rattle.xns.specs.Dumper.{HasNoNewline, HasStopped, HasTaken, IsFlushed, IsFoundAt, IsLeft, closed_text}
 use Rattle.xns.specs.Line.{text_of_line}
-use Rattle.xns.specs.Lines.{AreWithinLimits, BeginsLong, closed_lines, line_if_any, lines_of, open_line}
+use Rattle.xns.specs.Lines.{AreWithinLimits, closed_lines, line_if_any, lines_of, open_line}
 use Rattle.xns.specs.declared.dumper.Dumper.{Dumper}
 use Rattle.xns.specs.declared.fault.RunFault.{RunFault}
 use Rattle.xns.specs.declared.fault.RunFault.TheVariants as fault
-use Rattle.xns.proofs.Cuts.{all_within, closed-nothing, closed-run, few_closed, line_count-parts, lines_of-append, long_stays, more_line, one_line, open-nothing, open-run}
+use Rattle.xns.proofs.Cuts.{all_within, closed-nothing, closed-run, few_closed, lines_of-append, long_stays, more_line, open-nothing, open-run}
 use Rattle.xns.proofs.Takes.{all_written, dump_text-open, longer_text}
 use Rattle.xns.proofs.Writes.{appends_nothing, appends_trans, begins_trans, consumes_kept, consumes_trans, front_written, text_from-append}
 

@@ -1,12 +1,12 @@
 -- What the dumper has taken, as it takes more.
-use Rattle.std.proofs.Common.{◌≡◌, ◌∙◌, ap, sym, refl, arith, ℕ, ◌+◌, ◌<◌, ◌≤◌, ◌||◌, Bool, true, false, List, [], ◌∷◌, ◌++◌, length, length-append, append_assoc, append-nil, subst, Option}
+use Rattle.std.proofs.Common.{◌≡◌, ◌∙◌, ap, sym, arith, ℕ, ◌+◌, ◌<◌, ◌≤◌, ◌||◌, Bool, false, List, [], ◌∷◌, ◌++◌, length, length-append, append_assoc, append-nil, subst, Option}
 use Rattle.std.specs.List.{list_any}
 use Rattle.std.specs.Io.KnownBytes.{Appends}
 use Rattle.std.proofs.lemmas.List.Folds.{list_any-append}
 use Rattle.xns.specs.Dump.{IsWithinLimits, dump_text, has_refused_line, text_from}
 use Rattle.xns.specs.Dumper.{HasNoNewline, HasTaken, IsFlushed, closed_text}
 use Rattle.xns.specs.Line.{is_refused, text_of_line}
-use Rattle.xns.specs.Lines.{closed_lines, is_long, line_if_any, lines_of, open_line}
+use Rattle.xns.specs.Lines.{closed_lines, is_long, line_if_any, open_line}
 use Rattle.xns.specs.declared.dumper.Dumper.{Dumper}
 use Rattle.xns.proofs.Cuts.{all_within, closed-newline, closed-nothing, closed-run, few_more, line_count-parts, no_line, not_long, one_line, open-newline, open-nothing, open-run, or_false}
 use Rattle.xns.proofs.Writes.{appends_nothing, appends_trans, text-last}
@@ -93,8 +93,11 @@ taken_flushed d d' before mid after taken same text h = record {
   closed_short = h.closed_short;
   open_short = h.open_short;
   few = h.few;
-  written = (h.written.0 ++ d.text.items, appends_trans before mid after _ _ h.written.1 text,
-      ap (λ t. (h.written.0 ++ d.text.items) ++ t) same.text ∙ append-nil (h.written.0 ++ d.text.items) ∙ h.written.2);
+  written = (
+    h.written.0 ++ d.text.items,
+    appends_trans before mid after _ _ h.written.1 text,
+    ap (λ t. (h.written.0 ++ d.text.items) ++ t) same.text ∙ append-nil (h.written.0 ++ d.text.items) ∙ h.written.2,
+  );
 }
 
 -- ---- the end of the input

@@ -56,7 +56,11 @@ impl Dumper {
 
     /// Takes the next piece of the input, and writes the text of the lines that are over by then.
     /// A fault is answered after the text of the lines before it is written.
-    pub(crate) fn take_piece<W: Write>(&mut self, piece: &[u8], writer: &mut W) -> Result<(), RunFault>
+    pub(crate) fn take_piece<W: Write>(
+        &mut self,
+        piece: &[u8],
+        writer: &mut W,
+    ) -> Result<(), RunFault>
         ensures ok { OnOk result ((taken : List ℕ) (before : Option (List ℕ)) → HasTaken self.old before (W.contents writer.old) taken
             → HasTaken self.new before (W.contents writer.new) (taken ++ piece.now)) }
         ensures written { OnOk result (self.new.text.items ≡ []) }
@@ -139,7 +143,8 @@ impl Dumper {
     {
         let number = self.count + 1;
         let is_refused = self.reporter.report_line(number, self.line.as_slice())?;
-        self.text.extend_from_slice(self.reporter.report.as_slice())?;
+        self.text
+            .extend_from_slice(self.reporter.report.as_slice())?;
         self.refused = self.refused || is_refused;
         self.count = number;
         self.line.clear();

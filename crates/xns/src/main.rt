@@ -2,15 +2,15 @@
 #![tactic(auto)]
 
 pub mod arguments;
-pub mod dumping;
 mod digits;
 mod dumper;
+pub mod dumping;
+pub mod fault;
+pub mod modes;
 mod numbers;
 mod packets;
 mod reporter;
 mod writing;
-pub mod fault;
-pub mod modes;
 
 use arguments::{mode, refused_status};
 use clap::error::ErrorKind;
@@ -20,7 +20,7 @@ use modes::Mode;
 use std::process::ExitCode;
 use std::{env, io};
 
-/// A word that isn't text is a wrong command line.
+/// The status after a command line that isn't text.
 const WRONG_WORDS: u8 = 2;
 
 fn main(rt: HostRuntime) -> ExitCode {
@@ -29,8 +29,9 @@ fn main(rt: HostRuntime) -> ExitCode {
 
 fn run(rt: &HostRuntime) -> u8 {
     let alloc = rt.alloc();
-    let Ok(arguments) = env::args(rt) else {
-        return WRONG_WORDS;
+    let arguments = match env::args(rt) {
+        Ok(arguments) => arguments,
+        Err(error) => return refuse_words(rt, &error),
     };
     let Ok(owned) = arguments.collect::<Vec<String>>(alloc) else {
         return no_memory(rt);
@@ -53,13 +54,30 @@ fn finish(rt: &HostRuntime, answer: Result<bool, RunFault>) -> u8 {
     status(&answer)
 }
 
-/// Says what is wrong with the command line.
+/// Says what is wrong with the command line, in one line, or prints the help that was asked for.
 fn refuse(rt: &HostRuntime, error: &clap::Error) -> u8 {
+    if error.kind() == ErrorKind::DisplayHelp {
+        let _ = error.print(rt);
+        return refused_status(error);
+    }
     if error.kind() == ErrorKind::OutOfMemory {
         return no_memory(rt);
     }
-    let _ = error.print(rt);
+    let Ok(text) = format!(in rt.alloc(); "{error}") else {
+        return no_memory(rt);
+    };
+    let first = text.lines().next().unwrap_or("error");
+    let _ = eprintln!(rt; "{first}");
     refused_status(error)
+}
+
+/// Says why the words of the command line can't be had.
+fn refuse_words(rt: &HostRuntime, error: &io::Error) -> u8 {
+    if error.kind() == io::ErrorKind::OutOfMemory {
+        return no_memory(rt);
+    }
+    let _ = eprintln!(rt; "error: a word of the command line is not UTF-8");
+    WRONG_WORDS
 }
 
 fn no_memory(rt: &HostRuntime) -> u8 {

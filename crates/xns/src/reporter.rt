@@ -42,7 +42,12 @@ impl Reporter {
             None => append_digits(&mut self.report, number, line, &mut self.bytes),
             Some(_) => {
                 keep_digits(&mut self.digits, line)?;
-                append_digits(&mut self.report, number, self.digits.as_slice(), &mut self.bytes)
+                append_digits(
+                    &mut self.report,
+                    number,
+                    self.digits.as_slice(),
+                    &mut self.bytes,
+                )
             }
         }
     }
@@ -100,7 +105,11 @@ fn append_digits(
 
 /// Appends the line of digits that spell no bytes.
 #[tactic(auto, unfolding(crate::specs::Line::hex_refusal))]
-fn append_refusal(report: &mut Vec<u8>, number: usize, error: &FromHexError) -> Result<(), AllocError>
+fn append_refusal(
+    report: &mut Vec<u8>,
+    number: usize,
+    error: &FromHexError,
+) -> Result<(), AllocError>
     ensures { OnOk result (report.new.items ≡ report.old.items ++ hex_refusal number error.now) }
 {
     append_decimal(report, number)?;

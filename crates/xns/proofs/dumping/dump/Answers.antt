@@ -1,8 +1,7 @@
-use Rattle.std.proofs.Common.{rules, arith, ◌≡◌, ◌∙◌, ap, sym, refl, length, take, ◌-◌, ◌++◌, ℕ, List, []}
+use Rattle.std.proofs.Common.{rules, ◌≡◌, ap, take, ◌++◌, ℕ, []}
 use Rattle.xns.specs.Dump.{has_refused_line}
 use Rattle.std.proofs.lemmas.Result.{err_from_is_err_and}
 use Rattle.xns.proofs.Stopping.{stops_at_once, stops_in, stops_reading, stops_taking}
-use Rattle.xns.proofs.Takes.{few_lines}
 use Rattle.xns.proofs.Writes.{consumes_nothing, consumes_trans, if_err_1, if_ok_1, refused_whole}
 use Rattle.xns.proofs.dumping.dump.Goals as goal
 

@@ -1,8 +1,8 @@
-use Rattle.std.proofs.Common.{rules, arith, ◌≡◌, ◌<◌, ◌∙◌, ap, inr, length, refl}
+use Rattle.std.proofs.Common.{arith, ◌<◌, ◌∙◌, inr, length, refl}
 use Rattle.std.proofs.lemmas.Bool.Decides.{nat_tests}
 use Rattle.std.proofs.lemmas.Result.{err_from_is_err_and}
 use Rattle.xns.proofs.Stopping.{stops_between, stops_finishing}
-use Rattle.xns.proofs.Takes.{finished_closed, finished_open}
+use Rattle.xns.proofs.Takes.{finished_open}
 use Rattle.xns.proofs.dumper.Dumper.finish.Goals as goal
 
 pub returns-in_default-clause-err : goal.returns-in_default-clause-err
