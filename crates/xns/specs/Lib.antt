@@ -4,4 +4,5 @@ pub mod Dumper
 pub mod Line
 pub mod Lines
 pub mod Packets
+pub mod Small
 pub mod Text

@@ -1,10 +1,14 @@
 -- The lines that say what the bytes of a packet mean, a text for each layer.
-use Rattle.std.specs.Prelude.{ℕ, ◌+◌, Bool, true, false, if◌then◌else◌, List, ◌++◌, length, codes, Result, Ok, Err}
+use Rattle.std.specs.Prelude.{ℕ, ◌+◌, ◌==◌, Bool, true, false, if◌then◌else◌, List, ◌++◌, length, codes, Result, Ok, Err}
 use Rattle.std.specs.Fmt.{decimal}
 use Rattle.xns_idp.specs.Packet.{PacketModel}
 use Rattle.xns_idp.specs.Reading.{packet_of, word_at}
 use Rattle.xns_idp.specs.declared.fault.IdpFault.{IdpFault}
 use Rattle.xns_idp.specs.declared.fault.IdpFault.TheVariants.{Short, LengthSmall, LengthLarge, Cut, BadSum}
+use Rattle.xns_small.specs.Echo.{echo_of}
+use Rattle.xns_small.specs.ErrorReport.{error_of}
+use Rattle.xns_small.specs.Exchange.{exchange_of}
+use Rattle.xns.specs.Small.{echo_text, error_text, exchange_text, is_inner_fault}
 use Rattle.xns.specs.Text.{address_text, bytes_or_dash, hex_word}
 
 -- ---- the body
@@ -13,9 +17,21 @@ use Rattle.xns.specs.Text.{address_text, bytes_or_dash, hex_word}
 unfoldable pub data_line : ℕ → List ℕ → List ℕ
 data_line n body = decimal n ++ codes " data " ++ bytes_or_dash body ++ codes "\n"
 
--- what the body of a packet says: its bytes, of whatever type the packet is
+-- what the body of a packet says, by the packet type
 unfoldable pub body_text : ℕ → PacketModel → List ℕ
-body_text n packet = data_line n packet.body
+body_text n packet =
+    if packet.kind == 2 then echo_text n packet.body
+    else if packet.kind == 3 then error_text n packet.body
+    else if packet.kind == 4 then exchange_text n packet.body
+    else data_line n packet.body
+
+-- whether the body is not what the packet type says
+unfoldable pub is_body_refused : PacketModel → Bool
+is_body_refused packet =
+    if packet.kind == 2 then is_inner_fault (echo_of packet.body)
+    else if packet.kind == 3 then is_inner_fault (error_of packet.body)
+    else if packet.kind == 4 then is_inner_fault (exchange_of packet.body)
+    else false
 
 -- ---- the header (XSIS 028112, Internet Datagram Protocol, Packet Format)
 
@@ -61,7 +77,7 @@ unfoldable pub packet_text : ℕ → List ℕ → List ℕ
 packet_text n bytes = report_packet n bytes (packet_of bytes)
 
 abbrev pub is_fault : Result (PacketModel × ℕ) IdpFault → Bool
-is_fault (Ok found) = false
+is_fault (Ok found) = is_body_refused found.0
 is_fault (Err fault) = true
 
 -- whether one of these lines says that something was refused

@@ -10,6 +10,7 @@ pub mod modes;
 mod numbers;
 mod packets;
 mod reporter;
+mod small;
 mod writing;
 
 use arguments::{mode, refused_status};

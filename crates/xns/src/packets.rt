@@ -2,11 +2,21 @@
 ghost use Rattle.std.specs.Prelude.{◌≡◌, ◌+◌, ◌++◌, ◌≤◌, ◌<◌, ◌^◌, length, codes, IfOk, OnOk};
 ghost use Rattle.xns_idp.specs.Packet.{packet_model};
 ghost use Rattle.xns_idp.specs.Reading.{word_at};
-ghost use Rattle.xns.specs.Packets.{body_text, data_line, fault_text, idp_line, idp_refusal, is_packet_refused, kind_text, packet_text, route_text, size_text, sum_text};
+ghost use Rattle.xns.specs.Packets.{body_text, data_line, fault_text, idp_line, idp_refusal, is_body_refused, is_packet_refused, kind_text, packet_text, route_text, size_text, sum_text};
 
 use crate::numbers::{append_address, append_bytes_or_dash, append_decimal, append_word};
+use crate::small::{append_echo, append_error, append_exchange};
 use std::alloc::AllocError;
 use xns_idp::{IdpFault, Packet, decode};
+
+/// The packet type of Echo.
+const ECHO: u8 = 2;
+
+/// The packet type of Error.
+const ERROR: u8 = 3;
+
+/// The packet type of Packet Exchange.
+const PACKET_EXCHANGE: u8 = 4;
 
 /// Appends the lines of bytes, and says whether they are refused.
 #[tactic(auto, unfolding(crate::specs::Packets::packet_text, crate::specs::Packets::is_packet_refused))]
@@ -21,8 +31,7 @@ pub(crate) fn append_packet(
     match decode(bytes) {
         Ok((packet, _)) => {
             append_idp_line(report, number, bytes, &packet)?;
-            append_body(report, number, &packet)?;
-            Ok(false)
+            append_body(report, number, &packet)
         }
         Err(fault) => {
             append_refusal(report, number, fault)?;
@@ -31,12 +40,21 @@ pub(crate) fn append_packet(
     }
 }
 
-/// Appends what the body of a packet says.
-#[tactic(auto, unfolding(crate::specs::Packets::body_text))]
-fn append_body(report: &mut Vec<u8>, number: usize, packet: &Packet<'_>) -> Result<(), AllocError>
-    ensures { OnOk result (report.new.items ≡ report.old.items ++ body_text number (packet_model packet.now)) }
+/// Appends what the body of a packet says, and says whether it is refused.
+#[tactic(auto, unfolding(crate::specs::Packets::body_text, crate::specs::Packets::is_body_refused))]
+fn append_body(report: &mut Vec<u8>, number: usize, packet: &Packet<'_>) -> Result<bool, AllocError>
+    ensures { IfOk result (λ refused. (report.new.items ≡ report.old.items ++ body_text number (packet_model packet.now))
+        × (refused ≡ is_body_refused (packet_model packet.now))) }
 {
-    append_data_line(report, number, packet.body)
+    match packet.kind {
+        ECHO => append_echo(report, number, packet.body),
+        ERROR => append_error(report, number, packet.body),
+        PACKET_EXCHANGE => append_exchange(report, number, packet.body),
+        _ => {
+            append_data_line(report, number, packet.body)?;
+            Ok(false)
+        }
+    }
 }
 
 /// Appends the line with the bytes of a body.
