@@ -38,8 +38,10 @@ pub(crate) struct Dumper {
 impl Dumper {
     ghost use Rattle.xns.specs.Dumper.{HasNoNewline, HasStopped, HasTaken, IsFlushed, room_of};
 
+    /// A dumper that has taken nothing.
     pub(crate) fn new(alloc: Global) -> Result<Self, RunFault>
-        ensures ok { IfOk result (λ dumper. (dumper.text.items ≡ []) × ((contents : Option (List ℕ)) → HasTaken dumper contents contents [])) }
+        ensures ok { IfOk result (λ dumper. (contents : Option (List ℕ)) → HasTaken dumper contents contents []) }
+        ensures written { IfOk result (λ dumper. dumper.text.items ≡ []) }
         ensures err { IfErr result (λ fault. fault ≡ RunFault.NoMemory) }
     {
         match Vec::with_capacity(alloc, MOST_BYTES) {

@@ -11,7 +11,20 @@ use std::io::{Read, Write};
 /// The input is read in pieces of so many bytes.
 const PIECE: usize = 65536;
 
-/// Prints what each line of the input says. The answer is whether a line was refused.
+/// Reads lines of hex and prints what each says. The answer is whether a line was refused.
+///
+/// Byte 10 ends a line, and so does the end of the input after a byte; lines count from 1. One byte 13 at a line's end,
+/// and each space and tab, are dropped; the rest are hex digits of either case. They spell an internet packet
+/// (XSIS 028112, Internet Datagram Protocol, Packet Format), which prints as a line with its header's fields and one
+/// with its data, or they are refused in one line that says why. Bytes behind the packet are left unread.
+///
+/// # Errors
+/// `Read` where a read fails, for whatever reason; `Write` where a write fails or takes no byte; `LineTooLong` where a
+/// line has over 4,096 bytes, its byte 13 among them and its byte 10 not; `TooManyLines` where there are over 65,536
+/// lines; `NoMemory` where a growth is refused. Of the limits' faults the one that comes first in the input is
+/// answered. The text of all lines before the fault is written first, but for a write that fails.
+///
+/// It holds one piece of the input, one line and one buffer of text, whatever the input.
 pub fn dump<R: Read, W: Write>(
     alloc: Global,
     reader: &mut R,

@@ -1,5 +1,9 @@
-//! `xns dump` reads lines of hex from standard input and prints what they say.
+//! `xns dump` reads lines of hex from standard input and prints what they say. It ends with 0, or with 1 where a line
+//! was refused, 2 where the command line is wrong, 3 after a fault, and says in one line why it ends with 2 or 3.
 #![tactic(auto)]
+
+ghost use Rattle.std.specs.Prelude.{◌≡◌, ◌≢◌, ◌≤◌, ◌⊎◌, MatchResult, if◌then◌else◌};
+ghost use Rattle.clap.specs.Words.{kind_of};
 
 pub mod arguments;
 mod digits;
@@ -28,7 +32,10 @@ fn main(rt: HostRuntime) -> ExitCode {
     ExitCode::from(run(&rt))
 }
 
-fn run(rt: &HostRuntime) -> u8 {
+/// The status that the program ends with.
+fn run(rt: &HostRuntime) -> u8
+    ensures { result ≤ 3 }
+{
     let alloc = rt.alloc();
     let arguments = match env::args(rt) {
         Ok(arguments) => arguments,
@@ -48,7 +55,9 @@ fn run(rt: &HostRuntime) -> u8 {
 }
 
 /// Says why the run stopped, if it did.
-fn finish(rt: &HostRuntime, answer: Result<bool, RunFault>) -> u8 {
+fn finish(rt: &HostRuntime, answer: Result<bool, RunFault>) -> u8
+    ensures { MatchResult answer (λ refused. result ≡ (if refused then 1 else 0)) (λ _. result ≡ 3) }
+{
     if let Err(fault) = &answer {
         let _ = eprintln!(rt; "xns: {fault}");
     }
@@ -56,7 +65,11 @@ fn finish(rt: &HostRuntime, answer: Result<bool, RunFault>) -> u8 {
 }
 
 /// Says what is wrong with the command line, in one line, or prints the help that was asked for.
-fn refuse(rt: &HostRuntime, error: &clap::Error) -> u8 {
+fn refuse(rt: &HostRuntime, error: &clap::Error) -> u8
+    ensures help { kind_of error.now ≡ ErrorKind.DisplayHelp → result ≡ 0 }
+    ensures memory { kind_of error.now ≡ ErrorKind.OutOfMemory → result ≡ 3 }
+    ensures mistake { kind_of error.now ≢ ErrorKind.DisplayHelp → (result ≡ 2) ⊎ (result ≡ 3) }
+{
     if error.kind() == ErrorKind::DisplayHelp {
         let _ = error.print(rt);
         return refused_status(error);
@@ -73,7 +86,9 @@ fn refuse(rt: &HostRuntime, error: &clap::Error) -> u8 {
 }
 
 /// Says why the words of the command line can't be had.
-fn refuse_words(rt: &HostRuntime, error: &io::Error) -> u8 {
+fn refuse_words(rt: &HostRuntime, error: &io::Error) -> u8
+    ensures { (result ≡ 2) ⊎ (result ≡ 3) }
+{
     if error.kind() == io::ErrorKind::OutOfMemory {
         return no_memory(rt);
     }
@@ -81,7 +96,9 @@ fn refuse_words(rt: &HostRuntime, error: &io::Error) -> u8 {
     WRONG_WORDS
 }
 
-fn no_memory(rt: &HostRuntime) -> u8 {
+fn no_memory(rt: &HostRuntime) -> u8
+    ensures { result ≡ 3 }
+{
     finish(rt, Err(RunFault::NoMemory))
 }
 

@@ -11,7 +11,7 @@ returns-in_err-dumper-clause-fault g c =
     rw (p.1, p.2) (stops_at_once _ _ _ c.in_err-dumper.ensures.err)
 
 pub loop-count-init : goal.loop-count-init
-loop-count-init g c = ([], consumes_nothing _, c.in_ok-dumper.ensures.ok.1 _, c.in_ok-dumper.ensures.ok.0)
+loop-count-init g c = ([], consumes_nothing _, c.in_ok-dumper.ensures.ok _, c.in_ok-dumper.ensures.written)
 
 pub returns-in-Err-clause-fault : goal.returns-in-Err-clause-fault
 returns-in-Err-clause-fault g c =
