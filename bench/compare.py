@@ -15,11 +15,10 @@ RUNS = 5
 
 
 def built_program(crate):
-    """The program of a crate, built where it is not yet."""
-    program = CRATES / crate / "out" / crate
-    if not program.exists():
-        subprocess.run(["rt", "run"], cwd=CRATES / crate, stdin=subprocess.DEVNULL, stdout=subprocess.DEVNULL, check=False)
-    return program
+    """The program of a crate, proved and built."""
+    nothing = subprocess.DEVNULL
+    subprocess.run(["rt", "run"], cwd=CRATES / crate, stdin=nothing, stdout=nothing, stderr=nothing, check=False)
+    return CRATES / crate / "out" / crate
 
 
 def built_peer(name, folder):
