@@ -1,4 +1,4 @@
--- What is read is packet_bytes so, and what is packet_bytes so is read.
+-- What is read is spelled so, and what is spelled so is read.
 use Rattle.std.proofs.Common.{◌≡◌, ℕ, ◌+◌, ◌-◌, ◌*◌, ◌/◌, ◌%◌, ◌^◌, ◌<◌, ◌≤◌, Bool, true, false, not, cond, eqb, ltb, if◌then◌else◌, List, [], ◌∷◌, ◌++◌, length, get_or, take, drop, replicate, Option, Some, None, Result, Ok, Err, ◌⊎◌, inl, inr, refl, sym, ap, subst, ◌∙◌, append_assoc, arith, lit<}
 use Rattle.std.specs.Prelude.{slice_range, IfOk, IfErr}
 use Rattle.std.specs.Int.{w16, w32, to_be_bytes}
@@ -155,7 +155,7 @@ unfolding packet_of
 is_fault b (Ok x) e = tt
 is_fault b (Err f) e = unless_err (packet_fault b) (packet_fields b, made_even (word_at b 2)) f (sym e)
 
--- ---- what is packet_bytes so is read
+-- ---- what is spelled so is read
 
 -- an address whose host is told byte by byte, and then more
 abbrev address_and : Address → List ℕ → List ℕ
@@ -207,7 +207,7 @@ cyc_below : (ws : List ℕ) → cycle_checksum ws < 65535
 unfolding cycle_checksum
 cyc_below ws = omega arith
 
--- the fields of what is packet_bytes, whatever follows
+-- the fields in the bytes of a packet, whatever follows
 pub fields_again : (p : PacketModel) (garbage rest : List ℕ) (sum : ℕ) → IsPacket p → length p.body ≤ 546 → sum < 65536 → not (eqb sum 65535) ≡ p.summed
     → packet_fields (header_and sum (30 + length p.body) p (p.body ++ (garbage ++ rest))) ≡ p
 unfolding packet_fields address_at
@@ -268,7 +268,7 @@ packet_again p garbage rest fits size len =
     } in
     rw (none_from b ok, fields, n_is) refl
 
--- what is packet_bytes, and then more
+-- the bytes of a packet, and then more
 pub spelling_again : (p : PacketModel) (taken rest b : List ℕ) → IsPacket p → SpellsPacket p taken → b ≡ taken ++ rest → packet_of b ≡ Ok (p, length taken)
 spelling_again p taken rest b fits spells e =
     let garbage = spells.garbage in
@@ -277,7 +277,7 @@ spelling_again p taken rest b fits spells e =
     omega (arith, ap length spells.spells, spelled_length p garbage, after_length p garbage fits.target.host_length fits.source.host_length, spells.garbage_length) in
     ap packet_of (e ∙ ap (λ (xs : List ℕ). xs ++ rest) spells.spells) ∙ packet_again p garbage rest fits spells.size spells.garbage_length ∙ ap (λ (k : ℕ). ended (p, k)) long
 
--- ---- the laws of the packet_spelling spelling
+-- ---- the laws of the written form
 
 pub plain_spells : (p : PacketModel) → length p.body ≤ 546 → SpellsPacket p (packet_spelling p)
 unfolding packet_spelling

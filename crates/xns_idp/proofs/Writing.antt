@@ -1,5 +1,5 @@
--- What is written, piece by piece, is the packet_spelling spelling.
-use Rattle.std.proofs.Common.{◌≡◌, ℕ, ◌+◌, ◌%◌, if◌then◌else◌, List, [], ◌∷◌, ◌++◌, length, replicate, ap, ◌∙◌, append_assoc}
+-- What is written, piece by piece, is the spelling of the packet.
+use Rattle.std.proofs.Common.{◌≡◌, ℕ, zero, suc, ◌+◌, ◌%◌, ◌<◌, if◌then◌else◌, List, [], ◌∷◌, ◌++◌, length, take, replicate, refl, ap, ◌∙◌, append_assoc, arith}
 use Rattle.std.specs.Int.{w16, to_be_bytes}
 use Rattle.xns_idp.specs.Checksum.{words, cycle_checksum}
 use Rattle.xns_idp.specs.Packet.{PacketModel, address_bytes, after_checksum, packet_bytes, packet_spelling}
@@ -23,3 +23,9 @@ written p old o0 o1 o2 o3 o4 o5 c f t s g sum ef et es esum ec eg e0 e1 e2 e3 e4
     let front : c ≡ to_be_bytes w16 (if p.summed then cycle_checksum (words (after_checksum p pad)) else 65535) =
     ec ∙ ap (to_be_bytes w16) (esum ∙ ap (λ (x : List ℕ). if p.summed then cycle_checksum (words x) else 65535) after) in
     all ∙ regroup old c f t s p.body pad ∙ ap (λ (x : List ℕ). old ++ (c ++ x)) after ∙ ap (λ (x : List ℕ). old ++ (x ++ after_checksum p pad)) front
+
+-- a garbage byte or none
+pub no_byte_or_one : (n : ℕ) → n < 2 → take {A = ℕ} n (0 ∷ []) ≡ replicate {A = ℕ} n 0
+no_byte_or_one zero h = refl
+no_byte_or_one (suc zero) h = refl
+no_byte_or_one (suc (suc n)) h = absurd (omega (arith, h))

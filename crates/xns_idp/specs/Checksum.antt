@@ -1,25 +1,46 @@
--- The checksum as one sum, and the words of a list of bytes.
-use Rattle.std.specs.Prelude.{◌≡◌, ℕ, ◌+◌, ◌*◌, ◌%◌, ◌^◌, List, [], ◌∷◌, length, ◌⊎◌}
+-- The checksum of a packet (XSIS 028112, Internet Datagram Protocol, Checksum).
+use Rattle.std.specs.Prelude.{◌≡◌, ℕ, ◌+◌, ◌-◌, ◌*◌, ◌/◌, ◌%◌, ◌^◌, ◌==◌, nat_lt, if◌then◌else◌, List, [], ◌∷◌, length, ◌⊎◌}
 
--- the numbers of the pairs of bytes, the first byte of a pair being the high one; a byte that is left over has a 0 after it
+-- the 16-bit words of bytes: the first byte of a pair is the high one, and a byte that is left over has a 0 after it
 abbrev pub words : List ℕ → List ℕ
 words [] = []
 words (high ∷ []) = 256 * high ∷ []
 words (high ∷ low ∷ bytes) = (256 * high + low) ∷ words bytes
 
--- each word, doubled as often as there are words from it on
+-- w1 * 2 ^ n + .. + wn * 2: each word is doubled once for itself and once for each word after it
 abbrev pub weighted_sum : List ℕ → ℕ
 weighted_sum [] = 0
 weighted_sum (w ∷ ws) = w * 2 ^ length (w ∷ ws) + weighted_sum ws
 
--- what is summed when the words before have the sum start
-unfoldable pub sum_from : ℕ → List ℕ → ℕ
-sum_from start ws = start * 2 ^ length ws + weighted_sum ws
-
--- the checksum of words: w1 * 2 ^ n + .. + wn * 2, modulo 65535
+-- the cycle checksum of words: (w1 * 2 ^ n + .. + wn * 2) modulo 65535
 unfoldable pub cycle_checksum : List ℕ → ℕ
 cycle_checksum ws = weighted_sum ws % 65535
 
--- the same word, but for 0 and 65535
+-- ---- as the standard describes it, which a law of this crate shows to be the same
+
+-- the sum of 16 bits whose carry out of the top is added at the bottom
+abbrev pub add_with_end_around_carry : ℕ → ℕ → ℕ
+add_with_end_around_carry a b = if nat_lt 65535 (a + b) then a + b - 65535 else a + b
+
+-- 16 bits moved left by one, the top bit coming in at the bottom
+abbrev pub rotated_left : ℕ → ℕ
+rotated_left n = 2 * n % 65536 + n / 32768
+
+-- each word is added, and the sum rotated
+abbrev pub added_and_rotated : ℕ → List ℕ → ℕ
+added_and_rotated sum [] = sum
+added_and_rotated sum (w ∷ ws) = added_and_rotated (rotated_left (add_with_end_around_carry sum w)) ws
+
+-- a final 65535 becomes 0, since that field means that there is no checksum
+abbrev pub zero_for_all_ones : ℕ → ℕ
+zero_for_all_ones n = if n == 65535 then 0 else n
+
+-- ---- what a sum tells, and how it is summed piece by piece
+
+-- the same word, or 0 and 65535
 abbrev pub AreAlike : ℕ → ℕ → Type 0
 AreAlike v w = (v ≡ w) ⊎ ((v ≡ 0) × (w ≡ 65535)) ⊎ ((v ≡ 65535) × (w ≡ 0))
+
+-- the weighted sum of words after others whose sum is start
+unfoldable pub sum_from : ℕ → List ℕ → ℕ
+sum_from start ws = start * 2 ^ length ws + weighted_sum ws

@@ -1,15 +1,11 @@
--- Packets, and the bytes that spell them.
-use Rattle.std.specs.Prelude.{◌≡◌, ℕ, ◌+◌, ◌%◌, ◌<◌, ◌≤◌, ◌^◌, Bool, if◌then◌else◌, List, [], ◌∷◌, ◌++◌, length, take, replicate}
+-- Packets, and the bytes that spell them (XSIS 028112, Internet Datagram Protocol, Packet Format).
+use Rattle.std.specs.Prelude.{◌≡◌, ℕ, ◌+◌, ◌%◌, ◌<◌, ◌≤◌, ◌^◌, All, Bool, if◌then◌else◌, List, [], ◌∷◌, ◌++◌, length, take, replicate}
 use Rattle.std.specs.Int.{w16, w32, to_be_bytes}
-use Rattle.std.specs.Prelude.{All}
 use Rattle.xns_idp.specs.Checksum.{words, cycle_checksum}
 use Rattle.xns_idp.specs.declared.address.Address.{Address}
 use Rattle.xns_idp.specs.declared.packet.Packet.{Packet}
 
-abbrev pub AreBytes : List ℕ → Type 0
-AreBytes b = All (λ x. x < 256) b
-
--- a packet without where it lies in memory
+-- a packet without where its body lies in memory
 pub record PacketModel : Type 0 where
   pub summed : Bool
   pub control : ℕ
@@ -21,7 +17,11 @@ pub record PacketModel : Type 0 where
 abbrev pub packet_model : Packet → PacketModel
 packet_model p = record { summed = p.summed; control = p.control; kind = p.kind; target = p.target; source = p.source; body = p.body.now }
 
--- the numbers are within their types' bounds
+-- ---- the numbers are within their types' bounds
+
+abbrev pub AreBytes : List ℕ → Type 0
+AreBytes bytes = All (λ x. x < 256) bytes
+
 pub record IsAddress (a : Address) : Type 0 where
   pub network : a.network < 2 ^ 32
   pub host_length : length a.host ≡ 6
@@ -35,33 +35,36 @@ pub record IsPacket (p : PacketModel) : Type 0 where
   pub source : IsAddress p.source
   pub body : AreBytes p.body
 
--- network, host, socket
+-- ---- the bytes of a packet
+
+-- network, host, socket (Network Addresses)
 abbrev pub address_bytes : Address → List ℕ
 address_bytes a = to_be_bytes w32 a.network ++ a.host ++ to_be_bytes w16 a.socket
 
--- all after the checksum field: length, transport control, packet type, target, source, body, garbage
+-- all after the checksum field: length of header and data, transport control, packet type, destination, source, data, garbage byte
 unfoldable pub after_checksum : PacketModel → List ℕ → List ℕ
 after_checksum p garbage =
     to_be_bytes w16 (30 + length p.body) ++ (p.control ∷ p.kind ∷ []) ++ address_bytes p.target ++ address_bytes p.source ++ p.body ++ garbage
 
--- a packet with this behind its body
+-- the packet with this garbage behind its data: in front is the checksum of all words after that field, or 65535 for none
 unfoldable pub packet_bytes : PacketModel → List ℕ → List ℕ
-packet_bytes p garbage = to_be_bytes w16 (if p.summed then cycle_checksum (words (after_checksum p garbage)) else 65535) ++ after_checksum p garbage
+packet_bytes p garbage =
+    to_be_bytes w16 (if p.summed then cycle_checksum (words (after_checksum p garbage)) else 65535) ++ after_checksum p garbage
 
--- the bytes spell the packet: one byte of any value is behind an odd body
-pub record SpellsPacket (p : PacketModel) (b : List ℕ) : Type 0 where
+-- the bytes spell the packet: it has at most 546 bytes of data, and behind an odd number of them stands one garbage byte of any value
+pub record SpellsPacket (p : PacketModel) (bytes : List ℕ) : Type 0 where
   pub size : length p.body ≤ 546
   pub garbage : List ℕ
   pub garbage_length : length garbage ≡ length p.body % 2
   pub garbage_bytes : AreBytes garbage
-  pub spells : b ≡ packet_bytes p garbage
+  pub spells : bytes ≡ packet_bytes p garbage
 
--- the bytes that are written: the garbage byte is 0
+-- the bytes that are written for it: the garbage byte is 0
 unfoldable pub packet_spelling : PacketModel → List ℕ
 packet_spelling p = packet_bytes p (replicate (length p.body % 2) 0)
 
--- the packet and its length are at the front of the bytes
-pub record IsPacketAtFront (b : List ℕ) (p : PacketModel) (k : ℕ) : Type 0 where
+-- the first `taken` of the bytes spell the packet
+pub record IsPacketAtFront (bytes : List ℕ) (p : PacketModel) (taken : ℕ) : Type 0 where
   pub fits : IsPacket p
-  pub length : k ≤ length b
-  pub spells : SpellsPacket p (take k b)
+  pub length : taken ≤ length bytes
+  pub spells : SpellsPacket p (take taken bytes)

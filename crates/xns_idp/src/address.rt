@@ -2,18 +2,21 @@ ghost use Rattle.std.specs.Prelude.{◌≡◌, ◌<◌, ◌^◌};
 
 use crate::known::known_bytes;
 
-/// Where a packet goes to or comes from.
+/// Where a packet goes to or comes from (XSIS 028112, Internet Datagram Protocol, Network Addresses).
 #[derive(Clone, Copy, Debug, PartialEq, Eq)]
 pub struct Address {
+    /// The network number, of 32 bits; 0 is an unknown network.
     pub network: u32,
+    /// The host number, of 48 bits, its highest byte first; six bytes of 255 are every host, the broadcast.
     pub host: [u8; 6],
+    /// The socket number, of 16 bits: who on that host is meant.
     pub socket: u16,
 }
 
 impl Address {
-    ghost use Rattle.xns_idp.specs.Packet.{address_bytes, IsAddress};
+    ghost use Rattle.xns_idp.specs.Packet.{IsAddress, address_bytes};
 
-    /// The numbers of an address are within their bounds, which a proof may want to know.
+    /// Does nothing; says to a proof that the numbers of an address are within their types' bounds.
     pub fn known(&self)
         ensures { IsAddress self.now }
     {
@@ -22,8 +25,8 @@ impl Address {
         known_bytes(&self.host);
     }
 
-    /// Its bytes in a header.
-    pub fn to_bytes(&self) -> [u8; 12]
+    /// The twelve bytes of an address in a header.
+    pub(crate) fn to_bytes(&self) -> [u8; 12]
         ensures { result ≡ address_bytes self.now }
     {
         let [n0, n1, n2, n3] = self.network.to_be_bytes();
