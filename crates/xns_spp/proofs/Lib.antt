@@ -8,3 +8,5 @@ pub mod Reading
 pub mod Rings
 pub mod Steps
 pub mod Receives
+pub mod Again
+pub mod Own

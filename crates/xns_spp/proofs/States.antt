@@ -1,5 +1,5 @@
 -- What always holds of an end holds after each step.
-use Rattle.std.proofs.Common.{◌≡◌, ℕ, ◌+◌, ◌-◌, ◌≤◌, Bool, true, false, not, List, [], ◌∷◌, ◌++◌, length, arith, refl, nat_lt, lit≤}
+use Rattle.std.proofs.Common.{◌≡◌, ℕ, ◌+◌, ◌-◌, ◌<◌, ◌≤◌, Bool, true, false, not, List, [], ◌∷◌, ◌++◌, length, arith, refl, subst, nat_lt, lit<, lit≤}
 use Rattle.std.specs.Prelude.{Option, Some, None, Result, Ok, Err, if◌then◌else◌, ◌&&◌, ◌==◌}
 use Rattle.std.proofs.lemmas.Bool.{ltb-false}
 use Rattle.std.proofs.lemmas.Bool.Decides.{nat_tests}
@@ -16,7 +16,9 @@ use Rattle.xns_spp.specs.Item.{IsItem, IsShortItem}
 use Rattle.xns_spp.specs.Packet.{SppPacketModel, IsSppPacket, spp_packet_of}
 use Rattle.xns_spp.specs.Receiving.{numbers_read, arrival_fault, verdict, items_taken, after_arrival, after_packet, after_bytes, after_receive}
 use Rattle.xns_spp.specs.Sending.{send_fault, accepting, after_send, take_answer, handing, after_take, after_flush, after_tick}
-use Rattle.xns_spp.specs.State.{State, IsState, new_state, window_top, send_limit}
+use Rattle.xns_spp.specs.State.{State, IsState, new_state, initiator_state, responder_state, window_top, send_limit}
+use Rattle.xns_idp.specs.Packet.{IsAddress}
+use Rattle.xns_idp.specs.declared.address.Address.{Address}
 use Rattle.xns_spp.specs.declared.dropped.Dropped.{Dropped}
 use Rattle.xns_spp.specs.declared.dropped.Dropped.TheVariants.{NotOurs, AheadOfUs}
 use Rattle.xns_spp.specs.declared.ends.Ends.{Ends}
@@ -52,6 +54,36 @@ new_fits e f = record {
   backlog_holds = omega arith;
   window_holds = omega arith;
 }
+
+pub initiator_fits : (own peer : Address) (id window backlog : ℕ) → IsAddress own → IsAddress peer → 0 < id → id < 65536 → 1 ≤ window → window ≤ 64 → 1 ≤ backlog → backlog ≤ 64
+    → IsState (initiator_state own id peer window backlog)
+initiator_fits own peer id window backlog own_fits peer_fits known small w1 w2 b1 b2 =
+    new_fits (initiator_state own id peer window backlog).ends (record {
+      own = own_fits;
+      id_known = known;
+      id = small;
+      peer = peer_fits;
+      peer_id = lit< tt;
+      window_least = w1;
+      window_most = w2;
+      backlog_least = b1;
+      backlog_most = b2;
+    })
+
+pub responder_fits : (own peer : Address) (id peer_id window backlog : ℕ) → IsAddress own → IsAddress peer → 0 < id → id < 65536 → peer_id < 65536 → 1 ≤ window → window ≤ 64 → 1 ≤ backlog → backlog ≤ 64
+    → IsState (responder_state own id peer peer_id window backlog)
+responder_fits own peer id peer_id window backlog own_fits peer_fits known small peer_small w1 w2 b1 b2 =
+    new_fits (responder_state own id peer peer_id window backlog).ends (record {
+      own = own_fits;
+      id_known = known;
+      id = small;
+      peer = peer_fits;
+      peer_id = peer_small;
+      window_least = w1;
+      window_most = w2;
+      backlog_least = b1;
+      backlog_most = b2;
+    })
 
 -- ---- send
 
@@ -220,3 +252,9 @@ bytes_fit s (Ok p) fits packet = packet_fits s p (arrival_fault s p) refl fits (
 
 pub receive_fits : (s : State) (b : List ℕ) → IsState s → ((p : SppPacketModel) → spp_packet_of b ≡ Ok p → IsSppPacket p) → IsState (after_receive s b)
 receive_fits s b fits packet = bytes_fit s (spp_packet_of b) fits packet
+
+same_packet : (p q : SppPacketModel) (o : Result SppPacketModel Dropped) → o ≡ Ok p → o ≡ Ok q → p ≡ q
+same_packet p q o h k = cc
+
+pub receive_read : (s : State) (b : List ℕ) (p : SppPacketModel) → IsState s → spp_packet_of b ≡ Ok p → IsSppPacket p → IsState (after_receive s b)
+receive_read s b p fits read packet = receive_fits s b fits (λ q h. subst IsSppPacket (same_packet p q (spp_packet_of b) read h) packet)

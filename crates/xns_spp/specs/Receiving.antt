@@ -1,5 +1,5 @@
 -- What an end makes of bytes that came.
-use Rattle.std.specs.Prelude.{◌≡◌, ◌⊎◌, ℕ, ◌+◌, max, Bool, false, not, nat_lt, if◌then◌else◌, List, [], ◌∷◌, ◌++◌, length, Option, Some, None, Result, Ok, Err}
+use Rattle.std.specs.Prelude.{◌≡◌, ◌⊎◌, ℕ, ◌+◌, max, Bool, IsTrue, false, not, nat_lt, if◌then◌else◌, List, [], ◌∷◌, ◌++◌, length, Option, Some, None, Result, Ok, Err}
 use Rattle.xns_spp.specs.declared.dropped.Dropped.{Dropped}
 use Rattle.xns_spp.specs.declared.dropped.Dropped.TheVariants.{NotOurs, AheadOfUs, OutOfOrder, NoRoom, Repeat}
 use Rattle.xns_spp.specs.declared.field_numbers.FieldNumbers.{FieldNumbers}
@@ -11,7 +11,7 @@ use Rattle.xns_spp.specs.declared.verdict.Verdict.TheVariants.{Take, Pass, Refus
 use Rattle.xns_spp.specs.Ends as ends
 use Rattle.xns_spp.specs.Header.{brings_item, wants_reply}
 use Rattle.xns_spp.specs.Item.{item_in}
-use Rattle.xns_spp.specs.Packet.{SppPacketModel, spp_packet_spelling, spp_packet_of}
+use Rattle.xns_spp.specs.Packet.{SppPacketModel, IsSppPacketAtFront, spp_packet_spelling, spp_packet_of}
 use Rattle.xns_spp.specs.Sending.{system_packet}
 use Rattle.xns_spp.specs.State.{State, window_top}
 
@@ -113,7 +113,13 @@ after_receive s b = after_bytes s (spp_packet_of b)
 abbrev pub NeedsMemory : Received → Type 0
 NeedsMemory r = (r.took ≡ 1) ⊎ ((b : List ℕ) × (r.reply ≡ Some b))
 
--- what is_ours answers: whether the bytes are a packet of the connection
+-- a front of the bytes spells a packet of the connection
+pub record IsOursAtFront (s : State) (b : List ℕ) : Type 0 where
+  pub packet : SppPacketModel
+  pub spells : IsSppPacketAtFront b packet
+  pub ours : IsTrue (ends.is_ours s.ends packet)
+
+-- what is_ours answers
 abbrev pub is_ours_in : State → Result SppPacketModel Dropped → Bool
 is_ours_in s (Err d) = false
 is_ours_in s (Ok p) = ends.is_ours s.ends p

@@ -1,4 +1,4 @@
-ghost use Rattle.std.specs.Prelude.{◌≡◌, ◌+◌, ◌≤◌, ◌++◌, length, IfOk, IfErr, OnOk, OnErr, Ok, Err, Some};
+ghost use Rattle.std.specs.Prelude.{◌≡◌, ◌+◌, ◌<◌, ◌≤◌, ◌++◌, length, vec_len, vec_capacity, IfOk, IfErr, OnOk, OnErr, Ok, Err, Some};
 ghost use Rattle.xns_idp.specs.Reading.{word_at};
 ghost use Rattle.xns_spp.specs.Header.{header_spelling, header_of, header_fields, header_fault, SpellsHeader};
 
@@ -132,6 +132,8 @@ fn read_word(bytes: &[u8], index: usize) -> u16
 pub fn write_header(_alloc: Global, header: &Header, out: &mut Vec<u8>) -> Result<(), AllocError>
     ensures ok { OnOk result (out.new.items ≡ out.old.items ++ header_spelling header.now) }
     ensures err { OnErr result (out.new.items ≡ out.old.items) }
+    // It is refused memory only where `out` has no room for the twelve bytes.
+    ensures memory { OnErr result (vec_capacity out.old < vec_len out.old + 12) }
 {
     out.extend_from_slice(&header.to_bytes())
 }

@@ -11,6 +11,7 @@ mod field_numbers;
 mod header;
 mod item;
 mod known;
+pub mod laws;
 mod numbers;
 mod opener;
 mod outgoing;
