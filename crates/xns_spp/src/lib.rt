@@ -31,3 +31,6 @@ pub use opener::opening;
 pub use received::Received;
 pub use send_fault::SendFault;
 pub use spp_fault::SppFault;
+
+#[cfg(test)]
+mod tests;
