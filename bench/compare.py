@@ -1,0 +1,67 @@
+#!/usr/bin/env python3
+"""Times a proved program beside a plain Rust peer, five runs of each in turn, and prints the medians and their ratio.
+
+    python3 bench/compare.py checksum     the cycle checksum of a million packets of 576 bytes
+    python3 bench/compare.py dump         `xns dump` of 65,536 packets in hex
+
+The proved program is built by `rt run` in its crate, the peer by `rustc -O`. Absolute times say little on a shared machine; the
+ratio is of processor time in one run.
+"""
+import os, pathlib, statistics, subprocess, sys, tempfile
+
+BENCH = pathlib.Path(__file__).resolve().parent
+CRATES = BENCH.parent / "crates"
+RUNS = 5
+
+
+def built_program(crate):
+    """The program of a crate, built where it is not yet."""
+    program = CRATES / crate / "out" / crate
+    if not program.exists():
+        subprocess.run(["rt", "run"], cwd=CRATES / crate, stdin=subprocess.DEVNULL, stdout=subprocess.DEVNULL, check=False)
+    return program
+
+
+def built_peer(name, folder):
+    peer = pathlib.Path(folder) / name
+    subprocess.run(["rustc", "-O", "-o", peer, BENCH / f"{name}.rs"], check=True)
+    return peer
+
+
+def seconds_of(words, given):
+    """Processor seconds of one run, and its output."""
+    with open(given, "rb") as lines, tempfile.TemporaryFile() as output:
+        started = subprocess.Popen(words, stdin=lines, stdout=output)
+        _, _, used = os.wait4(started.pid, 0)
+        output.seek(0)
+        return used.ru_utime + used.ru_stime, output.read()
+
+
+def compare(ours, peer, given):
+    times = {"ours": [], "peer": []}
+    outputs = {}
+    for _ in range(RUNS):
+        for name, words in (("ours", ours), ("peer", peer)):
+            seconds, outputs[name] = seconds_of(words, given)
+            times[name].append(seconds)
+    if outputs["ours"] != outputs["peer"]:
+        sys.exit("the two programs print different things")
+    medians = {name: statistics.median(runs) for name, runs in times.items()}
+    print(f"ours {medians['ours']:.3f} s, peer {medians['peer']:.3f} s: the peer takes {medians['peer'] / medians['ours']:.1f} times as long")
+
+
+def main():
+    which = sys.argv[1] if len(sys.argv) == 2 else ""
+    with tempfile.TemporaryDirectory() as folder:
+        given = pathlib.Path(folder) / "given"
+        if which == "checksum":
+            given.touch()
+            compare([built_program("checksum_bench")], [built_peer("checksum_peer", folder)], given)
+        elif which == "dump":
+            given.write_bytes(subprocess.run([sys.executable, BENCH / "packets.py"], stdout=subprocess.PIPE, check=True).stdout)
+            compare([built_program("xns"), "dump"], [built_peer("dump_peer", folder)], given)
+        else:
+            sys.exit(__doc__)
+
+
+main()

@@ -1,0 +1,76 @@
+// A plain Rust `dump` of internet packets (no proofs, std alone): what a user would write without us, to be timed beside
+// `xns dump`. It prints the `idp` line and the data line of each packet, and the faults.
+use std::io::{self, BufRead, Write};
+
+fn nibble(c: u8) -> Option<u8> {
+    match c { b'0'..=b'9' => Some(c - b'0'), b'a'..=b'f' => Some(c - b'a' + 10), b'A'..=b'F' => Some(c - b'A' + 10), _ => None }
+}
+
+fn cycle(b: &[u8]) -> u16 {
+    let mut s: u32 = 0;
+    for w in b.chunks_exact(2) {
+        s += u32::from(u16::from_be_bytes([w[0], w[1]]));
+        s = (s & 0xffff) + (s >> 16);
+        s = ((s << 1) & 0xffff) | (s >> 15);
+    }
+    if s == 0xffff { 0 } else { s as u16 }
+}
+
+fn hex(out: &mut Vec<u8>, b: &[u8]) {
+    const D: &[u8; 16] = b"0123456789abcdef";
+    if b.is_empty() { out.push(b'-'); }
+    for x in b { out.push(D[(x >> 4) as usize]); out.push(D[(x & 15) as usize]); }
+}
+
+fn be(b: &[u8]) -> u64 { b.iter().fold(0, |a, x| a << 8 | u64::from(*x)) }
+
+fn main() {
+    let stdin = io::stdin();
+    let mut input = stdin.lock();
+    let stdout = io::stdout();
+    let mut output = io::BufWriter::new(stdout.lock());
+    let (mut line, mut bytes, mut out) = (Vec::new(), Vec::new(), Vec::new());
+    let mut n = 0u32;
+    let mut refused = false;
+    loop {
+        line.clear();
+        if input.read_until(b'\n', &mut line).unwrap() == 0 { break; }
+        if line.last() == Some(&b'\n') { line.pop(); }
+        if line.last() == Some(&b'\r') { line.pop(); }
+        n += 1;
+        line.retain(|c| *c != b' ' && *c != b'\t');
+        out.clear();
+        bytes.clear();
+        if line.len() % 2 == 1 { refused = true; writeln!(out, "{n} hex refused OddLength").unwrap(); }
+        else if let Some(p) = line.iter().position(|c| nibble(*c).is_none()) { refused = true; writeln!(out, "{n} hex refused Digit {p}").unwrap(); }
+        else {
+            for p in line.chunks_exact(2) { bytes.push(nibble(p[0]).unwrap() << 4 | nibble(p[1]).unwrap()); }
+            let have = bytes.len();
+            if have < 30 { refused = true; writeln!(out, "{n} idp refused Short {have}").unwrap(); }
+            else {
+                let length = be(&bytes[2..4]) as usize;
+                let needed = length + length % 2;
+                if length < 30 { refused = true; writeln!(out, "{n} idp refused LengthSmall {length}").unwrap(); }
+                else if length > 576 { refused = true; writeln!(out, "{n} idp refused LengthLarge {length}").unwrap(); }
+                else if have < needed { refused = true; writeln!(out, "{n} idp refused Cut {needed} {have}").unwrap(); }
+                else {
+                    let found = be(&bytes[0..2]) as u16;
+                    let computed = cycle(&bytes[2..needed]);
+                    if found != 0xffff && found != computed { refused = true; writeln!(out, "{n} idp refused BadSum {found:04x} {computed:04x}").unwrap(); }
+                    else {
+                        write!(out, "{n} idp length {length} sum ").unwrap();
+                        if found == 0xffff { out.extend_from_slice(b"none"); } else { write!(out, "{found:04x}").unwrap(); }
+                        writeln!(out, " control {} type {} to {:08x}.{:012x}.{:04x} from {:08x}.{:012x}.{:04x}", bytes[4], bytes[5],
+                            be(&bytes[6..10]), be(&bytes[10..16]), be(&bytes[16..18]), be(&bytes[18..22]), be(&bytes[22..28]), be(&bytes[28..30])).unwrap();
+                        write!(out, "{n} data ").unwrap();
+                        hex(&mut out, &bytes[30..length]);
+                        out.push(b'\n');
+                    }
+                }
+            }
+        }
+        output.write_all(&out).unwrap();
+    }
+    output.flush().unwrap();
+    std::process::exit(i32::from(refused));
+}

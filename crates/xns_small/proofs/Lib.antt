@@ -1,0 +1,4 @@
+pub mod Numbers
+pub mod Echoes
+pub mod Errors
+pub mod Exchanges

@@ -1,0 +1,63 @@
+-- The Echo protocol (XSIS 028112, Echo Protocol).
+use Rattle.std.specs.Prelude.{◌≡◌, ℕ, ◌==◌, nat_lt, Bool, true, false, if◌then◌else◌, List, [], ◌∷◌, ◌++◌, length, drop, Result, Ok, Err, ◌⊎◌}
+use Rattle.std.specs.Int.{w16, to_be_bytes}
+use Rattle.xns_idp.specs.Packet.{PacketModel}
+use Rattle.xns_idp.specs.Reading.{word_at}
+use Rattle.xns_idp.specs.declared.address.Address.{Address}
+use Rattle.xns_small.specs.Sending.{sent_packet}
+use Rattle.xns_small.specs.declared.echo.Echo.{Echo}
+use Rattle.xns_small.specs.declared.fault.SmallFault.{SmallFault}
+use Rattle.xns_small.specs.declared.fault.SmallFault.TheVariants.{Short, EchoOperation}
+
+-- an Echo request or reply without where its bytes lie in memory
+pub record EchoModel : Type 0 where
+  pub reply : Bool
+  pub body : List ℕ
+
+abbrev pub echo_model : Echo → EchoModel
+echo_model v = record { reply = v.reply; body = v.body.now }
+
+-- the operation word, 1 for a request and 2 for a reply, and then the bytes
+abbrev pub echo_spelling : EchoModel → List ℕ
+echo_spelling v = to_be_bytes w16 (if v.reply then 2 else 1) ++ v.body
+
+-- the bytes spell the request or reply
+abbrev pub SpellsEcho : EchoModel → List ℕ → Type 0
+SpellsEcho v bytes = bytes ≡ echo_spelling v
+
+-- what the bytes are by the place of the operation word, or their first fault
+unfoldable pub echo_of : List ℕ → Result EchoModel SmallFault
+echo_of bytes =
+    if nat_lt (length bytes) 2 then Err (Short (length bytes))
+    else if word_at bytes 0 == 1 then Ok (record { reply = false; body = drop 2 bytes })
+    else if word_at bytes 0 == 2 then Ok (record { reply = true; body = drop 2 bytes })
+    else Err (EchoOperation (word_at bytes 0))
+
+-- what `read_echo` answers, without where it lies in memory
+abbrev pub echo_read : Result Echo SmallFault → Result EchoModel SmallFault
+echo_read (Ok v) = Ok (echo_model v)
+echo_read (Err f) = Err f
+
+-- ---- the reply
+
+-- every host
+abbrev pub broadcast : List ℕ
+broadcast = 255 ∷ 255 ∷ 255 ∷ 255 ∷ 255 ∷ 255 ∷ []
+
+-- an Echo request to this socket, of this host or of every host
+pub record IsAnswered (own : Address) (p : PacketModel) : Type 0 where
+  pub kind : p.kind ≡ 2
+  pub request : echo_of p.body ≡ Ok (record { reply = false; body = drop 2 p.body })
+  pub socket : p.target.socket ≡ own.socket
+  pub host : (p.target.host ≡ own.host) ⊎ (p.target.host ≡ broadcast)
+
+-- a reply with the request's bytes goes to where the request came from
+unfoldable pub echo_reply : Address → PacketModel → List ℕ
+echo_reply own p = sent_packet 2 own p.source (echo_spelling (record { reply = true; body = drop 2 p.body }))
+
+-- the packet is the reply to a request: it comes from the one that was asked, goes to the one that asked, and carries the same bytes
+pub record IsReplyTo (own : Address) (request reply : PacketModel) : Type 0 where
+  pub kind : reply.kind ≡ 2
+  pub source : reply.source ≡ own
+  pub target : reply.target ≡ request.source
+  pub echoed : (bytes : List ℕ) → SpellsEcho (record { reply = false; body = bytes }) request.body → echo_of reply.body ≡ Ok (record { reply = true; body = bytes })

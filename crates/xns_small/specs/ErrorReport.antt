@@ -1,0 +1,60 @@
+-- The Error protocol (XSIS 028112, Error Protocol).
+use Rattle.std.specs.Prelude.{◌≡◌, ◌≢◌, ℕ, ◌<◌, ◌≤◌, ◌^◌, nat_lt, if◌then◌else◌, List, ◌++◌, length, drop, take, slice_index, slice_range, Result, Ok, Err}
+use Rattle.std.specs.Int.{w16, to_be_bytes}
+use Rattle.xns_idp.specs.Reading.{word_at, address_at}
+use Rattle.xns_idp.specs.declared.address.Address.{Address}
+use Rattle.xns_small.specs.Echo.{broadcast}
+use Rattle.xns_small.specs.Sending.{sent_packet}
+use Rattle.xns_small.specs.declared.error_report.ErrorReport.{ErrorReport}
+use Rattle.xns_small.specs.declared.fault.SmallFault.{SmallFault}
+use Rattle.xns_small.specs.declared.fault.SmallFault.TheVariants.{Short}
+
+-- an Error report without where the quoted bytes lie in memory
+pub record ErrorReportModel : Type 0 where
+  pub number : ℕ
+  pub parameter : ℕ
+  pub quoted : List ℕ
+
+abbrev pub error_report_model : ErrorReport → ErrorReportModel
+error_report_model v = record { number = v.number; parameter = v.parameter; quoted = v.quoted.now }
+
+-- the error number, the error parameter, and then what is quoted of the offending packet
+abbrev pub error_spelling : ErrorReportModel → List ℕ
+error_spelling v = to_be_bytes w16 v.number ++ to_be_bytes w16 v.parameter ++ v.quoted
+
+-- the bytes spell the report
+abbrev pub SpellsError : ErrorReportModel → List ℕ → Type 0
+SpellsError v bytes = bytes ≡ error_spelling v
+
+-- its numbers are within their types
+pub record IsErrorReport (v : ErrorReportModel) : Type 0 where
+  pub number : v.number < 2 ^ 16
+  pub parameter : v.parameter < 2 ^ 16
+
+-- the same report with no more quoted than the first 42 bytes: a header and twelve bytes
+abbrev pub with_front_quoted : ErrorReportModel → ErrorReportModel
+with_front_quoted v = record v { quoted = take 42 v.quoted }
+
+-- what the bytes are by the places of their fields, or their first fault
+unfoldable pub error_of : List ℕ → Result ErrorReportModel SmallFault
+error_of bytes =
+    if nat_lt (length bytes) 4 then Err (Short (length bytes))
+    else Ok (record { number = word_at bytes 0; parameter = word_at bytes 2; quoted = drop 4 bytes })
+
+-- what `read_error` answers, without where it lies in memory
+abbrev pub error_read : Result ErrorReport SmallFault → Result ErrorReportModel SmallFault
+error_read (Ok v) = Ok (error_report_model v)
+error_read (Err f) = Err f
+
+-- ---- the complaint
+
+-- a packet of which one may complain: it has a whole header, is no Error packet, and was not sent to every host
+pub record IsComplainedOf (offending : List ℕ) : Type 0 where
+  pub header : 30 ≤ length offending
+  pub kind : slice_index offending 5 ≢ 3
+  pub target : slice_range offending 10 16 ≢ broadcast
+
+-- an Error packet to the offending packet's source, by its place in the header, quoting its first 42 bytes
+unfoldable pub complaint : Address → ℕ → ℕ → List ℕ → List ℕ
+complaint own number parameter offending =
+    sent_packet 3 own (address_at offending 18) (error_spelling (record { number = number; parameter = parameter; quoted = take 42 offending }))

@@ -1,0 +1,4 @@
+pub mod Sending
+pub mod Echo
+pub mod ErrorReport
+pub mod Exchange

@@ -1,0 +1,74 @@
+ghost use Rattle.std.specs.Prelude.{◌≡◌, ◌+◌, ◌<◌, ◌≤◌, ◌++◌, length, take, IfOk, OnOk, OnErr, Ok, vec_len, vec_capacity};
+ghost use Rattle.xns_small.specs.ErrorReport.{ErrorReportModel, IsErrorReport, SpellsError, error_report_model, error_of, error_read, error_spelling, with_front_quoted};
+
+use crate::appending::append;
+use crate::fault::SmallFault;
+use crate::word::read_word;
+use std::alloc::{AllocError, Global};
+
+/// So many bytes of the offending packet are quoted at most: its header and twelve bytes.
+const QUOTED: usize = 42;
+
+/// An Error report, lent from a packet's body (XSIS 028112, Error Protocol).
+#[derive(Clone, Copy, Debug, PartialEq, Eq)]
+pub struct ErrorReport<'a> {
+    /// What is wrong: one of [`crate::error_number`], or another number.
+    pub number: u16,
+    /// What the number says more, as a greatest length in bytes; else 0.
+    pub parameter: u16,
+    /// The front of the offending packet, however many bytes there are.
+    pub quoted: &'a [u8],
+}
+
+/// Reads the body of an Error packet. An `Err` is [`SmallFault::Short`], for under 4 bytes.
+pub fn read_error(body: &[u8]) -> Result<ErrorReport<'_>, SmallFault>
+    ensures exact { error_read result ≡ error_of body.now }
+    ensures found { IfOk result (λ report. SpellsError (error_report_model report) body.now) }
+    ensures only { (report : ErrorReportModel) → IsErrorReport report → SpellsError report body.now → error_read result ≡ Ok report }
+{
+    read_report(body)
+}
+
+#[tactic(auto, unfolding(crate::specs::ErrorReport::error_of))]
+fn read_report(body: &[u8]) -> Result<ErrorReport<'_>, SmallFault>
+    ensures { error_read result ≡ error_of body.now }
+{
+    let have = body.len();
+    if have < 4 {
+        return Err(SmallFault::Short { have });
+    }
+    let (_, quoted) = body.split_at(4);
+    Ok(ErrorReport {
+        number: read_word(body, 0),
+        parameter: read_word(body, 2),
+        quoted,
+    })
+}
+
+/// Appends the body of an Error packet to `out`: of the quoted bytes the first 42, or all if there are fewer. The only error
+/// is want of memory, after which `out` is as it was.
+pub fn write_error(
+    _alloc: Global,
+    report: &ErrorReport<'_>,
+    out: &mut Vec<u8>,
+) -> Result<(), AllocError>
+    ensures ok { OnOk result (out.new.items ≡ out.old.items ++ error_spelling (with_front_quoted (error_report_model report.now))) }
+    ensures err { OnErr result (out.new.items ≡ out.old.items) }
+    // It is refused memory only where `out` has no room for the bytes.
+    ensures memory { OnErr result (vec_capacity out.old < vec_len out.old + (4 + length (take 42 report.now.quoted.now))) }
+{
+    let [n0, n1] = report.number.to_be_bytes();
+    let [p0, p1] = report.parameter.to_be_bytes();
+    append(out, &[n0, n1, p0, p1], front_of(report.quoted))
+}
+
+/// The first 42 bytes, or all if there are fewer.
+fn front_of(quoted: &[u8]) -> &[u8]
+    ensures front { result.now ≡ take 42 quoted.now }
+    ensures short { length result.now ≤ 42 }
+{
+    if quoted.len() <= QUOTED {
+        return quoted;
+    }
+    &quoted[..QUOTED]
+}

@@ -1,0 +1,68 @@
+ghost use Rattle.std.specs.Prelude.{◌≡◌, ◌≢◌, ◌≤◌, drop, false, length, IfOk, OnErr, MatchOption, Ok};
+ghost use Rattle.xns_idp.specs.Packet.{packet_model};
+ghost use Rattle.xns_small.specs.Echo.{EchoModel, IsAnswered, echo_of, echo_reply};
+
+use crate::echo::{Echo, read_echo, write_echo};
+use crate::host::is_broadcast;
+use crate::sending::sent_packet;
+use std::alloc::{AllocError, Global};
+use xns_idp::{Address, Packet};
+
+/// The packet type of Echo.
+const ECHO: u8 = 2;
+
+/// Answers an Echo request: the whole bytes of the reply, a summed packet from `own` to the request's source with the
+/// request's bytes (XSIS 028112, Echo Protocol).
+///
+/// `None` means that there is nothing to answer: the packet is of another type, its body is no request, its target is another
+/// socket, or another host and not every host. The only error is want of memory.
+#[tactic(auto, unfolding(crate::specs::Echo::echo_reply))]
+pub fn answer_echo(
+    alloc: Global,
+    own: Address,
+    packet: &Packet<'_>,
+) -> Result<Option<Vec<u8>>, AllocError>
+    requires { length packet.now.body.now ≤ 546 }
+    ensures answer { IfOk result (λ answer. MatchOption answer (IsAnswered own (packet_model packet.now) → ⊥)
+        (λ reply. IsAnswered own (packet_model packet.now) × (reply.items ≡ echo_reply own (packet_model packet.now)))) }
+    // It is refused memory only where there is something to answer.
+    ensures memory { OnErr result (IsAnswered own (packet_model packet.now)) }
+{
+    let Some(echoed) = echoed_data(own, packet) else {
+        return Ok(None);
+    };
+    let echo = Echo {
+        reply: true,
+        body: echoed,
+    };
+    let mut body = Vec::new(alloc);
+    write_echo(alloc, &echo, &mut body)?;
+    let reply = sent_packet(alloc, ECHO, own, packet.source, body.as_slice())?;
+    Ok(Some(reply))
+}
+
+/// The bytes to echo, if the packet is a request to be answered.
+fn echoed_data<'a>(own: Address, packet: &Packet<'a>) -> Option<&'a [u8]>
+    ensures { MatchOption result (IsAnswered own (packet_model packet.now) → ⊥)
+        (λ bytes. IsAnswered own (packet_model packet.now) × (bytes.now ≡ drop 2 packet.now.body.now)) }
+{
+    if packet.kind != ECHO || packet.target.socket != own.socket {
+        return None;
+    }
+    if packet.target.host != own.host && !is_broadcast(packet.target.host) {
+        return None;
+    }
+    requested_data(packet.body)
+}
+
+/// The bytes of a request.
+fn requested_data(body: &[u8]) -> Option<&[u8]>
+    ensures { MatchOption result (echo_of body.now ≢ Ok (record { reply = false; body = drop 2 body.now }))
+        (λ bytes. (echo_of body.now ≡ Ok (record { reply = false; body = drop 2 body.now })) × (bytes.now ≡ drop 2 body.now)) }
+{
+    let echo = read_echo(body).ok()?;
+    if echo.reply {
+        return None;
+    }
+    Some(echo.body)
+}

@@ -1,0 +1,97 @@
+ghost use Rattle.std.specs.Prelude.{◌≡◌, ◌≢◌, ◌<◌, ◌≤◌, drop, length, IfOk, MatchOption};
+ghost use Rattle.xns_idp.specs.Packet.{packet_model};
+ghost use Rattle.xns_idp.specs.Reading.{long_at};
+ghost use Rattle.xns_small.specs.Echo.{broadcast};
+ghost use Rattle.xns_small.specs.Exchange.{IsResponse, requester_asking};
+
+use crate::exchange::{Exchange, read_exchange, write_exchange};
+use crate::sending::sent_packet;
+use std::alloc::{AllocError, Global};
+use std::marker::Model;
+use xns_idp::{Address, Packet};
+
+/// The packet type of Packet Exchange.
+const PACKET_EXCHANGE: u8 = 4;
+
+/// The asking side of one packet exchange (XSIS 028112, Packet Exchange Protocol). It holds the request, to be sent until the
+/// response comes, and knows the response when it sees it.
+#[derive(Drop)]
+pub struct Requester {
+    asked: Address,
+    id: u32,
+    packet: Vec<u8>,
+}
+
+impl Model for Requester {
+    ghost use Rattle.xns_small.specs.Exchange.{RequesterModel};
+
+    ghost Value = { RequesterModel };
+
+    ghost view = { λ r. record { asked = r.asked; id = r.id; packet = r.packet.items } };
+}
+
+impl Requester {
+    /// Makes the request from `own` to `target`, with a transaction identifier, a client type and at most 540 bytes. The target is
+    /// not every host. The only error is want of memory.
+    #[tactic(auto, unfolding(crate::specs::Exchange::asking_packet))]
+    pub fn request(
+        alloc: Global,
+        own: Address,
+        target: Address,
+        id: u32,
+        client: u16,
+        body: &[u8],
+    ) -> Result<Requester, AllocError>
+        requires size { length body.now ≤ 540 }
+        requires one_host { target.host ≢ broadcast }
+        ensures { IfOk result (λ requester. requester ≡ requester_asking own target id client body.now) }
+    {
+        let exchange = Exchange { id, client, body };
+        let mut written = Vec::new(alloc);
+        write_exchange(alloc, &exchange, &mut written)?;
+        let packet = sent_packet(alloc, PACKET_EXCHANGE, own, target, written.as_slice())?;
+        Ok(Requester {
+            asked: target,
+            id,
+            packet,
+        })
+    }
+
+    /// The bytes of the request packet, the same each time: to be sent, and sent again until the response comes.
+    pub fn try_again(&self) -> &[u8]
+        ensures { result.now ≡ self.now.packet }
+    {
+        self.packet.as_slice()
+    }
+
+    /// The bytes of the response.
+    ///
+    /// `None` means that the packet is not the response: it is of another type, has a body under 6 bytes, comes from another host
+    /// or socket than was asked, or carries another identifier. Network numbers are not compared.
+    pub fn accept<'a>(&self, packet: &Packet<'a>) -> Option<&'a [u8]>
+        ensures { MatchOption result (IsResponse self.now (packet_model packet.now) → ⊥)
+            (λ bytes. IsResponse self.now (packet_model packet.now) × (bytes.now ≡ drop 6 packet.now.body.now)) }
+    {
+        let source = packet.source;
+        if packet.kind != PACKET_EXCHANGE
+            || source.host != self.asked.host
+            || source.socket != self.asked.socket
+        {
+            return None;
+        }
+        let exchange = exchange_in(packet.body)?;
+        if exchange.id != self.id {
+            return None;
+        }
+        Some(exchange.body)
+    }
+}
+
+/// What the bytes are, if there are enough of them.
+#[tactic(auto, unfolding(crate::specs::Exchange::exchange_of))]
+fn exchange_in(body: &[u8]) -> Option<Exchange<'_>>
+    ensures { MatchOption result (length body.now < 6)
+        (λ exchange. (6 ≤ length body.now) × (exchange.id ≡ long_at body.now 0) × (exchange.body.now ≡ drop 6 body.now)) }
+{
+    read_exchange(body).ok()
+}

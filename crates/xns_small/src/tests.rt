@@ -1,0 +1,265 @@
+//! The three protocols with values from outside.
+use super::*;
+use std::alloc::Global;
+use std::test::Fail;
+use xns_idp::{Address, Packet, decode};
+
+/// The asking host.
+const ASKING: Address = Address {
+    network: 1,
+    host: [0, 0, 0xaa, 0, 3, 4],
+    socket: 0x400,
+};
+
+/// The asked host, at its Echo socket.
+const ASKED: Address = Address {
+    network: 1,
+    host: [0, 0, 0xaa, 0, 1, 2],
+    socket: 2,
+};
+
+/// The asked host, at a service's socket.
+const SERVICE: Address = Address { socket: 5, ..ASKED };
+
+/// An Echo request from `ASKING` to `ASKED`, worked out by hand from the standard.
+const ECHO_REQUEST: [u8; 34] = [
+    0x53, 0x23, 0x00, 0x22, 0x00, 0x02, 0x00, 0x00, 0x00, 0x01, 0x00, 0x00, 0xaa, 0x00, 0x01, 0x02,
+    0x00, 0x02, 0x00, 0x00, 0x00, 0x01, 0x00, 0x00, 0xaa, 0x00, 0x03, 0x04, 0x04, 0x00, 0x00, 0x01,
+    0x48, 0x69,
+];
+
+/// The reply to it.
+const ECHO_REPLY: [u8; 34] = [
+    0x17, 0x27, 0x00, 0x22, 0x00, 0x02, 0x00, 0x00, 0x00, 0x01, 0x00, 0x00, 0xaa, 0x00, 0x03, 0x04,
+    0x04, 0x00, 0x00, 0x00, 0x00, 0x01, 0x00, 0x00, 0xaa, 0x00, 0x01, 0x02, 0x00, 0x02, 0x00, 0x02,
+    0x48, 0x69,
+];
+
+/// A packet exchange request from `ASKING` to `SERVICE`.
+const EXCHANGE_REQUEST: [u8; 38] = [
+    0x76, 0xea, 0x00, 0x26, 0x00, 0x04, 0x00, 0x00, 0x00, 0x01, 0x00, 0x00, 0xaa, 0x00, 0x01, 0x02,
+    0x00, 0x05, 0x00, 0x00, 0x00, 0x01, 0x00, 0x00, 0xaa, 0x00, 0x03, 0x04, 0x04, 0x00, 0x00, 0x01,
+    0x00, 0x02, 0x00, 0x03, 0xaa, 0xbb,
+];
+
+/// An Echo packet from `ASKING`.
+fn echo_to(target: Address, body: &[u8]) -> Packet<'_> {
+    Packet {
+        summed: true,
+        control: 0,
+        kind: 2,
+        target,
+        source: ASKING,
+        body,
+    }
+}
+
+/// Whether `ASKED` answers the packet.
+fn is_answered(alloc: Global, packet: &Packet<'_>) -> Result<bool, Fail> {
+    if packet.body.len() > 546 {
+        return Ok(false);
+    }
+    Ok(answer_echo(alloc, ASKED, packet)?.is_some())
+}
+
+#[test]
+fn a_request_is_answered_with_a_right_sum(rt: HostRuntime) -> Result<(), Fail> {
+    let (request, _) = decode(&ECHO_REQUEST).ok().ok_or("no packet")?;
+    assert!(rt; request.body.len() <= 546);
+    let reply = answer_echo(rt.alloc(), ASKED, &request)?.ok_or("no reply")?;
+    assert_eq!(rt; reply.as_slice(), ECHO_REPLY.as_slice());
+    Ok(())
+}
+
+#[test]
+fn only_requests_to_this_socket_of_this_host_or_of_every_host_are_answered(
+    rt: HostRuntime,
+) -> Result<(), Fail> {
+    let request = [0, 1, 0x48, 0x69];
+    let every_host = Address {
+        host: [255; 6],
+        ..ASKED
+    };
+    let other_host = Address {
+        host: [0, 0, 0xaa, 0, 1, 3],
+        ..ASKED
+    };
+    let other_network = Address {
+        network: 9,
+        ..ASKED
+    };
+    let cases = [
+        (echo_to(ASKED, &request), true),
+        (echo_to(every_host, &request), true),
+        (echo_to(other_network, &request), true),
+        (echo_to(other_host, &request), false),
+        (echo_to(SERVICE, &request), false),
+        (echo_to(ASKED, &[0, 2, 0x48, 0x69]), false),
+        (echo_to(ASKED, &[0]), false),
+        (
+            Packet {
+                kind: 4,
+                ..echo_to(ASKED, &request)
+            },
+            false,
+        ),
+    ];
+    for (packet, answered) in &cases {
+        assert_eq!(rt; is_answered(rt.alloc(), packet)?, *answered);
+    }
+    Ok(())
+}
+
+#[test]
+fn a_reply_is_not_answered(rt: HostRuntime) -> Result<(), Fail> {
+    let (reply, _) = decode(&ECHO_REPLY).ok().ok_or("no packet")?;
+    assert!(rt; reply.body.len() <= 546);
+    assert!(rt; answer_echo(rt.alloc(), ASKING, &reply)?.is_none());
+    Ok(())
+}
+
+#[test]
+fn a_damaged_packet_is_complained_of_to_its_source(rt: HostRuntime) -> Result<(), Fail> {
+    let alloc = rt.alloc();
+    let mut damaged = ECHO_REQUEST;
+    damaged[30..].copy_from_slice(&[0x48, 0x69, 0x00, 0x01]);
+    let complaint = complain(alloc, ASKED, error_number::BAD_CHECKSUM, 0, &damaged)?.ok_or(
+        "no complaint",
+    )?;
+    assert_eq!(rt; complaint.len(), 68);
+    let (packet, _) = decode(complaint.as_slice()).ok().ok_or("no packet")?;
+    assert_eq!(rt; packet.kind, 3);
+    assert_eq!(rt; packet.target, ASKING);
+    assert_eq!(rt; packet.source, ASKED);
+    let report = read_error(packet.body).ok().ok_or("no report")?;
+    assert_eq!(rt; report.number, 1);
+    assert_eq!(rt; report.parameter, 0);
+    assert_eq!(rt; report.quoted, damaged.as_slice());
+    assert!(rt; complain(alloc, ASKING, 1, 0, complaint.as_slice())?.is_none());
+    damaged[10..16].copy_from_slice(&[255; 6]);
+    assert!(rt; complain(alloc, ASKED, 1, 0, &damaged)?.is_none());
+    assert!(rt; complain(alloc, ASKED, 1, 0, &damaged[..29])?.is_none());
+    Ok(())
+}
+
+#[test]
+fn padding_behind_the_offending_packet_is_quoted_as_given(rt: HostRuntime) -> Result<(), Fail> {
+    let mut padded = ECHO_REQUEST.to_vec(rt.alloc())?;
+    padded.extend_from_slice(&[0; 12])?;
+    let complaint = complain(rt.alloc(), ASKED, 0, 0, padded.as_slice())?.ok_or("no complaint")?;
+    let (packet, _) = decode(complaint.as_slice()).ok().ok_or("no packet")?;
+    let report = read_error(packet.body).ok().ok_or("no report")?;
+    assert_eq!(rt; report.quoted.len(), 42);
+    assert_eq!(rt; report.quoted, &padded.as_slice()[..42]);
+    Ok(())
+}
+
+#[test]
+fn a_requester_asks_the_same_each_time_and_knows_its_response(rt: HostRuntime) -> Result<(), Fail> {
+    let requester = Requester::request(rt.alloc(), ASKING, SERVICE, 0x0001_0002, 3, &[0xaa, 0xbb])?;
+    assert_eq!(rt; requester.try_again(), EXCHANGE_REQUEST.as_slice());
+    assert_eq!(rt; requester.try_again(), EXCHANGE_REQUEST.as_slice());
+    let body = [0, 1, 0, 2, 0, 4, 0xcc];
+    let response = Packet {
+        kind: 4,
+        target: ASKING,
+        source: SERVICE,
+        ..echo_to(ASKING, &body)
+    };
+    assert_eq!(rt; requester.accept(&response), Some([0xcc].as_slice()));
+    let other_network = Packet {
+        source: Address {
+            network: 9,
+            ..SERVICE
+        },
+        ..response
+    };
+    assert_eq!(rt; requester.accept(&other_network), Some([0xcc].as_slice()));
+    let refused = [
+        Packet {
+            body: &[0, 1, 0, 3, 0, 4, 0xcc],
+            ..response
+        },
+        Packet {
+            body: &[0, 1, 0, 2, 0],
+            ..response
+        },
+        Packet {
+            source: Address {
+                socket: 6,
+                ..SERVICE
+            },
+            ..response
+        },
+        Packet {
+            source: Address {
+                host: [0, 0, 0xaa, 0, 3, 4],
+                ..SERVICE
+            },
+            ..response
+        },
+        Packet {
+            kind: 2,
+            ..response
+        },
+    ];
+    for packet in &refused {
+        assert!(rt; requester.accept(packet).is_none());
+    }
+    Ok(())
+}
+
+#[test]
+fn short_bodies_and_other_operations_are_refused(rt: HostRuntime) {
+    assert_eq!(rt; read_echo(&[0]).err(), Some(SmallFault::Short { have: 1 }));
+    assert_eq!(rt;
+        read_echo(&[0, 3]).err(),
+        Some(SmallFault::EchoOperation { found: 3 })
+    );
+    assert_eq!(rt;
+        read_error(&[0, 0, 0]).err(),
+        Some(SmallFault::Short { have: 3 })
+    );
+    assert_eq!(rt;
+        read_exchange(&[0, 0, 0, 0, 0]).err(),
+        Some(SmallFault::Short { have: 5 })
+    );
+}
+
+#[test]
+fn bodies_are_appended(rt: HostRuntime) -> Result<(), Fail> {
+    let mut out = vec![in rt.alloc(); 0xaa]?;
+    write_echo(
+        rt.alloc(),
+        &Echo {
+            reply: false,
+            body: &[0x48, 0x69],
+        },
+        &mut out,
+    )?;
+    write_exchange(
+        rt.alloc(),
+        &Exchange {
+            id: 1,
+            client: 2,
+            body: &[],
+        },
+        &mut out,
+    )?;
+    assert_eq!(rt;
+        out.as_slice(),
+        [0xaa, 0, 1, 0x48, 0x69, 0, 0, 0, 1, 0, 2].as_slice()
+    );
+    let mut quoting = Vec::new(rt.alloc());
+    write_error(
+        rt.alloc(),
+        &ErrorReport {
+            number: 2,
+            parameter: 0,
+            quoted: &[7; 44],
+        },
+        &mut quoting,
+    )?;
+    assert_eq!(rt; quoting.len(), 46);
+    Ok(())
+}

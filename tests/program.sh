@@ -1,0 +1,135 @@
+#!/bin/sh
+# Checks the built program: its exit statuses, what it writes, and that it says one line on standard error where it ends with 2 or 3.
+# Its last line is 'N passed, M failed', and it ends with 1 where one failed. It builds the program first.
+set -u
+cd "$(dirname "$0")/.."
+crate=crates/xns
+program=$PWD/$crate/out/xns
+work=$(mktemp -d)
+trap 'rm -rf "$work"' EXIT
+passed=0
+failed=0
+
+(cd $crate && rt run -- dump < stdin) > "$work/build" 2>&1
+if [ ! -x "$program" ]; then
+    cat "$work/build"
+    echo "no program at $program"
+    exit 1
+fi
+
+# The status, the line on standard error (empty: nothing is said) and the file of standard output (-: any) of the last run.
+expect() {
+    name=$1 status=$2 line=$3 output=$4
+    if [ -n "$line" ]; then printf '%s\n' "$line"; fi > "$work/expected"
+    if [ "$ended" -eq "$status" ] && cmp -s "$work/expected" "$work/err" && { [ "$output" = - ] || cmp -s "$output" "$work/out"; }; then
+        passed=$((passed + 1))
+    else
+        failed=$((failed + 1))
+        echo "FAILED $name: status $ended and not $status, standard error:"
+        cat "$work/err"
+    fi
+}
+
+# The program on the words, with $work/in as standard input.
+run() {
+    "$program" "$@" < "$work/in" > "$work/out" 2> "$work/err"
+    ended=$?
+}
+
+# How many lines of one byte.
+repeat() {
+    head -c "$1" /dev/zero | tr '\0' "$2"
+}
+
+# ---- what is printed, with 0 and 1
+
+cat $crate/stdin > "$work/in"
+run dump
+expect 'a packet' 0 '' $crate/stdout
+
+: > "$work/in"
+: > "$work/text"
+run dump
+expect 'no input' 0 '' "$work/text"
+
+echo 5g > "$work/in"
+echo '1 hex refused Digit 1' > "$work/text"
+run dump
+expect 'a refused line' 1 '' "$work/text"
+
+repeat 65536 '\n' > "$work/in"
+run dump
+expect '65,536 lines' 1 '' -
+
+repeat 4096 ' ' > "$work/in"
+echo '1 idp refused Short 0' > "$work/text"
+run dump
+expect 'a line of 4,096 bytes' 1 '' "$work/text"
+
+# ---- faults, with 3
+
+{ echo 48 && repeat 4097 ' '; } > "$work/in"
+echo '1 idp refused Short 1' > "$work/text"
+run dump
+expect 'a line of 4,097 bytes after a good one' 3 'xns: line too long' "$work/text"
+
+{ echo 48 && sleep 1 && repeat 4097 ' '; } | "$program" dump > "$work/out" 2> "$work/err"
+ended=$?
+expect 'the same in two pieces' 3 'xns: line too long' "$work/text"
+
+repeat 65537 '\n' > "$work/in"
+run dump
+expect '65,537 lines' 3 'xns: too many lines' -
+lines=$(wc -l < "$work/out")
+printf '' > "$work/err"
+ended=$lines
+expect 'the text of 65,536 lines' 65536 '' -
+
+cat $crate/stdin > "$work/in"
+"$program" dump < "$work/in" > /dev/full 2> "$work/err"
+ended=$?
+expect 'a full device' 3 'xns: write fault' -
+
+"$program" dump < "$work/in" >&- 2> "$work/err"
+ended=$?
+expect 'a closed writer' 3 'xns: write fault' -
+
+: > "$work/text"
+"$program" dump < / > "$work/out" 2> "$work/err"
+ended=$?
+expect 'a directory as reader' 3 'xns: read fault' "$work/text"
+
+"$program" dump <&- > "$work/out" 2> "$work/err"
+ended=$?
+expect 'a closed reader' 3 'xns: read fault' "$work/text"
+
+# ---- the command line, with 2, and help, with 0
+
+: > "$work/in"
+run
+expect 'no subcommand' 2 "error: 'xns' requires a subcommand but one was not provided" "$work/text"
+
+run sim
+expect 'another subcommand' 2 "error: unrecognized subcommand 'sim'" "$work/text"
+
+run dump file
+expect 'a word too many' 2 "error: unexpected argument 'file' found" "$work/text"
+
+run dump --loud
+expect 'an option that is none' 2 "error: unexpected argument '--loud' found" "$work/text"
+
+run "$(printf 'dump\377')"
+expect 'a word that is not UTF-8' 2 'error: a word of the command line is not UTF-8' "$work/text"
+
+for words in --help -h 'dump --help' 'help' 'help dump'; do
+    # shellcheck disable=SC2086
+    run $words
+    expect "$words" 0 '' -
+    if grep -q '^Usage: xns' "$work/out"; then passed=$((passed + 1)); else
+        failed=$((failed + 1))
+        echo "FAILED $words: no usage on standard output"
+    fi
+done
+
+echo "$passed passed, $failed failed"
+[ "$failed" -eq 0 ]
