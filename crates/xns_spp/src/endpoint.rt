@@ -49,6 +49,11 @@ impl Endpoint {
     ghost use Rattle.xns_spp.specs.Sending.{send_answer, after_send, take_answer, after_take, is_full, waiting_count, flush_answer, after_flush, tick_answer, after_tick};
     ghost use Rattle.xns_spp.specs.State.{State, new_state, initiator_state, responder_state};
 
+    /// An end that begins a connection. It isn't open: `tick` gives its opening packet, until the peer has replied.
+    ///
+    /// `own` and `id` are its own address and connection identifier, `peer` where the opening packet goes to.
+    /// At most `window` items wait to be handed up, and at most `backlog` are unacknowledged.
+    /// The only error is want of memory.
     pub fn initiator(
         alloc: Global,
         own: Address,
@@ -62,11 +67,10 @@ impl Endpoint {
         requires backlog { (1 ≤ backlog) × (backlog ≤ 64) }
         ensures { IfOk result (λ e. StandsFor e (initiator_state own id peer window backlog)) }
     {
-        let role = Role::Initiator;
         Endpoint::new(
             alloc,
             Ends {
-                role,
+                role: Role::Initiator,
                 own,
                 id,
                 peer,
@@ -77,6 +81,9 @@ impl Endpoint {
         )
     }
 
+    /// An end that answers an opening packet from `peer`, whose identifier is `peer_id`. It is open.
+    ///
+    /// The other arguments are those of `initiator`. The only error is want of memory.
     pub fn responder(
         alloc: Global,
         own: Address,
@@ -92,11 +99,10 @@ impl Endpoint {
         requires backlog { (1 ≤ backlog) × (backlog ≤ 64) }
         ensures { IfOk result (λ e. StandsFor e (responder_state own id peer peer_id window backlog)) }
     {
-        let role = Role::Responder;
         Endpoint::new(
             alloc,
             Ends {
-                role,
+                role: Role::Responder,
                 own,
                 id,
                 peer,
@@ -107,6 +113,7 @@ impl Endpoint {
         )
     }
 
+    /// An end whose rings are made, once and for all.
     fn new(alloc: Global, ends: Ends) -> Result<Endpoint, AllocError>
         requires id { 0 < ends.id }
         requires window { (1 ≤ ends.window) × (ends.window ≤ 64) }
@@ -132,7 +139,7 @@ impl Endpoint {
         })
     }
 
-    /// Why the item would be refused.
+    /// Why the item is refused: the first reason that holds.
     fn send_fault(&self, item: &Item) -> Option<SendFault>
         ensures { result ≡ fault_with self.now.ends self.now.numbers item.now }
     {
@@ -150,7 +157,10 @@ impl Endpoint {
         }
     }
 
-    /// Accepts an item, or hands it back with the reason.
+    /// Accepts an item, which `flush` and `tick` then send. It takes no memory.
+    ///
+    /// A refused item comes back with the reason, and the endpoint is as it was: `TooLong`, a body of more than 534 bytes;
+    /// `AttentionSize`, an attention item without exactly one byte; `Exhausted`, 65,535 items were accepted; `Full`, the backlog is full.
     pub fn send(&mut self, item: Item) -> Result<(), (SendFault, Item)>
         ensures answer { (s : State) → StandsFor self.old s → result ≡ send_answer s item }
         ensures stands { (s : State) → StandsFor self.old s → StandsFor self.new (after_send s item) }
@@ -164,7 +174,7 @@ impl Endpoint {
         Ok(())
     }
 
-    /// Hands up the next item.
+    /// Hands up the next item. `None` where none waits. It takes no memory.
     pub fn take(&mut self) -> Option<Item>
         ensures answer { (s : State) → StandsFor self.old s → result ≡ take_answer s }
         ensures stands { (s : State) → StandsFor self.old s → StandsFor self.new (after_take s) }
@@ -174,25 +184,28 @@ impl Endpoint {
         Some(item)
     }
 
+    /// Whether the peer is known: of a responder always, of an initiator once it has read the peer's reply.
     pub fn is_open(&self) -> bool
         ensures { (s : State) → StandsFor self.now s → result ≡ is_open s.ends }
     {
         self.ends.is_open()
     }
 
+    /// Whether `send` would answer `Exhausted` or `Full`.
     pub fn is_full(&self) -> bool
         ensures { (s : State) → StandsFor self.now s → result ≡ is_full s }
     {
         self.numbers.accepted == 65_535 || self.unacknowledged.is_full()
     }
 
+    /// How many items wait to be handed up.
     pub fn waiting(&self) -> usize
         ensures { (s : State) → StandsFor self.now s → result ≡ waiting_count s }
     {
         self.waiting.len()
     }
 
-    /// Moves to later numbers, with the item that was taken.
+    /// Moves on to later numbers, with the item that was taken.
     fn advance(&mut self, ends: Ends, numbers: Numbers, item: Option<Item>)
         requires bounds { IsBounded self.old.ends.window self.old.ends.backlog numbers }
         requires ends { (ends.window ≡ self.old.ends.window) × (ends.backlog ≡ self.old.ends.backlog) }
@@ -213,7 +226,10 @@ impl Endpoint {
         }
     }
 
-    /// Takes in bytes that came. Where memory is refused, nothing has changed.
+    /// Takes in the bytes of a packet: learns the peer, hears what it acknowledges and allows, and takes the item.
+    ///
+    /// What became of the packet is the answer; a reply in it is to be sent. The only error is want of memory, after which the
+    /// endpoint is as it was, as if the packet were lost; memory is asked for only where an item is taken or a reply is given.
     pub fn receive(&mut self, alloc: Global, bytes: &[u8]) -> Result<Received, AllocError>
         ensures answer { IfOk result (λ r. (s : State) → StandsFor self.old s → r ≡ receive_answer s bytes.now) }
         ensures stands { OnOk result ((s : State) → StandsFor self.old s → StandsFor self.new (after_receive s bytes.now)) }
@@ -241,7 +257,7 @@ impl Endpoint {
         })
     }
 
-    /// The packets of the items from `from` up to `to`.
+    /// The packets of the items from number `from` up to number `to`, which is left out.
     fn data_from(&self, alloc: Global, from: u64, to: u64) -> Result<Vec<Bytes>, AllocError>
         requires from { (self.now.numbers.acknowledged ≤ from) × (from ≤ to) }
         requires to { to ≤ self.now.numbers.accepted }
@@ -254,7 +270,9 @@ impl Endpoint {
         make_all(alloc, &self.ends, numbers, &self.unacknowledged, first, end)
     }
 
-    /// The packets of the items that may go out for the first time.
+    /// The packets of the items that may go out for the first time, none before the end is open.
+    ///
+    /// The only error is want of memory, after which the endpoint is as it was; none is asked for where there is no packet.
     pub fn flush(&mut self, alloc: Global) -> Result<Vec<Bytes>, AllocError>
         ensures answer { IfOk result (λ v. (s : State) → StandsFor self.old s → v.items ≡ flush_answer s) }
         ensures stands { OnOk result ((s : State) → StandsFor self.old s → StandsFor self.new (after_flush s)) }
@@ -270,7 +288,7 @@ impl Endpoint {
         Ok(packets)
     }
 
-    /// The opening packet, or a probe.
+    /// The opening packet, or a probe of a peer that allows nothing.
     fn probe(&self, alloc: Global) -> Result<Vec<Bytes>, AllocError>
         ensures { IfOk result (λ v. v.items ≡ spp_packet_spelling (system_with self.now.ends self.now.numbers 192) ∷ []) }
     {
@@ -280,7 +298,10 @@ impl Endpoint {
         Ok(packets)
     }
 
-    /// The packets to send again.
+    /// The packets of the items that are not yet acknowledged and may go out, to be called when time has passed.
+    ///
+    /// In place of these comes one system packet that asks for a reply where the end isn't open, or where it has items of which
+    /// none may go out. The only error is want of memory, as for `flush`.
     pub fn tick(&mut self, alloc: Global) -> Result<Vec<Bytes>, AllocError>
         ensures answer { IfOk result (λ v. (s : State) → StandsFor self.old s → v.items ≡ tick_answer s) }
         ensures stands { OnOk result ((s : State) → StandsFor self.old s → StandsFor self.new (after_tick s)) }
@@ -303,7 +324,7 @@ impl Endpoint {
         Ok(Vec::new(alloc))
     }
 
-    /// Whether the bytes are a packet of the connection.
+    /// Whether the bytes are a packet of the connection, which `receive` would not drop as `NotIdp`, `NotSpp` or `NotOurs`.
     pub fn is_ours(&self, bytes: &[u8]) -> bool
         ensures { (s : State) → StandsFor self.now s → result ≡ is_ours s bytes.now }
     {
