@@ -1,0 +1,12 @@
+pub mod Lists
+pub mod Headers
+pub mod Written
+pub mod Packets
+pub mod Arriving
+pub mod States
+pub mod Reading
+pub mod Rings
+pub mod Steps
+pub mod Receives
+pub mod Again
+pub mod Own

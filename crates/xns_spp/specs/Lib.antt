@@ -1,0 +1,10 @@
+pub mod Header
+pub mod Packet
+pub mod Item
+pub mod Ends
+pub mod State
+pub mod Sending
+pub mod Receiving
+pub mod Held
+pub mod Arrival
+pub mod Inside
