@@ -6,3 +6,4 @@ pub mod Pairs
 pub mod Stopping
 pub mod Takes
 pub mod Writes
+pub mod WordsInHex

@@ -4,5 +4,6 @@ pub mod Dumper
 pub mod Line
 pub mod Lines
 pub mod Packets
+pub mod Sequenced
 pub mod Small
 pub mod Text

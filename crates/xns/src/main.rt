@@ -14,6 +14,7 @@ pub mod modes;
 mod numbers;
 mod packets;
 mod reporter;
+mod sequenced;
 mod small;
 mod writing;
 
