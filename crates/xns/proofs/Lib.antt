@@ -1,9 +1,10 @@
 pub mod Blanks
 pub mod Cuts
 pub mod Headers
-pub mod Refusals
+pub mod Joined
 pub mod Pairs
+pub mod Refusals
 pub mod Stopping
 pub mod Takes
-pub mod Writes
 pub mod WordsInHex
+pub mod Writes

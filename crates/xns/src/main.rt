@@ -10,6 +10,7 @@ mod digits;
 mod dumper;
 pub mod dumping;
 pub mod fault;
+pub mod laws;
 pub mod modes;
 mod numbers;
 mod packets;
