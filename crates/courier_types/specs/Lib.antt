@@ -1,0 +1,6 @@
+pub mod Shape
+pub mod Value
+pub mod Spelling
+pub mod Reading
+pub mod Fault
+pub mod Check
