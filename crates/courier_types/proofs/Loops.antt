@@ -9,7 +9,8 @@ use Rattle.courier_types.specs.declared.shape.Shape.{Shape, Choice, the_lemmas}
 use Rattle.courier_types.specs.declared.value.Value.{Value}
 use Rattle.courier_types.specs.Shape.{ShapeModel, ShapeModels, no_shapes, shape_and, MemberModels, no_members, member_and, shape_model, shape_models, member_models}
 use Rattle.courier_types.specs.Value.{ValueModel, ValueModels, no_values, value_and, value_model, value_models}
-use Rattle.courier_types.specs.Reading.{Fault, ◌>>=◌, Fails, Reader, over, word_at, bytes_at, reading_times, reading, reading_fields, reading_member}
+use Rattle.courier_types.specs.Source.{Fails}
+use Rattle.courier_types.specs.Reading.{Fault, ◌>>=◌, Reader, over, word_at, bytes_at, reading_times, reading, reading_fields, reading_member}
 
 -- ---- bytes
 
@@ -54,12 +55,17 @@ bytes_none (suc n) f [] e = same_fault (ℕ × List ℕ) (List ℕ × List ℕ) 
 bytes_none zero f (w ∷ ws) e = absurd cc
 bytes_none (suc n) f (w ∷ ws) e = absurd cc
 
+bytes_fail_at : (f : Fault) (front : List ℕ) (left : ℕ) (ws : List ℕ) (total : Result (List ℕ × List ℕ) Fault) → 0 < left → word_at ws ≡ Err f
+    → with_bytes front (bytes_at left ws) ≡ total → total ≡ Err f
+bytes_fail_at f front left ws total lt h so_far =
+    let k : left ≡ suc (left - 1) = omega arith in
+    sym so_far ∙ ap (λ n. with_bytes front (bytes_at n ws)) k ∙ ap (with_bytes front) (bytes_none (left - 1) f ws h)
+
 pub bytes_end : (e : Stop) (front : List ℕ) (left : ℕ) (ws : List ℕ) (total : Result (List ℕ × List ℕ) Fault) → 0 < left → Fails e (word_at ws)
     → with_bytes front (bytes_at left ws) ≡ total → Fails e total
 bytes_end stops.NoMemory front left ws total lt h so_far = tt
-bytes_end (stops.Fault n r) front left ws total lt h so_far =
-    let k : left ≡ suc (left - 1) = omega arith in
-    sym so_far ∙ ap (λ n. with_bytes front (bytes_at n ws)) k ∙ ap (with_bytes front) (bytes_none (left - 1) (n, r) ws h)
+bytes_end stops.Truncated front left ws total lt h so_far = bytes_fail_at (0, Truncated) front left ws total lt h so_far
+bytes_end (stops.WrongWord n r) front left ws total lt h so_far = bytes_fail_at (n + 1, r) front left ws total lt h so_far
 
 -- ---- values
 
@@ -94,7 +100,8 @@ one_more first more front v after total h so_far =
 one_fails : (e : Stop) (first : Result (ValueModel × List ℕ) Fault) (more : Reader ValueModels) (front : List Value) (total : Result (ValueModels × List ℕ) Fault) → Fails e first
     → with_values front (then_read first more) ≡ total → Fails e total
 one_fails stops.NoMemory first more front total h so_far = tt
-one_fails (stops.Fault n r) first more front total h so_far = sym so_far ∙ ap (λ r. with_values front (then_read r more)) h
+one_fails stops.Truncated first more front total h so_far = sym so_far ∙ ap (λ r. with_values front (then_read r more)) h
+one_fails (stops.WrongWord n r) first more front total h so_far = sym so_far ∙ ap (λ r. with_values front (then_read r more)) h
 
 done : (front : List Value) (ws : List ℕ) (total : Result (ValueModels × List ℕ) Fault) → with_values front (Ok (no_values, ws)) ≡ total → total ≡ Ok (value_models front, ws)
 done front ws total so_far = sym so_far ∙ ap (λ (vs : ValueModels). Ok (vs, ws)) (before-none front)

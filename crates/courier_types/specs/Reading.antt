@@ -3,8 +3,6 @@ use Rattle.std.specs.Prelude.{◌≡◌, ℕ, zero, suc, ◌+◌, ◌*◌, ◌/�
 use Rattle.std.specs.Int.{w16, w32, cast_signed}
 use Rattle.courier_types.specs.declared.fault.Reason.{Reason}
 use Rattle.courier_types.specs.declared.fault.Reason.TheVariants.{Truncated, NotBoolean, NotListed, OverMaximum}
-use Rattle.courier_types.specs.declared.fault.Stop.{Stop}
-use Rattle.courier_types.specs.declared.fault.Stop.TheVariants as stops
 use Rattle.courier_types.specs.Spelling.{is_listed}
 use Rattle.courier_types.specs.Shape.{ShapeModel, ShapeModels, no_shapes, shape_and, MemberModels, no_members, member_and}
 use Rattle.courier_types.specs.Value.{ValueModel, ValueModels, no_values, value_and}
@@ -16,15 +14,6 @@ infixl 10 ◌>>=◌
 abbrev pub ◌>>=◌ : {A B : Type 0} → Result A Fault → (A → Result B Fault) → Result B Fault
 (Ok x) >>= f = f x
 (Err e) >>= f = Err e
-
--- What a function returned, seen by view, is what reading gives, unless memory ran out.
-abbrev pub Fails : {Y : Type 0} → Stop → Result Y Fault → Type 0
-Fails stops.NoMemory read = Unit {0}
-Fails (stops.Fault left reason) read = read ≡ Err (left, reason)
-
-abbrev pub Gives : {X Y : Type 0} → (X → Y) → Result X Stop → Result Y Fault → Type 0
-Gives view (Ok x) read = read ≡ Ok (view x)
-Gives view (Err e) read = Fails e read
 
 abbrev pub word_at : List ℕ → Result (ℕ × List ℕ) Fault
 word_at [] = Err (0, Truncated)

@@ -1,9 +1,16 @@
 -- Which words spell a value of a shape (XSIS 038112, Courier, Standard representation).
 use Rattle.std.specs.Prelude.{◌≡◌, ◌≢◌, ◌⊎◌, ℕ, zero, suc, ◌+◌, ◌*◌, ◌/◌, ◌%◌, ◌^◌, ◌<◌, ◌≤◌, List, [], ◌∷◌, ◌++◌, length, Bool, true, false, ◌==◌}
-use Rattle.std.specs.List.{list_any}
+use Rattle.std.specs.List.{All, list_any}
 use Rattle.std.specs.Int.{w16, w32, cast_signed, cast_unsigned}
 use Rattle.courier_types.specs.Shape.{ShapeModel, ShapeModels, no_shapes, shape_and, MemberModels, no_members, member_and}
 use Rattle.courier_types.specs.Value.{ValueModel, ValueModels, no_values, value_and, count}
+
+-- numbers below 256, and below 65536
+abbrev pub AreBytes : List ℕ → Type 0
+AreBytes bytes = All (λ b. b < 2 ^ 8) bytes
+
+abbrev pub AreWords : List ℕ → Type 0
+AreWords words = All (λ w. w < 2 ^ 16) words
 
 abbrev pub bit : Bool → ℕ
 bit false = 0

@@ -2,9 +2,10 @@ ghost use Rattle.courier_types.specs.Shape.{shape_model};
 ghost use Rattle.courier_types.specs.Fault.{Reads};
 ghost use Rattle.courier_types.specs.Check.{IsChecked};
 
-use crate::fault::{ReadFault, ReadRefusal, Stop};
-use crate::reading::value_of;
+use crate::fault::{ReadFault, ReadRefusal, Reason, Stop};
+use crate::reading::read_value;
 use crate::shape::Shape;
+use crate::source::{SliceWords, WordSource};
 use crate::value::Value;
 use std::alloc::Global;
 
@@ -17,10 +18,15 @@ pub fn read(
     requires { IsChecked (shape_model shape.now) }
     ensures { Reads (shape_model shape.now) words.now result }
 {
-    match value_of(alloc, shape, words) {
-        Ok((value, rest)) => Ok((value, words.len() - rest.len())),
-        Err(Stop::Fault(left, reason)) => Err(ReadRefusal::Fault(ReadFault {
-            place: words.len() - left,
+    let mut source = SliceWords { words };
+    match read_value(alloc, shape, &mut source) {
+        Ok(value) => Ok((value, words.len() - source.left())),
+        Err(Stop::Truncated) => Err(ReadRefusal::Fault(ReadFault {
+            place: words.len(),
+            reason: Reason::Truncated,
+        })),
+        Err(Stop::WrongWord { behind, reason }) => Err(ReadRefusal::Fault(ReadFault {
+            place: words.len() - behind - 1,
             reason,
         })),
         Err(Stop::NoMemory) => Err(ReadRefusal::NoMemory),

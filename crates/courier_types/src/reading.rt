@@ -1,232 +1,203 @@
-ghost use Rattle.std.specs.Prelude.{◌≡◌, List, length, IfOk, Ok};
+//! Values read from a source of words, from left to right.
+
+ghost use Rattle.std.specs.Prelude.{◌≡◌, List, length};
 ghost use Rattle.courier_types.specs.Shape.{shape_model, shape_models, member_models};
 ghost use Rattle.courier_types.specs.Value.{value_model, value_models};
-ghost use Rattle.courier_types.specs.Reading.{Gives, word_at, long_at, bit_at, listed_at, bytes_at, text_at, reading_times, reading_counted, reading_choice, reading, reading_fields, reading_member};
+ghost use Rattle.courier_types.specs.Reading.{word_at, long_at, bit_at, listed_at, bytes_at, text_at, reading_times, reading_counted, reading_choice, reading, reading_fields, reading_member};
+ghost use Rattle.courier_types.specs.Source.{Gives};
 
 use crate::fault::{Reason, Stop};
 use crate::shape::Shape;
+use crate::source::WordSource;
 use crate::value::Value;
 use std::alloc::Global;
 
-fn word_of(words: &[u16]) -> Result<(u16, &[u16]), Stop>
-    ensures { Gives (λ x. (x.0, x.1.now)) result (word_at words.now) }
+fn read_word<S: WordSource>(source: &mut S) -> Result<u16, Stop>
+    ensures { Gives (λ x. x) result (S.words_left source.new) (word_at (S.words_left source.old)) }
 {
-    match words {
-        [] => Err(Stop::Fault(0, Reason::Truncated)),
-        [word, rest @ ..] => Ok((*word, rest)),
+    match source.next_word() {
+        Some(word) => Ok(word),
+        None => Err(Stop::Truncated),
     }
 }
 
 #[tactic(auto, unfolding(crate::specs::Reading::long_at))]
-fn long_of(words: &[u16]) -> Result<(u32, &[u16]), Stop>
-    ensures { Gives (λ x. (x.0, x.1.now)) result (long_at words.now) }
+fn read_long<S: WordSource>(source: &mut S) -> Result<u32, Stop>
+    ensures { Gives (λ x. x) result (S.words_left source.new) (long_at (S.words_left source.old)) }
 {
-    let (high, rest) = word_of(words)?;
-    let (low, rest) = word_of(rest)?;
-    Ok((u32::from(high) * 65536 + u32::from(low), rest))
+    let high = read_word(source)?;
+    let low = read_word(source)?;
+    Ok(u32::from(high) * 65536 + u32::from(low))
 }
 
-fn bit_of(words: &[u16]) -> Result<(bool, &[u16]), Stop>
-    ensures { Gives (λ x. (x.0, x.1.now)) result (bit_at words.now) }
+fn read_boolean<S: WordSource>(source: &mut S) -> Result<bool, Stop>
+    ensures { Gives (λ x. x) result (S.words_left source.new) (bit_at (S.words_left source.old)) }
 {
-    match words {
-        [] => Err(Stop::Fault(0, Reason::Truncated)),
-        [0, rest @ ..] => Ok((false, rest)),
-        [1, rest @ ..] => Ok((true, rest)),
-        [_, ..] => Err(Stop::Fault(words.len(), Reason::NotBoolean)),
+    match source.next_word() {
+        Some(0) => Ok(false),
+        Some(1) => Ok(true),
+        Some(_) => Err(Stop::WrongWord {
+            behind: source.left(),
+            reason: Reason::NotBoolean,
+        }),
+        None => Err(Stop::Truncated),
     }
 }
 
 #[tactic(auto, unfolding(crate::specs::Reading::listed_at))]
-fn listed_of<'a>(listed: &[u16], words: &'a [u16]) -> Result<(u16, &'a [u16]), Stop>
-    ensures { Gives (λ x. (x.0, x.1.now)) result (listed_at listed.now words.now) }
+fn read_listed<S: WordSource>(listed: &[u16], source: &mut S) -> Result<u16, Stop>
+    ensures { Gives (λ x. x) result (S.words_left source.new) (listed_at listed.now (S.words_left source.old)) }
 {
-    match words {
-        [] => Err(Stop::Fault(0, Reason::Truncated)),
-        [word, rest @ ..] => {
-            if listed.contains(word) {
-                Ok((*word, rest))
-            } else {
-                Err(Stop::Fault(words.len(), Reason::NotListed))
-            }
-        }
+    match source.next_word() {
+        Some(word) if listed.contains(&word) => Ok(word),
+        Some(_) => Err(Stop::WrongWord {
+            behind: source.left(),
+            reason: Reason::NotListed,
+        }),
+        None => Err(Stop::Truncated),
     }
 }
 
-fn bytes_of(alloc: Global, count: u16, words: &[u16]) -> Result<(Vec<u8>, &[u16]), Stop>
-    ensures { Gives (λ x. (x.0.items, x.1.now)) result (bytes_at count words.now) }
+fn read_bytes<S: WordSource>(alloc: Global, count: u16, source: &mut S) -> Result<Vec<u8>, Stop>
+    ensures { Gives (λ x. x.items) result (S.words_left source.new) (bytes_at count (S.words_left source.old)) }
 {
     let mut bytes = Vec::new(alloc);
-    let mut rest = words;
     let mut left = count;
     while left > 0 {
-        let (word, after) = word_of(rest)?;
+        let word = read_word(source)?;
         bytes.push((word / 256) as u8)?;
         if left == 1 {
-            return Ok((bytes, after));
+            return Ok(bytes);
         }
         bytes.push((word % 256) as u8)?;
         left -= 2;
-        rest = after;
     }
-    Ok((bytes, rest))
+    Ok(bytes)
 }
 
 #[tactic(auto, unfolding(crate::specs::Reading::text_at))]
-fn text_of(alloc: Global, words: &[u16]) -> Result<(Vec<u8>, &[u16]), Stop>
-    ensures { Gives (λ x. (x.0.items, x.1.now)) result (text_at words.now) }
+fn read_text<S: WordSource>(alloc: Global, source: &mut S) -> Result<Vec<u8>, Stop>
+    ensures { Gives (λ x. x.items) result (S.words_left source.new) (text_at (S.words_left source.old)) }
 {
-    let (count, rest) = word_of(words)?;
-    bytes_of(alloc, count, rest)
+    let count = read_word(source)?;
+    read_bytes(alloc, count, source)
 }
 
 #[cycle(read)]
-fn values_of<'a>(
+fn read_values<S: WordSource>(
     alloc: Global,
     element: &Shape,
     count: u16,
-    words: &'a [u16],
-) -> Result<(Vec<Value>, &'a [u16]), Stop>
-    ensures { Gives (λ x. (value_models x.0.items, x.1.now)) result (reading_times (reading (shape_model element.now)) count words.now) }
+    source: &mut S,
+) -> Result<Vec<Value>, Stop>
+    ensures { Gives (λ x. value_models x.items) result (S.words_left source.new) (reading_times (reading (shape_model element.now)) count (S.words_left source.old)) }
 {
     let mut values = Vec::new(alloc);
-    let mut rest = words;
     for _ in 0..count {
-        let (value, after) = value_of(alloc, element, rest)?;
-        values.push(value)?;
-        rest = after;
+        values.push(read_value(alloc, element, source)?)?;
     }
-    Ok((values, rest))
+    Ok(values)
 }
 
 #[cycle(read)]
-fn fields_of<'a>(
+fn read_fields<S: WordSource>(
     alloc: Global,
     parts: &[Shape],
-    words: &'a [u16],
-) -> Result<(Vec<Value>, &'a [u16]), Stop>
-    ensures { Gives (λ x. (value_models x.0.items, x.1.now)) result (reading_fields (shape_models parts.now) words.now) }
+    source: &mut S,
+) -> Result<Vec<Value>, Stop>
+    ensures { Gives (λ x. value_models x.items) result (S.words_left source.new) (reading_fields (shape_models parts.now) (S.words_left source.old)) }
 {
     let mut values = Vec::new(alloc);
-    let mut rest = words;
     for part in parts {
-        let (value, after) = value_of(alloc, part, rest)?;
-        values.push(value)?;
-        rest = after;
+        values.push(read_value(alloc, part, source)?)?;
     }
-    Ok((values, rest))
+    Ok(values)
 }
 
 #[cycle(read)]
-fn member_of<'a>(
+fn read_member<S: WordSource>(
     alloc: Global,
     members: &[(u16, Shape)],
     designator: u16,
-    words: &'a [u16],
-) -> Result<(Value, &'a [u16]), Stop>
-    ensures { Gives (λ x. (value_model x.0, x.1.now)) result (reading_member (member_models members.now) designator words.now) }
+    source: &mut S,
+) -> Result<Value, Stop>
+    ensures { Gives value_model result (S.words_left source.new) (reading_member (member_models members.now) designator (S.words_left source.old)) }
 {
     for member in members {
         if member.0 == designator {
-            return value_of(alloc, &member.1, words);
+            return read_value(alloc, &member.1, source);
         }
     }
-    Err(Stop::Fault(words.len() + 1, Reason::NotListed))
-}
-
-#[cycle(read)]
-#[tactic(auto, unfolding(crate::specs::Reading::reading))]
-pub fn value_of<'a>(
-    alloc: Global,
-    shape: &Shape,
-    words: &'a [u16],
-) -> Result<(Value, &'a [u16]), Stop>
-    ensures { Gives (λ x. (value_model x.0, x.1.now)) result (reading (shape_model shape.now) words.now) }
-{
-    match shape {
-        Shape::Boolean => {
-            let (bit, rest) = bit_of(words)?;
-            Ok((Value::Boolean(bit), rest))
-        }
-        Shape::Cardinal => {
-            let (word, rest) = word_of(words)?;
-            Ok((Value::Cardinal(word), rest))
-        }
-        Shape::LongCardinal => {
-            let (long, rest) = long_of(words)?;
-            Ok((Value::LongCardinal(long), rest))
-        }
-        Shape::Integer => {
-            let (word, rest) = word_of(words)?;
-            Ok((Value::Integer(word.cast_signed()), rest))
-        }
-        Shape::LongInteger => {
-            let (long, rest) = long_of(words)?;
-            Ok((Value::LongInteger(long.cast_signed()), rest))
-        }
-        Shape::Unspecified => {
-            let (word, rest) = word_of(words)?;
-            Ok((Value::Unspecified(word), rest))
-        }
-        Shape::Text => {
-            let (text, rest) = text_of(alloc, words)?;
-            Ok((Value::Text(text), rest))
-        }
-        Shape::Enumeration(listed) => {
-            let (word, rest) = listed_of(listed, words)?;
-            Ok((Value::Enumeration(word), rest))
-        }
-        Shape::Array(count, element) => {
-            let (values, rest) = values_of(alloc, element, *count, words)?;
-            Ok((Value::Array(values), rest))
-        }
-        Shape::Sequence(most, element) => {
-            let (values, rest) = counted_of(alloc, element, *most, words)?;
-            Ok((Value::Sequence(values), rest))
-        }
-        Shape::Fields(parts) => {
-            let (values, rest) = fields_of(alloc, parts, words)?;
-            Ok((Value::Fields(values), rest))
-        }
-        Shape::Choice(members) => choice_of(alloc, members, words),
-    }
+    Err(Stop::WrongWord {
+        behind: source.left(),
+        reason: Reason::NotListed,
+    })
 }
 
 #[cycle(read)]
 #[tactic(auto, unfolding(crate::specs::Reading::reading_counted))]
-fn counted_of<'a>(
+fn read_sequence<S: WordSource>(
     alloc: Global,
     element: &Shape,
     most: u16,
-    words: &'a [u16],
-) -> Result<(Vec<Value>, &'a [u16]), Stop>
-    ensures { Gives (λ x. (value_models x.0.items, x.1.now)) result (reading_counted (reading (shape_model element.now)) most words.now) }
+    source: &mut S,
+) -> Result<Vec<Value>, Stop>
+    ensures { Gives (λ x. value_models x.items) result (S.words_left source.new) (reading_counted (reading (shape_model element.now)) most (S.words_left source.old)) }
 {
-    match words {
-        [] => Err(Stop::Fault(0, Reason::Truncated)),
-        [count, rest @ ..] => {
-            if *count > most {
-                return Err(Stop::Fault(words.len(), Reason::OverMaximum));
-            }
-            values_of(alloc, element, *count, rest)
-        }
+    match source.next_word() {
+        Some(count) if count <= most => read_values(alloc, element, count, source),
+        Some(_) => Err(Stop::WrongWord {
+            behind: source.left(),
+            reason: Reason::OverMaximum,
+        }),
+        None => Err(Stop::Truncated),
     }
 }
 
 #[cycle(read)]
 #[tactic(auto, unfolding(crate::specs::Reading::reading_choice))]
-fn choice_of<'a>(
+fn read_choice<S: WordSource>(
     alloc: Global,
     members: &[(u16, Shape)],
-    words: &'a [u16],
-) -> Result<(Value, &'a [u16]), Stop>
-    ensures { Gives (λ x. (value_model x.0, x.1.now)) result (reading_choice (reading_member (member_models members.now)) words.now) }
+    source: &mut S,
+) -> Result<Value, Stop>
+    ensures { Gives value_model result (S.words_left source.new) (reading_choice (reading_member (member_models members.now)) (S.words_left source.old)) }
 {
-    match words {
-        [] => Err(Stop::Fault(0, Reason::Truncated)),
-        [designator, rest @ ..] => {
-            let (value, rest) = member_of(alloc, members, *designator, rest)?;
-            Ok((Value::Choice(*designator, Box::new(alloc, value)?), rest))
+    match source.next_word() {
+        Some(designator) => {
+            let value = read_member(alloc, members, designator, source)?;
+            Ok(Value::Choice(designator, Box::new(alloc, value)?))
         }
+        None => Err(Stop::Truncated),
+    }
+}
+
+/// Reads a value of the shape.
+#[cycle(read)]
+#[tactic(auto, unfolding(crate::specs::Reading::reading))]
+pub fn read_value<S: WordSource>(
+    alloc: Global,
+    shape: &Shape,
+    source: &mut S,
+) -> Result<Value, Stop>
+    ensures { Gives value_model result (S.words_left source.new) (reading (shape_model shape.now) (S.words_left source.old)) }
+{
+    match shape {
+        Shape::Boolean => Ok(Value::Boolean(read_boolean(source)?)),
+        Shape::Cardinal => Ok(Value::Cardinal(read_word(source)?)),
+        Shape::LongCardinal => Ok(Value::LongCardinal(read_long(source)?)),
+        Shape::Integer => Ok(Value::Integer(read_word(source)?.cast_signed())),
+        Shape::LongInteger => Ok(Value::LongInteger(read_long(source)?.cast_signed())),
+        Shape::Unspecified => Ok(Value::Unspecified(read_word(source)?)),
+        Shape::Text => Ok(Value::Text(read_text(alloc, source)?)),
+        Shape::Enumeration(listed) => Ok(Value::Enumeration(read_listed(listed, source)?)),
+        Shape::Array(count, element) => {
+            Ok(Value::Array(read_values(alloc, element, *count, source)?))
+        }
+        Shape::Sequence(most, element) => {
+            Ok(Value::Sequence(read_sequence(alloc, element, *most, source)?))
+        }
+        Shape::Fields(parts) => Ok(Value::Fields(read_fields(alloc, parts, source)?)),
+        Shape::Choice(members) => read_choice(alloc, members, source),
     }
 }
