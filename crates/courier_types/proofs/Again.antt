@@ -1,5 +1,5 @@
 -- What spells a value is read as that value, whatever follows.
-use Rattle.std.proofs.Common.{◌≡◌, ℕ, zero, suc, ◌-◌, ◌+◌, ◌*◌, ◌/◌, ◌%◌, ◌^◌, ◌≤◌, ◌<◌, Bool, true, false, cond, List, [], ◌∷◌, ◌++◌, length, Result, Ok, Err, refl, sym, ap, ◌∙◌, append_assoc, arith, inl, inr}
+use Rattle.std.proofs.Common.{◌≡◌, ℕ, zero, suc, ◌+◌, ◌*◌, ◌/◌, ◌%◌, ◌^◌, ◌≤◌, ◌<◌, Bool, true, false, cond, List, [], ◌∷◌, ◌++◌, length, Result, Ok, Err, refl, sym, ap, ◌∙◌, append_assoc, arith, inl, inr}
 use Rattle.std.proofs.lemmas.Bool.{le-ltb}
 use Rattle.std.specs.Int.{w16, w32, cast_signed}
 use Rattle.courier_types.specs.declared.fault.Reason.TheVariants.{NotListed, OverMaximum}
@@ -73,6 +73,7 @@ again_chosen one d x w rest h = ap (over (ValueModel.choice d)) h
 
 mutual
   unfolding reading
+
   pub again : (f : ShapeModel) (v : ValueModel) (w rest : List ℕ) → SpellsValue f v w → reading f (w ++ rest) ≡ got v rest
   again ShapeModel.boolean v w rest s = leaf ValueModel.boolean bit_at s.0 v w rest (bit s.0 ∷ []) s.1 s.2 (again_bit s.0 rest)
   again ShapeModel.cardinal v w rest s = leaf ValueModel.cardinal word_at s.0 v w rest (s.0 ∷ []) s.2 s.3 refl

@@ -1,13 +1,12 @@
 -- Reading as the loops do: what was read before, and what is still read.
-use Rattle.std.proofs.Common.{◌≡◌, ℕ, zero, suc, ◌-◌, ◌+◌, ◌*◌, ◌/◌, ◌%◌, ◌≤◌, ◌<◌, Bool, true, false, cond, List, [], ◌∷◌, ◌++◌, length, drop, Result, Ok, Err, refl, sym, ap, ◌∙◌, append_assoc, arith, rules, eq-eqb, ne_eqb, Vec, Global}
-use Rattle.std.proofs.lemmas.List.{append-nil, drop_more}
-use Rattle.courier_types.specs.declared.fault.Reason.{Reason}
+use Rattle.std.proofs.Common.{◌≡◌, ℕ, zero, suc, ◌-◌, ◌+◌, ◌/◌, ◌%◌, ◌≤◌, ◌<◌, Bool, cond, List, [], ◌∷◌, ◌++◌, length, drop, Result, Ok, Err, refl, sym, ap, ◌∙◌, append_assoc, arith, rules, eq-eqb, ne_eqb, Vec, Global}
+use Rattle.std.proofs.lemmas.List.{append-nil}
 use Rattle.courier_types.specs.declared.fault.Reason.TheVariants.{NotListed, Truncated}
 use Rattle.courier_types.specs.declared.fault.Stop.{Stop}
 use Rattle.courier_types.specs.declared.fault.Stop.TheVariants as stops
 use Rattle.courier_types.specs.declared.shape.Shape.{Shape, Choice, the_lemmas}
 use Rattle.courier_types.specs.declared.value.Value.{Value}
-use Rattle.courier_types.specs.Shape.{ShapeModel, ShapeModels, no_shapes, shape_and, MemberModels, no_members, member_and, shape_model, shape_models, member_models}
+use Rattle.courier_types.specs.Shape.{ShapeModel, MemberModels, member_and, shape_model, shape_models, member_models}
 use Rattle.courier_types.specs.Value.{ValueModel, ValueModels, no_values, value_and, value_model, value_models}
 use Rattle.courier_types.specs.Source.{Fails}
 use Rattle.courier_types.specs.Reading.{Fault, ◌>>=◌, Reader, over, word_at, bytes_at, reading_times, reading, reading_fields, reading_member}

@@ -1,10 +1,35 @@
 -- A checked shape has members wherever it wants one.
-use Rattle.std.proofs.Common.{◌≡◌, ℕ, ltb, Bool, true, false, cond, List, [], ◌∷◌, Option, Some, None, refl}
+use Rattle.std.proofs.Common.{◌≡◌, ltb, Bool, true, false, cond, [], ◌∷◌, Option, Some, None, refl}
 use Rattle.courier_types.specs.declared.fault.ShapeFault.{ShapeFault}
 use Rattle.courier_types.specs.declared.fault.ShapeFault.TheVariants.{TooDeep}
 use Rattle.courier_types.specs.Shape.{ShapeModel, ShapeModels, no_shapes, shape_and, MemberModels, no_members, member_and}
 use Rattle.courier_types.specs.Check.{depth, wordless, element_fault, members_fault, designators, first_fault, faults_of_parts, faults_of_members, or_else, IsChecked}
-use Rattle.courier_types.specs.Fault.{HasMembers, AllHaveMembers, EachHasMembers}
+
+-- each enumeration and each choice has a member
+abbrev mutual
+  pub HasMembers : ShapeModel → Type 0
+  HasMembers ShapeModel.boolean = Unit {0}
+  HasMembers ShapeModel.cardinal = Unit {0}
+  HasMembers ShapeModel.long_cardinal = Unit {0}
+  HasMembers ShapeModel.integer = Unit {0}
+  HasMembers ShapeModel.long_integer = Unit {0}
+  HasMembers ShapeModel.unspecified = Unit {0}
+  HasMembers ShapeModel.text = Unit {0}
+  HasMembers (ShapeModel.enumeration []) = ⊥
+  HasMembers (ShapeModel.enumeration (n ∷ listed)) = Unit {0}
+  HasMembers (ShapeModel.array n element) = HasMembers element
+  HasMembers (ShapeModel.sequence most element) = HasMembers element
+  HasMembers (ShapeModel.fields parts) = AllHaveMembers parts
+  HasMembers (ShapeModel.choice no_members) = ⊥
+  HasMembers (ShapeModel.choice (member_and d f members)) = HasMembers f × EachHasMembers members
+
+  pub AllHaveMembers : ShapeModels → Type 0
+  AllHaveMembers no_shapes = Unit {0}
+  AllHaveMembers (shape_and f fs) = HasMembers f × AllHaveMembers fs
+
+  pub EachHasMembers : MemberModels → Type 0
+  EachHasMembers no_members = Unit {0}
+  EachHasMembers (member_and d f cs) = HasMembers f × EachHasMembers cs
 
 neither : (a b : Option ShapeFault) → or_else a b ≡ None → (a ≡ None) × (b ≡ None)
 neither None b e = (refl, e)

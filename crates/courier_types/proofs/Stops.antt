@@ -1,18 +1,20 @@
 -- Reading stops after the longest front that begins a spelling.
-use Rattle.std.proofs.Common.{◌≡◌, ℕ, zero, suc, ◌-◌, ◌+◌, ◌*◌, ◌/◌, ◌%◌, ◌^◌, ◌≤◌, ◌<◌, Bool, true, false, cond, eqb, ltb, List, [], ◌∷◌, ◌++◌, length, get_or, Result, Ok, Err, refl, sym, ap, subst, ◌∙◌, append_assoc, arith, inl, inr, ◌⊎◌}
+use Rattle.std.proofs.Common.{◌≡◌, ℕ, zero, suc, ◌+◌, ◌*◌, ◌/◌, ◌%◌, ◌^◌, ◌<◌, Bool, true, false, cond, ltb, List, [], ◌∷◌, ◌++◌, length, Result, Ok, Err, refl, sym, ap, subst, ◌∙◌, append_assoc, arith, inl, inr, ◌⊎◌}
 use Rattle.std.proofs.lemmas.Bool.{cases_eq, ltb-false}
 use Rattle.std.proofs.lemmas.List.{append-nil}
 use Rattle.std.specs.Int.{w16, w32, cast_signed}
 use Rattle.courier_types.specs.declared.fault.Reason.{Reason}
 use Rattle.courier_types.specs.declared.fault.Reason.TheVariants.{Truncated, NotBoolean, NotListed, OverMaximum}
 use Rattle.courier_types.specs.Shape.{ShapeModel, ShapeModels, no_shapes, shape_and, MemberModels, no_members, member_and}
-use Rattle.courier_types.specs.Value.{ValueModel, ValueModels, no_values, value_and}
-use Rattle.courier_types.specs.Spelling.{bit, SpellsBytes, is_listed, SpellsValue, SpellsThen, SpellsTimes, SpellsFields, SpellsMember}
+use Rattle.courier_types.specs.Value.{ValueModel, ValueModels, value_and}
+use Rattle.courier_types.specs.Spelling.{AreWords, SpellsBytes, is_listed, SpellsValue, SpellsThen, SpellsTimes, SpellsFields, SpellsMember}
 use Rattle.courier_types.specs.Reading.{Fault, ◌>>=◌, Reader, over, word_at, long_at, bit_at, listed_at, bytes_at, text_at, reading_times, reading_counted, reading_choice, reading, reading_fields, reading_member}
-use Rattle.courier_types.specs.Fault.{Begins, AsksThen, AsksTimes, Asks, AsksFields, AsksMember, HasMembers, AllHaveMembers, EachHasMembers}
+use Rattle.courier_types.specs.Fault.{Begins, AsksThen, AsksTimes, Asks, AsksFields, AsksMember}
+use Rattle.courier_types.proofs.Sound.{HasMembers, AllHaveMembers, EachHasMembers}
 use Rattle.courier_types.proofs.Loops.{failed, same_fault, at_member, past_member}
-use Rattle.courier_types.proofs.Again.{got, again, again_fields}
-use Rattle.courier_types.proofs.Takes.{AreWords, tail_words, parts_of, Takes, takes, takes_fields}
+use Rattle.courier_types.proofs.Again.{got, again}
+use Rattle.courier_types.proofs.Words.{head_word, tail_words}
+use Rattle.courier_types.proofs.Takes.{parts_of, Takes, takes}
 use Rattle.courier_types.proofs.Some.{Some_of, some_times, some_value, some_fields}
 
 -- the end of the words, or a word that is wrong whatever follows it
@@ -111,13 +113,13 @@ long_fails (x ∷ y ∷ ws) d e = absurd cc
 long_cardinal_begins : (ws : List ℕ) → AreWords ws → (ws ≡ []) ⊎ ((x : ℕ) × (ws ≡ x ∷ [])) → Begins (SpellsValue ShapeModel.long_cardinal) ws
 long_cardinal_begins ws fits (inl e) = subst (λ u. Begins (SpellsValue ShapeModel.long_cardinal) u) (sym e) (some_value ShapeModel.long_cardinal tt)
 long_cardinal_begins ws fits (inr s) =
-    let small : s.0 < 2 ^ 16 = subst AreWords s.1 fits 0 in
+    let small : s.0 < 2 ^ 16 = head_word s.0 [] (subst AreWords s.1 fits) in
     subst (λ u. Begins (SpellsValue ShapeModel.long_cardinal) u) (sym s.1) (ValueModel.long_cardinal (s.0 * 2 ^ 16 + 0), 0 ∷ [], (s.0, 0, small, omega arith, refl, refl))
 
 long_integer_begins : (ws : List ℕ) → AreWords ws → (ws ≡ []) ⊎ ((x : ℕ) × (ws ≡ x ∷ [])) → Begins (SpellsValue ShapeModel.long_integer) ws
 long_integer_begins ws fits (inl e) = subst (λ u. Begins (SpellsValue ShapeModel.long_integer) u) (sym e) (some_value ShapeModel.long_integer tt)
 long_integer_begins ws fits (inr s) =
-    let small : s.0 < 2 ^ 16 = subst AreWords s.1 fits 0 in
+    let small : s.0 < 2 ^ 16 = head_word s.0 [] (subst AreWords s.1 fits) in
     subst (λ u. Begins (SpellsValue ShapeModel.long_integer) u) (sym s.1) (ValueModel.long_integer (cast_signed w32 (s.0 * 2 ^ 16 + 0)), 0 ∷ [], (s.0, 0, small, omega arith, refl, refl))
 
 listed_fails : {A : Type 0} (b : Bool) (x : A) (y d : Fault) → cond b (Ok x) (failed y) ≡ failed d → (b ≡ false) × (y ≡ d)
@@ -151,11 +153,11 @@ bytes_fail (suc zero) (w ∷ ws) d fits e = absurd cc
 bytes_fail (suc (suc n)) (w ∷ ws) d fits e =
     elim (bind_fails (bytes_at n ws) (λ t. Ok (w / 256 ∷ w % 256 ∷ t.0, t.1)) d e) [
       | inl h ↦
-        let t = bytes_fail n ws d (tail_words w ws fits) h in
-        let small : w < 2 ^ 16 = fits 0 in
-        let p : Packed n ws = t.1 in
-        let made : SpellsBytes (w / 256 ∷ w % 256 ∷ p.0) (w ∷ (ws ++ p.1)) = (ws ++ p.1, omega arith, omega arith, ap (λ (x : ℕ). x ∷ (ws ++ p.1)) (parts_of w), p.3) in
-        (t.0, (w / 256 ∷ w % 256 ∷ p.0, p.1, ap (λ k. suc (suc k)) p.2, made))
+          let t = bytes_fail n ws d (tail_words w ws fits) h in
+          let small : w < 2 ^ 16 = head_word w ws fits in
+          let p : Packed n ws = t.1 in
+          let made : SpellsBytes (w / 256 ∷ w % 256 ∷ p.0) (w ∷ (ws ++ p.1)) = (ws ++ p.1, omega arith, omega arith, ap (λ (x : ℕ). x ∷ (ws ++ p.1)) (parts_of w), p.3) in
+          (t.0, (w / 256 ∷ w % 256 ∷ p.0, p.1, ap (λ k. suc (suc k)) p.2, made))
       | inr h ↦ absurd (never_fails (w / 256 ∷ w % 256 ∷ h.0.0, h.0.1) d h.2)
     ]
 
@@ -165,7 +167,7 @@ text_stops [] d fits e = at_end (SpellsValue ShapeModel.text) (Asks ShapeModel.t
 text_stops (n ∷ ws) d fits e =
     let t = bytes_fail n ws d (tail_words n ws fits) e in
     let p : Packed n ws = t.1 in
-    let small : n < 2 ^ 16 = fits 0 in
+    let small : n < 2 ^ 16 = head_word n ws fits in
     at_all (SpellsValue ShapeModel.text) (Asks ShapeModel.text) (reading ShapeModel.text) d (n ∷ ws)
     (ValueModel.text p.0, p.1, (p.0, ws ++ p.1, omega (arith, p.2), refl, ap (λ k. k ∷ (ws ++ p.1)) (sym p.2), p.3)) t.0
 
@@ -243,14 +245,14 @@ sequence_stops most f [] d h k fits e = at_end (SpellsValue (ShapeModel.sequence
 sequence_stops most f (n ∷ ws) d h k fits e =
     elim (if_fails (ltb most n) (length ws + 1, OverMaximum) (reading_times (reading f) n ws) d e) [
       | inl g ↦
-        at_first (SpellsValue (ShapeModel.sequence most f)) (Asks (ShapeModel.sequence most f)) (reading (ShapeModel.sequence most f)) d n ws OverMaximum (some_value (ShapeModel.sequence most f) h) (inl (refl, refl))
-        (λ ys. ap (λ (b : Bool). over ValueModel.sequence (cond b (failed (length ys + 1, OverMaximum)) (reading_times (reading f) n ys))) g.0) g.1
+          at_first (SpellsValue (ShapeModel.sequence most f)) (Asks (ShapeModel.sequence most f)) (reading (ShapeModel.sequence most f)) d n ws OverMaximum (some_value (ShapeModel.sequence most f) h) (inl (refl, refl))
+          (λ ys. ap (λ (b : Bool). over ValueModel.sequence (cond b (failed (length ys + 1, OverMaximum)) (reading_times (reading f) n ys))) g.0) g.1
       | inr g ↦
-        behind (SpellsTimes (SpellsValue f) n) (AsksTimes (SpellsValue f) (Asks f) n) (reading_times (reading f) n) (SpellsValue (ShapeModel.sequence most f)) (Asks (ShapeModel.sequence most f)) (reading (ShapeModel.sequence most f)) (n ∷ []) ws (n ∷ ws) d refl
-        (λ front b. (ValueModel.sequence b.0, b.1, (n, b.0, front ++ b.1, ltb-false most n g.0, refl, refl, b.2)))
-        (λ front r a. inr (n, front, refl, a))
-        (λ us x r. ap (λ (b : Bool). over ValueModel.sequence (cond b (failed (length us + 1, OverMaximum)) (reading_times (reading f) n us))) g.0 ∙ ap (over ValueModel.sequence) r)
-        (k n ws d (tail_words n ws fits) g.1)
+          behind (SpellsTimes (SpellsValue f) n) (AsksTimes (SpellsValue f) (Asks f) n) (reading_times (reading f) n) (SpellsValue (ShapeModel.sequence most f)) (Asks (ShapeModel.sequence most f)) (reading (ShapeModel.sequence most f)) (n ∷ []) ws (n ∷ ws) d refl
+          (λ front b. (ValueModel.sequence b.0, b.1, (n, b.0, front ++ b.1, ltb-false most n g.0, refl, refl, b.2)))
+          (λ front r a. inr (n, front, refl, a))
+          (λ us x r. ap (λ (b : Bool). over ValueModel.sequence (cond b (failed (length us + 1, OverMaximum)) (reading_times (reading f) n us))) g.0 ∙ ap (over ValueModel.sequence) r)
+          (k n ws d (tail_words n ws fits) g.1)
     ]
 
 -- ---- members
@@ -265,14 +267,14 @@ choice_stops cs [] d h k fits e = at_end (SpellsValue (ShapeModel.choice cs)) (A
 choice_stops cs (x ∷ ws) d h k fits e =
     elim (k x ws d (tail_words x ws fits) (over_fails (ValueModel.choice x) (reading_member cs x ws) d e)) [
       | inl g ↦
-        at_first (SpellsValue (ShapeModel.choice cs)) (Asks (ShapeModel.choice cs)) (reading (ShapeModel.choice cs)) d x ws NotListed (some_value (ShapeModel.choice cs) h) (inl (refl, refl))
-        (λ ys. ap (over (ValueModel.choice x)) (g.1 ys)) g.0
+          at_first (SpellsValue (ShapeModel.choice cs)) (Asks (ShapeModel.choice cs)) (reading (ShapeModel.choice cs)) d x ws NotListed (some_value (ShapeModel.choice cs) h) (inl (refl, refl))
+          (λ ys. ap (over (ValueModel.choice x)) (g.1 ys)) g.0
       | inr g ↦
-        behind (SpellsMember cs x) (AsksMember cs x) (reading_member cs x) (SpellsValue (ShapeModel.choice cs)) (Asks (ShapeModel.choice cs)) (reading (ShapeModel.choice cs)) (x ∷ []) ws (x ∷ ws) d refl
-        (λ front b. (ValueModel.choice x b.0, b.1, (x, b.0, front ++ b.1, refl, refl, b.2)))
-        (λ front r a. inr (x, front, refl, a))
-        (λ us y r. ap (over (ValueModel.choice x)) r)
-        g
+          behind (SpellsMember cs x) (AsksMember cs x) (reading_member cs x) (SpellsValue (ShapeModel.choice cs)) (Asks (ShapeModel.choice cs)) (reading (ShapeModel.choice cs)) (x ∷ []) ws (x ∷ ws) d refl
+          (λ front b. (ValueModel.choice x b.0, b.1, (x, b.0, front ++ b.1, refl, refl, b.2)))
+          (λ front r a. inr (x, front, refl, a))
+          (λ us y r. ap (over (ValueModel.choice x)) r)
+          g
     ]
 
 here_stops : (e : ℕ) (f : ShapeModel) (cs : MemberModels) (d : ℕ) (ws : List ℕ) (x : Fault) → d ≡ e → Stops (SpellsValue f) (Asks f) (reading f) ws x → Stops (SpellsMember (member_and e f cs) d) (AsksMember (member_and e f cs) d) (reading_member (member_and e f cs) d) ws x
@@ -290,6 +292,7 @@ past_unlisted e f cs d ws x h u = (u.0, λ ys. past_member e f cs d ys (λ z. h 
 
 mutual
   unfolding reading
+
   pub stops : (f : ShapeModel) (ws : List ℕ) (d : Fault) → HasMembers f → AreWords ws → reading f ws ≡ failed d → Stops (SpellsValue f) (Asks f) (reading f) ws d
   stops ShapeModel.boolean ws d h fits e = bit_stops ws d (over_fails ValueModel.boolean (bit_at ws) d e)
   stops ShapeModel.cardinal ws d h fits e = word_stops ShapeModel.cardinal ws d h (over_fails ValueModel.cardinal (word_at ws) d e)

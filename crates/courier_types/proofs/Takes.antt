@@ -1,20 +1,15 @@
 -- What is read is spelled so.
-use Rattle.std.proofs.Common.{◌≡◌, ℕ, zero, suc, ◌-◌, ◌+◌, ◌*◌, ◌/◌, ◌%◌, ◌^◌, ◌≤◌, ◌<◌, Bool, true, false, cond, eqb, ltb, List, [], ◌∷◌, ◌++◌, length, get_or, Result, Ok, Err, refl, sym, ap, subst, ◌∙◌, append_assoc, arith, inl, inr, ◌⊎◌}
+use Rattle.std.proofs.Common.{◌≡◌, ℕ, zero, suc, ◌+◌, ◌*◌, ◌/◌, ◌%◌, ◌^◌, ◌≤◌, ◌<◌, Bool, true, false, cond, ltb, List, [], ◌∷◌, ◌++◌, length, Result, Ok, Err, refl, sym, ap, subst, ◌∙◌, append_assoc, arith, inl, inr}
 use Rattle.std.proofs.lemmas.Bool.{ltb-false, cases_eq}
 use Rattle.std.specs.Int.{w16, w32, cast_signed}
 use Rattle.courier_types.specs.declared.fault.Reason.TheVariants.{NotListed, OverMaximum}
 use Rattle.courier_types.specs.Shape.{ShapeModel, ShapeModels, no_shapes, shape_and, MemberModels, no_members, member_and}
 use Rattle.courier_types.specs.Value.{ValueModel, ValueModels, no_values, value_and}
-use Rattle.courier_types.specs.Spelling.{bit, SpellsBytes, is_listed, SpellsValue, SpellsThen, SpellsTimes, SpellsFields, SpellsMember}
+use Rattle.courier_types.specs.Spelling.{AreWords, bit, SpellsBytes, is_listed, SpellsValue, SpellsThen, SpellsTimes, SpellsFields, SpellsMember}
 use Rattle.courier_types.specs.Reading.{Fault, ◌>>=◌, Reader, over, word_at, long_at, bit_at, listed_at, bytes_at, text_at, reading_times, reading_counted, reading_choice, reading, reading_fields, reading_member}
+use Rattle.courier_types.proofs.Words.{head_word, tail_words}
 use Rattle.courier_types.proofs.Loops.{ok_is, word_is, at_member, past_member}
 use Rattle.courier_types.proofs.Again.{got}
-
-abbrev pub AreWords : List ℕ → Type 0
-AreWords ws = (i : ℕ) → get_or ws i 0 < 2 ^ 16
-
-pub tail_words : (w : ℕ) (ws : List ℕ) → AreWords (w ∷ ws) → AreWords ws
-tail_words w ws h i = h (suc i)
 
 -- words with P were taken from the front
 abbrev pub Takes : (List ℕ → Type 0) → List ℕ → List ℕ → Type 0
@@ -42,7 +37,7 @@ pub word_takes : (ws : List ℕ) (n : ℕ) (rest : List ℕ) → AreWords ws →
 word_takes ws n rest fits h =
     let e = word_is ws n rest h in
     let f = subst AreWords e fits in
-    (e, f 0, tail_words n rest f)
+    (e, head_word n rest f, tail_words n rest f)
 
 bit_takes : (ws : List ℕ) (b : Bool) (rest : List ℕ) → AreWords ws → bit_at ws ≡ got b rest → (ws ≡ bit b ∷ rest) × AreWords rest
 bit_takes [] b rest fits e = absurd cc
@@ -83,11 +78,11 @@ bytes_take zero ws bytes rest fits e =
 bytes_take (suc zero) [] bytes rest fits e = absurd cc
 bytes_take (suc (suc n)) [] bytes rest fits e = absurd cc
 bytes_take (suc zero) (w ∷ ws) bytes rest fits e =
-    let small : w < 2 ^ 16 = fits 0 in
+    let small : w < 2 ^ 16 = head_word w ws fits in
     let made : SpellsBytes (w / 256 ∷ []) (w ∷ []) = (w % 256, omega arith, omega arith, ap (λ (x : ℕ). x ∷ []) (parts_of w)) in
     subst (λ (p : List ℕ × List ℕ). Takes (SpellsBytes p.0) (w ∷ ws) p.1 × (length p.0 ≡ 1)) (ok_is (w / 256 ∷ [], ws) (bytes, rest) e) ((w ∷ [], refl, made, tail_words w ws fits), refl)
 bytes_take (suc (suc n)) (w ∷ ws) bytes rest fits e =
-    let small : w < 2 ^ 16 = fits 0 in
+    let small : w < 2 ^ 16 = head_word w ws fits in
     let b = bind_is (bytes_at n ws) (λ t. Ok (w / 256 ∷ w % 256 ∷ t.0, t.1)) (bytes, rest) e in
     let t = bytes_take n ws b.0.0 b.0.1 (tail_words w ws fits) b.1 in
     let made : SpellsBytes (w / 256 ∷ w % 256 ∷ b.0.0) (w ∷ t.0.0) = (t.0.0, omega arith, omega arith, ap (λ (x : ℕ). x ∷ t.0.0) (parts_of w), t.0.2) in
@@ -142,6 +137,7 @@ chosen_takes one sp h (d ∷ ws) v rest fits e =
 
 mutual
   unfolding reading
+
   pub takes : (f : ShapeModel) (ws : List ℕ) (v : ValueModel) (rest : List ℕ) → AreWords ws → reading f ws ≡ got v rest → Takes (SpellsValue f v) ws rest
   takes ShapeModel.boolean ws v rest fits e =
       let o = over_is ValueModel.boolean (bit_at ws) v rest e in

@@ -1,5 +1,5 @@
 -- Which shapes may be used, and what is wrong with the others.
-use Rattle.std.specs.Prelude.{◌≡◌, ℕ, zero, suc, ◌+◌, ◌<◌, max, List, [], ◌∷◌, Bool, true, false, ◌&&◌, ◌==◌, ◌++◌, Option, Some, None, Result, Ok, Err, option_map, nat_lt, if◌then◌else◌}
+use Rattle.std.specs.Prelude.{◌≡◌, ℕ, ◌+◌, max, List, [], ◌∷◌, Bool, true, false, ◌&&◌, ◌==◌, ◌++◌, Option, Some, None, Result, Ok, Err, option_map, nat_lt, if◌then◌else◌}
 use Rattle.courier_types.specs.declared.fault.ShapeFault.{ShapeFault}
 use Rattle.courier_types.specs.declared.fault.ShapeFault.TheVariants.{Empty, Doubled, NoWords, TooDeep}
 use Rattle.courier_types.specs.Shape.{ShapeModel, ShapeModels, no_shapes, shape_and, MemberModels, no_members, member_and}
@@ -42,7 +42,7 @@ abbrev mutual
   wordless (ShapeModel.array n element) = n == 0
   wordless (ShapeModel.sequence most element) = false
   wordless (ShapeModel.fields parts) = all_wordless parts
-  wordless (ShapeModel.choice members) = false
+  wordless (ShapeModel.choice cs) = false
 
   pub all_wordless : ShapeModels → Bool
   all_wordless no_shapes = true

@@ -1,13 +1,10 @@
 -- Where words stop being the beginning of a spelling, and why.
-use Rattle.std.specs.Prelude.{◌≡◌, ◌≢◌, ◌⊎◌, ℕ, zero, suc, ◌+◌, ◌<◌, ◌≤◌, List, [], ◌∷◌, ◌++◌, length, take, Result, Ok, Err}
+use Rattle.std.specs.Prelude.{◌≡◌, ◌≢◌, ◌⊎◌, ℕ, zero, suc, ◌<◌, ◌≤◌, List, [], ◌∷◌, ◌++◌, length, take}
 use Rattle.courier_types.specs.declared.fault.Reason.{Reason}
 use Rattle.courier_types.specs.declared.fault.Reason.TheVariants.{Truncated, NotBoolean, NotListed, OverMaximum}
 use Rattle.courier_types.specs.declared.fault.ReadFault.{ReadFault}
-use Rattle.courier_types.specs.declared.fault.ReadRefusal.{ReadRefusal}
-use Rattle.courier_types.specs.declared.fault.ReadRefusal.TheVariants as refusals
-use Rattle.courier_types.specs.declared.value.Value.{Value}
 use Rattle.courier_types.specs.Shape.{ShapeModel, ShapeModels, no_shapes, shape_and, MemberModels, no_members, member_and}
-use Rattle.courier_types.specs.Value.{ValueModel, ValueModels, value_model}
+use Rattle.courier_types.specs.Value.{ValueModel}
 use Rattle.courier_types.specs.Spelling.{SpellsValue}
 
 -- some spelling goes on from w
@@ -57,35 +54,3 @@ pub record IsValueFault (f : ShapeModel) (ws : List ℕ) (fault : ReadFault) : T
   pub longest : (k : ℕ) → fault.place < k → k ≤ length ws → IsViable f (take k ws) → ⊥
   pub end : fault.place ≡ length ws → fault.reason ≡ Truncated
   pub word : fault.place < length ws → Asks f (take fault.place ws) fault.reason
-
--- what reading gives
-abbrev pub Reads : ShapeModel → List ℕ → Result (Value × ℕ) ReadRefusal → Type 0
-Reads f ws (Ok x) = (x.1 ≤ length ws) × SpellsValue f (value_model x.0) (take x.1 ws)
-Reads f ws (Err (refusals.Fault fault)) = IsValueFault f ws fault
-Reads f ws (Err refusals.NoMemory) = Unit {0}
-
--- each enumeration and each choice has a member
-abbrev mutual
-  pub HasMembers : ShapeModel → Type 0
-  HasMembers ShapeModel.boolean = Unit {0}
-  HasMembers ShapeModel.cardinal = Unit {0}
-  HasMembers ShapeModel.long_cardinal = Unit {0}
-  HasMembers ShapeModel.integer = Unit {0}
-  HasMembers ShapeModel.long_integer = Unit {0}
-  HasMembers ShapeModel.unspecified = Unit {0}
-  HasMembers ShapeModel.text = Unit {0}
-  HasMembers (ShapeModel.enumeration []) = ⊥
-  HasMembers (ShapeModel.enumeration (n ∷ listed)) = Unit {0}
-  HasMembers (ShapeModel.array n element) = HasMembers element
-  HasMembers (ShapeModel.sequence most element) = HasMembers element
-  HasMembers (ShapeModel.fields parts) = AllHaveMembers parts
-  HasMembers (ShapeModel.choice no_members) = ⊥
-  HasMembers (ShapeModel.choice (member_and d f members)) = HasMembers f × EachHasMembers members
-
-  pub AllHaveMembers : ShapeModels → Type 0
-  AllHaveMembers no_shapes = Unit {0}
-  AllHaveMembers (shape_and f fs) = HasMembers f × AllHaveMembers fs
-
-  pub EachHasMembers : MemberModels → Type 0
-  EachHasMembers no_members = Unit {0}
-  EachHasMembers (member_and d f cs) = HasMembers f × EachHasMembers cs

@@ -6,3 +6,4 @@ pub mod Source
 pub mod Fault
 pub mod Check
 pub mod Fits
+pub mod Front

@@ -58,4 +58,3 @@ shape_models shapes = shapes_from (map shape_model shapes)
 
 abbrev pub member_models : List (ℕ × Shape) → MemberModels
 member_models cs = members_from (map (λ c. (c.0, shape_model c.1)) cs)
-

@@ -1,5 +1,5 @@
 -- Values (XSIS 038112, Courier, Data types).
-use Rattle.std.specs.Prelude.{ℕ, zero, suc, List, [], ◌∷◌, map, Bool, ℤ}
+use Rattle.std.specs.Prelude.{ℕ, suc, List, [], ◌∷◌, map, Bool, ℤ}
 use Rattle.courier_types.specs.declared.value.Value.{Value, fold-Value}
 use Rattle.courier_types.specs.declared.value.Value.TheOpen.{Value-F}
 

@@ -1,9 +1,12 @@
 ghost use Rattle.std.specs.Prelude.{◌≡◌, ◌++◌, [], ◌∷◌, ◌/◌, ◌%◌, ◌<◌, ◌^◌, length, OnOk, OnErr};
 ghost use Rattle.courier_types.specs.Value.{count, value_model, value_models};
+ghost use Rattle.courier_types.specs.Shape.{shape_model};
+ghost use Rattle.courier_types.specs.Fits.{Fits};
 ghost use Rattle.courier_types.specs.Spelling.{bytes_spelling, value_spelling, values_spelling, IsShort, AreShort, Extends};
 
+use crate::shape::Shape;
 use crate::value::Value;
-use std::alloc::AllocError;
+use std::alloc::{AllocError, Global};
 
 fn put_bytes(bytes: &[u8], out: &mut Vec<u16>) -> Result<(), AllocError>
     ensures ok { OnOk result (out.new.items ≡ out.old.items ++ bytes_spelling bytes.now) }
@@ -97,16 +100,24 @@ fn put_value(value: &Value, out: &mut Vec<u16>) -> Result<(), AllocError>
     Ok(())
 }
 
-/// Appends the spelling of a value. After an error nothing is appended.
-pub fn write(value: &Value, out: &mut Vec<u16>) -> Result<(), AllocError>
-    requires { IsShort (value_model value.now) }
-    ensures ok { OnOk result (out.new.items ≡ out.old.items ++ value_spelling (value_model value.now)) }
-    ensures err { OnErr result (out.new.items ≡ out.old.items) }
+/// Appends the spelling of a value that fits the shape: its words with each spare byte 0.
+///
+/// The words grow by their own allocator; `alloc` only shows that they may. After a refused growth
+/// they are as they were.
+pub fn write(
+    alloc: Global,
+    shape: &Shape,
+    value: &Value,
+    words: &mut Vec<u16>,
+) -> Result<(), AllocError>
+    requires { Fits (shape_model shape.now) (value_model value.now) }
+    ensures ok { OnOk result (words.new.items ≡ words.old.items ++ value_spelling (value_model value.now)) }
+    ensures err { OnErr result (words.new.items ≡ words.old.items) }
 {
-    let length = out.len();
-    let written = put_value(value, out);
+    let length = words.len();
+    let written = put_value(value, words);
     if written.is_err() {
-        out.truncate(length);
+        words.truncate(length);
     }
     written
 }
