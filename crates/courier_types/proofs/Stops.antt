@@ -250,7 +250,7 @@ sequence_stops most f (n ∷ ws) d h k fits e =
       | inr g ↦
           behind (SpellsTimes (SpellsValue f) n) (AsksTimes (SpellsValue f) (Asks f) n) (reading_times (reading f) n) (SpellsValue (ShapeModel.sequence most f)) (Asks (ShapeModel.sequence most f)) (reading (ShapeModel.sequence most f)) (n ∷ []) ws (n ∷ ws) d refl
           (λ front b. (ValueModel.sequence b.0, b.1, (n, b.0, front ++ b.1, ltb-false most n g.0, refl, refl, b.2)))
-          (λ front r a. inr (n, front, refl, a))
+          (λ front r a. inr (n, front, ltb-false most n g.0, refl, a))
           (λ us x r. ap (λ (b : Bool). over ValueModel.sequence (cond b (failed (length us + 1, OverMaximum)) (reading_times (reading f) n us))) g.0 ∙ ap (over ValueModel.sequence) r)
           (k n ws d (tail_words n ws fits) g.1)
     ]

@@ -34,7 +34,7 @@ abbrev mutual
   Asks ShapeModel.text w r = ⊥
   Asks (ShapeModel.enumeration listed) w r = (w ≡ []) × (r ≡ NotListed)
   Asks (ShapeModel.array n element) w r = AsksTimes (SpellsValue element) (Asks element) n w r
-  Asks (ShapeModel.sequence most element) w r = ((w ≡ []) × (r ≡ OverMaximum)) ⊎ ((n : ℕ) × (rest : List ℕ) × (w ≡ n ∷ rest) × AsksTimes (SpellsValue element) (Asks element) n rest r)
+  Asks (ShapeModel.sequence most element) w r = ((w ≡ []) × (r ≡ OverMaximum)) ⊎ ((n : ℕ) × (rest : List ℕ) × (n ≤ most) × (w ≡ n ∷ rest) × AsksTimes (SpellsValue element) (Asks element) n rest r)
   Asks (ShapeModel.fields parts) w r = AsksFields parts w r
   Asks (ShapeModel.choice members) w r = ((w ≡ []) × (r ≡ NotListed)) ⊎ ((d : ℕ) × (rest : List ℕ) × (w ≡ d ∷ rest) × AsksMember members d rest r)
 

@@ -1,10 +1,13 @@
 //! Laws of shapes and values, as functions that do nothing.
 
-ghost use Rattle.std.specs.Prelude.{◌≡◌, ◌≤◌, ℕ, List, ◌++◌, length, Ok, Err};
+ghost use Rattle.std.specs.Prelude.{◌≡◌, ◌↔◌, ◌≤◌, ℕ, List, ◌++◌, length, take, Ok, Err};
+ghost use Rattle.courier_types.specs.declared.fault.ReadFault.{ReadFault};
 ghost use Rattle.courier_types.specs.Shape.{ShapeModel};
 ghost use Rattle.courier_types.specs.Value.{ValueModel};
 ghost use Rattle.courier_types.specs.Spelling.{AreWords, SpellsValue, value_spelling};
+ghost use Rattle.courier_types.specs.Check.{IsChecked};
 ghost use Rattle.courier_types.specs.Fits.{Fits};
+ghost use Rattle.courier_types.specs.Fault.{IsValueFault};
 ghost use Rattle.courier_types.specs.Front.{IsValueAtFront, value_of};
 
 /// No spelling of a shape begins another one: where one goes on as the other does, both are equal,
@@ -28,6 +31,12 @@ pub fn spelled_value_fits()
 pub fn value_of_is_spelled()
     ensures found { (shape : ShapeModel) (words : List ℕ) (value : ValueModel) (taken : ℕ) → AreWords words → value_of shape words ≡ Ok (value, taken) → IsValueAtFront shape words value taken }
     ensures only { (shape : ShapeModel) (value : ValueModel) (spelling rest : List ℕ) → SpellsValue shape value spelling → value_of shape (spelling ++ rest) ≡ Ok (value, length spelling) }
+{}
+
+/// Words of which no front is a spelling have one fault, and it is the one that is told.
+pub fn value_fault_is_told()
+    ensures some { (shape : ShapeModel) (words : List ℕ) → IsChecked shape → AreWords words → ((value : ValueModel) (taken : ℕ) → SpellsValue shape value (take taken words) → ⊥) ↔ ((fault : ReadFault) × IsValueFault shape words fault) }
+    ensures one { (shape : ShapeModel) (words : List ℕ) (fault : ReadFault) → IsChecked shape → AreWords words → (value_of shape words ≡ Err fault) ↔ IsValueFault shape words fault }
 {}
 
 /// What is written is read again, whatever follows it.
