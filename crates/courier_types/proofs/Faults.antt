@@ -1,8 +1,8 @@
 -- What reading gives, in the words of the theorem.
 use Rattle.std.proofs.Common.{◌≡◌, ℕ, zero, suc, ◌-◌, ◌+◌, ◌≤◌, ◌<◌, List, [], ◌∷◌, ◌++◌, length, take, drop, Result, Ok, Err, refl, sym, ap, subst, ◌∙◌, append_assoc, arith, inl, inr}
 use Rattle.std.proofs.lemmas.List.{append-nil, take_at, take-append-drop, length-append}
-use Rattle.courier_types.specs.declared.fault.Reason.{Reason}
-use Rattle.courier_types.specs.declared.fault.ReadFault.{ReadFault}
+use Rattle.courier_types.specs.declared.read_fault.Reason.{Reason}
+use Rattle.courier_types.specs.declared.read_fault.ReadFault.{ReadFault}
 use Rattle.courier_types.specs.Shape.{ShapeModel}
 use Rattle.courier_types.specs.Value.{ValueModel}
 use Rattle.courier_types.specs.Spelling.{AreWords, SpellsValue}

@@ -1,7 +1,7 @@
 -- A checked shape has members wherever it wants one.
 use Rattle.std.proofs.Common.{◌≡◌, ltb, Bool, true, false, cond, [], ◌∷◌, Option, Some, None, refl}
-use Rattle.courier_types.specs.declared.fault.ShapeFault.{ShapeFault}
-use Rattle.courier_types.specs.declared.fault.ShapeFault.TheVariants.{TooDeep}
+use Rattle.courier_types.specs.declared.shape_fault.ShapeFault.{ShapeFault}
+use Rattle.courier_types.specs.declared.shape_fault.ShapeFault.TheVariants.{TooDeep}
 use Rattle.courier_types.specs.Shape.{ShapeModel, ShapeModels, no_shapes, shape_and, MemberModels, no_members, member_and}
 use Rattle.courier_types.specs.Check.{depth, wordless, element_fault, members_fault, designators, first_fault, faults_of_parts, faults_of_members, or_else, IsChecked}
 

@@ -1,7 +1,7 @@
 -- Which shapes may be used, and what is wrong with the others.
 use Rattle.std.specs.Prelude.{◌≡◌, ℕ, ◌+◌, max, List, [], ◌∷◌, Bool, true, false, ◌&&◌, ◌==◌, ◌++◌, Option, Some, None, Result, Ok, Err, option_map, nat_lt, if◌then◌else◌}
-use Rattle.courier_types.specs.declared.fault.ShapeFault.{ShapeFault}
-use Rattle.courier_types.specs.declared.fault.ShapeFault.TheVariants.{Empty, Doubled, NoWords, TooDeep}
+use Rattle.courier_types.specs.declared.shape_fault.ShapeFault.{ShapeFault}
+use Rattle.courier_types.specs.declared.shape_fault.ShapeFault.TheVariants.{Empty, Doubled, NoWords, TooDeep}
 use Rattle.courier_types.specs.Shape.{ShapeModel, ShapeModels, no_shapes, shape_and, MemberModels, no_members, member_and}
 use Rattle.courier_types.specs.Spelling.{is_listed}
 

@@ -1,8 +1,8 @@
 -- Where words stop being the beginning of a spelling, and why.
 use Rattle.std.specs.Prelude.{◌≡◌, ◌≢◌, ◌⊎◌, ℕ, zero, suc, ◌<◌, ◌≤◌, List, [], ◌∷◌, ◌++◌, length, take}
-use Rattle.courier_types.specs.declared.fault.Reason.{Reason}
-use Rattle.courier_types.specs.declared.fault.Reason.TheVariants.{Truncated, NotBoolean, NotListed, OverMaximum}
-use Rattle.courier_types.specs.declared.fault.ReadFault.{ReadFault}
+use Rattle.courier_types.specs.declared.read_fault.Reason.{Reason}
+use Rattle.courier_types.specs.declared.read_fault.Reason.TheVariants.{Truncated, NotBoolean, NotListed, OverMaximum}
+use Rattle.courier_types.specs.declared.read_fault.ReadFault.{ReadFault}
 use Rattle.courier_types.specs.Shape.{ShapeModel, ShapeModels, no_shapes, shape_and, MemberModels, no_members, member_and}
 use Rattle.courier_types.specs.Value.{ValueModel}
 use Rattle.courier_types.specs.Spelling.{SpellsValue}

@@ -1,8 +1,8 @@
 -- What is at the front of words: a value, or a fault.
 use Rattle.std.specs.Prelude.{◌≡◌, ℕ, ◌-◌, ◌≤◌, List, length, take, Result, Ok, Err}
-use Rattle.courier_types.specs.declared.fault.ReadFault.{ReadFault}
-use Rattle.courier_types.specs.declared.fault.ReadRefusal.{ReadRefusal}
-use Rattle.courier_types.specs.declared.fault.ReadRefusal.TheVariants.{Fault, NoMemory}
+use Rattle.courier_types.specs.declared.read_fault.ReadFault.{ReadFault}
+use Rattle.courier_types.specs.declared.read_fault.ReadRefusal.{ReadRefusal}
+use Rattle.courier_types.specs.declared.read_fault.ReadRefusal.TheVariants.{Fault, NoMemory}
 use Rattle.courier_types.specs.declared.value.Value.{Value}
 use Rattle.courier_types.specs.Shape.{ShapeModel}
 use Rattle.courier_types.specs.Value.{ValueModel, value_model}

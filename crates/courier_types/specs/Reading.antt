@@ -1,8 +1,8 @@
 -- Reading from left to right. A fault comes with how many words are left where it stands.
 use Rattle.std.specs.Prelude.{ℕ, zero, suc, ◌+◌, ◌*◌, ◌/◌, ◌%◌, ◌^◌, List, [], ◌∷◌, length, Bool, true, false, Result, Ok, Err, nat_lt, ◌==◌, if◌then◌else◌}
 use Rattle.std.specs.Int.{w16, w32, cast_signed}
-use Rattle.courier_types.specs.declared.fault.Reason.{Reason}
-use Rattle.courier_types.specs.declared.fault.Reason.TheVariants.{Truncated, NotBoolean, NotListed, OverMaximum}
+use Rattle.courier_types.specs.declared.read_fault.Reason.{Reason}
+use Rattle.courier_types.specs.declared.read_fault.Reason.TheVariants.{Truncated, NotBoolean, NotListed, OverMaximum}
 use Rattle.courier_types.specs.Spelling.{is_listed}
 use Rattle.courier_types.specs.Shape.{ShapeModel, ShapeModels, no_shapes, shape_and, MemberModels, no_members, member_and}
 use Rattle.courier_types.specs.Value.{ValueModel, ValueModels, no_values, value_and}

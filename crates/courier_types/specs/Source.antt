@@ -1,8 +1,8 @@
 -- A source of words, and what reading from it gives.
 use Rattle.std.specs.Prelude.{◌≡◌, ℕ, ◌+◌, List, [], ◌∷◌, Option, Some, None, Result, Ok, Err}
-use Rattle.courier_types.specs.declared.fault.Reason.TheVariants as reasons
-use Rattle.courier_types.specs.declared.fault.Stop.{Stop}
-use Rattle.courier_types.specs.declared.fault.Stop.TheVariants.{Truncated, WrongWord, NoMemory}
+use Rattle.courier_types.specs.declared.read_fault.Reason.TheVariants as reasons
+use Rattle.courier_types.specs.declared.stop.Stop.{Stop}
+use Rattle.courier_types.specs.declared.stop.Stop.TheVariants.{Truncated, WrongWord, NoMemory}
 use Rattle.courier_types.specs.Reading.{Fault}
 
 -- the next of the words was taken, or there is none

@@ -3,8 +3,8 @@ ghost use Rattle.courier_types.specs.Spelling.{is_listed};
 ghost use Rattle.courier_types.specs.Shape.{shape_model, shape_models, member_models};
 ghost use Rattle.courier_types.specs.Check.{depth, deepest, deepest_member, wordless, all_wordless, doubled_after, members_fault, designators, first_fault, faults_of_parts, faults_of_members, shape_fault, Finds};
 
-use crate::fault::ShapeFault;
 use crate::shape::Shape;
+use crate::shape_fault::ShapeFault;
 
 const MAX_DEPTH: usize = 16;
 

@@ -1,7 +1,7 @@
 //! Laws of shapes and values, as functions that do nothing.
 
 ghost use Rattle.std.specs.Prelude.{◌≡◌, ◌↔◌, ◌≤◌, ℕ, List, ◌++◌, length, take, Ok, Err};
-ghost use Rattle.courier_types.specs.declared.fault.ReadFault.{ReadFault};
+ghost use Rattle.courier_types.specs.declared.read_fault.ReadFault.{ReadFault};
 ghost use Rattle.courier_types.specs.Shape.{ShapeModel};
 ghost use Rattle.courier_types.specs.Value.{ValueModel};
 ghost use Rattle.courier_types.specs.Spelling.{AreWords, SpellsValue, value_spelling};

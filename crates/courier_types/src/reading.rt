@@ -6,9 +6,10 @@ ghost use Rattle.courier_types.specs.Value.{value_model, value_models};
 ghost use Rattle.courier_types.specs.Reading.{word_at, long_at, bit_at, listed_at, bytes_at, text_at, reading_times, reading_counted, reading_choice, reading, reading_fields, reading_member};
 ghost use Rattle.courier_types.specs.Source.{Gives};
 
-use crate::fault::{Reason, Stop};
+use crate::read_fault::Reason;
 use crate::shape::Shape;
 use crate::source::WordSource;
+use crate::stop::Stop;
 use crate::value::Value;
 use std::alloc::Global;
 
