@@ -5,6 +5,4 @@ ghost use Rattle.courier_types.specs.Spelling.{AreWords};
 /// Does nothing; says to a proof that words are below 65536.
 pub fn known_words(words: &[u16])
     ensures { AreWords words.now }
-{
-    let _length = words.len();
-}
+{}
