@@ -1,40 +1,43 @@
--- Which words spell a value of a shape (XSIS 038112, Courier, Standard representation).
+-- Which words spell a value of a shape.
 use Rattle.std.specs.Prelude.{◌≡◌, ◌≢◌, ◌⊎◌, ℕ, zero, suc, ◌+◌, ◌*◌, ◌/◌, ◌%◌, ◌^◌, ◌<◌, ◌≤◌, List, [], ◌∷◌, ◌++◌, length, Bool, true, false, ◌==◌}
 use Rattle.std.specs.List.{All, list_any}
 use Rattle.std.specs.Int.{w16, w32, cast_signed, cast_unsigned}
 use Rattle.courier_types.specs.Shape.{ShapeModel, ShapeModels, no_shapes, shape_and, MemberModels, no_members, member_and}
 use Rattle.courier_types.specs.Value.{ValueModel, ValueModels, no_values, value_and, count}
 
--- numbers below 256, and below 65536
+-- the numbers are bytes
 abbrev pub AreBytes : List ℕ → Type 0
 AreBytes bytes = All (λ b. b < 2 ^ 8) bytes
 
+-- the numbers are words of 16 bits
 abbrev pub AreWords : List ℕ → Type 0
 AreWords words = All (λ w. w < 2 ^ 16) words
 
+-- the word of a boolean
 abbrev pub bit : Bool → ℕ
 bit false = 0
 bit true = 1
 
--- Two bytes a word, the first one high. The spare byte of an odd text is any.
+-- the words hold the bytes, two bytes a word, the first one high; the spare byte of an odd number is any
 abbrev pub SpellsBytes : List ℕ → List ℕ → Type 0
 SpellsBytes [] w = w ≡ []
 SpellsBytes (b ∷ []) w = (spare : ℕ) × (b < 256) × (spare < 256) × (w ≡ (b * 256 + spare) ∷ [])
 SpellsBytes (b ∷ c ∷ bytes) w = (rest : List ℕ) × (b < 256) × (c < 256) × (w ≡ (b * 256 + c) ∷ rest) × SpellsBytes bytes rest
 
+-- whether the word is one of those listed
 abbrev pub is_listed : List ℕ → ℕ → Bool
 is_listed listed n = list_any (λ y. y == n) listed
 
--- a value, and others after it
+-- the words of a value, and then those of others
 abbrev pub SpellsThen : (ValueModel → List ℕ → Type 0) → (ValueModels → List ℕ → Type 0) → ValueModels → List ℕ → Type 0
 SpellsThen one more vs w = (v : ValueModel) × (rest : ValueModels) × (a : List ℕ) × (b : List ℕ) × (vs ≡ value_and v rest) × (w ≡ a ++ b) × one v a × more rest b
 
--- that many values, one after the other
+-- the words of that many values, one after the other
 abbrev pub SpellsTimes : (ValueModel → List ℕ → Type 0) → ℕ → ValueModels → List ℕ → Type 0
 SpellsTimes one zero vs w = (vs ≡ no_values) × (w ≡ [])
 SpellsTimes one (suc n) vs w = SpellsThen one (SpellsTimes one n) vs w
 
--- The words w, all of them, spell the value v of the shape.
+-- these words, all of them, spell the value of the shape (XSIS 038112, Courier, Standard representation)
 abbrev mutual
   pub SpellsValue : ShapeModel → ValueModel → List ℕ → Type 0
   SpellsValue ShapeModel.boolean v w = (b : Bool) × (v ≡ ValueModel.boolean b) × (w ≡ bit b ∷ [])
@@ -50,12 +53,12 @@ abbrev mutual
   SpellsValue (ShapeModel.fields parts) v w = (vs : ValueModels) × (v ≡ ValueModel.fields vs) × SpellsFields parts vs w
   SpellsValue (ShapeModel.choice members) v w = (d : ℕ) × (x : ValueModel) × (rest : List ℕ) × (v ≡ ValueModel.choice d x) × (w ≡ d ∷ rest) × SpellsMember members d x rest
 
-  -- the components in order
+  -- the words of the components in order
   pub SpellsFields : ShapeModels → ValueModels → List ℕ → Type 0
   SpellsFields no_shapes vs w = (vs ≡ no_values) × (w ≡ [])
   SpellsFields (shape_and f fs) vs w = SpellsThen (SpellsValue f) (SpellsFields fs) vs w
 
-  -- a value of the shape that the designator has
+  -- the words of a value of the shape that the designator has
   pub SpellsMember : MemberModels → ℕ → ValueModel → List ℕ → Type 0
   SpellsMember no_members d v w = ⊥
   SpellsMember (member_and e f cs) d v w = ((d ≡ e) × SpellsValue f v w) ⊎ ((d ≢ e) × SpellsMember cs d v w)
@@ -86,7 +89,7 @@ abbrev mutual
   values_spelling no_values = []
   values_spelling (value_and v vs) = value_spelling v ++ values_spelling vs
 
--- lengths and counts fit a word
+-- the length of each text and the count of each sequence is a word
 abbrev mutual
   pub IsShort : ValueModel → Type 0
   IsShort (ValueModel.boolean b) = Unit {0}
@@ -106,6 +109,6 @@ abbrev mutual
   AreShort no_values = Unit {0}
   AreShort (value_and v vs) = IsShort v × AreShort vs
 
--- new is old with something behind it
+-- the new words are the old ones with more behind them
 abbrev pub Extends : List ℕ → List ℕ → Type 0
 Extends old new = (more : List ℕ) × (new ≡ old ++ more)

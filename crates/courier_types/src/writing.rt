@@ -1,3 +1,5 @@
+//! Values written as words.
+
 ghost use Rattle.std.specs.Prelude.{◌≡◌, ◌++◌, [], ◌∷◌, ◌/◌, ◌%◌, ◌<◌, ◌^◌, length, OnOk, OnErr};
 ghost use Rattle.courier_types.specs.Value.{count, value_model, value_models};
 ghost use Rattle.courier_types.specs.Shape.{shape_model};
