@@ -164,6 +164,7 @@ impl Endpoint {
     pub fn send(&mut self, item: Item) -> Result<(), (SendFault, Item)>
         ensures answer { (s : State) → StandsFor self.old s → result ≡ send_answer s item }
         ensures stands { (s : State) → StandsFor self.old s → StandsFor self.new (after_send s item) }
+        ensures unchanged { OnErr result (self.new ≡ self.old) }
     {
         item.known();
         if let Some(fault) = self.send_fault(&item) {

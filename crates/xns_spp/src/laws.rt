@@ -7,7 +7,7 @@ ghost use Rattle.xns_spp.specs.Ends.{is_open};
 ghost use Rattle.xns_spp.specs.Header.{IsHeader, SpellsHeader, header_spelling, header_of, has_bit, brings_item};
 ghost use Rattle.xns_spp.specs.Item.{IsItem, item_in};
 ghost use Rattle.xns_spp.specs.Packet.{SppPacketModel, IsSppPacket, IsSppPacketAtFront, spp_packet_spelling, spp_packet_of};
-ghost use Rattle.xns_spp.specs.Receiving.{after_receive, arrival_fault, reply_packet, is_ours, IsOursAtFront};
+ghost use Rattle.xns_spp.specs.Receiving.{receive_answer, after_receive, arrival_fault, reply_packet, is_ours, IsOursAtFront};
 ghost use Rattle.xns_spp.specs.Sending.{data_packet, system_packet, flush_packets, tick_packets, after_send, after_take, after_flush, after_tick};
 ghost use Rattle.xns_spp.specs.State.{State, IsState, initiator_state, responder_state};
 ghost use Rattle.xns_spp.specs.declared.header.Header.{Header};
@@ -41,6 +41,12 @@ pub fn ours_is_a_packet_at_the_front()
 {
     packet_at_front_is_its_spelling();
 }
+
+/// Bytes that are not of the connection change nothing, are not answered, and bring no item.
+pub fn foreign_bytes_change_nothing()
+    ensures after { (s : State) (b : List ℕ) → is_ours s b ≡ false → after_receive s b ≡ s }
+    ensures answer { (s : State) (b : List ℕ) → is_ours s b ≡ false → ((receive_answer s b).took ≡ 0) × ((receive_answer s b).reply ≡ None) }
+{}
 
 /// The fields of each packet that an end sends are within their bounds.
 pub fn own_packets_are_packets()
