@@ -1,0 +1,4 @@
+pub mod Side
+pub mod Setup
+pub mod World
+pub mod Invariant
