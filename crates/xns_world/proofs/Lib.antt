@@ -5,3 +5,5 @@ pub mod Arrivals
 pub mod Foreign
 pub mod Runs
 pub mod Stays
+pub mod Continues
+pub mod Plays

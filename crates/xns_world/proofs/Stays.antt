@@ -57,7 +57,7 @@ catches_up_stays : (w : World) (k : ℕ) (o : Option Emitted) → slice_get w.ba
 catches_up_stays w k None h = begins_itself (packets_of w)
 catches_up_stays w k (Some x) h = elim (x.delivered) as (λ v. Stays w (if v then w else arrives w k x)) [ true ↦ begins_itself (packets_of w) | false ↦ arrives_stays w k x h ]
 
-rests_stays : (w : World) (n : ℕ) → Stays w (rests w n)
+pub rests_stays : (w : World) (n : ℕ) → Stays w (rests w n)
 rests_stays w zero = begins_itself (packets_of w)
 rests_stays w (suc n) = stays_then w (rests w n) (rests w (suc n)) (rests_stays w n) (catches_up_stays (rests w n) n (slice_get (rests w n).bag n) refl)
 

@@ -8,6 +8,8 @@ mod event;
 mod item_trace;
 mod items;
 pub mod laws;
+mod participant;
+mod play;
 mod setup;
 mod side;
 
@@ -15,5 +17,6 @@ pub use bag::Bag;
 pub use event::Event;
 pub use item_trace::ItemTrace;
 pub use items::Items;
+pub use play::play_items;
 pub use setup::Setup;
 pub use side::Side;
