@@ -1,4 +1,4 @@
-pub mod Again
+pub mod EndLaws
 pub mod Sound
 pub mod Moves
 pub mod Arrivals

@@ -1,18 +1,17 @@
 -- What is true of the world at every moment.
-use Rattle.std.proofs.Common.{◌≡◌, ℕ, zero, suc, ◌+◌, ◌-◌, ◌≤◌, true, false, List, [], ◌∷◌, ◌++◌, length, map, take, drop, Option, Some, None, refl, sym, ◌∙◌, ap, subst, arith, take-append-drop}
+use Rattle.std.proofs.Common.{append-nil, ◌≡◌, ℕ, zero, suc, ◌+◌, ◌-◌, ◌≤◌, true, false, List, [], ◌∷◌, ◌++◌, length, map, take, drop, Option, Some, None, Ok, refl, sym, ◌∙◌, ap, subst, arith, take-append-drop}
 use Rattle.std.specs.Option.{option_to_list}
 use Rattle.std.specs.Prelude.{slice_get, All, if◌then◌else◌}
 use Rattle.std.proofs.Math.Seq.{take-append-add}
 use Rattle.std.proofs.lemmas.List.Elements.{All-nil, All-append, All-map, All-set, All-weaker, All-head, All-tail}
 use Rattle.std.proofs.lemmas.Option.{get_or_from_slice_get, slice_get_within}
-use Rattle.xns_spp.proofs.States.{new_fits}
-use Rattle.xns_spp.specs.Ends.{IsEnds}
-use Rattle.xns_spp.specs.Packet.{SppPacketModel, spp_packet_spelling}
+use Rattle.xns_spp.specs.Packet.{SppPacketModel, IsSppPacket, spp_packet_spelling, spp_packet_of}
 use Rattle.xns_spp.specs.Receiving.{receive_answer, after_receive}
 use Rattle.xns_spp.specs.Sending.{after_send, flush_packets, after_flush, tick_packets, after_tick, after_take}
 use Rattle.xns_spp.specs.State.{State, IsState}
 use Rattle.xns_spp.specs.declared.item.Item.{Item}
 use Rattle.xns_world.proofs.Arrivals.{Sends, receive_sends}
+use Rattle.xns_world.proofs.EndLaws.{EndLaws}
 use Rattle.xns_world.proofs.Foreign.{foreign_changes_nothing}
 use Rattle.xns_world.proofs.Moves.{Keeps, Goes, Moves, begins_then, silent, flush_moves, tick_moves, take_goes, send_goes}
 use Rattle.xns_world.proofs.Sound.{IsProper, Grows, stays_sound}
@@ -90,8 +89,9 @@ packets_kept w side t ps k m = moved_kept w side t (map spp_packet_spelling ps) 
 silent_kept : (w : World) (side : Side) (t : State) → IsKept w → Goes (end_of w side) t (end_of w (other side)) → IsKept (moved w side t [])
 silent_kept w side t k g = packets_kept w side t [] k (silent (end_of w side) t (end_of w (other side)) g)
 
-flushes_kept : (w : World) (side : Side) → IsKept w → IsKept (flushes w side)
-flushes_kept w side k = packets_kept w side (after_flush (end_of w side)) (flush_packets (end_of w side)) k (flush_moves (end_of w side) (end_of w (other side)) (k.ends side))
+flushes_kept : EndLaws → (w : World) (side : Side) → IsKept w → IsKept (flushes w side)
+flushes_kept laws w side k = packets_kept w side (after_flush (end_of w side)) (flush_packets (end_of w side)) k
+    (flush_moves (end_of w side) (end_of w (other side)) (laws.flush (end_of w side) (k.ends side).fits) (k.ends side))
 
 -- ---- a packet is delivered
 
@@ -110,49 +110,53 @@ marked_kept w k x i h =
       bag = All-set (IsKeptIn w) w.bag k (record x { delivered = true }) i h.bag;
     }
 
-received_kept : (w : World) (side : Side) (bytes : List ℕ) → IsSoundSpelling (end_of w (other side)) bytes → IsKept w → IsKept (receives w side bytes)
-received_kept w side bytes i k =
+read_back : EndLaws → (bytes : List ℕ) (p : SppPacketModel) → IsSppPacket p → bytes ≡ spp_packet_spelling p → spp_packet_of bytes ≡ Ok p
+read_back laws bytes p fits is = ap spp_packet_of (is ∙ sym (append-nil (spp_packet_spelling p))) ∙ laws.again p [] fits
+
+received_kept : EndLaws → (w : World) (side : Side) (bytes : List ℕ) → IsSoundSpelling (end_of w (other side)) bytes → IsKept w → IsKept (receives w side bytes)
+received_kept laws w side bytes i k =
     let s : State = end_of w side in
     let peer : State = end_of w (other side) in
+    let read : spp_packet_of bytes ≡ Ok i.packet = read_back laws bytes i.packet i.fits i.spells in
     moved_kept w side (after_receive s bytes) (option_to_list (receive_answer s bytes).reply) k
-    (receive_sends s peer bytes i.packet i.spells (record { fits = i.fits; sound = i.sound }) (k.ends side))
+    (receive_sends s peer bytes i.packet read (record { fits = i.fits; sound = i.sound }) (laws.packet s bytes i.packet (k.ends side).fits read i.fits) (k.ends side))
 
-arrives_kept : (w : World) (k : ℕ) (x : Emitted) → slice_get w.bag k ≡ Some x → IsKept w → IsKept (arrives w k x)
-arrives_kept w k x is h =
+arrives_kept : EndLaws → (w : World) (k : ℕ) (x : Emitted) → slice_get w.bag k ≡ Some x → IsKept w → IsKept (arrives w k x)
+arrives_kept laws w k x is h =
     let v : World = marked w k x in
     let side : Side = other x.side in
     let there : IsKeptIn w x = in_bag w k x is h in
     let kept : IsKept v = marked_kept w k x there h in
     let same : end_of w x.side ≡ end_of v (other side) = elim (x.side) as (λ s. end_of w s ≡ end_of v (other (other s))) [ A ↦ refl | B ↦ refl ] in
-    flushes_kept (receives v side x.bytes) side
-    (received_kept v side x.bytes (subst (λ (s : State). IsSoundSpelling s x.bytes) same there) kept)
+    flushes_kept laws (receives v side x.bytes) side
+    (received_kept laws v side x.bytes (subst (λ (s : State). IsSoundSpelling s x.bytes) same there) kept)
 
-delivers_kept : (w : World) (k : ℕ) (o : Option Emitted) → slice_get w.bag k ≡ o → IsKept w → IsKept (delivers w k o)
-delivers_kept w k None is h = h
-delivers_kept w k (Some x) is h = arrives_kept w k x is h
+delivers_kept : EndLaws → (w : World) (k : ℕ) (o : Option Emitted) → slice_get w.bag k ≡ o → IsKept w → IsKept (delivers w k o)
+delivers_kept laws w k None is h = h
+delivers_kept laws w k (Some x) is h = arrives_kept laws w k x is h
 
-catches_up_kept : (w : World) (k : ℕ) (o : Option Emitted) → slice_get w.bag k ≡ o → IsKept w → IsKept (catches_up w k o)
-catches_up_kept w k None is h = h
-catches_up_kept w k (Some x) is h = elim (x.delivered) as (λ v. IsKept (if v then w else arrives w k x)) [ true ↦ h | false ↦ arrives_kept w k x is h ]
+catches_up_kept : EndLaws → (w : World) (k : ℕ) (o : Option Emitted) → slice_get w.bag k ≡ o → IsKept w → IsKept (catches_up w k o)
+catches_up_kept laws w k None is h = h
+catches_up_kept laws w k (Some x) is h = elim (x.delivered) as (λ v. IsKept (if v then w else arrives w k x)) [ true ↦ h | false ↦ arrives_kept laws w k x is h ]
 
-rests_kept : (w : World) (n : ℕ) → IsKept w → IsKept (rests w n)
-rests_kept w zero h = h
-rests_kept w (suc n) h = catches_up_kept (rests w n) n (slice_get (rests w n).bag n) refl (rests_kept w n h)
+rests_kept : EndLaws → (w : World) (n : ℕ) → IsKept w → IsKept (rests w n)
+rests_kept laws w zero h = h
+rests_kept laws w (suc n) h = catches_up_kept laws (rests w n) n (slice_get (rests w n).bag n) refl (rests_kept laws w n h)
 
 -- ---- events
 
-happens_kept : (w : World) (e : Event) → IsEvent e → IsKept w → IsKept (happens w e)
-happens_kept w (Deliver k) fits h = delivers_kept w k (slice_get w.bag k) refl h
-happens_kept w Rest fits h = rests_kept w (length w.bag) h
-happens_kept w (Tick side) fits h = packets_kept w side (after_tick (end_of w side)) (tick_packets (end_of w side)) h (tick_moves (end_of w side) (end_of w (other side)) (h.ends side))
-happens_kept w (Foreign side bytes) fits h = subst IsKept (sym (foreign_changes_nothing w side bytes)) h
-happens_kept w (Send side x) fits h =
-    flushes_kept (sends w side x) side (silent_kept w side (after_send (end_of w side) x) h (send_goes (end_of w side) (end_of w (other side)) x fits (h.ends side)))
-happens_kept w (Take side) fits h = silent_kept w side (after_take (end_of w side)) h (take_goes (end_of w side) (end_of w (other side)) (h.ends side))
+happens_kept : EndLaws → (w : World) (e : Event) → IsEvent e → IsKept w → IsKept (happens w e)
+happens_kept laws w (Deliver k) fits h = delivers_kept laws w k (slice_get w.bag k) refl h
+happens_kept laws w Rest fits h = rests_kept laws w (length w.bag) h
+happens_kept laws w (Tick side) fits h = packets_kept w side (after_tick (end_of w side)) (tick_packets (end_of w side)) h (tick_moves (end_of w side) (end_of w (other side)) (laws.tick (end_of w side) (h.ends side).fits) (h.ends side))
+happens_kept laws w (Foreign side bytes) fits h = subst IsKept (sym (foreign_changes_nothing w side bytes)) h
+happens_kept laws w (Send side x) fits h =
+    flushes_kept laws (sends w side x) side (silent_kept w side (after_send (end_of w side) x) h (send_goes (end_of w side) (end_of w (other side)) x (laws.send (end_of w side) x (h.ends side).fits fits) (h.ends side)))
+happens_kept laws w (Take side) fits h = silent_kept w side (after_take (end_of w side)) h (take_goes (end_of w side) (end_of w (other side)) (laws.take (end_of w side) (h.ends side).fits) (h.ends side))
 
-run_kept : (w : World) (es : List Event) → All IsEvent es → IsKept w → IsKept (run w es)
-run_kept w [] fits h = h
-run_kept w (e ∷ es) fits h = run_kept (happens w e) es (All-tail IsEvent e es fits) (happens_kept w e (All-head IsEvent e es fits) h)
+run_kept : EndLaws → (w : World) (es : List Event) → All IsEvent es → IsKept w → IsKept (run w es)
+run_kept laws w [] fits h = h
+run_kept laws w (e ∷ es) fits h = run_kept laws (happens w e) es (All-tail IsEvent e es fits) (happens_kept laws w e (All-head IsEvent e es fits) h)
 
 -- ---- the start
 
@@ -164,35 +168,17 @@ new_keeps s peer fits taken acknowledged = record {
   acknowledged = omega arith;
 }
 
-start_kept : (setup : Setup) → IsSetup setup → IsGood setup → IsKept (start setup)
-start_kept setup fits good =
+start_kept : EndLaws → (setup : Setup) → IsSetup setup → IsGood setup → IsKept (start setup)
+start_kept laws setup fits good =
     let w : World = start setup in
-    let a : IsEnds w.a.ends = record {
-      own = fits.a;
-      id_known = good.a_id;
-      id = fits.a_id;
-      peer = fits.b;
-      peer_id = omega arith;
-      window_least = good.window_least;
-      window_most = good.window_most;
-      backlog_least = good.backlog_least;
-      backlog_most = good.backlog_most;
-    } in
-    let b : IsEnds w.b.ends = record {
-      own = fits.b;
-      id_known = good.b_id;
-      id = fits.b_id;
-      peer = fits.a;
-      peer_id = fits.a_id;
-      window_least = good.window_least;
-      window_most = good.window_most;
-      backlog_least = good.backlog_least;
-      backlog_most = good.backlog_most;
-    } in
+    let a : IsState w.a =
+    laws.initiator setup.a setup.b setup.a_id setup.window setup.backlog fits.a fits.b good.a_id fits.a_id good.window_least good.window_most good.backlog_least good.backlog_most in
+    let b : IsState w.b =
+    laws.responder setup.b setup.a setup.b_id setup.a_id setup.window setup.backlog fits.b fits.a good.b_id fits.b_id fits.a_id good.window_least good.window_most good.backlog_least good.backlog_most in
     record {
       ends = λ side. elim side as (λ s. Keeps (end_of w s) (end_of w (other s))) [
-        | A ↦ new_keeps w.a w.b (new_fits w.a.ends a) refl refl
-        | B ↦ new_keeps w.b w.a (new_fits w.b.ends b) refl refl
+        | A ↦ new_keeps w.a w.b a refl refl
+        | B ↦ new_keeps w.b w.a b refl refl
       ];
       bag = All-nil (IsKeptIn w);
     }
@@ -211,12 +197,12 @@ stands s peer k = record { fits = k.fits; taken = begins_take s.taken peer.accep
 holds : (w : World) → IsKept w → Holds w
 holds w k = record { ends = λ side. stands (end_of w side) (end_of w (other side)) (k.ends side); bag = k.bag }
 
-pub always_holds : (setup : Setup) (events : List Event) → IsSetup setup → IsGood setup → All IsEvent events → Holds (run (start setup) events)
-always_holds setup events fits good given = holds (run (start setup) events) (run_kept (start setup) events given (start_kept setup fits good))
+pub always_holds : EndLaws → (setup : Setup) (events : List Event) → IsSetup setup → IsGood setup → All IsEvent events → Holds (run (start setup) events)
+always_holds laws setup events fits good given = holds (run (start setup) events) (run_kept laws (start setup) events given (start_kept laws setup fits good))
 
-pub begins_always : (setup : Setup) (events : List Event) (side : Side) → IsSetup setup → IsGood setup → All IsEvent events → Begins (handed_at (run (start setup) events) side) (sent_at (run (start setup) events) (other side))
-begins_always setup events side fits good given =
+pub begins_always : EndLaws → (setup : Setup) (events : List Event) (side : Side) → IsSetup setup → IsGood setup → All IsEvent events → Begins (handed_at (run (start setup) events) side) (sent_at (run (start setup) events) (other side))
+begins_always laws setup events side fits good given =
     let w : World = run (start setup) events in
     let s : State = end_of w side in
-    let k : Keeps s (end_of w (other side)) = (run_kept (start setup) events given (start_kept setup fits good)).ends side in
+    let k : Keeps s (end_of w (other side)) = (run_kept laws (start setup) events given (start_kept laws setup fits good)).ends side in
     begins_then (take s.handed s.taken) s.taken (sent_at w (other side)) (drop s.handed s.taken, take-append-drop s.handed s.taken) k.taken

@@ -10,6 +10,8 @@ ghost use Rattle.xns_world.specs.Setup.{IsSetup, IsGood};
 ghost use Rattle.xns_world.specs.World.{World, IsEvent, happens, run, start, packets_of, sent_at, handed_at};
 ghost use Rattle.xns_world.specs.Invariant.{Begins, Holds};
 
+use xns_spp::laws::{bounds_hold_after_each_step, written_packet_is_read_again};
+
 /// Over every list of deliveries, losses, repeats and reorderings, what either end has handed up begins what the other sent.
 ///
 /// At every moment each packet ever sent is sound: a data packet carries the item of its number, which went out by now,
@@ -19,7 +21,10 @@ pub fn items_come_in_order()
         Begins (handed_at (run (start setup) events) side) (sent_at (run (start setup) events) (other side)) }
     ensures holds { (setup : Setup) (events : List Event) → IsSetup setup → IsGood setup → All IsEvent events →
         Holds (run (start setup) events) }
-{}
+{
+    written_packet_is_read_again();
+    bounds_hold_after_each_step();
+}
 
 /// Bytes from elsewhere change nothing: those of the connection are passed over, and all others are dropped.
 pub fn foreign_bytes_change_nothing()
