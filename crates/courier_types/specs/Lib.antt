@@ -1,6 +1,7 @@
 pub mod Shape
 pub mod Value
 pub mod Spelling
+pub mod Writing
 pub mod Reading
 pub mod Source
 pub mod Fault
