@@ -220,11 +220,9 @@ impl Endpoint {
     {
         let left = numbers.accepted - numbers.acknowledged;
         self.unacknowledged.truncate_front(left as usize);
+        keep(&mut self.waiting, item);
         self.ends = ends;
         self.numbers = numbers;
-        if let Some(item) = item {
-            let _ = self.waiting.push_back(item);
-        }
     }
 
     /// Takes in the bytes of a packet: learns the peer, hears what it acknowledges and allows, and takes the item.
@@ -342,5 +340,16 @@ fn count(item: &Option<Item>) -> usize
     match item {
         Some(_) => 1,
         None => 0,
+    }
+}
+
+/// Keeps an item, if there is one, behind the others of a ring that has room for it.
+fn keep(ring: &mut HeapCircularBuffer<Item>, item: Option<Item>)
+    requires { length ring.old.items + length (option_to_list item) ≤ ring.old.capacity }
+    ensures items { ring.new.items ≡ ring.old.items ++ option_to_list item }
+    ensures capacity { ring.new.capacity ≡ ring.old.capacity }
+{
+    if let Some(item) = item {
+        let _ = ring.push_back(item);
     }
 }
