@@ -99,7 +99,7 @@ pub arrival_follows : (e : Ends) (n : Numbers) (p : SppPacketModel) → 1 ≤ e.
 arrival_follows e n p w b known =
     let f = numbers_read p.header in
     let h = hearing n f in
-    let v = verdict_with e n p in
+    let v = verdict_with e n p.header f in
     record {
       bounds = gaining_bounds e.window e.backlog h v (hearing_bounds e.window e.backlog n f b known) w (has_room (brings_item p.header) n.taken (top n e.window) f.sequence);
       window = (learned_window e p).0;

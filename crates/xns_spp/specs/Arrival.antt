@@ -78,15 +78,15 @@ all_with e n i (x ∷ xs) = data_with e n i x ∷ all_with e n (i + 1) xs
 
 -- a packet that came
 
-abbrev pub verdict_with : Ends → Numbers → SppPacketModel → Verdict
-verdict_with e n p = if brings_item p.header then verdict_on n.taken (top n e.window) (numbers_read p.header).sequence else Pass
+abbrev pub verdict_with : Ends → Numbers → Header → FieldNumbers → Verdict
+verdict_with e n h f = if brings_item h then verdict_on n.taken (top n e.window) f.sequence else Pass
 
 -- a packet that is looked at, and the connection after it
 abbrev pub arrival : Ends → Numbers → SppPacketModel → Arrival
 arrival e n p = record {
   ends = learned e p;
-  numbers = gaining (hearing n (numbers_read p.header)) (verdict_with e n p);
-  verdict = verdict_with e n p;
+  numbers = gaining (hearing n (numbers_read p.header)) (verdict_with e n p.header (numbers_read p.header));
+  verdict = verdict_with e n p.header (numbers_read p.header);
   packet = p;
 }
 

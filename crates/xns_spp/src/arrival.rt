@@ -12,6 +12,7 @@ use crate::bytes::Bytes;
 use crate::dropped::Dropped;
 use crate::ends::Ends;
 use crate::field_numbers::FieldNumbers;
+use crate::header::Header;
 use crate::item::Item;
 use crate::numbers::{Numbers, verdict_on};
 use crate::outgoing::make_system;
@@ -45,7 +46,7 @@ pub fn decide<'a>(ends: &Ends, numbers: &Numbers, bytes: &'a [u8]) -> Result<Arr
     if fields.acknowledge > numbers.sent {
         return Err(Dropped::AheadOfUs);
     }
-    let verdict = verdict(ends, numbers, &packet);
+    let verdict = verdict(ends, numbers, &packet.header, &fields);
     Ok(Arrival {
         ends: ends.learned(&packet),
         numbers: numbers.hearing(&fields).gaining(verdict),
@@ -54,16 +55,15 @@ pub fn decide<'a>(ends: &Ends, numbers: &Numbers, bytes: &'a [u8]) -> Result<Arr
     })
 }
 
-/// What becomes of the item that a packet may bring.
-fn verdict(ends: &Ends, numbers: &Numbers, packet: &SppPacket) -> Verdict
+/// What becomes of the item that a packet may bring, by its header and the numbers that were read from it.
+fn verdict(ends: &Ends, numbers: &Numbers, header: &Header, fields: &FieldNumbers) -> Verdict
     requires window { (1 ≤ ends.now.window) × (ends.now.window ≤ 64) }
     requires handed { numbers.now.handed ≤ 65535 }
-    ensures { result ≡ verdict_with ends.now numbers.now packet.now }
+    ensures { result ≡ verdict_with ends.now numbers.now header.now fields.now }
 {
-    if !packet.header.brings_item() {
+    if !header.brings_item() {
         return Verdict::Pass;
     }
-    let fields = FieldNumbers::read(&packet.header);
     verdict_on(numbers.taken, numbers.top(ends.window), fields.sequence)
 }
 
