@@ -1,7 +1,7 @@
 -- What is true of the world at every moment.
-use Rattle.std.proofs.Common.{append-nil, ◌≡◌, ℕ, zero, suc, ◌+◌, ◌-◌, ◌≤◌, true, false, List, [], ◌∷◌, ◌++◌, length, map, take, drop, Option, Some, None, Ok, refl, sym, ◌∙◌, ap, subst, arith, take-append-drop}
+use Rattle.std.proofs.Common.{fold, append-nil, ◌≡◌, ℕ, ◌+◌, ◌-◌, ◌≤◌, true, List, [], ◌∷◌, ◌++◌, length, map, take, drop, Option, Some, None, Ok, refl, sym, ◌∙◌, ap, subst, arith, take-append-drop}
 use Rattle.std.specs.Option.{option_to_list}
-use Rattle.std.specs.Prelude.{slice_get, All, if◌then◌else◌}
+use Rattle.std.specs.Prelude.{slice_get, All}
 use Rattle.std.proofs.Math.Seq.{take-append-add}
 use Rattle.std.proofs.lemmas.List.Elements.{All-nil, All-append, All-map, All-set, All-weaker, All-head, All-tail}
 use Rattle.std.proofs.lemmas.Option.{get_or_from_slice_get, slice_get_within}
@@ -24,7 +24,7 @@ use Rattle.xns_world.specs.declared.side.Side.TheVariants.{A, B}
 use Rattle.xns_world.specs.Invariant.{Begins, IsSoundSpelling, Stands, Holds}
 use Rattle.xns_world.specs.Setup.{IsSetup, IsGood}
 use Rattle.xns_world.specs.Side.{other}
-use Rattle.xns_world.specs.World.{World, end_of, start, emitted, moved, flushes, receives, sends, marked, arrives, delivers, catches_up, rests, happens, run, IsEvent, sent_at, handed_at}
+use Rattle.xns_world.specs.World.{World, end_of, start, emitted, moved, flushes, receives, sends, marked, arrives, comes, delivers, undelivered, happens, run, IsEvent, sent_at, handed_at}
 
 -- a packet of the bag
 abbrev IsKeptIn : World → Emitted → Type 0
@@ -131,23 +131,19 @@ arrives_kept laws w k x is h =
     flushes_kept laws (receives v side x.bytes) side
     (received_kept laws v side x.bytes (subst (λ (s : State). IsSoundSpelling s x.bytes) same there) kept)
 
-delivers_kept : EndLaws → (w : World) (k : ℕ) (o : Option Emitted) → slice_get w.bag k ≡ o → IsKept w → IsKept (delivers w k o)
-delivers_kept laws w k None is h = h
-delivers_kept laws w k (Some x) is h = arrives_kept laws w k x is h
+comes_kept : EndLaws → (w : World) (k : ℕ) (o : Option Emitted) → slice_get w.bag k ≡ o → IsKept w → IsKept (comes w k o)
+comes_kept laws w k None is h = h
+comes_kept laws w k (Some x) is h = arrives_kept laws w k x is h
 
-catches_up_kept : EndLaws → (w : World) (k : ℕ) (o : Option Emitted) → slice_get w.bag k ≡ o → IsKept w → IsKept (catches_up w k o)
-catches_up_kept laws w k None is h = h
-catches_up_kept laws w k (Some x) is h = elim (x.delivered) as (λ v. IsKept (if v then w else arrives w k x)) [ true ↦ h | false ↦ arrives_kept laws w k x is h ]
-
-rests_kept : EndLaws → (w : World) (n : ℕ) → IsKept w → IsKept (rests w n)
-rests_kept laws w zero h = h
-rests_kept laws w (suc n) h = catches_up_kept laws (rests w n) n (slice_get (rests w n).bag n) refl (rests_kept laws w n h)
+all_kept : EndLaws → (w : World) (ks : List ℕ) → IsKept w → IsKept (fold delivers w ks)
+all_kept laws w [] h = h
+all_kept laws w (k ∷ ks) h = all_kept laws (delivers w k) ks (comes_kept laws w k (slice_get w.bag k) refl h)
 
 -- ---- events
 
 happens_kept : EndLaws → (w : World) (e : Event) → IsEvent e → IsKept w → IsKept (happens w e)
-happens_kept laws w (Deliver k) fits h = delivers_kept laws w k (slice_get w.bag k) refl h
-happens_kept laws w Rest fits h = rests_kept laws w (length w.bag) h
+happens_kept laws w (Deliver k) fits h = comes_kept laws w k (slice_get w.bag k) refl h
+happens_kept laws w Rest fits h = all_kept laws w (undelivered 0 w.bag) h
 happens_kept laws w (Tick side) fits h = packets_kept w side (after_tick (end_of w side)) (tick_packets (end_of w side)) h (tick_moves (end_of w side) (end_of w (other side)) (laws.tick (end_of w side) (h.ends side).fits) (h.ends side))
 happens_kept laws w (Foreign side bytes) fits h = subst IsKept (sym (foreign_changes_nothing w side bytes)) h
 happens_kept laws w (Send side x) fits h =

@@ -1,9 +1,9 @@
 ghost use Rattle.std.specs.Prelude.{◌≡◌, ◌<◌, ◌≤◌, ◌++◌, ℕ, length, [], ◌∷◌, map, OnOk, IfOk, slice_get, fold};
 ghost use Rattle.xns_spp.specs.Receiving.{receive_answer, after_receive};
 ghost use Rattle.xns_world.specs.Invariant.{Begins};
-ghost use Rattle.xns_world.specs.Play.{IsPlaying, IsPlayed};
+ghost use Rattle.xns_world.specs.Play.{IsPlaying, IsPlayed, catches_up};
 ghost use Rattle.xns_world.specs.Setup.{IsGood};
-ghost use Rattle.xns_world.specs.World.{World, start, delivers, catches_up, happens, run, item_trace, sender_and_bytes, IsEvent};
+ghost use Rattle.xns_world.specs.World.{World, start, happens, run, item_trace, sender_and_bytes, IsEvent};
 ghost use Rattle.xns_world.specs.declared.event.Event.TheVariants.{Deliver, Rest, Tick, Foreign, Send, Take};
 
 use crate::bag::Bag;
