@@ -131,5 +131,26 @@ for words in --help -h 'dump --help' 'help' 'help dump'; do
     fi
 done
 
+# ---- each growth refused in turn: the whole text, or a front of it with 3
+
+{ cat $crate/stdin && echo 5g; } > "$work/in"
+"$program" dump < "$work/in" > "$work/text"
+gcc -O1 -shared -fPIC -o "$work/refuse_growth.so" tests/refuse_growth.c
+growth=1
+while [ $growth -le 1000 ]; do
+    rm -f "$work/refused"
+    REFUSE_AT=$growth REFUSED=$work/refused LD_PRELOAD=$work/refuse_growth.so "$program" dump < "$work/in" > "$work/out" 2> "$work/err"
+    ended=$?
+    [ -e "$work/refused" ] || break
+    if [ "$ended" -eq 1 ]; then
+        expect "growth $growth refused, and done without" 1 '' "$work/text"
+    else
+        head -c "$(wc -c < "$work/out")" "$work/text" > "$work/front"
+        expect "growth $growth refused" 3 'xns: no memory' "$work/front"
+    fi
+    growth=$((growth + 1))
+done
+expect "a run that asks for fewer than $growth growths" 1 '' "$work/text"
+
 echo "$passed passed, $failed failed"
 [ "$failed" -eq 0 ]
