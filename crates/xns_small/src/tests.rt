@@ -154,53 +154,70 @@ fn padding_behind_the_offending_packet_is_quoted_as_given(rt: HostRuntime) -> Re
     Ok(())
 }
 
-#[test]
-fn a_requester_asks_the_same_each_time_and_knows_its_response(rt: HostRuntime) -> Result<(), Fail> {
-    let requester = Requester::request(rt.alloc(), ASKING, SERVICE, 0x0001_0002, 3, &[0xaa, 0xbb])?;
-    assert_eq!(rt; requester.try_again(), EXCHANGE_REQUEST.as_slice());
-    assert_eq!(rt; requester.try_again(), EXCHANGE_REQUEST.as_slice());
-    let body = [0, 1, 0, 2, 0, 4, 0xcc];
-    let response = Packet {
+/// The request that the next tests are about.
+fn asked(alloc: Global) -> Result<Requester, Fail> {
+    Ok(Requester::request(alloc, ASKING, SERVICE, 0x0001_0002, 3, &[0xaa, 0xbb])?)
+}
+
+/// A packet exchange packet from the service to `ASKING`.
+fn response(body: &[u8]) -> Packet<'_> {
+    Packet {
         kind: 4,
-        target: ASKING,
         source: SERVICE,
-        ..echo_to(ASKING, &body)
-    };
-    assert_eq!(rt; requester.accept(&response), Some([0xcc].as_slice()));
+        ..echo_to(ASKING, body)
+    }
+}
+
+#[test]
+fn a_requester_asks_the_same_each_time(rt: HostRuntime) -> Result<(), Fail> {
+    let requester = asked(rt.alloc())?;
+    assert_eq!(rt; requester.try_again(), EXCHANGE_REQUEST.as_slice());
+    assert_eq!(rt; requester.try_again(), EXCHANGE_REQUEST.as_slice());
+    Ok(())
+}
+
+#[test]
+fn a_response_is_accepted_from_any_network(rt: HostRuntime) -> Result<(), Fail> {
+    let requester = asked(rt.alloc())?;
+    let body = [0, 1, 0, 2, 0, 4, 0xcc];
     let other_network = Packet {
         source: Address {
             network: 9,
             ..SERVICE
         },
-        ..response
+        ..response(&body)
     };
+    assert_eq!(rt; requester.accept(&response(&body)), Some([0xcc].as_slice()));
     assert_eq!(rt; requester.accept(&other_network), Some([0xcc].as_slice()));
+    Ok(())
+}
+
+#[test]
+fn what_is_no_response_is_not_accepted(rt: HostRuntime) -> Result<(), Fail> {
+    let requester = asked(rt.alloc())?;
+    let body = [0, 1, 0, 2, 0, 4, 0xcc];
+    let other_socket = Address {
+        socket: 6,
+        ..SERVICE
+    };
+    let other_host = Address {
+        host: [0, 0, 0xaa, 0, 3, 4],
+        ..SERVICE
+    };
     let refused = [
+        response(&[0, 1, 0, 3, 0, 4, 0xcc]),
+        response(&[0, 1, 0, 2, 0]),
         Packet {
-            body: &[0, 1, 0, 3, 0, 4, 0xcc],
-            ..response
+            source: other_socket,
+            ..response(&body)
         },
         Packet {
-            body: &[0, 1, 0, 2, 0],
-            ..response
-        },
-        Packet {
-            source: Address {
-                socket: 6,
-                ..SERVICE
-            },
-            ..response
-        },
-        Packet {
-            source: Address {
-                host: [0, 0, 0xaa, 0, 3, 4],
-                ..SERVICE
-            },
-            ..response
+            source: other_host,
+            ..response(&body)
         },
         Packet {
             kind: 2,
-            ..response
+            ..response(&body)
         },
     ];
     for packet in &refused {
