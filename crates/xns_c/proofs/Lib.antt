@@ -1,0 +1,4 @@
+pub mod Values
+pub mod Owned
+pub mod Places
+pub mod Kept
