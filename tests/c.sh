@@ -99,6 +99,12 @@ expect 'the fields of a packet' sh -c "'$work/fields' < '$work/request'"
 printf '%s\n' 'summed 1 control 0 type 2 length 34' 'to network 1 host 0000aa000102 socket 2' 'from network 1 host 0000aa000304 socket 1024' 'data 00014869' > "$work/text"
 expect 'are these' cmp "$work/out" "$work/text"
 
+sed -n '/^```c$/,/^```$/p' docs/C.md | sed '/^```/d' > "$work/example.c"
+build example "$work/example.c"
+expect 'the example of docs/C.md' "$work/example"
+echo hello > "$work/text"
+expect 'says hello' cmp "$work/out" "$work/text"
+
 # ---- what the endpoints sent, read by others
 
 expect 'the packets of two endpoints' "$work/endpoints" 40 packets
@@ -113,7 +119,7 @@ if has tshark && has text2pcap; then
     sed 's/../ &/g; s/^/0000/' "$work/packets" > "$work/dumped"
     expect 'packets in a capture' sh -c "text2pcap -q -e 0x0600 '$work/dumped' '$work/capture' 2> /dev/null"
     tshark -r "$work/capture" -V > "$work/shown" 2> "$work/err"
-    expect 'tshark reads them as sequenced packets' sh -c "grep -q 'Sequenced Packet Protocol' '$work/shown'"
+    expect 'tshark reads each as a sequenced packet' sh -c "[ \$(grep -c '^Sequenced Packet Protocol' '$work/shown') -eq \$(wc -l < '$work/packets') ]"
     expect 'without a complaint' sh -c "! grep -q 'Malformed\|incorrect' '$work/shown'"
 else left_out 'tshark and text2pcap' 'whether they read what the endpoints sent'; fi
 

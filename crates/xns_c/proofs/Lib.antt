@@ -2,3 +2,4 @@ pub mod Values
 pub mod Owned
 pub mod Places
 pub mod Kept
+pub mod Sizes

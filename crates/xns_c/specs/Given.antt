@@ -1,5 +1,5 @@
 -- What is given to C through its own memory, and taken from it.
-use Rattle.std.specs.Prelude.{◌≡◌, ℕ, ◌≤◌, Bool, not, ◌==◌, if◌then◌else◌, List, ◌++◌, drop, length, Option, Some, None, Ok}
+use Rattle.std.specs.Prelude.{◌≡◌, ℕ, Bool, not, ◌==◌, if◌then◌else◌, List, ◌++◌, drop, length, Option, Some, None, Ok}
 use Rattle.xns_idp.specs.Packet.{PacketModel}
 use Rattle.xns_idp.specs.Reading.{packet_of}
 use Rattle.xns_idp.specs.declared.address.Address.{Address}
@@ -18,12 +18,12 @@ as_byte flag = if flag then 1 else 0
 abbrev pub IsPut : List ℕ → List ℕ → List ℕ → ℕ → Type 0
 IsPut bytes before after size = (size ≡ length bytes) × (after ≡ bytes ++ drop (length bytes) before)
 
--- the same for a packet that may be there
+-- the same for bytes that may be there
 abbrev pub IsPutIfThere : Option (List ℕ) → List ℕ → List ℕ → ℕ → Type 0
 IsPutIfThere None before after size = (size ≡ 0) × (after ≡ before)
-IsPutIfThere (Some bytes) before after size = length bytes ≤ length before → IsPut bytes before after size
+IsPutIfThere (Some bytes) before after size = IsPut bytes before after size
 
--- the item is given: what is known of it, and its bytes
+-- the item is given but for its bytes
 pub record GivesItem (x : Item) (out : XnsItem) : Type 0 where
   pub stream : out.stream ≡ x.stream
   pub attention : out.attention ≡ as_byte x.attention

@@ -1,6 +1,7 @@
-ghost use Rattle.std.specs.Prelude.{◌≡◌, ◌≢◌, ◌<◌, ◌≤◌, ℕ, List, [], ◌∷◌, length, OnOk, OnErr, IfOk};
+ghost use Rattle.std.specs.Prelude.{◌≡◌, ◌≢◌, ◌<◌, ◌≤◌, ℕ, List, [], ◌∷◌, length, OnOk, OnErr, IfOk, IfSome};
 ghost use Rattle.xns_spp.specs.Ends.{is_open};
 ghost use Rattle.xns_spp.specs.Held.{StandsFor};
+ghost use Rattle.xns_spp.specs.Item.{IsShortItem};
 ghost use Rattle.xns_spp.specs.Receiving.{receive_answer, after_receive, NeedsMemory};
 ghost use Rattle.xns_spp.specs.Sending.{send_answer, after_send, is_full, waiting_count, flush_answer, after_flush, tick_answer, after_tick, take_answer, after_take};
 ghost use Rattle.xns_spp.specs.State.{State};
@@ -8,6 +9,8 @@ ghost use Rattle.xns_c.specs.Given.{IsPut};
 ghost use Rattle.xns_c.specs.Results.{ok, nothing, no_memory, short_buffer, send_number};
 
 use crate::front::put_front;
+use crate::known::known_bytes;
+use crate::laws::packets_have_their_sizes;
 use crate::results::{NOTHING, OK, send_fault_number};
 use std::alloc::{AllocError, Global};
 use std::marker::Model;
@@ -82,6 +85,7 @@ impl Connection {
     pub fn take(&mut self) -> Option<Item>
         ensures answer { (s : State) → StandsFor self.old.endpoint s → result ≡ take_answer s }
         ensures stands { (s : State) → StandsFor self.old.endpoint s → StandsFor self.new.endpoint (after_take s) }
+        ensures short { (s : State) → StandsFor self.old.endpoint s → IfSome result IsShortItem }
         ensures packets { self.new.packets ≡ self.old.packets }
     {
         self.endpoint.take()
@@ -93,8 +97,11 @@ impl Connection {
         ensures stands { OnOk result ((s : State) → StandsFor self.old.endpoint s → StandsFor self.new.endpoint (after_receive s bytes.now)) }
         ensures packets { self.new.packets ≡ self.old.packets }
         ensures memory { OnErr result ((s : State) → StandsFor self.old.endpoint s → NeedsMemory s bytes.now) }
+        ensures reply { IfOk result (λ r. (s : State) → StandsFor self.old.endpoint s → IfSome r.reply (λ b. length b ≡ 42)) }
         ensures unchanged { OnErr result (self.new ≡ self.old) }
     {
+        known_bytes(bytes);
+        packets_have_their_sizes();
         self.endpoint.receive(alloc, bytes)
     }
 

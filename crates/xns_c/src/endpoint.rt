@@ -1,6 +1,6 @@
 //! An endpoint that C holds by its handle.
 
-ghost use Rattle.std.specs.Prelude.{◌≡◌, ◌≢◌, ◌⊎◌, ◌<◌, ◌≤◌, ℕ, List, [], ◌∷◌, length, false, Some, None};
+ghost use Rattle.std.specs.Prelude.{◌≡◌, ◌≢◌, ◌⊎◌, ◌<◌, ◌≤◌, ℕ, List, [], ◌∷◌, length, false, All, IfSome, Some, None};
 ghost use Rattle.xns_spp.specs.Ends.{is_open};
 ghost use Rattle.xns_spp.specs.Held.{StandsFor};
 ghost use Rattle.xns_spp.specs.Receiving.{receive_answer, after_receive, NeedsMemory};
@@ -19,6 +19,7 @@ use crate::flag::as_byte;
 use crate::front::put_front;
 use crate::handle::XnsEndpoint;
 use crate::item::XnsItem;
+use crate::laws::packets_have_their_sizes;
 use crate::received::XnsReceived;
 use crate::results::{
     BAD_ARGUMENT, NO_ENDPOINT, NO_MEMORY, NOTHING, OK, SHORT_BUFFER, dropped_number,
@@ -122,7 +123,7 @@ pub extern "C" fn xns_endpoint_new_responder(
 pub extern "C" fn xns_endpoint_free(alloc: Global, handle: &mut XnsEndpoint)
     ensures { line_of handle.new ≡ None }
 {
-    let _ = handle.take(alloc);
+    let _freed = handle.take(alloc);
 }
 
 /// Whether the peer is known. False where there is no endpoint.
@@ -219,8 +220,7 @@ pub extern "C" fn xns_endpoint_take(
     ensures packets { packets_of (line_of handle.new) ≡ packets_of (line_of handle.old) }
     ensures nothing { (s : State) → Keeps (line_of handle.old) s → 534 ≤ length buffer.old → take_answer s ≡ None → result ≡ nothing }
     ensures some { (s : State) (x : Item) → Keeps (line_of handle.old) s → 534 ≤ length buffer.old → take_answer s ≡ Some x → (result ≡ ok) × GivesItem x item.new }
-    ensures bytes { (s : State) (x : Item) → Keeps (line_of handle.old) s → 534 ≤ length buffer.old → take_answer s ≡ Some x → length x.body ≤ length buffer.old →
-        IsPut x.body buffer.old buffer.new item.new.length }
+    ensures bytes { (s : State) (x : Item) → Keeps (line_of handle.old) s → 534 ≤ length buffer.old → take_answer s ≡ Some x → IsPut x.body buffer.old buffer.new item.new.length }
     ensures short { length buffer.old < 534 → (result ≡ short_buffer) × (line_of handle.new ≡ line_of handle.old) }
     ensures none { line_of handle.old ≡ None → 534 ≤ length buffer.old → (result ≡ no_endpoint) × (line_of handle.new ≡ None) }
     ensures unchanged { result ≢ ok → (item.new ≡ item.old) × (buffer.new ≡ buffer.old) }
@@ -251,7 +251,7 @@ pub extern "C" fn xns_endpoint_take(
 
 /// Puts a reply, if there is one, to the front of the buffer, and says how many bytes it has.
 fn put_reply(buffer: &mut [u8], reply: &Option<Bytes>) -> usize
-    ensures { IsPutIfThere reply.now buffer.old buffer.new result }
+    ensures { IfSome reply.now (λ b. length b ≤ length buffer.old) → IsPutIfThere reply.now buffer.old buffer.new result }
 {
     let mut length = 0;
     if let Some(reply) = reply {
@@ -311,6 +311,7 @@ pub extern "C" fn xns_endpoint_receive(
 pub extern "C" fn xns_endpoint_flush(alloc: Global, handle: &mut XnsEndpoint) -> u32
     ensures stands { (s : State) → Keeps (line_of handle.old) s → result ≡ ok → Keeps (line_of handle.new) (after_flush s) }
     ensures packets { (s : State) → Keeps (line_of handle.old) s → result ≡ ok → packets_of (line_of handle.new) ≡ flush_answer s }
+    ensures short { (s : State) → Keeps (line_of handle.old) s → result ≡ ok → All (λ p. length p ≤ 576) (packets_of (line_of handle.new)) }
     ensures memory { (s : State) → Keeps (line_of handle.old) s → result ≢ ok → (result ≡ no_memory) × (0 < length (flush_answer s)) }
     ensures none { line_of handle.old ≡ None → result ≡ no_endpoint }
     ensures unchanged { result ≢ ok → line_of handle.new ≡ line_of handle.old }
@@ -318,6 +319,7 @@ pub extern "C" fn xns_endpoint_flush(alloc: Global, handle: &mut XnsEndpoint) ->
     let Some(mut connection) = handle.take(alloc) else {
         return NO_ENDPOINT;
     };
+    packets_have_their_sizes();
     let result = match connection.flush(alloc) {
         Ok(()) => OK,
         Err(_) => NO_MEMORY,
@@ -331,6 +333,7 @@ pub extern "C" fn xns_endpoint_flush(alloc: Global, handle: &mut XnsEndpoint) ->
 pub extern "C" fn xns_endpoint_tick(alloc: Global, handle: &mut XnsEndpoint) -> u32
     ensures stands { (s : State) → Keeps (line_of handle.old) s → result ≡ ok → Keeps (line_of handle.new) (after_tick s) }
     ensures packets { (s : State) → Keeps (line_of handle.old) s → result ≡ ok → packets_of (line_of handle.new) ≡ tick_answer s }
+    ensures short { (s : State) → Keeps (line_of handle.old) s → result ≡ ok → All (λ p. length p ≤ 576) (packets_of (line_of handle.new)) }
     ensures memory { (s : State) → Keeps (line_of handle.old) s → result ≢ ok → (result ≡ no_memory) × (0 < length (tick_answer s)) }
     ensures none { line_of handle.old ≡ None → result ≡ no_endpoint }
     ensures unchanged { result ≢ ok → line_of handle.new ≡ line_of handle.old }
@@ -338,6 +341,7 @@ pub extern "C" fn xns_endpoint_tick(alloc: Global, handle: &mut XnsEndpoint) -> 
     let Some(mut connection) = handle.take(alloc) else {
         return NO_ENDPOINT;
     };
+    packets_have_their_sizes();
     let result = match connection.tick(alloc) {
         Ok(()) => OK,
         Err(_) => NO_MEMORY,

@@ -14,6 +14,8 @@ mod handling;
 mod header;
 mod internet;
 mod item;
+mod known;
+pub mod laws;
 mod loose;
 mod owner;
 mod packet;
