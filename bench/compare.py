@@ -4,6 +4,8 @@
     python3 bench/compare.py checksum     the cycle checksum of a million packets of 576 bytes
     python3 bench/compare.py dump         `xns dump` of 65,536 packets in hex
     python3 bench/compare.py values       Courier values read, read over pieces, and written; the least time of many
+    python3 bench/compare.py c            a million packets of 576 bytes written and read by the library for C, beside plain C and
+                                          beside the same in Rattle
 
 The proved program is built by `rt run` in its crate, the peer by `rustc -O`. Absolute times say little on a shared machine; the
 ratio is of processor time in one run.
@@ -28,6 +30,18 @@ def built_peer(name, folder):
     return peer
 
 
+def built_c(name, folder, library):
+    """The program of a C file, with the library for C behind it or not."""
+    program = pathlib.Path(folder) / name
+    words = ["gcc", "-O2", "-std=c99", f"-I{BENCH.parent / 'include'}", BENCH / f"{name}.c"]
+    if library:
+        subprocess.run(["rt", "lib"], cwd=CRATES / "xns_c", stdout=subprocess.DEVNULL, stderr=subprocess.DEVNULL, check=True)
+        first = pathlib.Path(subprocess.run(["rt", "doc"], stdout=subprocess.PIPE, check=True, text=True).stdout.strip())
+        words += [CRATES / "xns_c" / "out" / "libxns_c.a", first.parent / "c" / "liblibc_c.a"]
+    subprocess.run(words + ["-o", program], check=True)
+    return program
+
+
 def seconds_of(words, given):
     """Processor seconds of one run, and its output."""
     with open(given, "rb") as lines, tempfile.TemporaryFile() as output:
@@ -48,6 +62,7 @@ def compare(ours, peer, given):
         sys.exit("the two programs print different things")
     medians = {name: statistics.median(runs) for name, runs in times.items()}
     print(f"ours {medians['ours']:.3f} s, peer {medians['peer']:.3f} s: the peer takes {medians['peer'] / medians['ours']:.1f} times as long")
+    return medians
 
 
 def nanoseconds_of(words):
@@ -87,6 +102,12 @@ def main():
             compare([built_program("xns"), "dump"], [built_peer("dump_peer", folder)], given)
         elif which == "values":
             compare_values([built_program("values_bench")], [built_peer("values_peer", folder)])
+        elif which == "c":
+            given.touch()
+            library = built_c("c_codec", folder, True)
+            compare([library], [built_c("c_codec_peer", folder, False)], given)
+            medians = compare([library], [built_program("codec_bench")], given)
+            print(f"through C each packet takes {(medians['ours'] - medians['peer']) * 1000:.0f} ns more than in Rattle, for its two calls")
         else:
             sys.exit(__doc__)
 

@@ -1,0 +1,55 @@
+//! Writes and reads packets of 576 bytes, to be timed beside the same through the library for C, `bench/c_codec.c`.
+#![tactic(auto)]
+
+use std::io;
+use xns_idp::{Address, Packet, decode, encode};
+
+/// So many bytes of data has a packet.
+const DATA: usize = 546;
+
+/// So many packets are written and read.
+const PACKETS: usize = 1_000_000;
+
+const TARGET: Address = Address {
+    network: 1,
+    host: [0, 0, 0xaa, 0, 1, 2],
+    socket: 5,
+};
+
+const SOURCE: Address = Address {
+    network: 1,
+    host: [0, 0, 0xaa, 0, 3, 4],
+    socket: 0x400,
+};
+
+/// A number that each of the fields and the checksum has a part in.
+fn mark(bytes: &[u8], index: usize) -> u64 {
+    let (Ok((packet, taken)), [high, low, ..]) = (decode(bytes), bytes) else {
+        return 0;
+    };
+    let byte = packet.body.get(index).copied().unwrap_or(0);
+    let sum = u64::from(*high) * 256 + u64::from(*low);
+    sum + u64::from(byte) + taken as u64 + u64::from(packet.source.socket)
+}
+
+fn main(rt: HostRuntime) -> io::Result<()> {
+    let alloc = rt.alloc();
+    let mut body = [0u8; DATA];
+    let mut total = 0u64;
+    for i in 0..PACKETS {
+        body[i % DATA] = (i % 251) as u8;
+        let packet = Packet {
+            summed: true,
+            control: 0,
+            kind: 5,
+            target: TARGET,
+            source: SOURCE,
+            body: &body,
+        };
+        let mut bytes = Vec::new(alloc);
+        if encode(alloc, &packet, &mut bytes).is_ok() {
+            total = total.wrapping_add(mark(bytes.as_slice(), i % DATA));
+        }
+    }
+    println!(&rt; "{PACKETS} packets, total {total}")
+}

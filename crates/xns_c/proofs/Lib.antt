@@ -1,0 +1,5 @@
+pub mod Values
+pub mod Owned
+pub mod Places
+pub mod Kept
+pub mod Sizes

@@ -1,0 +1,37 @@
+-- What is given to C through its own memory, and taken from it.
+use Rattle.std.specs.Prelude.{◌≡◌, ℕ, Bool, not, ◌==◌, if◌then◌else◌, List, ◌++◌, drop, length, Option, Some, None, Ok}
+use Rattle.xns_idp.specs.Packet.{PacketModel}
+use Rattle.xns_idp.specs.Reading.{packet_of}
+use Rattle.xns_idp.specs.declared.address.Address.{Address}
+use Rattle.xns_small.specs.Echo.{IsAnswered}
+use Rattle.xns_spp.specs.declared.item.Item.{Item}
+use Rattle.xns_c.specs.declared.item.XnsItem.{XnsItem}
+
+-- C's yes or no: 0 is no
+abbrev pub is_yes : ℕ → Bool
+is_yes n = not (n == 0)
+
+abbrev pub as_byte : Bool → ℕ
+as_byte flag = if flag then 1 else 0
+
+-- the bytes were put to the front of a buffer, and their number told; what stood behind them stands there still
+abbrev pub IsPut : List ℕ → List ℕ → List ℕ → ℕ → Type 0
+IsPut bytes before after size = (size ≡ length bytes) × (after ≡ bytes ++ drop (length bytes) before)
+
+-- the same for bytes that may be there
+abbrev pub IsPutIfThere : Option (List ℕ) → List ℕ → List ℕ → ℕ → Type 0
+IsPutIfThere None before after size = (size ≡ 0) × (after ≡ before)
+IsPutIfThere (Some bytes) before after size = IsPut bytes before after size
+
+-- the item is given but for its bytes
+pub record GivesItem (x : Item) (out : XnsItem) : Type 0 where
+  pub stream : out.stream ≡ x.stream
+  pub attention : out.attention ≡ as_byte x.attention
+  pub last : out.last ≡ as_byte x.last
+
+-- the bytes are an Echo request to this address
+pub record IsRequestTo (own : Address) (bytes : List ℕ) : Type 0 where
+  pub packet : PacketModel
+  pub taken : ℕ
+  pub reads : packet_of bytes ≡ Ok (packet, taken)
+  pub answered : IsAnswered own packet

@@ -1,0 +1,50 @@
+-- What the structs that C sees stand for.
+use Rattle.std.specs.Prelude.{ℕ, ◌+◌, List, slice_range}
+use Rattle.xns_idp.specs.declared.address.Address.{Address}
+use Rattle.xns_idp.specs.Packet.{PacketModel}
+use Rattle.xns_spp.specs.declared.header.Header.{Header}
+use Rattle.xns_spp.specs.declared.item.Item.{Item}
+use Rattle.xns_c.specs.Given.{is_yes}
+use Rattle.xns_c.specs.declared.address.XnsAddress.{XnsAddress}
+use Rattle.xns_c.specs.declared.header.XnsHeader.{XnsHeader}
+use Rattle.xns_c.specs.declared.packet.XnsPacket.{XnsPacket}
+
+abbrev pub address_in : XnsAddress → Address
+address_in a = record { network = a.network; host = a.host; socket = a.socket }
+
+abbrev pub address_out : Address → XnsAddress
+address_out a = record { network = a.network; host = a.host; socket = a.socket }
+
+-- the packet with this body
+abbrev pub packet_with : XnsPacket → List ℕ → PacketModel
+packet_with p body = record { summed = is_yes p.summed; control = p.control; kind = p.kind; target = address_in p.target; source = address_in p.source; body = body }
+
+-- the packet whose body stands at its place in the bytes
+abbrev pub packet_in : XnsPacket → List ℕ → PacketModel
+packet_in p bytes = packet_with p (slice_range bytes p.body_at (p.body_at + p.body_length))
+
+abbrev pub header_in : XnsHeader → Header
+header_in h = record {
+  control = h.control;
+  stream = h.stream;
+  source_id = h.source_id;
+  target_id = h.target_id;
+  sequence = h.sequence;
+  acknowledge = h.acknowledge;
+  allocation = h.allocation;
+}
+
+abbrev pub header_out : Header → XnsHeader
+header_out h = record {
+  control = h.control;
+  stream = h.stream;
+  source_id = h.source_id;
+  target_id = h.target_id;
+  sequence = h.sequence;
+  acknowledge = h.acknowledge;
+  allocation = h.allocation;
+}
+
+-- the item of these parts, as C gives them
+abbrev pub item_given : ℕ → ℕ → ℕ → List ℕ → Item
+item_given stream attention last body = record { stream = stream; attention = is_yes attention; last = is_yes last; body = body }

@@ -1,0 +1,40 @@
+use xns_idp::Address;
+
+/// Where a packet goes to or comes from.
+#[repr(C)]
+#[derive(Clone, Copy)]
+pub struct XnsAddress {
+    /// The network number; 0 is an unknown network.
+    pub network: u32,
+    /// The host number, its highest byte first; six bytes of 255 are every host.
+    pub host: [u8; 6],
+    /// The socket number.
+    pub socket: u16,
+}
+
+impl XnsAddress {
+    ghost use Rattle.std.specs.Prelude.{◌≡◌};
+    ghost use Rattle.xns_c.specs.Views.{address_in, address_out};
+
+    /// The same for C.
+    pub fn of(address: &Address) -> XnsAddress
+        ensures { result ≡ address_out address.now }
+    {
+        XnsAddress {
+            network: address.network,
+            host: address.host,
+            socket: address.socket,
+        }
+    }
+
+    /// The same for the stack.
+    pub fn address(&self) -> Address
+        ensures { result ≡ address_in self.now }
+    {
+        Address {
+            network: self.network,
+            host: self.host,
+            socket: self.socket,
+        }
+    }
+}

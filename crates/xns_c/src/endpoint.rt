@@ -1,0 +1,377 @@
+//! An endpoint that C holds by its handle.
+
+ghost use Rattle.std.specs.Prelude.{◌≡◌, ◌≢◌, ◌⊎◌, ◌<◌, ◌≤◌, ℕ, List, [], ◌∷◌, length, false, All, IfSome, Some, None};
+ghost use Rattle.xns_spp.specs.Ends.{is_open};
+ghost use Rattle.xns_spp.specs.Held.{StandsFor};
+ghost use Rattle.xns_spp.specs.Receiving.{receive_answer, after_receive, NeedsMemory};
+ghost use Rattle.xns_spp.specs.Sending.{send_answer, after_send, take_answer, after_take, is_full, waiting_count, flush_answer, after_flush, tick_answer, after_tick};
+ghost use Rattle.xns_spp.specs.State.{State, initiator_state, responder_state};
+ghost use Rattle.xns_spp.specs.declared.item.Item.{Item};
+ghost use Rattle.xns_c.specs.Given.{GivesItem, IsPut, IsPutIfThere};
+ghost use Rattle.xns_c.specs.Handle.{line_of};
+ghost use Rattle.xns_c.specs.Line.{Keeps, packets_of};
+ghost use Rattle.xns_c.specs.Results.{ok, nothing, no_memory, no_endpoint, short_buffer, bad_argument, send_number, dropped_number};
+ghost use Rattle.xns_c.specs.Views.{address_in, item_given};
+
+use crate::address::XnsAddress;
+use crate::connection::Connection;
+use crate::flag::as_byte;
+use crate::front::put_front;
+use crate::handle::XnsEndpoint;
+use crate::item::XnsItem;
+use crate::laws::packets_have_their_sizes;
+use crate::received::XnsReceived;
+use crate::results::{
+    BAD_ARGUMENT, NO_ENDPOINT, NO_MEMORY, NOTHING, OK, SHORT_BUFFER, dropped_number,
+};
+use std::alloc::Global;
+use xns_spp::{Bytes, Endpoint, Item};
+
+/// An item that is handed up has at most so many bytes.
+const LONGEST_ITEM: usize = 534;
+
+/// A reply has so many bytes.
+const REPLY: usize = 42;
+
+/// Puts a new endpoint, or none, in the place of the one that a handle had.
+fn fill(alloc: Global, handle: &mut XnsEndpoint, endpoint: Endpoint) -> u32
+    ensures filled { (s : State) → result ≡ ok → StandsFor endpoint s → Keeps (line_of handle.new) s }
+    ensures packets { packets_of (line_of handle.new) ≡ [] }
+    ensures memory { result ≢ ok → result ≡ no_memory }
+    ensures none { result ≢ ok → line_of handle.new ≡ None }
+{
+    let _ = handle.take(alloc);
+    match Box::new(alloc, Connection::new(alloc, endpoint)) {
+        Ok(connection) => {
+            handle.put(connection);
+            OK
+        }
+        Err(_) => NO_MEMORY,
+    }
+}
+
+/// Makes an endpoint that begins a connection, in the place of the one that the handle had, which is freed in any case.
+///
+/// `BAD_ARGUMENT` where `id` is 0, or `window` or `backlog` is not from 1 to 64; else `NO_MEMORY` where memory is refused. The handle
+/// then has no endpoint.
+#[unsafe(no_mangle)]
+pub extern "C" fn xns_endpoint_new_initiator(
+    alloc: Global,
+    handle: &mut XnsEndpoint,
+    own: &XnsAddress,
+    id: u16,
+    peer: &XnsAddress,
+    window: usize,
+    backlog: usize,
+) -> u32
+    ensures made { result ≡ ok → Keeps (line_of handle.new) (initiator_state (address_in own.now) id (address_in peer.now) window backlog) }
+    ensures packets { packets_of (line_of handle.new) ≡ [] }
+    ensures bad { (id ≡ 0) ⊎ ((window < 1) ⊎ ((64 < window) ⊎ ((backlog < 1) ⊎ (64 < backlog)))) → result ≡ bad_argument }
+    ensures good { 0 < id → (1 ≤ window) × (window ≤ 64) → (1 ≤ backlog) × (backlog ≤ 64) → result ≢ ok → result ≡ no_memory }
+    ensures none { result ≢ ok → line_of handle.new ≡ None }
+{
+    let _ = handle.take(alloc);
+    if id == 0 || window == 0 || window > 64 || backlog == 0 || backlog > 64 {
+        return BAD_ARGUMENT;
+    }
+    match Endpoint::initiator(alloc, own.address(), id, peer.address(), window, backlog) {
+        Ok(endpoint) => fill(alloc, handle, endpoint),
+        Err(_) => NO_MEMORY,
+    }
+}
+
+/// Makes an endpoint that answers an opening packet of `peer`, whose identifier is `peer_id`; else as `xns_endpoint_new_initiator`.
+///
+/// `BAD_ARGUMENT` also where `peer_id` is 0.
+#[unsafe(no_mangle)]
+pub extern "C" fn xns_endpoint_new_responder(
+    alloc: Global,
+    handle: &mut XnsEndpoint,
+    own: &XnsAddress,
+    id: u16,
+    peer: &XnsAddress,
+    peer_id: u16,
+    window: usize,
+    backlog: usize,
+) -> u32
+    ensures made { result ≡ ok → Keeps (line_of handle.new) (responder_state (address_in own.now) id (address_in peer.now) peer_id window backlog) }
+    ensures packets { packets_of (line_of handle.new) ≡ [] }
+    ensures bad { (id ≡ 0) ⊎ ((peer_id ≡ 0) ⊎ ((window < 1) ⊎ ((64 < window) ⊎ ((backlog < 1) ⊎ (64 < backlog))))) → result ≡ bad_argument }
+    ensures good { 0 < id → 0 < peer_id → (1 ≤ window) × (window ≤ 64) → (1 ≤ backlog) × (backlog ≤ 64) → result ≢ ok → result ≡ no_memory }
+    ensures none { result ≢ ok → line_of handle.new ≡ None }
+{
+    let _ = handle.take(alloc);
+    if id == 0 || peer_id == 0 || window == 0 || window > 64 || backlog == 0 || backlog > 64 {
+        return BAD_ARGUMENT;
+    }
+    match Endpoint::responder(
+        alloc,
+        own.address(),
+        id,
+        peer.address(),
+        peer_id,
+        window,
+        backlog,
+    ) {
+        Ok(endpoint) => fill(alloc, handle, endpoint),
+        Err(_) => NO_MEMORY,
+    }
+}
+
+/// Frees the endpoint, if there is one. The handle then has none, and may be used again.
+#[unsafe(no_mangle)]
+pub extern "C" fn xns_endpoint_free(alloc: Global, handle: &mut XnsEndpoint)
+    ensures { line_of handle.new ≡ None }
+{
+    let _freed = handle.take(alloc);
+}
+
+/// Whether the peer is known. False where there is no endpoint.
+#[unsafe(no_mangle)]
+pub extern "C" fn xns_endpoint_is_open(alloc: Global, handle: &mut XnsEndpoint) -> bool
+    ensures answer { (s : State) → Keeps (line_of handle.old) s → result ≡ is_open s.ends }
+    ensures none { line_of handle.old ≡ None → result ≡ false }
+    ensures same { line_of handle.new ≡ line_of handle.old }
+{
+    let Some(connection) = handle.take(alloc) else {
+        return false;
+    };
+    let answer = connection.is_open();
+    handle.put(connection);
+    answer
+}
+
+/// Whether an item would be refused as `EXHAUSTED` or `FULL`. False where there is no endpoint.
+#[unsafe(no_mangle)]
+pub extern "C" fn xns_endpoint_is_full(alloc: Global, handle: &mut XnsEndpoint) -> bool
+    ensures answer { (s : State) → Keeps (line_of handle.old) s → result ≡ is_full s }
+    ensures none { line_of handle.old ≡ None → result ≡ false }
+    ensures same { line_of handle.new ≡ line_of handle.old }
+{
+    let Some(connection) = handle.take(alloc) else {
+        return false;
+    };
+    let answer = connection.is_full();
+    handle.put(connection);
+    answer
+}
+
+/// How many items wait to be taken. 0 where there is no endpoint.
+#[unsafe(no_mangle)]
+pub extern "C" fn xns_endpoint_waiting(alloc: Global, handle: &mut XnsEndpoint) -> usize
+    ensures answer { (s : State) → Keeps (line_of handle.old) s → result ≡ waiting_count s }
+    ensures none { line_of handle.old ≡ None → result ≡ 0 }
+    ensures same { line_of handle.new ≡ line_of handle.old }
+{
+    let Some(connection) = handle.take(alloc) else {
+        return 0;
+    };
+    let answer = connection.waiting();
+    handle.put(connection);
+    answer
+}
+
+/// Accepts an item, whose bytes are copied. `attention` and `last` are 0 for no.
+///
+/// `NO_ENDPOINT`; `NO_MEMORY` where memory is refused, and the endpoint is as it was; else 0, or why the item is refused.
+#[unsafe(no_mangle)]
+pub extern "C" fn xns_endpoint_send(
+    alloc: Global,
+    handle: &mut XnsEndpoint,
+    stream: u8,
+    attention: u8,
+    last: u8,
+    body: &[u8],
+) -> u32
+    ensures number { (s : State) → Keeps (line_of handle.old) s → result ≢ no_memory → result ≡ send_number (send_answer s (item_given stream attention last body.now)) }
+    ensures stands { (s : State) → Keeps (line_of handle.old) s → result ≢ no_memory → Keeps (line_of handle.new) (after_send s (item_given stream attention last body.now)) }
+    ensures packets { packets_of (line_of handle.new) ≡ packets_of (line_of handle.old) }
+    ensures none { line_of handle.old ≡ None → (result ≡ no_endpoint) × (line_of handle.new ≡ None) }
+    ensures memory { result ≡ no_memory → line_of handle.new ≡ line_of handle.old }
+{
+    let Some(mut connection) = handle.take(alloc) else {
+        return NO_ENDPOINT;
+    };
+    let mut bytes = Vec::new(alloc);
+    let result = match bytes.extend_from_slice(body) {
+        Ok(()) => connection.send(Item {
+            stream,
+            attention: attention != 0,
+            last: last != 0,
+            body: Bytes::new(bytes),
+        }),
+        Err(_) => NO_MEMORY,
+    };
+    handle.put(connection);
+    result
+}
+
+/// Hands up the next item, its bytes to the front of the buffer.
+///
+/// `SHORT_BUFFER` where the buffer has fewer than 534 bytes, whatever waits; else `NO_ENDPOINT`, or `NOTHING` where none waits.
+#[unsafe(no_mangle)]
+pub extern "C" fn xns_endpoint_take(
+    alloc: Global,
+    handle: &mut XnsEndpoint,
+    item: &mut XnsItem,
+    buffer: &mut [u8],
+) -> u32
+    ensures stands { (s : State) → Keeps (line_of handle.old) s → 534 ≤ length buffer.old → Keeps (line_of handle.new) (after_take s) }
+    ensures packets { packets_of (line_of handle.new) ≡ packets_of (line_of handle.old) }
+    ensures nothing { (s : State) → Keeps (line_of handle.old) s → 534 ≤ length buffer.old → take_answer s ≡ None → result ≡ nothing }
+    ensures some { (s : State) (x : Item) → Keeps (line_of handle.old) s → 534 ≤ length buffer.old → take_answer s ≡ Some x → (result ≡ ok) × GivesItem x item.new }
+    ensures bytes { (s : State) (x : Item) → Keeps (line_of handle.old) s → 534 ≤ length buffer.old → take_answer s ≡ Some x → IsPut x.body buffer.old buffer.new item.new.length }
+    ensures short { length buffer.old < 534 → (result ≡ short_buffer) × (line_of handle.new ≡ line_of handle.old) }
+    ensures none { line_of handle.old ≡ None → 534 ≤ length buffer.old → (result ≡ no_endpoint) × (line_of handle.new ≡ None) }
+    ensures unchanged { result ≢ ok → (item.new ≡ item.old) × (buffer.new ≡ buffer.old) }
+{
+    if buffer.len() < LONGEST_ITEM {
+        return SHORT_BUFFER;
+    }
+    let Some(mut connection) = handle.take(alloc) else {
+        return NO_ENDPOINT;
+    };
+    let taken = connection.take();
+    handle.put(connection);
+    match taken {
+        Some(taken) => {
+            let mut length = 0;
+            let _ = put_front(taken.body.as_slice(), buffer, &mut length);
+            *item = XnsItem {
+                stream: taken.stream,
+                attention: as_byte(taken.attention),
+                last: as_byte(taken.last),
+                length,
+            };
+            OK
+        }
+        None => NOTHING,
+    }
+}
+
+/// Puts a reply, if there is one, to the front of the buffer, and says how many bytes it has.
+fn put_reply(buffer: &mut [u8], reply: &Option<Bytes>) -> usize
+    ensures { IfSome reply.now (λ b. length b ≤ length buffer.old) → IsPutIfThere reply.now buffer.old buffer.new result }
+{
+    let mut length = 0;
+    if let Some(reply) = reply {
+        let _ = put_front(reply.as_slice(), buffer, &mut length);
+    }
+    length
+}
+
+/// Takes in the bytes of a packet, and puts the reply, where one is wanted, to the front of the buffer.
+///
+/// `SHORT_BUFFER` where the buffer has fewer than 42 bytes, whatever came; else `NO_ENDPOINT`; else `NO_MEMORY` where memory is refused: the endpoint
+/// is then as it was, as if the packet were lost.
+#[unsafe(no_mangle)]
+pub extern "C" fn xns_endpoint_receive(
+    alloc: Global,
+    handle: &mut XnsEndpoint,
+    bytes: &[u8],
+    received: &mut XnsReceived,
+    buffer: &mut [u8],
+) -> u32
+    ensures stands { (s : State) → Keeps (line_of handle.old) s → result ≡ ok → Keeps (line_of handle.new) (after_receive s bytes.now) }
+    ensures packets { packets_of (line_of handle.new) ≡ packets_of (line_of handle.old) }
+    ensures took { (s : State) → Keeps (line_of handle.old) s → result ≡ ok → received.new.took ≡ (receive_answer s bytes.now).took }
+    ensures dropped { (s : State) → Keeps (line_of handle.old) s → result ≡ ok → received.new.dropped ≡ dropped_number (receive_answer s bytes.now).dropped }
+    ensures reply { (s : State) → Keeps (line_of handle.old) s → result ≡ ok → IsPutIfThere (receive_answer s bytes.now).reply buffer.old buffer.new received.new.reply }
+    ensures memory { (s : State) → Keeps (line_of handle.old) s → 42 ≤ length buffer.old → result ≢ ok → (result ≡ no_memory) × NeedsMemory s bytes.now }
+    ensures short { length buffer.old < 42 → result ≡ short_buffer }
+    ensures none { line_of handle.old ≡ None → 42 ≤ length buffer.old → result ≡ no_endpoint }
+    ensures unchanged { result ≢ ok → (line_of handle.new ≡ line_of handle.old) × (received.new ≡ received.old) × (buffer.new ≡ buffer.old) }
+{
+    if buffer.len() < REPLY {
+        return SHORT_BUFFER;
+    }
+    let Some(mut connection) = handle.take(alloc) else {
+        return NO_ENDPOINT;
+    };
+    let answer = connection.receive(alloc, bytes);
+    handle.put(connection);
+    match answer {
+        Ok(answer) => {
+            *received = XnsReceived {
+                took: answer.took,
+                reply: put_reply(buffer, &answer.reply),
+                dropped: dropped_number(answer.dropped),
+            };
+            OK
+        }
+        Err(_) => NO_MEMORY,
+    }
+}
+
+/// Makes the packets that may go out for the first time, which `xns_endpoint_next_packet` then gives. Packets that were not
+/// fetched are let go, as if they were lost.
+///
+/// `NO_ENDPOINT`, or `NO_MEMORY` where memory is refused: all is then as it was.
+#[unsafe(no_mangle)]
+pub extern "C" fn xns_endpoint_flush(alloc: Global, handle: &mut XnsEndpoint) -> u32
+    ensures stands { (s : State) → Keeps (line_of handle.old) s → result ≡ ok → Keeps (line_of handle.new) (after_flush s) }
+    ensures packets { (s : State) → Keeps (line_of handle.old) s → result ≡ ok → packets_of (line_of handle.new) ≡ flush_answer s }
+    ensures short { (s : State) → Keeps (line_of handle.old) s → result ≡ ok → All (λ p. length p ≤ 576) (packets_of (line_of handle.new)) }
+    ensures memory { (s : State) → Keeps (line_of handle.old) s → result ≢ ok → (result ≡ no_memory) × (0 < length (flush_answer s)) }
+    ensures none { line_of handle.old ≡ None → result ≡ no_endpoint }
+    ensures unchanged { result ≢ ok → line_of handle.new ≡ line_of handle.old }
+{
+    let Some(mut connection) = handle.take(alloc) else {
+        return NO_ENDPOINT;
+    };
+    packets_have_their_sizes();
+    let result = match connection.flush(alloc) {
+        Ok(()) => OK,
+        Err(_) => NO_MEMORY,
+    };
+    handle.put(connection);
+    result
+}
+
+/// Makes the packets that are to go out when time has passed; else as `xns_endpoint_flush`.
+#[unsafe(no_mangle)]
+pub extern "C" fn xns_endpoint_tick(alloc: Global, handle: &mut XnsEndpoint) -> u32
+    ensures stands { (s : State) → Keeps (line_of handle.old) s → result ≡ ok → Keeps (line_of handle.new) (after_tick s) }
+    ensures packets { (s : State) → Keeps (line_of handle.old) s → result ≡ ok → packets_of (line_of handle.new) ≡ tick_answer s }
+    ensures short { (s : State) → Keeps (line_of handle.old) s → result ≡ ok → All (λ p. length p ≤ 576) (packets_of (line_of handle.new)) }
+    ensures memory { (s : State) → Keeps (line_of handle.old) s → result ≢ ok → (result ≡ no_memory) × (0 < length (tick_answer s)) }
+    ensures none { line_of handle.old ≡ None → result ≡ no_endpoint }
+    ensures unchanged { result ≢ ok → line_of handle.new ≡ line_of handle.old }
+{
+    let Some(mut connection) = handle.take(alloc) else {
+        return NO_ENDPOINT;
+    };
+    packets_have_their_sizes();
+    let result = match connection.tick(alloc) {
+        Ok(()) => OK,
+        Err(_) => NO_MEMORY,
+    };
+    handle.put(connection);
+    result
+}
+
+/// Puts the next packet that `xns_endpoint_flush` or `xns_endpoint_tick` made to the front of the buffer. Each is given once.
+///
+/// `NO_ENDPOINT`; `NOTHING` where there is none; `SHORT_BUFFER` where the packet is longer than the buffer.
+#[unsafe(no_mangle)]
+pub extern "C" fn xns_endpoint_next_packet(
+    alloc: Global,
+    handle: &mut XnsEndpoint,
+    buffer: &mut [u8],
+    written: &mut usize,
+) -> u32
+    ensures put { (p : List ℕ) (ps : List (List ℕ)) → packets_of (line_of handle.old) ≡ p ∷ ps → length p ≤ length buffer.old →
+        (result ≡ ok) × (packets_of (line_of handle.new) ≡ ps) × IsPut p buffer.old buffer.new written.new }
+    ensures short { (p : List ℕ) (ps : List (List ℕ)) → packets_of (line_of handle.old) ≡ p ∷ ps → length buffer.old < length p → result ≡ short_buffer }
+    ensures nothing { (s : State) → Keeps (line_of handle.old) s → packets_of (line_of handle.old) ≡ [] → result ≡ nothing }
+    ensures stands { (s : State) → Keeps (line_of handle.old) s → Keeps (line_of handle.new) s }
+    ensures none { line_of handle.old ≡ None → result ≡ no_endpoint }
+    ensures unchanged { result ≢ ok → (line_of handle.new ≡ line_of handle.old) × (buffer.new ≡ buffer.old) × (written.new ≡ written.old) }
+{
+    let Some(mut connection) = handle.take(alloc) else {
+        return NO_ENDPOINT;
+    };
+    let result = connection.next_packet(buffer, written);
+    handle.put(connection);
+    result
+}

@@ -1,0 +1,99 @@
+//! Internet packets.
+
+ghost use Rattle.std.specs.Prelude.{◌≡◌, ◌≢◌, ◌+◌, ◌<◌, ◌≤◌, ◌%◌, length, Ok, Err};
+ghost use Rattle.xns_idp.specs.Checksum.{words, cycle_checksum};
+ghost use Rattle.xns_idp.specs.Packet.{packet_spelling};
+ghost use Rattle.xns_idp.specs.Reading.{made_even, packet_of};
+ghost use Rattle.xns_idp.specs.declared.fault.IdpFault.{IdpFault};
+ghost use Rattle.xns_c.specs.Given.{IsPut};
+ghost use Rattle.xns_c.specs.Results.{ok, bad_argument, no_memory, short_buffer, too_long, idp_fault_number};
+ghost use Rattle.xns_c.specs.Views.{packet_in, packet_with};
+
+use crate::address::XnsAddress;
+use crate::flag::as_byte;
+use crate::front::put_front;
+use crate::packet::XnsPacket;
+use crate::results::{BAD_ARGUMENT, NO_MEMORY, OK, SHORT_BUFFER, TOO_LONG, idp_fault_number};
+use std::alloc::Global;
+use xns_idp::{Packet, cycle_sum, decode, encode, written_packet_is_read_again};
+
+/// The checksum of the words of the bytes, or `BAD_ARGUMENT` for an odd number of bytes
+/// (XSIS 028112, Internet Datagram Protocol, Checksum).
+#[unsafe(no_mangle)]
+pub extern "C" fn xns_checksum(bytes: &[u8], sum: &mut u16) -> u32
+    ensures summed { length bytes.now % 2 ≡ 0 → (result ≡ ok) × (sum.new ≡ cycle_checksum (words bytes.now)) }
+    ensures odd { length bytes.now % 2 ≢ 0 → (result ≡ bad_argument) × (sum.new ≡ sum.old) }
+{
+    if bytes.len() % 2 != 0 {
+        return BAD_ARGUMENT;
+    }
+    *sum = cycle_sum(bytes);
+    OK
+}
+
+/// Reads the packet at the front of the bytes, or answers the number of the first fault
+/// (XSIS 028112, Internet Datagram Protocol, Packet Format).
+#[unsafe(no_mangle)]
+pub extern "C" fn xns_decode(bytes: &[u8], packet: &mut XnsPacket) -> u32
+    ensures read { result ≡ ok → packet_of bytes.now ≡ Ok (packet_in packet.new bytes.now, packet.new.taken) }
+    ensures fault { (f : IdpFault) → packet_of bytes.now ≡ Err f → result ≡ idp_fault_number f }
+    ensures unchanged { result ≢ ok → packet.new ≡ packet.old }
+{
+    match decode(bytes) {
+        Ok((found, taken)) => {
+            *packet = XnsPacket {
+                summed: as_byte(found.summed),
+                control: found.control,
+                kind: found.kind,
+                target: XnsAddress::of(&found.target),
+                source: XnsAddress::of(&found.source),
+                body_at: 30,
+                body_length: found.body.len(),
+                taken,
+            };
+            OK
+        }
+        Err(fault) => idp_fault_number(fault),
+    }
+}
+
+/// Puts the bytes of a packet with these data to the front of the buffer. Of the packet the last three fields are not read.
+///
+/// `TOO_LONG` for more than 546 bytes of data, else `SHORT_BUFFER`, else `NO_MEMORY` where memory is refused.
+#[unsafe(no_mangle)]
+pub extern "C" fn xns_encode(
+    alloc: Global,
+    packet: &XnsPacket,
+    body: &[u8],
+    buffer: &mut [u8],
+    written: &mut usize,
+) -> u32
+    ensures written { result ≡ ok → IsPut (packet_spelling (packet_with packet.now body.now)) buffer.old buffer.new written.new }
+    ensures long { 546 < length body.now → result ≡ too_long }
+    ensures short { length body.now ≤ 546 → length buffer.old < made_even (30 + length body.now) → result ≡ short_buffer }
+    ensures memory { length body.now ≤ 546 → made_even (30 + length body.now) ≤ length buffer.old → result ≢ ok → result ≡ no_memory }
+    ensures unchanged { result ≢ ok → (buffer.new ≡ buffer.old) × (written.new ≡ written.old) }
+{
+    let size = body.len();
+    if size > 546 {
+        return TOO_LONG;
+    }
+    if buffer.len() < 30 + size + size % 2 {
+        return SHORT_BUFFER;
+    }
+    let whole = Packet {
+        summed: packet.summed != 0,
+        control: packet.control,
+        kind: packet.kind,
+        target: packet.target.address(),
+        source: packet.source.address(),
+        body,
+    };
+    whole.known();
+    written_packet_is_read_again();
+    let mut bytes = Vec::new(alloc);
+    match encode(alloc, &whole, &mut bytes) {
+        Ok(()) => put_front(bytes.as_slice(), buffer, written),
+        Err(_) => NO_MEMORY,
+    }
+}

@@ -1,0 +1,32 @@
+//! The stack for programs in C: the formats of `xns_idp`, `xns_small` and `xns_spp`, and the endpoint.
+//!
+//! Each exported function answers a number of `results`, but for those that answer a yes or no. None has a condition: an
+//! argument that is not allowed is answered by its number. The header `include/xns.h` says the same to C.
+#![tactic(auto)]
+
+mod address;
+mod connection;
+mod endpoint;
+mod flag;
+mod front;
+mod handle;
+mod handling;
+mod header;
+mod internet;
+mod item;
+mod known;
+pub mod laws;
+mod loose;
+mod owner;
+mod packet;
+mod received;
+mod results;
+mod sequenced;
+mod small;
+
+pub use address::XnsAddress;
+pub use handle::XnsEndpoint;
+pub use header::XnsHeader;
+pub use item::XnsItem;
+pub use packet::XnsPacket;
+pub use received::XnsReceived;

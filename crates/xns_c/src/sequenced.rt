@@ -1,0 +1,64 @@
+//! The header of sequenced packets, and who opens a connection.
+
+ghost use Rattle.std.specs.Prelude.{◌≡◌, ◌≢◌, ◌<◌, ◌≤◌, drop, length, Ok, Some, None};
+ghost use Rattle.xns_spp.specs.Header.{header_of, header_spelling};
+ghost use Rattle.xns_spp.specs.Packet.{opener};
+ghost use Rattle.xns_c.specs.Given.{IsPut};
+ghost use Rattle.xns_c.specs.Results.{ok, nothing, short, short_buffer};
+ghost use Rattle.xns_c.specs.Views.{address_in, header_in};
+
+use crate::address::XnsAddress;
+use crate::front::put_front;
+use crate::header::XnsHeader;
+use crate::results::{NOTHING, OK, SHORT};
+use xns_spp::{opening, read_header};
+
+/// Reads the header at the front of a packet's data; the rest of the data follows from byte 12 on. `SHORT` for fewer than
+/// 12 bytes (XSIS 028112, Sequenced Packet Protocol).
+#[tactic(auto, unfolding(xns_spp::specs::Header::header_of))]
+#[unsafe(no_mangle)]
+pub extern "C" fn xns_header_read(body: &[u8], header: &mut XnsHeader) -> u32
+    ensures read { result ≡ ok → header_of body.now ≡ Ok (header_in header.new, drop 12 body.now) }
+    ensures long { 12 ≤ length body.now → result ≡ ok }
+    ensures short { length body.now < 12 → result ≡ short }
+    ensures unchanged { result ≢ ok → header.new ≡ header.old }
+{
+    match read_header(body) {
+        Ok((found, _)) => {
+            *header = XnsHeader::of(&found);
+            OK
+        }
+        Err(_) => SHORT,
+    }
+}
+
+/// Puts the twelve bytes of a header to the front of the buffer, or answers `SHORT_BUFFER`.
+#[unsafe(no_mangle)]
+pub extern "C" fn xns_header_write(
+    header: &XnsHeader,
+    buffer: &mut [u8],
+    written: &mut usize,
+) -> u32
+    ensures written { 12 ≤ length buffer.old → (result ≡ ok) × IsPut (header_spelling (header_in header.now)) buffer.old buffer.new written.new }
+    ensures short { length buffer.old < 12 → (result ≡ short_buffer) × (buffer.new ≡ buffer.old) × (written.new ≡ written.old) }
+{
+    put_front(&header.header().to_bytes(), buffer, written)
+}
+
+/// Who opens a connection by these bytes, and with which identifier. `NOTHING` where nobody does
+/// (XSIS 028112, Sequenced Packet Protocol, Connection Identifiers).
+#[unsafe(no_mangle)]
+pub extern "C" fn xns_opening(bytes: &[u8], peer: &mut XnsAddress, peer_id: &mut u16) -> u32
+    ensures opens { result ≡ ok → opener bytes.now ≡ Some (address_in peer.new, peer_id.new) }
+    ensures none { result ≢ ok → (result ≡ nothing) × (opener bytes.now ≡ None) }
+    ensures unchanged { result ≢ ok → (peer.new ≡ peer.old) × (peer_id.new ≡ peer_id.old) }
+{
+    match opening(bytes) {
+        Some((address, id)) => {
+            *peer = XnsAddress::of(&address);
+            *peer_id = id;
+            OK
+        }
+        None => NOTHING,
+    }
+}

@@ -1,0 +1,150 @@
+//! Echo, Error and Packet Exchange.
+
+ghost use Rattle.std.specs.Prelude.{◌≡◌, ◌≢◌, ◌+◌, ◌<◌, ◌≤◌, ℕ, drop, length, Ok};
+ghost use Rattle.xns_idp.specs.Packet.{PacketModel};
+ghost use Rattle.xns_idp.specs.Reading.{packet_of};
+ghost use Rattle.xns_small.specs.Echo.{IsAnswered, echo_reply};
+ghost use Rattle.xns_small.specs.ErrorReport.{IsComplainedOf, complaint, error_of};
+ghost use Rattle.xns_small.specs.Exchange.{exchange_of, exchange_spelling};
+ghost use Rattle.xns_c.specs.Given.{IsPut, IsRequestTo};
+ghost use Rattle.xns_c.specs.Results.{ok, no_memory, nothing, short, short_buffer, too_long};
+ghost use Rattle.xns_c.specs.Views.{address_in};
+
+use crate::address::XnsAddress;
+use crate::front::put_front;
+use crate::results::{NO_MEMORY, NOTHING, OK, SHORT, SHORT_BUFFER, TOO_LONG};
+use std::alloc::Global;
+use xns_idp::decode;
+use xns_small::{Exchange, answer_echo, complain, read_error, read_exchange, write_exchange};
+
+/// Puts the answer to an Echo request to the front of the buffer (XSIS 028112, Echo Protocol).
+///
+/// `NOTHING` where the bytes are no request to `own`; else `SHORT_BUFFER`, or `NO_MEMORY` where memory is refused.
+#[unsafe(no_mangle)]
+pub extern "C" fn xns_echo_reply(
+    alloc: Global,
+    own: &XnsAddress,
+    bytes: &[u8],
+    buffer: &mut [u8],
+    written: &mut usize,
+) -> u32
+    ensures answered { (x : PacketModel × ℕ) → packet_of bytes.now ≡ Ok x → IsAnswered (address_in own.now) x.0 → result ≢ nothing }
+    ensures written { (x : PacketModel × ℕ) → packet_of bytes.now ≡ Ok x → result ≡ ok →
+        IsAnswered (address_in own.now) x.0 × IsPut (echo_reply (address_in own.now) x.0) buffer.old buffer.new written.new }
+    ensures short { (x : PacketModel × ℕ) → packet_of bytes.now ≡ Ok x → result ≡ short_buffer →
+        IsAnswered (address_in own.now) x.0 × (length buffer.old < length (echo_reply (address_in own.now) x.0)) }
+    ensures memory { result ≢ ok → result ≢ nothing → result ≢ short_buffer → result ≡ no_memory }
+    ensures nothing { result ≢ nothing → IsRequestTo (address_in own.now) bytes.now }
+    ensures unchanged { result ≢ ok → (buffer.new ≡ buffer.old) × (written.new ≡ written.old) }
+{
+    let Ok((packet, _)) = decode(bytes) else {
+        return NOTHING;
+    };
+    match answer_echo(alloc, own.address(), &packet) {
+        Ok(Some(reply)) => put_front(reply.as_slice(), buffer, written),
+        Ok(None) => NOTHING,
+        Err(_) => NO_MEMORY,
+    }
+}
+
+/// Puts an Error packet about the offending packet to the front of the buffer (XSIS 028112, Error Protocol).
+///
+/// `NOTHING` where one must not complain of the bytes; else `SHORT_BUFFER`, or `NO_MEMORY` where memory is refused.
+#[unsafe(no_mangle)]
+pub extern "C" fn xns_complain(
+    alloc: Global,
+    own: &XnsAddress,
+    number: u16,
+    parameter: u16,
+    offending: &[u8],
+    buffer: &mut [u8],
+    written: &mut usize,
+) -> u32
+    ensures complained { IsComplainedOf offending.now → result ≢ nothing }
+    ensures written { result ≡ ok → IsPut (complaint (address_in own.now) number parameter offending.now) buffer.old buffer.new written.new }
+    ensures short { result ≡ short_buffer → length buffer.old < length (complaint (address_in own.now) number parameter offending.now) }
+    ensures memory { result ≢ ok → result ≢ nothing → result ≢ short_buffer → result ≡ no_memory }
+    ensures nothing { result ≢ nothing → IsComplainedOf offending.now }
+    ensures unchanged { result ≢ ok → (buffer.new ≡ buffer.old) × (written.new ≡ written.old) }
+{
+    match complain(alloc, own.address(), number, parameter, offending) {
+        Ok(Some(bytes)) => put_front(bytes.as_slice(), buffer, written),
+        Ok(None) => NOTHING,
+        Err(_) => NO_MEMORY,
+    }
+}
+
+/// Reads the data of an Error packet; what it quotes follows from byte 4 on. `SHORT` for fewer than 4 bytes.
+#[tactic(auto, unfolding(xns_small::specs::ErrorReport::error_of))]
+#[unsafe(no_mangle)]
+pub extern "C" fn xns_error_read(body: &[u8], number: &mut u16, parameter: &mut u16) -> u32
+    ensures read { result ≡ ok → error_of body.now ≡ Ok (record { number = number.new; parameter = parameter.new; quoted = drop 4 body.now }) }
+    ensures long { 4 ≤ length body.now → result ≡ ok }
+    ensures short { length body.now < 4 → result ≡ short }
+    ensures unchanged { result ≢ ok → (number.new ≡ number.old) × (parameter.new ≡ parameter.old) }
+{
+    match read_error(body) {
+        Ok(report) => {
+            *number = report.number;
+            *parameter = report.parameter;
+            OK
+        }
+        Err(_) => SHORT,
+    }
+}
+
+/// Reads the data of a Packet Exchange packet; its own data follow from byte 6 on. `SHORT` for fewer than 6 bytes
+/// (XSIS 028112, Packet Exchange Protocol).
+#[tactic(auto, unfolding(xns_small::specs::Exchange::exchange_of))]
+#[unsafe(no_mangle)]
+pub extern "C" fn xns_exchange_read(body: &[u8], id: &mut u32, client: &mut u16) -> u32
+    ensures read { result ≡ ok → exchange_of body.now ≡ Ok (record { id = id.new; client = client.new; body = drop 6 body.now }) }
+    ensures long { 6 ≤ length body.now → result ≡ ok }
+    ensures short { length body.now < 6 → result ≡ short }
+    ensures unchanged { result ≢ ok → (id.new ≡ id.old) × (client.new ≡ client.old) }
+{
+    match read_exchange(body) {
+        Ok(exchange) => {
+            *id = exchange.id;
+            *client = exchange.client;
+            OK
+        }
+        Err(_) => SHORT,
+    }
+}
+
+/// Puts the data of a Packet Exchange packet to the front of the buffer.
+///
+/// `TOO_LONG` for more than 540 bytes, else `SHORT_BUFFER`, else `NO_MEMORY` where memory is refused.
+#[unsafe(no_mangle)]
+pub extern "C" fn xns_exchange_write(
+    alloc: Global,
+    id: u32,
+    client: u16,
+    bytes: &[u8],
+    buffer: &mut [u8],
+    written: &mut usize,
+) -> u32
+    ensures written { result ≡ ok → IsPut (exchange_spelling (record { id = id; client = client; body = bytes.now })) buffer.old buffer.new written.new }
+    ensures long { 540 < length bytes.now → result ≡ too_long }
+    ensures short { length bytes.now ≤ 540 → length buffer.old < 6 + length bytes.now → result ≡ short_buffer }
+    ensures memory { length bytes.now ≤ 540 → 6 + length bytes.now ≤ length buffer.old → result ≢ ok → result ≡ no_memory }
+    ensures unchanged { result ≢ ok → (buffer.new ≡ buffer.old) × (written.new ≡ written.old) }
+{
+    if bytes.len() > 540 {
+        return TOO_LONG;
+    }
+    if buffer.len() < 6 + bytes.len() {
+        return SHORT_BUFFER;
+    }
+    let exchange = Exchange {
+        id,
+        client,
+        body: bytes,
+    };
+    let mut whole = Vec::new(alloc);
+    match write_exchange(alloc, &exchange, &mut whole) {
+        Ok(()) => put_front(whole.as_slice(), buffer, written),
+        Err(_) => NO_MEMORY,
+    }
+}

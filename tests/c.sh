@@ -1,0 +1,147 @@
+#!/bin/sh
+# Builds the library for C and what calls it, and runs each. Its last line is 'N passed, M failed', and it ends with 1 where one failed. What it leaves
+# out because a tool is missing it says.
+set -u
+cd "$(dirname "$0")/.."
+work=$(mktemp -d)
+trap 'rm -rf "$work"' EXIT
+archive=crates/xns_c/out/libxns_c.a
+passed=0
+failed=0
+
+has() {
+    command -v "$1" > "$work/path" 2>&1
+}
+
+# Runs the words: they must end with 0, and write nothing on standard error. What they write is then in $work/out.
+expect() {
+    name=$1
+    shift
+    if "$@" > "$work/new" 2> "$work/err" && [ ! -s "$work/err" ]; then passed=$((passed + 1)); else fail "$name"; fi
+    mv "$work/new" "$work/out"
+}
+
+fail() {
+    failed=$((failed + 1))
+    echo "FAILED $1"
+    cat "$work/err"
+}
+
+left_out() {
+    echo "left out, for want of $1: $2"
+}
+
+finish() {
+    echo "$passed passed, $failed failed"
+    [ "$failed" -eq 0 ]
+    exit
+}
+
+# ---- the archive, and the kit's three functions over malloc, realloc and free
+
+(cd crates/xns_c && rt lib) > "$work/err" 2>&1
+if [ ! -f $archive ]; then fail "$archive is not built"; finish; fi
+kit=$(dirname "$(rt doc)")
+heap=
+for folder in "$kit" "$kit/.." "$(dirname "$(readlink -f "$(command -v rt)")")/.."; do
+    if [ -z "$heap" ] && [ -f "$folder/c/liblibc_c.a" ]; then heap=$folder/c/liblibc_c.a; fi
+done
+if [ -z "$heap" ]; then : > "$work/err"; fail 'the kit has no c/liblibc_c.a'; finish; fi
+
+compiler=
+for one in "${CC:-gcc}" gcc cc clang; do
+    if [ -z "$compiler" ] && has "$one"; then compiler=$one; fi
+done
+if [ -z "$compiler" ]; then left_out 'a C compiler' 'all that is compiled and run'; finish; fi
+flags='-Wall -Wextra -Wpedantic -Werror -O2 -Iinclude'
+
+# ---- the header: C99, C11, C++; its calls are the archive's
+
+echo '#include "xns.h"' > "$work/header.c"
+cp "$work/header.c" "$work/header.cc"
+for standard in c99 c11; do
+    expect "the header as $standard" "$compiler" $flags -std=$standard -fsyntax-only "$work/header.c"
+done
+plus=
+for one in "${CXX:-g++}" g++ c++ clang++; do
+    if [ -z "$plus" ] && has "$one"; then plus=$one; fi
+done
+if [ -n "$plus" ]; then expect 'the header as C++' "$plus" $flags -std=c++11 -fsyntax-only "$work/header.cc"
+else left_out 'a C++ compiler' 'the header as C++'; fi
+if has nm; then
+    nm -g --defined-only $archive 2> "$work/err" | sed -n 's/.* T //p' | grep '^xns_' | sort > "$work/defined"
+    sed -n 's/^[a-z].*[ *]\(xns_[a-z_]*\)(.*;$/\1/p' include/xns.h | sort > "$work/declared"
+    [ -s "$work/defined" ] || echo nothing >> "$work/declared"
+    expect "the archive's calls are the header's" cmp "$work/defined" "$work/declared"
+else left_out nm 'whether the calls of the archive are those of the header'; fi
+
+# ---- programs
+
+build() {
+    program=$1
+    shift
+    rm -f "$work/$program"
+    expect "$program is built" "$compiler" $flags -std=c99 "$@" $archive "$heap" -o "$work/$program"
+}
+
+build calls -Wl,--wrap=malloc,--wrap=realloc tests/c/calls.c tests/c/refuse.c
+for example in endpoints fields echo; do
+    build $example examples/c/$example.c
+done
+expect 'each call, and each growth refused' "$work/calls"
+expect 'two endpoints, 1,000 items each way' "$work/endpoints" 1000
+
+echo 532300220002000000010000aa0001020002000000010000aa000304040000014869 > "$work/request"
+echo 172700220002000000010000aa0003040400000000010000aa000102000200024869 > "$work/reply"
+expect 'an Echo request' sh -c "'$work/echo' < '$work/request'"
+expect 'its reply' cmp "$work/out" "$work/reply"
+expect 'the fields of a packet' sh -c "'$work/fields' < '$work/request'"
+printf '%s\n' 'summed 1 control 0 type 2 length 34' 'to network 1 host 0000aa000102 socket 2' 'from network 1 host 0000aa000304 socket 1024' 'data 00014869' > "$work/text"
+expect 'are these' cmp "$work/out" "$work/text"
+
+sed -n '/^```c$/,/^```$/p' docs/C.md | sed '/^```/d' > "$work/example.c"
+build example "$work/example.c"
+expect 'the example of docs/C.md' "$work/example"
+echo hello > "$work/text"
+expect 'says hello' cmp "$work/out" "$work/text"
+
+# ---- what the endpoints sent, read by others
+
+expect 'the packets of two endpoints' "$work/endpoints" 40 packets
+cp "$work/out" "$work/packets"
+expect 'are read' sh -c "'$work/fields' < '$work/packets'"
+(cd crates/xns && rt run -- dump < stdin) > "$work/err" 2>&1
+if [ -x crates/xns/out/xns ]; then
+    expect 'and by xns dump' sh -c "crates/xns/out/xns dump < '$work/packets'"
+    expect 'without a complaint' sh -c "[ -s '$work/out' ] && ! grep -q refused '$work/out'"
+else fail 'xns is not built'; fi
+if has tshark && has text2pcap; then
+    sed 's/../ &/g; s/^/0000/' "$work/packets" > "$work/dumped"
+    expect 'packets in a capture' sh -c "text2pcap -q -e 0x0600 '$work/dumped' '$work/capture' 2> /dev/null"
+    tshark -r "$work/capture" -V > "$work/shown" 2> "$work/err"
+    expect 'tshark reads each as a sequenced packet' sh -c "[ \$(grep -c '^Sequenced Packet Protocol' '$work/shown') -eq \$(wc -l < '$work/packets') ]"
+    expect 'without a complaint' sh -c "! grep -q 'Malformed\|incorrect' '$work/shown'"
+else left_out 'tshark and text2pcap' 'whether they read what the endpoints sent'; fi
+
+# ---- no error and no leak
+
+if has valgrind; then
+    for words in calls 'endpoints 100'; do
+        # shellcheck disable=SC2086
+        expect "$words under valgrind" valgrind -q --leak-check=full --show-leak-kinds=all --error-exitcode=9 "$work/"$words
+    done
+    for program in echo fields; do
+        expect "$program under valgrind" sh -c "valgrind -q --leak-check=full --show-leak-kinds=all --error-exitcode=9 '$work/$program' < '$work/packets'"
+    done
+else left_out valgrind 'whether memory is used rightly and given back'; fi
+
+# ---- the shared library
+
+expect 'the shared library' "$compiler" -shared -Wl,--whole-archive $archive -Wl,--no-whole-archive "$heap" -o "$work/libxns.so"
+if has python3; then
+    expect 'it is called from Python' python3 examples/python/endpoint.py "$work/libxns.so"
+    printf 'hello\nworld\n' > "$work/text"
+    expect 'and does the same' cmp "$work/out" "$work/text"
+else left_out python3 'the example in Python'; fi
+
+finish
