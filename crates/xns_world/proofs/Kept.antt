@@ -250,7 +250,7 @@ start_kept laws setup fits good =
     let a : IsState w.a =
     laws.initiator setup.a setup.b setup.a_id setup.window setup.backlog fits.a fits.b good.a_id fits.a_id good.window_least good.window_most good.backlog_least good.backlog_most in
     let b : IsState w.b =
-    laws.responder setup.b setup.a setup.b_id setup.a_id setup.window setup.backlog fits.b fits.a good.b_id fits.b_id fits.a_id good.window_least good.window_most good.backlog_least good.backlog_most in
+    laws.responder setup.b setup.a setup.b_id setup.a_id setup.window setup.backlog fits.b fits.a good.b_id fits.b_id good.a_id fits.a_id good.window_least good.window_most good.backlog_least good.backlog_most in
     record {
       ends = λ side. elim side as (λ s. Keeps (end_of w s) (end_of w (other s))) [
         | A ↦ new_keeps w.a w.b a refl (λ k. refl) refl refl

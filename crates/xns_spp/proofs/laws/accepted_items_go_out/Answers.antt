@@ -1,0 +1,5 @@
+use Rattle.xns_spp.proofs.Growing.{flush_out, tick_out, receive_reply}
+use Rattle.xns_spp.proofs.laws.accepted_items_go_out.Goals as goal
+
+pub returns : goal.returns
+returns c = record { flush = flush_out; tick = tick_out; reply = receive_reply }
