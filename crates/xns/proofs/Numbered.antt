@@ -2,8 +2,8 @@
 use Rattle.std.proofs.Common.{◌≡◌, ◌∙◌, ap, sym, refl, rules, arith, ℕ, ◌+◌, ◌*◌, ◌<◌, ◌≤◌, ◌==◌, ◌&&◌, Bool, true, false, cond, List, [], ◌∷◌, ◌++◌, length, append-nil, subst, Option, Some, None, ◌-◌, ◌%◌, ◌^◌}
 use Rattle.std.specs.Prelude.{IfSome, nat_lt}
 use Rattle.std.specs.Str.{bytes_eq}
-use Rattle.std.specs.Option.{unwrap_or}
-use Rattle.std.specs.BTreeMap.{BTreeMap, Updates, get, is_at}
+use Rattle.std.specs.Option.{option_to_list, unwrap_or}
+use Rattle.std.specs.BTreeMap.{BTreeMap, IsUnchanged, Updates, get, is_at}
 use Rattle.std.specs.Cmp.Lexicographic.{bytes_decides, slice_cmp}
 use Rattle.std.proofs.lemmas.Bool.{eqb-true}
 use Rattle.std.proofs.lemmas.Bool.Decides.{nat_tests}
@@ -14,7 +14,9 @@ use Rattle.std.specs.declared.cmp.Ordering.TheVariants.{Less, Equal, Greater}
 use Rattle.std.proofs.lemmas.Map.Text.{is_eq-slice_cmp}
 use Rattle.xns_spp.specs.Nearest.{nearest}
 use Rattle.xns.specs.Flows.{DataPacket, fields_of, is_flow, is_place, item_number, last_number, number_after, number_from, with_field}
-use Rattle.xns.specs.Flows.Numbers.{AreWords, StandsFor, flow_cmp, number_near, numbering}
+use Rattle.xns.specs.Flows.Numbers.{AreWords, StandsFor, flow_cmp, number_near, numbered, numbering}
+use Rattle.xns.specs.Layers.Sequenced.{item_line, item_text}
+use Rattle.xns.specs.declared.flows.numbered.Numbered.{Numbered}
 use Rattle.xns.specs.declared.flows.flow.Flow.{Flow}
 use Rattle.xns.specs.declared.flows.place.Place.{Place}
 
@@ -175,3 +177,32 @@ stands_noted m m' sent flow field n lt u e h = record {
       ∙ sym (number_last q sent (flow, field));
   words = words_last sent (flow, field) lt h.words;
 }
+
+pub stands_same : (m m' : BTreeMap Flow ℕ) (packets : List DataPacket) → IsUnchanged m m' → StandsFor m packets → StandsFor m' packets
+stands_same m m' packets same h = record { numbers = λ flow. rw same (h.numbers flow); words = h.words }
+
+-- where there is no data packet nothing is noted
+pub stands_unnoted : (m : BTreeMap Flow ℕ) (number : DataPacket → ℕ) (packet : Option DataPacket) (earlier : List DataPacket) → None ≡ numbered number packet → StandsFor m earlier → StandsFor m (earlier ++ option_to_list packet)
+stands_unnoted m number None earlier e h = subst (StandsFor m) (sym (append-nil earlier)) h
+stands_unnoted m number (Some x) earlier e h = (cc)
+
+some_is : (a b : Numbered) → Some a ≡ Some b → a ≡ b
+some_is a b e = (cc)
+
+pub stands_with : (m m' : BTreeMap Flow ℕ) (number : DataPacket → ℕ) (packet : Option DataPacket) (earlier : List DataPacket) (x : Numbered) → Some x ≡ numbered number packet → number ≡ item_number earlier
+    → (x.item ≡ item_number earlier (x.flow, x.sequence) → StandsFor m' (earlier ++ (x.flow, x.sequence) ∷ [])) → StandsFor m' (earlier ++ option_to_list packet)
+stands_with m m' number None earlier x e same noted = (cc)
+stands_with m m' number (Some s) earlier x e same noted =
+    let is : x ≡ record { flow = s.0; sequence = s.1; item = number s } = some_is x (record { flow = s.0; sequence = s.1; item = number s }) e in
+    let item : x.item ≡ item_number earlier (x.flow, x.sequence) = rw is (ap (λ (f : DataPacket → ℕ). f s) same) in
+    subst (λ (y : Numbered). StandsFor m' (earlier ++ (y.flow, y.sequence) ∷ [])) is (noted item)
+
+pub no_item : (n : ℕ) (number : DataPacket → ℕ) (packet : Option DataPacket) (xs : List ℕ) → None ≡ numbered number packet → xs ≡ xs ++ item_text n number packet
+no_item n number None xs e = sym (append-nil xs)
+no_item n number (Some packet) xs e = (cc)
+
+pub an_item : (n : ℕ) (number : DataPacket → ℕ) (packet : Option DataPacket) (xs ys : List ℕ) (x : Numbered) → Some x ≡ numbered number packet → ys ≡ xs ++ item_line n x.item → ys ≡ xs ++ item_text n number packet
+an_item n number None xs ys x e h = (cc)
+an_item n number (Some packet) xs ys x e h =
+    let is : x ≡ record { flow = packet.0; sequence = packet.1; item = number packet } = some_is x (record { flow = packet.0; sequence = packet.1; item = number packet }) e in
+    h ∙ ap (λ (y : Numbered). xs ++ item_line n y.item) is

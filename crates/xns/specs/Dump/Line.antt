@@ -1,11 +1,12 @@
 -- What a line of the input says.
-use Rattle.std.specs.Prelude.{ℕ, ◌-◌, ◌==◌, ◌||◌, Bool, true, not, List, ◌++◌, length, take, slice_index, codes, if◌then◌else◌, Result, Ok, Err}
+use Rattle.std.specs.Prelude.{ℕ, ◌-◌, ◌==◌, ◌||◌, Bool, true, not, List, ◌++◌, length, take, slice_index, codes, if◌then◌else◌, Option, None, Result, Ok, Err}
 use Rattle.std.specs.List.{filter}
 use Rattle.std.specs.Fmt.{decimal}
 use Rattle.hex.specs.Hex.{decode_of}
 use Rattle.hex.specs.declared.error.FromHexError.{FromHexError}
 use Rattle.hex.specs.declared.error.FromHexError.TheVariants.{InvalidHexCharacter}
-use Rattle.xns.specs.Layers.Packets.{is_packet_refused, packet_text}
+use Rattle.xns.specs.Flows.{DataPacket}
+use Rattle.xns.specs.Layers.Packets.{is_packet_refused, packet_item, packet_text}
 
 -- a line without one carriage return at its end
 abbrev pub without_return : List ℕ → List ℕ
@@ -24,13 +25,20 @@ unfoldable pub hex_refusal : ℕ → FromHexError → List ℕ
 hex_refusal n (InvalidHexCharacter digit place) = decimal n ++ codes " hex refused Digit " ++ decimal place ++ codes "\n"
 hex_refusal n _ = decimal n ++ codes " hex refused OddLength\n"
 
-abbrev pub report_bytes : ℕ → Result (List ℕ) FromHexError → List ℕ
-report_bytes n (Ok bytes) = packet_text n bytes
-report_bytes n (Err error) = hex_refusal n error
+abbrev pub report_bytes : ℕ → (DataPacket → ℕ) → Result (List ℕ) FromHexError → List ℕ
+report_bytes n number (Ok bytes) = packet_text n number bytes
+report_bytes n number (Err error) = hex_refusal n error
 
 -- the lines of digits: those of the bytes that they spell
-unfoldable pub digits_text : ℕ → List ℕ → List ℕ
-digits_text n digits = report_bytes n (decode_of digits)
+unfoldable pub digits_text : ℕ → (DataPacket → ℕ) → List ℕ → List ℕ
+digits_text n number digits = report_bytes n number (decode_of digits)
+
+abbrev pub spelt_item : Result (List ℕ) FromHexError → Option DataPacket
+spelt_item (Ok bytes) = packet_item bytes
+spelt_item (Err error) = None
+
+unfoldable pub digits_item : List ℕ → Option DataPacket
+digits_item digits = spelt_item (decode_of digits)
 
 abbrev pub is_refusal : Result (List ℕ) FromHexError → Bool
 is_refusal (Ok bytes) = is_packet_refused bytes
@@ -39,9 +47,13 @@ is_refusal (Err error) = true
 unfoldable pub are_digits_refused : List ℕ → Bool
 are_digits_refused digits = is_refusal (decode_of digits)
 
--- what line n says
-unfoldable pub text_of_line : ℕ → List ℕ → List ℕ
-text_of_line n line = digits_text n (digits_of line)
+-- what line n says, where `number` gives the numbers of items
+unfoldable pub text_of_line : ℕ → (DataPacket → ℕ) → List ℕ → List ℕ
+text_of_line n number line = digits_text n number (digits_of line)
+
+-- the data packet of a flow that a line spells, if it spells one
+unfoldable pub item_of_line : List ℕ → Option DataPacket
+item_of_line line = digits_item (digits_of line)
 
 -- whether a line is refused
 unfoldable pub is_refused : List ℕ → Bool

@@ -1,5 +1,5 @@
 -- The lines that say what the bytes of a packet mean, a text for each layer.
-use Rattle.std.specs.Prelude.{ℕ, ◌+◌, ◌==◌, Bool, true, false, if◌then◌else◌, List, ◌++◌, length, codes, Result, Ok, Err}
+use Rattle.std.specs.Prelude.{ℕ, ◌+◌, ◌==◌, Bool, true, false, if◌then◌else◌, List, ◌++◌, length, codes, Option, None, Result, Ok, Err}
 use Rattle.std.specs.Fmt.{decimal}
 use Rattle.xns_idp.specs.Packet.{PacketModel}
 use Rattle.xns_idp.specs.Reading.{packet_of, word_at}
@@ -8,20 +8,21 @@ use Rattle.xns_idp.specs.declared.fault.IdpFault.TheVariants.{Short, LengthSmall
 use Rattle.xns_small.specs.Echo.{echo_of}
 use Rattle.xns_small.specs.ErrorReport.{error_of}
 use Rattle.xns_small.specs.Exchange.{exchange_of}
+use Rattle.xns.specs.Flows.{DataPacket}
 use Rattle.xns.specs.Layers.Small.{echo_text, error_text, exchange_text, is_inner_fault}
 use Rattle.xns_spp.specs.Header.{header_of}
-use Rattle.xns.specs.Layers.Sequenced.{is_header_fault, sequenced_text}
+use Rattle.xns.specs.Layers.Sequenced.{is_header_fault, sequenced_item, sequenced_text}
 use Rattle.xns.specs.Layers.Text.{address_text, data_line, hex_word}
 
 -- ---- the body
 
 -- what the body of a packet says, by the packet type
-unfoldable pub body_text : ℕ → PacketModel → List ℕ
-body_text n packet =
+unfoldable pub body_text : ℕ → (DataPacket → ℕ) → PacketModel → List ℕ
+body_text n number packet =
     if packet.kind == 2 then echo_text n packet.body
     else if packet.kind == 3 then error_text n packet.body
     else if packet.kind == 4 then exchange_text n packet.body
-    else if packet.kind == 5 then sequenced_text n packet.body
+    else if packet.kind == 5 then sequenced_text n number packet
     else data_line n packet.body
 
 -- whether the body is not what the packet type says
@@ -32,6 +33,10 @@ is_body_refused packet =
     else if packet.kind == 4 then is_inner_fault (exchange_of packet.body)
     else if packet.kind == 5 then is_header_fault (header_of packet.body)
     else false
+
+-- the data packet of a flow that it is, if it is one
+unfoldable pub body_item : PacketModel → Option DataPacket
+body_item packet = if packet.kind == 5 then sequenced_item packet else None
 
 -- ---- the header (XSIS 028112, Internet Datagram Protocol, Packet Format)
 
@@ -68,13 +73,21 @@ idp_refusal n fault = decimal n ++ codes " idp refused " ++ fault_text fault ++ 
 
 -- ---- the packet at the front of bytes
 
-abbrev pub report_packet : ℕ → List ℕ → Result (PacketModel × ℕ) IdpFault → List ℕ
-report_packet n bytes (Ok found) = idp_line n (word_at bytes 0) found.0 ++ body_text n found.0
-report_packet n bytes (Err fault) = idp_refusal n fault
+abbrev pub report_packet : ℕ → (DataPacket → ℕ) → List ℕ → Result (PacketModel × ℕ) IdpFault → List ℕ
+report_packet n number bytes (Ok found) = idp_line n (word_at bytes 0) found.0 ++ body_text n number found.0
+report_packet n number bytes (Err fault) = idp_refusal n fault
 
 -- the lines of bytes: those of the packet at their front, or the first fault
-unfoldable pub packet_text : ℕ → List ℕ → List ℕ
-packet_text n bytes = report_packet n bytes (packet_of bytes)
+unfoldable pub packet_text : ℕ → (DataPacket → ℕ) → List ℕ → List ℕ
+packet_text n number bytes = report_packet n number bytes (packet_of bytes)
+
+abbrev pub found_item : Result (PacketModel × ℕ) IdpFault → Option DataPacket
+found_item (Ok found) = body_item found.0
+found_item (Err fault) = None
+
+-- the data packet at the front of bytes, if one is there
+unfoldable pub packet_item : List ℕ → Option DataPacket
+packet_item bytes = found_item (packet_of bytes)
 
 abbrev pub is_fault : Result (PacketModel × ℕ) IdpFault → Bool
 is_fault (Ok found) = is_body_refused found.0

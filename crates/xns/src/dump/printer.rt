@@ -1,11 +1,15 @@
 //! What `dump` makes of the lines of its input.
-ghost use Rattle.std.specs.Prelude.{◌≡◌, ◌+◌, ◌||◌, ◌++◌, ℕ, List, [], ◌∷◌, Option, false, length, IfErr, IfOk, OnErr, OnOk};
+ghost use Rattle.std.specs.Prelude.{◌≡◌, ◌+◌, ◌≤◌, ◌||◌, ◌++◌, ℕ, List, [], ◌∷◌, Option, false, length, IfErr, IfOk, OnErr, OnOk};
 ghost use Rattle.std.specs.Io.KnownBytes.{Appends};
 ghost use Rattle.xns.specs.Faults.{AppendsFront};
+ghost use Rattle.xns.specs.Dump.{items_of_line};
 ghost use Rattle.xns.specs.Dump.Line.{is_refused, text_of_line};
+ghost use Rattle.xns.specs.Flows.{DataPacket};
+ghost use Rattle.xns.specs.Flows.Numbers.{StandsFor, numbering};
 
 use crate::dump::reporter::Reporter;
 use crate::fault::RunFault;
+use crate::flows::numbers::FlowNumbers;
 use crate::lines::taker::LineTaker;
 use crate::writing::write_whole;
 use std::alloc::{AllocError, Global};
@@ -23,10 +27,12 @@ pub(crate) struct Printer {
     text: Vec<u8>,
     /// Makes what a line says.
     reporter: Reporter,
+    /// The numbers of items so far.
+    numbers: FlowNumbers,
 }
 
 impl Printer {
-    ghost use Rattle.xns.specs.Dump.Printer.{IsFlushed, stands_for};
+    ghost use Rattle.xns.specs.Dump.Printer.{IsFlushed, IsSame, stands_for};
 
     /// A printer that has taken nothing.
     pub(crate) fn new(alloc: Global) -> Self
@@ -36,19 +42,27 @@ impl Printer {
             refused: false,
             text: Vec::new(alloc),
             reporter: Reporter::new(alloc),
+            numbers: FlowNumbers::new(alloc),
         }
     }
 
-    /// Says what the line says. An `Err` leaves the text as it was.
+    /// Says what the line says. Where memory is refused, all is as it was.
     fn print_line(&mut self, number: usize, line: &[u8]) -> Result<(), AllocError>
         ensures refused { OnOk result (self.new.refused ≡ (self.old.refused || is_refused line.now)) }
-        ensures text { OnOk result (self.new.text.items ≡ self.old.text.items ++ text_of_line number line.now) }
-        ensures err { OnErr result ((self.new.text.items ≡ self.old.text.items) × (self.new.refused ≡ self.old.refused)) }
+        ensures text { OnOk result (self.new.text.items ≡ self.old.text.items ++ text_of_line number (numbering self.old.numbers.last) line.now) }
+        ensures noted { OnOk result ((earlier : List DataPacket) → StandsFor self.old.numbers.last earlier → length earlier ≤ 65536
+            → StandsFor self.new.numbers.last (earlier ++ items_of_line line.now)) }
+        ensures err { OnErr result (IsSame self.old self.new) }
     {
-        let is_refused = self.reporter.report_line(number, line)?;
+        let reported = self.reporter.report_line(number, line, &self.numbers)?;
+        let before = self.text.len();
         self.text
             .extend_from_slice(self.reporter.report.as_slice())?;
-        self.refused = self.refused || is_refused;
+        let Ok(()) = self.numbers.note_item(reported.item) else {
+            self.text.truncate(before);
+            return Err(AllocError);
+        };
+        self.refused = self.refused || reported.is_refused;
         Ok(())
     }
 

@@ -2,11 +2,14 @@
 ghost use Rattle.std.specs.Prelude.{◌≡◌, ◌≢◌, ◌++◌, [], Err, IfOk, OnOk, length, not, string_bytes};
 ghost use Rattle.std.specs.List.{filter};
 ghost use Rattle.hex.specs.declared.error.FromHexError.{FromHexError};
-ghost use Rattle.xns.specs.Dump.Line.{are_digits_refused, digits_of, digits_text, hex_refusal, is_blank as is_blank_of, is_refused, text_of_line, without_return as without_return_of};
+ghost use Rattle.xns.specs.Flows.Numbers.{numbered, numbering};
+ghost use Rattle.xns.specs.Dump.Line.{are_digits_refused, digits_item, digits_of, digits_text, hex_refusal, is_blank as is_blank_of, is_refused, item_of_line, text_of_line, without_return as without_return_of};
 
 use crate::dump::digits::read_digits;
+use crate::flows::numbers::FlowNumbers;
 use crate::layers::numbers::append_decimal;
 use crate::layers::packets::append_packet;
+use crate::layers::reported::Reported;
 use hex::FromHexError;
 use memchr::memchr2;
 use std::alloc::{AllocError, Global};
@@ -20,6 +23,8 @@ pub(crate) struct Reporter {
     bytes: Vec<u8>,
     /// The report of the latest line.
     pub(crate) report: Vec<u8>,
+    /// Where the words of a message are kept.
+    alloc: Global,
 }
 
 impl Reporter {
@@ -30,25 +35,42 @@ impl Reporter {
             digits: Vec::new(alloc),
             bytes: Vec::new(alloc),
             report: Vec::new(alloc),
+            alloc,
         }
     }
 
-    /// Makes the report of a line, and says whether the line is refused.
-    #[tactic(auto, unfolding(crate::specs::Dump::Line::text_of_line, crate::specs::Dump::Line::is_refused, crate::specs::Dump::Line::digits_of))]
-    pub(crate) fn report_line(&mut self, number: usize, line: &[u8]) -> Result<bool, AllocError>
-        ensures { IfOk result (λ refused. (self.new.report.items ≡ text_of_line number line.now) × (refused ≡ is_refused line.now)) }
+    /// Makes the report of a line.
+    #[tactic(auto, unfolding(crate::specs::Dump::Line::text_of_line, crate::specs::Dump::Line::is_refused, crate::specs::Dump::Line::item_of_line, crate::specs::Dump::Line::digits_of))]
+    pub(crate) fn report_line(
+        &mut self,
+        number: usize,
+        line: &[u8],
+        numbers: &FlowNumbers,
+    ) -> Result<Reported, AllocError>
+        ensures { IfOk result (λ reported. (self.new.report.items ≡ text_of_line number (numbering numbers.now.last) line.now)
+            × (reported.is_refused ≡ is_refused line.now)
+            × (reported.item ≡ numbered (numbering numbers.now.last) (item_of_line line.now))) }
     {
         self.report.clear();
         let line = without_return(line);
         match memchr2(b' ', b'\t', line) {
-            None => append_digits(&mut self.report, number, line, &mut self.bytes),
+            None => append_digits(
+                self.alloc,
+                &mut self.report,
+                number,
+                line,
+                &mut self.bytes,
+                numbers,
+            ),
             Some(_) => {
                 keep_digits(&mut self.digits, line)?;
                 append_digits(
+                    self.alloc,
                     &mut self.report,
                     number,
                     self.digits.as_slice(),
                     &mut self.bytes,
+                    numbers,
                 )
             }
         }
@@ -84,23 +106,29 @@ fn is_blank(byte: u8) -> bool
     byte == b' ' || byte == b'\t'
 }
 
-/// Appends the lines of digits, and says whether they are refused.
-#[tactic(auto, unfolding(crate::specs::Dump::Line::digits_text, crate::specs::Dump::Line::are_digits_refused))]
+/// Appends the lines of digits.
+#[tactic(auto, unfolding(crate::specs::Dump::Line::digits_text, crate::specs::Dump::Line::are_digits_refused, crate::specs::Dump::Line::digits_item))]
 fn append_digits(
+    alloc: Global,
     report: &mut Vec<u8>,
     number: usize,
     digits: &[u8],
     bytes: &mut Vec<u8>,
-) -> Result<bool, AllocError>
-    ensures { IfOk result (λ refused. (report.new.items ≡ report.old.items ++ digits_text number digits.now)
-        × (refused ≡ are_digits_refused digits.now)) }
+    numbers: &FlowNumbers,
+) -> Result<Reported, AllocError>
+    ensures { IfOk result (λ reported. (report.new.items ≡ report.old.items ++ digits_text number (numbering numbers.now.last) digits.now)
+        × (reported.is_refused ≡ are_digits_refused digits.now)
+        × (reported.item ≡ numbered (numbering numbers.now.last) (digits_item digits.now))) }
 {
     match read_digits(digits, bytes) {
-        Ok(()) => append_packet(report, number, bytes.as_slice()),
+        Ok(()) => append_packet(alloc, report, number, bytes.as_slice(), numbers),
         Err(FromHexError::OutOfMemory) => Err(AllocError),
         Err(error) => {
             append_refusal(report, number, &error)?;
-            Ok(true)
+            Ok(Reported {
+                is_refused: true,
+                item: None,
+            })
         }
     }
 }

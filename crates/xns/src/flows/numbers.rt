@@ -1,10 +1,12 @@
 //! The number of the last item of each flow.
-ghost use Rattle.std.specs.Prelude.{◌≡◌, ◌++◌, [], ◌∷◌, List, IfSome, option_copied, OnErr, OnOk};
+ghost use Rattle.std.specs.Prelude.{◌≡◌, ◌++◌, [], ◌∷◌, ℕ, List, Option, option_copied, OnErr, OnOk};
+ghost use Rattle.std.specs.Option.{option_to_list};
 ghost use Rattle.std.specs.BTreeMap.{IsUnchanged};
 ghost use Rattle.xns.specs.Flows.{DataPacket, item_number};
-ghost use Rattle.xns.specs.Flows.Numbers.{StandsFor, number_near, numbering};
+ghost use Rattle.xns.specs.Flows.Numbers.{StandsFor, number_near, numbered, numbering};
 
 use crate::flows::flow::Flow;
+use crate::flows::numbered::Numbered;
 use std::alloc::{AllocError, Global};
 use std::collections::BTreeMap;
 use xns_spp::nearest;
@@ -46,6 +48,18 @@ impl FlowNumbers {
         match self.last.insert(flow, item) {
             Ok(_) => Ok(()),
             Err(_) => Err(AllocError),
+        }
+    }
+
+    /// Keeps the number of a data packet's item, if there is one. Where memory is refused, nothing has changed.
+    pub(crate) fn note_item(&mut self, item: Option<Numbered>) -> Result<(), AllocError>
+        ensures after { OnOk result ((number : DataPacket → ℕ) (packet : Option DataPacket) (earlier : List DataPacket) → item ≡ numbered number packet → number ≡ item_number earlier
+            → StandsFor self.old.last earlier → StandsFor self.new.last (earlier ++ option_to_list packet)) }
+        ensures unchanged { OnErr result (IsUnchanged self.old.last self.new.last) }
+    {
+        match item {
+            Some(item) => self.note(item.flow, item.sequence, item.item),
+            None => Ok(()),
         }
     }
 }

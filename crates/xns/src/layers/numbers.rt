@@ -1,8 +1,9 @@
 //! Numbers, bytes and addresses as text, appended to a report.
 ghost use Rattle.std.specs.Prelude.{◌≡◌, ◌++◌, OnOk, codes};
+ghost use Rattle.std.specs.List.{flat_map};
 ghost use Rattle.std.specs.Fmt.{decimal};
 ghost use Rattle.hex.specs.Hex.{encode_lower};
-ghost use Rattle.xns.specs.Layers.Text.{address_text, bytes_or_dash as bytes_or_dash_of, data_line, hex_word, words_in_hex, words_or_dash};
+ghost use Rattle.xns.specs.Layers.Text.{address_text, bytes_or_dash as bytes_or_dash_of, data_line, hex_word, words_in_hex, words_line, words_or_dash, words_text};
 
 use itoa::Buffer;
 use std::alloc::AllocError;
@@ -10,6 +11,14 @@ use xns_idp::Address;
 
 /// Appends a number in decimal.
 pub(crate) fn append_decimal(report: &mut Vec<u8>, number: usize) -> Result<(), AllocError>
+    ensures { OnOk result (report.new.items ≡ report.old.items ++ decimal number) }
+{
+    let mut buffer = Buffer::new();
+    report.extend_from_slice(buffer.format(number).as_bytes())
+}
+
+/// Appends a number of more bits in decimal.
+pub(crate) fn append_long(report: &mut Vec<u8>, number: u64) -> Result<(), AllocError>
     ensures { OnOk result (report.new.items ≡ report.old.items ++ decimal number) }
 {
     let mut buffer = Buffer::new();
@@ -74,6 +83,46 @@ fn append_words(report: &mut Vec<u8>, bytes: &[u8]) -> Result<(), AllocError>
         left = rest;
     }
     append_hex(report, left)
+}
+
+/// Appends words of four digits with one space between, or a dash where there are none.
+#[tactic(auto, unfolding(crate::specs::Layers::Text::words_text))]
+pub(crate) fn append_word_list(report: &mut Vec<u8>, words: &[u16]) -> Result<(), AllocError>
+    ensures { OnOk result (report.new.items ≡ report.old.items ++ words_text words.now) }
+{
+    match words {
+        [] => report.extend_from_slice(b"-"),
+        [first, rest @ ..] => {
+            append_word(report, *first)?;
+            append_more_words(report, rest)
+        }
+    }
+}
+
+/// Appends words, each behind a space.
+fn append_more_words(report: &mut Vec<u8>, words: &[u16]) -> Result<(), AllocError>
+    ensures { OnOk result (report.new.items ≡ report.old.items ++ flat_map (λ word. codes " " ++ hex_word word) words.now) }
+{
+    for word in words {
+        report.extend_from_slice(b" ")?;
+        append_word(report, *word)?;
+    }
+    Ok(())
+}
+
+/// Appends the line of words.
+#[tactic(auto, unfolding(crate::specs::Layers::Text::words_line))]
+pub(crate) fn append_words_line(
+    report: &mut Vec<u8>,
+    number: usize,
+    content: &[u8],
+) -> Result<(), AllocError>
+    ensures { OnOk result (report.new.items ≡ report.old.items ++ words_line number content.now) }
+{
+    append_decimal(report, number)?;
+    report.extend_from_slice(b" words ")?;
+    append_words_or_dash(report, content)?;
+    report.extend_from_slice(b"\n")
 }
 
 /// Appends the line of bytes.

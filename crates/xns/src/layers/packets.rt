@@ -2,12 +2,15 @@
 ghost use Rattle.std.specs.Prelude.{◌≡◌, ◌+◌, ◌++◌, ◌≤◌, ◌<◌, ◌^◌, length, codes, IfOk, OnOk};
 ghost use Rattle.xns_idp.specs.Packet.{packet_model};
 ghost use Rattle.xns_idp.specs.Reading.{word_at};
-ghost use Rattle.xns.specs.Layers.Packets.{body_text, fault_text, idp_line, idp_refusal, is_body_refused, is_packet_refused, kind_text, packet_text, route_text, size_text, sum_text};
+ghost use Rattle.xns.specs.Flows.Numbers.{numbered, numbering};
+ghost use Rattle.xns.specs.Layers.Packets.{body_item, body_text, fault_text, idp_line, idp_refusal, is_body_refused, is_packet_refused, kind_text, packet_item, packet_text, route_text, size_text, sum_text};
 
+use crate::flows::numbers::FlowNumbers;
 use crate::layers::numbers::{append_address, append_data_line, append_decimal, append_word};
+use crate::layers::reported::Reported;
 use crate::layers::sequenced::append_sequenced;
 use crate::layers::small::{append_echo, append_error, append_exchange};
-use std::alloc::AllocError;
+use std::alloc::{AllocError, Global};
 use xns_idp::{IdpFault, Packet, decode};
 
 /// The packet type of Echo.
@@ -22,44 +25,61 @@ const PACKET_EXCHANGE: u8 = 4;
 /// The packet type of Sequenced Packet.
 const SEQUENCED_PACKET: u8 = 5;
 
-/// Appends the lines of bytes, and says whether they are refused.
-#[tactic(auto, unfolding(crate::specs::Layers::Packets::packet_text, crate::specs::Layers::Packets::is_packet_refused))]
+/// Appends the lines of bytes.
+#[tactic(auto, unfolding(crate::specs::Layers::Packets::packet_text, crate::specs::Layers::Packets::is_packet_refused, crate::specs::Layers::Packets::packet_item))]
 pub(crate) fn append_packet(
+    alloc: Global,
     report: &mut Vec<u8>,
     number: usize,
     bytes: &[u8],
-) -> Result<bool, AllocError>
-    ensures { IfOk result (λ refused. (report.new.items ≡ report.old.items ++ packet_text number bytes.now)
-        × (refused ≡ is_packet_refused bytes.now)) }
+    numbers: &FlowNumbers,
+) -> Result<Reported, AllocError>
+    ensures { IfOk result (λ reported. (report.new.items ≡ report.old.items ++ packet_text number (numbering numbers.now.last) bytes.now)
+        × (reported.is_refused ≡ is_packet_refused bytes.now)
+        × (reported.item ≡ numbered (numbering numbers.now.last) (packet_item bytes.now))) }
 {
     match decode(bytes) {
         Ok((packet, _)) => {
             append_idp_line(report, number, bytes, &packet)?;
-            append_body(report, number, &packet)
+            append_body(alloc, report, number, &packet, numbers)
         }
         Err(fault) => {
             append_refusal(report, number, fault)?;
-            Ok(true)
+            Ok(Reported {
+                is_refused: true,
+                item: None,
+            })
         }
     }
 }
 
-/// Appends what the body of a packet says, and says whether it is refused.
-#[tactic(auto, unfolding(crate::specs::Layers::Packets::body_text, crate::specs::Layers::Packets::is_body_refused))]
-fn append_body(report: &mut Vec<u8>, number: usize, packet: &Packet<'_>) -> Result<bool, AllocError>
-    ensures { IfOk result (λ refused. (report.new.items ≡ report.old.items ++ body_text number (packet_model packet.now))
-        × (refused ≡ is_body_refused (packet_model packet.now))) }
+/// Appends what the body of a packet says.
+#[tactic(auto, unfolding(crate::specs::Layers::Packets::body_text, crate::specs::Layers::Packets::is_body_refused, crate::specs::Layers::Packets::body_item))]
+fn append_body(
+    alloc: Global,
+    report: &mut Vec<u8>,
+    number: usize,
+    packet: &Packet<'_>,
+    numbers: &FlowNumbers,
+) -> Result<Reported, AllocError>
+    ensures { IfOk result (λ reported. (report.new.items ≡ report.old.items ++ body_text number (numbering numbers.now.last) (packet_model packet.now))
+        × (reported.is_refused ≡ is_body_refused (packet_model packet.now))
+        × (reported.item ≡ numbered (numbering numbers.now.last) (body_item (packet_model packet.now)))) }
 {
-    match packet.kind {
-        ECHO => append_echo(report, number, packet.body),
-        ERROR => append_error(report, number, packet.body),
-        PACKET_EXCHANGE => append_exchange(report, number, packet.body),
-        SEQUENCED_PACKET => append_sequenced(report, number, packet.body),
+    let is_refused = match packet.kind {
+        ECHO => append_echo(report, number, packet.body)?,
+        ERROR => append_error(report, number, packet.body)?,
+        PACKET_EXCHANGE => append_exchange(report, number, packet.body)?,
+        SEQUENCED_PACKET => return append_sequenced(alloc, report, number, packet, numbers),
         _ => {
             append_data_line(report, number, packet.body)?;
-            Ok(false)
+            false
         }
-    }
+    };
+    Ok(Reported {
+        is_refused,
+        item: None,
+    })
 }
 
 /// Appends the line with the fields of a header.

@@ -1,40 +1,117 @@
 //! The lines of sequenced packets, a function for each.
-ghost use Rattle.std.specs.Prelude.{◌≡◌, ◌++◌, IfOk, OnOk};
+ghost use Rattle.std.specs.Prelude.{◌≡◌, ◌++◌, ℕ, Option, IfOk, OnOk};
+ghost use Rattle.xns_idp.specs.Packet.{packet_model};
 ghost use Rattle.xns_spp.specs.Header.{header_of};
-ghost use Rattle.xns.specs.Layers.Sequenced.{connection_text, content_text, header_line, header_refusal, is_header_fault, sequence_text, sequenced_text, words_line};
+ghost use Rattle.xns.specs.Flows.{DataPacket};
+ghost use Rattle.xns.specs.Flows.Numbers.{numbered, numbering};
+ghost use Rattle.xns.specs.Layers.Sequenced.{connection_text, content_text, header_line, header_refusal, is_header_fault, item_line, item_of, item_text, sequence_text, sequenced_item, sequenced_text};
 
+use crate::flows::flow::Flow;
+use crate::flows::numbered::Numbered;
+use crate::flows::numbers::FlowNumbers;
+use crate::flows::place::Place;
+use crate::layers::courier::append_courier;
 use crate::layers::numbers::{
-    append_data_line, append_decimal, append_hex, append_word, append_words_or_dash,
+    append_data_line, append_decimal, append_hex, append_long, append_word, append_words_line,
 };
+use crate::layers::reported::Reported;
 use crate::layers::small::append_inner_refusal;
-use std::alloc::AllocError;
+use std::alloc::{AllocError, Global};
+use xns_idp::Packet;
 use xns_small::SmallFault;
 use xns_spp::{Header, SppFault, read_header};
 
 /// The bit of the connection control that a system packet has.
 const SYSTEM: u8 = 128;
 
-/// Appends the lines of a sequenced packet's body, and says whether it is refused.
-#[tactic(auto, unfolding(crate::specs::Layers::Sequenced::sequenced_text))]
+/// The bit of the connection control that the last packet of a message has.
+const END_OF_MESSAGE: u8 = 16;
+
+/// Appends the lines of a sequenced packet.
+#[tactic(auto, unfolding(crate::specs::Layers::Sequenced::sequenced_text, crate::specs::Layers::Sequenced::sequenced_item))]
 pub(crate) fn append_sequenced(
+    alloc: Global,
     report: &mut Vec<u8>,
     number: usize,
-    body: &[u8],
-) -> Result<bool, AllocError>
-    ensures { IfOk result (λ refused. (report.new.items ≡ report.old.items ++ sequenced_text number body.now)
-        × (refused ≡ is_header_fault (header_of body.now))) }
+    packet: &Packet<'_>,
+    numbers: &FlowNumbers,
+) -> Result<Reported, AllocError>
+    ensures { IfOk result (λ reported. (report.new.items ≡ report.old.items ++ sequenced_text number (numbering numbers.now.last) (packet_model packet.now))
+        × (reported.is_refused ≡ is_header_fault (header_of packet.now.body.now))
+        × (reported.item ≡ numbered (numbering numbers.now.last) (sequenced_item (packet_model packet.now)))) }
 {
-    match read_header(body) {
+    match read_header(packet.body) {
         Ok((header, content)) => {
+            let item = numbered_item(packet, &header, numbers);
             append_header_line(report, number, &header)?;
-            append_content(report, number, &header, content)?;
-            Ok(false)
+            append_item(report, number, item)?;
+            append_content(alloc, report, number, &header, content)?;
+            Ok(Reported {
+                is_refused: false,
+                item,
+            })
         }
         Err(fault) => {
             append_header_refusal(report, number, fault)?;
-            Ok(true)
+            Ok(Reported {
+                is_refused: true,
+                item: None,
+            })
         }
     }
+}
+
+/// The data packet that brings an item, if it is one, and the number of its item.
+#[tactic(auto, unfolding(crate::specs::Layers::Sequenced::item_of))]
+fn numbered_item(packet: &Packet<'_>, header: &Header, numbers: &FlowNumbers) -> Option<Numbered>
+    ensures { result ≡ numbered (numbering numbers.now.last) (item_of (packet_model packet.now) header.now) }
+{
+    if header.control & SYSTEM != 0 || header.target_id == 0 {
+        return None;
+    }
+    let flow = Flow {
+        source: Place {
+            host: packet.source.host,
+            socket: packet.source.socket,
+            identifier: header.source_id,
+        },
+        target: Place {
+            host: packet.target.host,
+            socket: packet.target.socket,
+            identifier: header.target_id,
+        },
+    };
+    Some(Numbered {
+        flow,
+        sequence: header.sequence,
+        item: numbers.next_number(&flow, header.sequence),
+    })
+}
+
+/// Appends the line of an item's number, if there is an item.
+fn append_item(
+    report: &mut Vec<u8>,
+    number: usize,
+    item: Option<Numbered>,
+) -> Result<(), AllocError>
+    ensures { OnOk result ((numbers : DataPacket → ℕ) (packet : Option DataPacket) → item ≡ numbered numbers packet
+        → report.new.items ≡ report.old.items ++ item_text number numbers packet) }
+{
+    match item {
+        Some(numbered) => append_item_line(report, number, numbered.item),
+        None => Ok(()),
+    }
+}
+
+/// Appends the line of an item's number.
+#[tactic(auto, unfolding(crate::specs::Layers::Sequenced::item_line))]
+fn append_item_line(report: &mut Vec<u8>, number: usize, item: u64) -> Result<(), AllocError>
+    ensures { OnOk result (report.new.items ≡ report.old.items ++ item_line number item) }
+{
+    append_decimal(report, number)?;
+    report.extend_from_slice(b" item ")?;
+    append_long(report, item)?;
+    report.extend_from_slice(b"\n")
 }
 
 /// Appends the line of a header.
@@ -83,6 +160,7 @@ fn append_sequence(report: &mut Vec<u8>, header: &Header) -> Result<(), AllocErr
 /// Appends the line of what comes after the header, if there is one.
 #[tactic(auto, unfolding(crate::specs::Layers::Sequenced::content_text))]
 fn append_content(
+    alloc: Global,
     report: &mut Vec<u8>,
     number: usize,
     header: &Header,
@@ -93,21 +171,13 @@ fn append_content(
     if header.control & SYSTEM != 0 {
         return Ok(());
     }
-    if header.stream == 0 {
-        return append_words_line(report, number, content);
+    if header.stream != 0 {
+        return append_data_line(report, number, content);
     }
-    append_data_line(report, number, content)
-}
-
-/// Appends the line of words.
-#[tactic(auto, unfolding(crate::specs::Layers::Sequenced::words_line))]
-fn append_words_line(report: &mut Vec<u8>, number: usize, content: &[u8]) -> Result<(), AllocError>
-    ensures { OnOk result (report.new.items ≡ report.old.items ++ words_line number content.now) }
-{
-    append_decimal(report, number)?;
-    report.extend_from_slice(b" words ")?;
-    append_words_or_dash(report, content)?;
-    report.extend_from_slice(b"\n")
+    if header.control & END_OF_MESSAGE != 0 {
+        return append_courier(alloc, report, number, content);
+    }
+    append_words_line(report, number, content)
 }
 
 /// Appends the line of a body that is shorter than a header.
