@@ -9,7 +9,8 @@
  *  - One call at a time is made on an endpoint. No call is made in a signal handler.
  *  - malloc, realloc and free are one allocator, and what it gave to the library is not written by others.
  *
- * Units: lengths, places and rooms are bytes, but for the words of Courier, which are counted in words. Numbers are the machine's own; the bytes of packets have the high byte first.
+ * Units: lengths, places and rooms are bytes, but for the words of Courier, which are counted in words. Numbers are the machine's own; the
+ * bytes of packets have the high byte first.
  *
  * Ownership: what the caller passes stays the caller's, and no call keeps a pointer to it. An endpoint's memory is the library's,
  * until xns_endpoint_free.
