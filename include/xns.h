@@ -9,7 +9,8 @@
  *  - One call at a time is made on an endpoint. No call is made in a signal handler.
  *  - malloc, realloc and free are one allocator, and what it gave to the library is not written by others.
  *
- * Units: lengths and places are bytes. Numbers are the machine's own; the bytes of packets have the high byte first.
+ * Units: lengths, places and rooms are bytes, but for the words of Courier, which are counted in words. Numbers are the machine's own; the
+ * bytes of packets have the high byte first.
  *
  * Ownership: what the caller passes stays the caller's, and no call keeps a pointer to it. An endpoint's memory is the library's,
  * until xns_endpoint_free.
@@ -44,7 +45,11 @@ enum xns_result {
     XNS_TOO_LONG = 21,     /* more data than one packet carries */
     XNS_ATTENTION_SIZE = 22, /* an attention item has exactly one byte */
     XNS_EXHAUSTED = 23,    /* the connection has carried its last item */
-    XNS_FULL = 24          /* as many items are unacknowledged as the backlog holds */
+    XNS_FULL = 24,         /* as many items are unacknowledged as the backlog holds */
+    XNS_ODD_LENGTH = 41,   /* a message of an odd number of bytes */
+    XNS_SHORT_MESSAGE = 42, /* fewer bytes than the head of such a message has */
+    XNS_UNKNOWN_KIND = 43, /* a message of another kind than the four */
+    XNS_LONG_MESSAGE = 44  /* a message of more than 131,072 bytes */
 };
 
 /* Why a received packet's item was neither taken nor kept. After the first four the endpoint is as it was. */
@@ -136,6 +141,27 @@ uint32_t xns_header_write(const struct xns_header *header, uint8_t *buffer, size
 /* Who opens a connection by this packet, and with which identifier: what xns_endpoint_new_responder wants to know. XNS_NOTHING where
  * nobody does. */
 uint32_t xns_opening(const uint8_t *bytes, size_t length, struct xns_address *peer, uint16_t *peer_id);
+
+/* ---- Courier's messages, which items carry: a message is what their bytes are, up to one that ends a message */
+
+enum xns_message_kind { XNS_CALL = 0, XNS_REJECT = 1, XNS_RETURN = 2, XNS_ABORT = 3 };
+
+/* A message but for its words; a field that the kind does not have is 0 where it was read, and is not looked at where it is written. */
+struct xns_message {
+    uint8_t kind; /* an enum xns_message_kind */
+    uint16_t transaction;
+    uint32_t program;            /* of a call */
+    uint16_t version, procedure; /* of a call */
+    uint16_t number;             /* the reason of a reject, or the error of an abort */
+};
+
+/* Reads the message that the bytes are, its words to the front of a buffer with room for so many words. XNS_ODD_LENGTH, XNS_SHORT_MESSAGE,
+ * XNS_UNKNOWN_KIND, XNS_LONG_MESSAGE, XNS_SHORT_BUFFER; XNS_NO_MEMORY may come in the stead of each. */
+uint32_t xns_message_read(const uint8_t *bytes, size_t length, struct xns_message *message, uint16_t *words, size_t room, size_t *count);
+
+/* Writes the bytes of a message with so many words. XNS_BAD_ARGUMENT for another kind than the four, XNS_TOO_LONG over 131,072 bytes,
+ * XNS_SHORT_BUFFER; XNS_NO_MEMORY may come in the stead of each. */
+uint32_t xns_message_write(const struct xns_message *message, const uint16_t *words, size_t count, uint8_t *buffer, size_t room, size_t *written);
 
 /* ---- one end of a connection */
 

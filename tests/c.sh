@@ -39,8 +39,8 @@ finish() {
 
 # ---- the archive, and the kit's three functions over malloc, realloc and free
 
-(cd crates/xns_c && rt lib) > "$work/err" 2>&1
-if [ ! -f $archive ]; then fail "$archive is not built"; finish; fi
+rm -f $archive
+if ! (cd crates/xns_c && rt lib) > "$work/err" 2>&1 || [ ! -f $archive ]; then fail "$archive is not built"; finish; fi
 kit=$(dirname "$(rt doc)")
 heap=
 for folder in "$kit" "$kit/.." "$(dirname "$(readlink -f "$(command -v rt)")")/.."; do
@@ -110,8 +110,7 @@ expect 'says hello' cmp "$work/out" "$work/text"
 expect 'the packets of two endpoints' "$work/endpoints" 40 packets
 cp "$work/out" "$work/packets"
 expect 'are read' sh -c "'$work/fields' < '$work/packets'"
-(cd crates/xns && rt run -- dump < stdin) > "$work/err" 2>&1
-if [ -x crates/xns/out/xns ]; then
+if (cd crates/xns && rt run -- dump < stdin) > "$work/err" 2>&1 && [ -x crates/xns/out/xns ]; then
     expect 'and by xns dump' sh -c "crates/xns/out/xns dump < '$work/packets'"
     expect 'without a complaint' sh -c "[ -s '$work/out' ] && ! grep -q refused '$work/out'"
 else fail 'xns is not built'; fi

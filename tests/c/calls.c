@@ -115,6 +115,48 @@ static void formats(void) {
     CHECK(xns_opening(answer, sizeof answer, &peer.it, &peer_id) == XNS_NOTHING && peer_id == 7 && is_left((uint8_t *)&peer, 0, sizeof peer));
 }
 
+/* A call again as long as it is refused memory, which happens once at most. */
+#define AGAIN(call) do { uint32_t result = (call); if (result == XNS_NO_MEMORY) { CHECK(growths >= refuse_at && refuse_at > 0); result = (call); } CHECK(result == XNS_OK); } while (0)
+
+/* A call of program 7, version 2, procedure 1 with the word 5, and the reject of it for its version, with the words 1 and 2. */
+static const uint8_t call[] = { 0, 0, 0, 1, 0, 0, 0, 7, 0, 2, 0, 1, 0, 5 }, reject[] = { 0, 1, 0, 1, 0, 1, 0, 1, 0, 2 };
+
+static void messages(void) {
+    GUARDED(struct xns_message) message;
+    uint8_t buffer[32];
+    uint16_t words[8];
+    size_t count = 7, written = 7;
+
+    GUARD(message);
+    memset(words, 0xee, sizeof words);
+    AGAIN(xns_message_read(call, sizeof call, &message.it, words, 8, &count));
+    CHECK(IS_GUARDED(message) && message.it.kind == XNS_CALL && message.it.transaction == 1 && message.it.program == 7 && message.it.version == 2);
+    CHECK(message.it.procedure == 1 && message.it.number == 0 && count == 1 && words[0] == 5 && is_left((uint8_t *)words, 2, sizeof words));
+    memset(buffer, 0xee, sizeof buffer);
+    AGAIN(xns_message_write(&message.it, words, count, buffer, sizeof buffer, &written));
+    CHECK(written == sizeof call && memcmp(buffer, call, sizeof call) == 0 && is_left(buffer, written, sizeof buffer));
+
+    AGAIN(xns_message_read(reject, sizeof reject, &message.it, words, 2, &count));
+    CHECK(message.it.kind == XNS_REJECT && message.it.transaction == 1 && message.it.number == 1 && count == 2 && words[0] == 1 && words[1] == 2);
+    AGAIN(xns_message_write(&message.it, words, count, buffer, sizeof reject, &written));
+    CHECK(written == sizeof reject && memcmp(buffer, reject, sizeof reject) == 0);
+}
+
+static void bad_messages(void) {
+    GUARDED(struct xns_message) message;
+    uint8_t buffer[32];
+    uint16_t words[8] = { 0 };
+    size_t count = 7, written = 7;
+    GUARD(message);
+    CHECK(xns_message_read(reject, sizeof reject, &message.it, words, 1, &count) == XNS_SHORT_BUFFER && count == 7 && is_left((uint8_t *)&message, 0, sizeof message));
+    CHECK(xns_message_read(call, 13, &message.it, words, 8, &count) == XNS_ODD_LENGTH && xns_message_read(call, 10, &message.it, words, 8, &count) == XNS_SHORT_MESSAGE);
+    CHECK(xns_message_read(request, 34, &message.it, words, 8, &count) == XNS_UNKNOWN_KIND && count == 7);
+    message.it.kind = 4;
+    CHECK(xns_message_write(&message.it, words, 1, buffer, sizeof buffer, &written) == XNS_BAD_ARGUMENT);
+    message.it.kind = XNS_RETURN;
+    CHECK(xns_message_write(&message.it, words, 2, buffer, 7, &written) == XNS_SHORT_BUFFER && xns_message_write(&message.it, words, 2, buffer, 8, &written) == XNS_OK);
+}
+
 /* No endpoint, or one that was freed, answers as none. */
 static void no_endpoint(struct xns_endpoint *none) {
     struct xns_item item;
@@ -143,9 +185,6 @@ static bool fetches_none(struct xns_endpoint *endpoint) {
     size_t written = 7;
     return xns_endpoint_next_packet(endpoint, buffer, 576, &written) == XNS_NOTHING && written == 7;
 }
-
-/* A call again as long as it is refused memory, which happens once at most. */
-#define AGAIN(call) do { uint32_t result = (call); if (result == XNS_NO_MEMORY) { CHECK(growths >= refuse_at && refuse_at > 0); result = (call); } CHECK(result == XNS_OK); } while (0)
 
 static void connection(void) {
     struct xns_endpoint a = XNS_ENDPOINT_NONE, b = XNS_ENDPOINT_NONE;
@@ -241,10 +280,12 @@ static void refused_writers(void) {
 int main(void) {
     long most;
     formats();
+    bad_messages();
     for (refuse_at = 0, most = 1; refuse_at <= most; refuse_at++) {
         growths = 0;
         connection();
         refused_writers();
+        messages();
         if (refuse_at == 0) most = growths;
         CHECK(growths >= most);
     }

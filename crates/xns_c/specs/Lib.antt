@@ -4,3 +4,4 @@ pub mod Results
 pub mod Views
 pub mod Handle
 pub mod Given
+pub mod Courier

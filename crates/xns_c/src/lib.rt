@@ -1,4 +1,4 @@
-//! The stack for programs in C: the formats of `xns_idp`, `xns_small` and `xns_spp`, and the endpoint.
+//! The stack for programs in C: the formats of `xns_idp`, `xns_small` and `xns_spp`, the endpoint, and the messages of `courier_calls`.
 //!
 //! Each exported function answers a number of `results`, but for those that answer a yes or no. None has a condition: an
 //! argument that is not allowed is answered by its number. The header `include/xns.h` says the same to C.
@@ -6,6 +6,7 @@
 
 mod address;
 mod connection;
+mod courier;
 mod endpoint;
 mod flag;
 mod front;
@@ -17,6 +18,7 @@ mod item;
 mod known;
 pub mod laws;
 mod loose;
+mod message;
 mod owner;
 mod packet;
 mod received;
@@ -28,5 +30,6 @@ pub use address::XnsAddress;
 pub use handle::XnsEndpoint;
 pub use header::XnsHeader;
 pub use item::XnsItem;
+pub use message::XnsMessage;
 pub use packet::XnsPacket;
 pub use received::XnsReceived;
