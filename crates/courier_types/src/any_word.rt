@@ -30,6 +30,7 @@ impl AnyWord {
     }
 
     /// The value that the word spells.
+    #[inline(always)]
     pub fn value(self, word: u16) -> Value
         ensures { value_model result ≡ word_value self word }
     {
