@@ -6,10 +6,12 @@ mod connection;
 mod echo_server;
 mod hex_lines;
 mod packet;
+mod values;
 
 fn main(rt: HostRuntime) -> Result<(), anyhow::Error> {
     packet::shorten(&rt)?;
     echo_server::answer(&rt)?;
     asking::ask(&rt)?;
-    connection::send_an_item(&rt)
+    connection::send_an_item(&rt)?;
+    values::show(&rt, rt.alloc())
 }
