@@ -1,5 +1,5 @@
 -- A list that goes on with another.
-use Rattle.std.proofs.Common.{refl, ◌<◌, length, arith, ◌≡◌, ℕ, zero, suc, List, [], ◌∷◌, ◌++◌, take, drop, map, Some, sym, ◌∙◌, ap, subst, append_assoc, append-nil, take-append-drop}
+use Rattle.std.proofs.Common.{◌≤◌, length-append, refl, ◌<◌, length, arith, ◌≡◌, ℕ, zero, suc, List, [], ◌∷◌, ◌++◌, take, drop, map, Some, sym, ◌∙◌, ap, subst, append_assoc, append-nil, take-append-drop}
 use Rattle.std.specs.Prelude.{slice_get}
 use Rattle.std.proofs.lemmas.List.{map-append}
 use Rattle.xns_world.specs.Invariant.{Begins}
@@ -18,6 +18,9 @@ front_begins n xs = (drop n xs, take-append-drop n xs)
 
 pub begins_map : {X Y : Type 0} (f : X → Y) (xs ys : List X) → Begins xs ys → Begins (map f xs) (map f ys)
 begins_map f xs ys b = (map f b.0, sym (map-append f xs b.0) ∙ ap (map f) b.1)
+
+pub begins_length : {X : Type 0} (xs ys : List X) → Begins xs ys → length xs ≤ length ys
+begins_length xs ys b = omega (arith, ap length b.1, length-append xs b.0)
 
 -- an element of a front
 pub front_get : {X : Type 0} (xs ys : List X) (k : ℕ) (x : X) → slice_get xs k ≡ Some x → slice_get (xs ++ ys) k ≡ Some x

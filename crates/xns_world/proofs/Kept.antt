@@ -1,13 +1,12 @@
 -- What each small step of the world keeps.
 use Rattle.std.proofs.Common.{append-nil, ◌≡◌, ℕ, ◌+◌, ◌-◌, ◌≤◌, true, List, [], ◌++◌, length, length-take, map, take, Option, Some, None, Ok, refl, sym, ◌∙◌, ap, subst, arith}
 use Rattle.xns_world.specs.World.{World, end_of, start, moment, emitted, moved, is_past, has_passed, flushes, receives, ticks, sends, takes, marked, sent_at, handed_at}
-use Rattle.xns_world.specs.Landing.{answered, landed, landing, reached}
-use Rattle.xns_world.specs.Events.{Step, arrival, noise, sending, taking, flushing, ticking, stepped}
-use Rattle.xns_world.proofs.Sound.{IsProper, Grows, stays_sound}
+use Rattle.xns_world.specs.Landing.{answered, landed, landing}
+use Rattle.xns_spp.specs.Growth.{Grows}
+use Rattle.xns_world.proofs.Sound.{IsProper, stays_sound}
 use Rattle.xns_world.proofs.Sides.{each_side, placed}
 use Rattle.xns_world.proofs.Moves.{Keeps, Goes, Moves, silent, flush_moves, tick_moves, take_goes, send_goes}
-use Rattle.xns_world.proofs.Fronts.{begins_then, begins_get, front_begins}
-use Rattle.xns_world.proofs.Foreign.{noise_changes_nothing}
+use Rattle.xns_world.proofs.Fronts.{begins_then, begins_get, begins_length, front_begins}
 use Rattle.std.proofs.lemmas.List.{length-append}
 use Rattle.xns_spp.specs.Item.{IsItem}
 use Rattle.std.specs.Option.{option_to_list}
@@ -52,7 +51,7 @@ peer_keeps s t peer g now k = record {
   taken = begins_then peer.taken s.accepted t.accepted k.taken g.accepted;
   went_out = omega (arith, k.went_out, g.sent);
   early = λ j x e. still_out s t j x g (k.early j x e);
-  acknowledged = omega (arith, k.acknowledged, g.taken);
+  acknowledged = omega (arith, k.acknowledged, begins_length s.taken t.taken g.taken);
   reached = now.went_out;
 }
 
@@ -66,7 +65,7 @@ stays_spelled s t peer x g i = record {
   reduced = i.reduced;
   close = i.close;
   sound = stays_sound s t i.packet i.meant g i.sound;
-  sender = omega (arith, i.sender, g.taken);
+  sender = omega (arith, i.sender, begins_length s.taken t.taken g.taken);
   receiver = i.receiver;
 }
 
@@ -81,7 +80,7 @@ peer_spelled s t peer x g i = record {
   close = i.close;
   sound = i.sound;
   sender = i.sender;
-  receiver = omega (arith, i.receiver, g.taken);
+  receiver = omega (arith, i.receiver, begins_length s.taken t.taken g.taken);
 }
 
 -- the packets that it sends
@@ -133,7 +132,7 @@ silent_kept w side t k g = packets_kept w side t [] k (silent (end_of w side) t 
 
 pub flush_kept : EndLaws → (w : World) (side : Side) → IsKept w → IsKept (flushes w side)
 flush_kept laws w side k = packets_kept w side (after_flush (end_of w side)) (flush_packets (end_of w side)) k
-    (flush_moves (end_of w side) (end_of w (other side)) (laws.flush (end_of w side) (k.ends side).fits) (k.ends side))
+    (flush_moves laws (end_of w side) (end_of w (other side)) (k.ends side))
 
 -- ---- a packet is delivered
 
@@ -170,7 +169,8 @@ received_kept laws w side x i alive k =
     let peer : State = end_of w (other side) in
     let read : spp_packet_of x.bytes ≡ Ok i.packet = read_back laws x.bytes i.packet i.fits i.spells in
     moved_kept w side (after_receive s x.bytes) (option_to_list (receive_answer s x.bytes).reply) k
-    (receive_sends s peer x.bytes i.packet i.meant read i.sound (read_as_meant laws.back s peer x i (k.ends side) alive) (laws.packet s x.bytes i.packet (k.ends side).fits read i.fits) (k.ends side))
+    (receive_sends laws s peer x.bytes (record { packet = i.packet; meant = i.meant; read = read; sound = i.sound; numbers = read_as_meant laws.back s peer x i (k.ends side) alive })
+    (laws.packet s x.bytes i.packet (k.ends side).fits read i.fits) (k.ends side))
 
 -- that it comes from one side and goes to the other is kept where it is marked
 abbrev GoesTo : World → Emitted → Side → Side → Type 0
@@ -201,36 +201,15 @@ land_kept laws w k l h e = landed_kept laws w k (slice_get w.bag k) l refl h e
 
 pub tick_kept : EndLaws → (w : World) (side : Side) → IsKept w → IsKept (ticks w side)
 tick_kept laws w side k = packets_kept w side (after_tick (end_of w side)) (tick_packets (end_of w side)) k
-    (tick_moves (end_of w side) (end_of w (other side)) (laws.tick (end_of w side) (k.ends side).fits) (k.ends side))
+    (tick_moves laws (end_of w side) (end_of w (other side)) (k.ends side))
 
 pub send_kept : EndLaws → (w : World) (side : Side) (x : Item) → IsItem x → IsKept w → IsKept (sends w side x)
 send_kept laws w side x fits k = silent_kept w side (after_send (end_of w side) x) k
-    (send_goes (end_of w side) (end_of w (other side)) x (laws.send (end_of w side) x (k.ends side).fits fits) (k.ends side))
+    (send_goes laws (end_of w side) (end_of w (other side)) x (laws.send (end_of w side) x (k.ends side).fits fits) (k.ends side))
 
 pub take_kept : EndLaws → (w : World) (side : Side) → IsKept w → IsKept (takes w side)
 take_kept laws w side k = silent_kept w side (after_take (end_of w side)) k
-    (take_goes (end_of w side) (end_of w (other side)) (laws.take (end_of w side) (k.ends side).fits) (k.ends side))
-
-reached_kept : EndLaws → (w : World) (k : ℕ) (o : Option (Side × World)) → landing w k ≡ o → IsKept w → IsKept (reached w o)
-reached_kept laws w k None e h = h
-reached_kept laws w k (Some l) e h = land_kept laws w k l h e
-
--- the numbers of a step's item are within their types' bounds
-abbrev pub IsStep : Step → Type 0
-IsStep (arrival k) = Unit {0}
-IsStep (noise side bytes) = Unit {0}
-IsStep (sending side x) = IsItem x
-IsStep (taking side) = Unit {0}
-IsStep (flushing side) = Unit {0}
-IsStep (ticking side) = Unit {0}
-
-pub step_kept : EndLaws → (w : World) (s : Step) → IsStep s → IsKept w → IsKept (stepped w s)
-step_kept laws w (arrival k) fits h = reached_kept laws w k (landing w k) refl h
-step_kept laws w (noise side bytes) fits h = subst IsKept (sym (noise_changes_nothing w side bytes)) h
-step_kept laws w (sending side x) fits h = send_kept laws w side x fits h
-step_kept laws w (taking side) fits h = take_kept laws w side h
-step_kept laws w (flushing side) fits h = flush_kept laws w side h
-step_kept laws w (ticking side) fits h = tick_kept laws w side h
+    (take_goes laws (end_of w side) (end_of w (other side)) (k.ends side))
 
 -- ---- the start
 

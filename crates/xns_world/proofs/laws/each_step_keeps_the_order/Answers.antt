@@ -7,6 +7,10 @@ use Rattle.xns_world.specs.World.{start, flushes, ticks, sends, takes}
 pub returns : goal.returns
 returns c =
     let bounds = c.bounds_hold_after_each_step.ensures in
+    let grows = c.an_end_only_grows.ensures in
+    let goes_out = c.accepted_items_go_out.ensures in
+    let comes_in = c.items_are_taken_from_the_next_number_on.ensures in
+    let packets = c.own_packets_are_packets.ensures in
     let laws : EndLaws = record {
       again = c.written_packet_is_read_again.ensures.again;
       back = c.nearest_number_is_read_back.ensures.back;
@@ -17,6 +21,20 @@ returns c =
       flush = bounds.flush;
       tick = bounds.tick;
       packet = bounds.packet;
+      send_grows = grows.send;
+      take_grows = grows.take;
+      flush_grows = grows.flush;
+      tick_grows = grows.tick;
+      receive_grows = grows.receive;
+      flush_sends = goes_out.flush;
+      tick_sends = goes_out.tick;
+      replies = goes_out.reply;
+      data_fits = packets.data_packet;
+      system_fits = packets.system_packet;
+      carries = c.own_packet_is_read_again.ensures.item;
+      takes = comes_in.taken;
+      keeps = comes_in.early;
+      acknowledges = c.packets_acknowledge_what_they_say.ensures;
     } in
     record {
       start = λ setup fits good. holds (start setup) (start_kept laws setup fits good);
