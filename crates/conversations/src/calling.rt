@@ -1,0 +1,155 @@
+//! A caller, as lines play it.
+//!
+//! A step is an item or one of these: `add` calls Add of 5, `text` Add of a text, `eight` program 8, `list` the procedure with
+//! a list as its results, `raw` and a number Add with so many words of 0; `outcome` picks up an outcome.
+use crate::script::{item, put_item, put_words, session_fault};
+use crate::serving::MOST_ITEMS;
+use courier_calls::{
+    Arguments, Call, CallFault, Caller, Procedure, Seen, Table, Words, tally_table,
+};
+use courier_types::{Shape, Value};
+use std::alloc::{AllocError, Global};
+use std::fmt::Write;
+
+fn put_out(caller: &mut Caller, text: &mut String) -> Result<(), AllocError> {
+    for _ in 0..MOST_ITEMS {
+        match caller.next_out() {
+            Some(item) => put_item(text, &item)?,
+            None => break,
+        }
+    }
+    Ok(())
+}
+
+fn put_values(text: &mut String, values: &[Value]) -> Result<(), AllocError> {
+    for value in values {
+        match value {
+            Value::Cardinal(number) => write!(text, " {number}")?,
+            _ => text.push_str(" another value")?,
+        }
+    }
+    Ok(())
+}
+
+fn put_value(text: &mut String, value: &Value) -> Result<(), AllocError> {
+    match value {
+        Value::LongCardinal(number) => write!(text, " {number}"),
+        Value::Sequence(values) => put_values(text, values),
+        _ => text.push_str(" another value"),
+    }
+}
+
+fn put_outcome(text: &mut String, outcome: &Option<Seen>) -> Result<(), AllocError> {
+    match outcome {
+        None => text.push_str(" none"),
+        Some(Seen::Returned(value)) => {
+            text.push_str(" returned")?;
+            put_value(text, value)
+        }
+        Some(Seen::Aborted(error, value)) => {
+            write!(text, " aborted {error}")?;
+            put_value(text, value)
+        }
+        Some(Seen::Rejected(reason, words)) => {
+            write!(text, " rejected {reason}")?;
+            put_words(text, words.as_slice())
+        }
+    }
+}
+
+fn call_fault(fault: CallFault) -> &'static str {
+    match fault {
+        CallFault::Busy => " Busy",
+        CallFault::BadArguments => " BadArguments",
+        CallFault::TooLong => " TooLong",
+        CallFault::Failed => " Failed",
+        CallFault::NoMemory => " NoMemory",
+    }
+}
+
+fn make_call(program: u32, procedure: u16, arguments: Arguments) -> Call {
+    Call {
+        program,
+        version: 2,
+        procedure,
+        arguments,
+    }
+}
+
+fn raw_words(alloc: Global, count: &str) -> Result<Arguments, AllocError> {
+    let count = count.parse::<u16>().unwrap_or(0);
+    let mut words = Vec::new(alloc);
+    for _ in 0..count {
+        words.push(0)?;
+    }
+    Ok(Arguments::Raw(Words::new(words)))
+}
+
+/// The call that a step makes; `None` where it makes none.
+fn step_call(alloc: Global, step: &str) -> Result<Option<Call>, AllocError> {
+    let five = Arguments::Typed(Value::Cardinal(5));
+    match step {
+        "add" => Ok(Some(make_call(7, 1, five))),
+        "eight" => Ok(Some(make_call(8, 1, five))),
+        "list" => Ok(Some(make_call(7, 3, five))),
+        "text" => Ok(Some(make_call(7, 1, Arguments::Typed(Value::Text(Vec::new(alloc)))))),
+        _ => match step.strip_prefix("raw") {
+            Some(count) => Ok(Some(make_call(7, 1, raw_words(alloc, count)?))),
+            None => Ok(None),
+        },
+    }
+}
+
+fn put_step(
+    alloc: Global,
+    caller: &mut Caller,
+    step: &str,
+    text: &mut String,
+) -> Result<(), AllocError> {
+    if step == "outcome" {
+        let outcome = caller.outcome();
+        return put_outcome(text, &outcome);
+    }
+    if let Some(call) = step_call(alloc, step)? {
+        if let Err(fault) = caller.call(alloc, &call) {
+            text.push_str(call_fault(fault))?;
+        }
+        return put_out(caller, text);
+    }
+    let item = item(alloc, step)?;
+    if caller.has_out() {
+        return text.push_str(" more is out");
+    }
+    if let Err(fault) = caller.feed(alloc, item) {
+        text.push_str(session_fault(fault))?;
+    }
+    put_out(caller, text)
+}
+
+/// The tally's table with one procedure more, whose results are a list of cardinals.
+fn longer_table(alloc: Global) -> Result<Table, AllocError> {
+    let mut table = tally_table(alloc)?;
+    if let Some(entry) = table.entries.first_mut() {
+        entry.procedures.push(Procedure {
+            number: 3,
+            arguments: Shape::Cardinal,
+            results: Shape::Sequence(9, Box::new(alloc, Shape::Cardinal)?),
+        })?;
+    }
+    Ok(table)
+}
+
+/// What a caller makes of the steps.
+pub fn play(alloc: Global, steps: &str) -> Result<String, AllocError> {
+    let table = longer_table(alloc)?;
+    let mut text = String::new(alloc);
+    let Ok(()) = table.check() else {
+        text.push_str(" the table has a fault")?;
+        return Ok(text);
+    };
+    let mut caller = Caller::new(alloc, &table)?;
+    for step in steps.split(' ') {
+        put_step(alloc, &mut caller, step, &mut text)?;
+    }
+    Ok(text)
+}

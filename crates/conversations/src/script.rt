@@ -1,0 +1,124 @@
+//! Items and bytes as text.
+ghost use Rattle.std.specs.Prelude.{◌<◌};
+
+use courier_calls::{MessageFault, SessionFault};
+use std::alloc::{AllocError, Global};
+use std::fmt::Write;
+use xns_spp::{Bytes, Item};
+
+/// A body of more bytes is told by their number.
+const MOST_SHOWN: usize = 40;
+
+/// What a hex digit stands for; 0 for any other sign.
+fn digit(sign: u8) -> u8
+    ensures { result < 16 }
+{
+    match sign {
+        b'0'..=b'9' => sign - b'0',
+        b'a'..=b'f' => sign - b'a' + 10,
+        _ => 0,
+    }
+}
+
+/// The bytes that the text stands for: pairs of hex digits.
+pub fn unhexed(alloc: Global, text: &str) -> Result<Vec<u8>, AllocError> {
+    let mut bytes = Vec::new(alloc);
+    let mut rest = text.as_bytes();
+    while let [high, low, more @ ..] = rest {
+        bytes.push(digit(*high) * 16 + digit(*low))?;
+        rest = more;
+    }
+    Ok(bytes)
+}
+
+/// As many bytes of 0 as the text says, at most 65,535.
+fn zeros(alloc: Global, text: &str) -> Result<Vec<u8>, AllocError> {
+    let count = text.parse::<u16>().unwrap_or(0);
+    let mut bytes = Vec::new(alloc);
+    for _ in 0..count {
+        bytes.push(0)?;
+    }
+    Ok(bytes)
+}
+
+fn make_item(stream: u8, attention: bool, last: bool, body: Vec<u8>) -> Item {
+    Item {
+        stream,
+        attention,
+        last,
+        body: Bytes::new(body),
+    }
+}
+
+fn body(alloc: Global, text: &str) -> Result<Vec<u8>, AllocError> {
+    match text.strip_prefix('=') {
+        Some(count) => zeros(alloc, count),
+        None => unhexed(alloc, text),
+    }
+}
+
+/// The item that a step stands for.
+pub fn item(alloc: Global, step: &str) -> Result<Item, AllocError> {
+    if let Some(text) = step.strip_suffix('|') {
+        return Ok(make_item(0, false, true, body(alloc, text)?));
+    }
+    if let Some(text) = step.strip_suffix('*') {
+        return Ok(make_item(0, true, true, body(alloc, text)?));
+    }
+    if let Some(text) = step.strip_suffix('!') {
+        return Ok(make_item(254, false, true, body(alloc, text)?));
+    }
+    match step.strip_suffix('/') {
+        Some(text) => Ok(make_item(0, false, false, body(alloc, text)?)),
+        None => Ok(make_item(0, false, false, Vec::new(alloc))),
+    }
+}
+
+pub fn put_bytes(text: &mut String, bytes: &[u8]) -> Result<(), AllocError> {
+    for byte in bytes {
+        write!(text, "{byte:02x}")?;
+    }
+    Ok(())
+}
+
+pub fn put_words(text: &mut String, words: &[u16]) -> Result<(), AllocError> {
+    for word in words {
+        write!(text, " {word:04x}")?;
+    }
+    Ok(())
+}
+
+/// An item that goes out.
+pub fn put_item(text: &mut String, item: &Item) -> Result<(), AllocError> {
+    let body = item.body.as_slice();
+    text.push_str(" <")?;
+    if body.len() > MOST_SHOWN {
+        write!(text, "={}", body.len())?;
+    } else {
+        put_bytes(text, body)?;
+    }
+    text.push(if item.last { '|' } else { '/' })?;
+    Ok(())
+}
+
+pub fn message_fault(fault: MessageFault) -> &'static str {
+    match fault {
+        MessageFault::OddLength => " OddLength",
+        MessageFault::ShortMessage => " ShortMessage",
+        MessageFault::UnknownKind { .. } => " UnknownKind",
+        MessageFault::TooLong => " TooLong",
+    }
+}
+
+pub fn session_fault(fault: SessionFault) -> &'static str {
+    match fault {
+        SessionFault::NoCommonVersion => " NoCommonVersion",
+        SessionFault::BadVersions => " BadVersions",
+        SessionFault::BadMessage(fault) => message_fault(fault),
+        SessionFault::WrongTransaction => " WrongTransaction",
+        SessionFault::BadReply => " BadReply",
+        SessionFault::Stream { .. } => " Stream",
+        SessionFault::NoMemory => " NoMemory",
+        SessionFault::Failed => " Failed",
+    }
+}

@@ -1,0 +1,63 @@
+//! A server of the tally, as lines play it.
+use crate::script::{item, put_item, put_words, session_fault};
+use courier_calls::{Arguments, Call, Server, Tally, tally_table};
+use std::alloc::{AllocError, Global};
+use std::fmt::Write;
+use xns_spp::Item;
+
+/// No side has more items out at a time.
+pub const MOST_ITEMS: usize = 300;
+
+fn put_out(server: &mut Server<Tally>, text: &mut String) -> Result<(), AllocError> {
+    for _ in 0..MOST_ITEMS {
+        match server.next_out() {
+            Some(item) => put_item(text, &item)?,
+            None => break,
+        }
+    }
+    Ok(())
+}
+
+fn put_call(text: &mut String, call: &Call) -> Result<(), AllocError> {
+    write!(
+        text,
+        " call {} {} {}",
+        call.program, call.version, call.procedure
+    )?;
+    match &call.arguments {
+        Arguments::Raw(words) => put_words(text, words.as_slice()),
+        Arguments::Typed(_) => text.push_str(" typed"),
+    }
+}
+
+/// Feeds an item when nothing is out: the call that it ends, or the fault, and then what goes out.
+fn put_fed(
+    alloc: Global,
+    server: &mut Server<Tally>,
+    item: Item,
+    text: &mut String,
+) -> Result<(), AllocError> {
+    if server.has_out() {
+        return text.push_str(" more is out");
+    }
+    match server.feed(alloc, item) {
+        Ok(Some(call)) => put_call(text, &call)?,
+        Ok(None) => {}
+        Err(fault) => text.push_str(session_fault(fault))?,
+    }
+    put_out(server, text)
+}
+
+/// What a server answers to the items, and the total at last.
+pub fn play(alloc: Global, steps: &str) -> Result<String, AllocError> {
+    let table = tally_table(alloc)?;
+    let mut server = Server::new(alloc, &table, Tally::new())?;
+    let mut text = String::new(alloc);
+    put_out(&mut server, &mut text)?;
+    for step in steps.split(' ') {
+        let item = item(alloc, step)?;
+        put_fed(alloc, &mut server, item, &mut text)?;
+    }
+    write!(text, " total {}", server.into_service().total())?;
+    Ok(text)
+}

@@ -1,0 +1,73 @@
+#!/bin/sh
+# Refuses each growth of the program `conversations` in turn, while a caller calls and while a server is fed a call, and looks at
+# what each side then does. Its last line is 'N passed, M failed', and it ends with 1 where one failed. It builds the program first.
+set -u
+cd "$(dirname "$0")/.."
+crate=crates/conversations
+program=$PWD/$crate/out/conversations
+work=$(mktemp -d)
+trap 'rm -rf "$work"' EXIT
+passed=0
+failed=0
+
+(cd $crate && rt run < stdin) > "$work/build" 2>&1
+if [ ! -x "$program" ]; then
+    cat "$work/build"
+    echo "no program at $program"
+    exit 1
+fi
+gcc -O1 -shared -fPIC -o "$work/refuse_growth.so" tests/refuse_growth.c
+
+add=0000000100000007000200010005
+versions='<00030003|'
+
+# The line with each growth refused in turn: the program's own text is refused (a status that is not 0), or the answer is one of
+# those in the file `allowed`, each a whole line. The answers that no growth was refused for is the first.
+refuse_each() {
+    name=$1
+    printf '%s\n' "$2" > "$work/in"
+    growth=1
+    while [ $growth -le 1000 ]; do
+        rm -f "$work/refused"
+        REFUSE_AT=$growth REFUSED=$work/refused LD_PRELOAD=$work/refuse_growth.so "$program" < "$work/in" > "$work/out" 2> /dev/null
+        ended=$?
+        [ -e "$work/refused" ] || break
+        if [ $ended -ne 0 ] || grep -qxF -f "$work/allowed" "$work/out"; then
+            passed=$((passed + 1))
+        else
+            failed=$((failed + 1))
+            echo "FAILED $name, growth $growth refused:"
+            cat "$work/out"
+        fi
+        growth=$((growth + 1))
+    done
+    if [ $growth -gt 1 ] && [ "$(head -1 "$work/allowed")" = "$(cat "$work/out")" ]; then
+        passed=$((passed + 1))
+    else
+        failed=$((failed + 1))
+        echo "FAILED $name, nothing refused:"
+        cat "$work/out"
+    fi
+}
+
+# A call that was refused memory left nothing out but the versions; the same call goes out with transaction 1.
+cat > "$work/allowed" <<END
+$versions <$add| Busy returned 5
+NoMemory $versions <$add| returned 5
+$versions <$add| Busy NoMemory Failed none
+$versions <$add| Busy NoMemory none
+END
+refuse_each 'a call' 'caller add add 00030003| 0002000100000005| outcome'
+
+# A server that was refused memory has failed, puts nothing more out, and its total is that before or after the call.
+cat > "$work/allowed" <<END
+$versions call 7 2 1 0005 <0002000100000005| call 7 2 2 <0002000200000005| total 5
+$versions NoMemory Failed Failed total 0
+$versions NoMemory Failed total 0
+$versions NoMemory Failed total 5
+$versions call 7 2 1 0005 <0002000100000005| NoMemory total 5
+END
+refuse_each 'a server' "server 00030003| $add| 000000020000000700020002|"
+
+echo "$passed passed, $failed failed"
+[ "$failed" -eq 0 ]
