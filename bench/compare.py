@@ -2,7 +2,7 @@
 """Times a proved program beside a plain Rust peer, five runs of each in turn, and prints the medians and their ratio.
 
     python3 bench/compare.py checksum     the cycle checksum of a million packets of 576 bytes
-    python3 bench/compare.py dump         `xns dump` of 65,536 packets in hex
+    python3 bench/compare.py dump         `xns dump` of 65,536 packets in hex: of types that no layer reads, and sequenced ones of 1, 1,000 and 65,536 flows
 
 The proved program is built by `rt run` in its crate, the peer by `rustc -O`. Absolute times say little on a shared machine; the
 ratio is of processor time in one run.
@@ -16,9 +16,12 @@ RUNS = 5
 
 def built_program(crate):
     """The program of a crate, proved and built."""
-    nothing = subprocess.DEVNULL
-    subprocess.run(["rt", "run"], cwd=CRATES / crate, stdin=nothing, stdout=nothing, stderr=nothing, check=False)
-    return CRATES / crate / "out" / crate
+    program = CRATES / crate / "out" / crate
+    program.unlink(missing_ok=True)
+    built = subprocess.run(["rt", "run"], cwd=CRATES / crate, stdin=subprocess.DEVNULL, stdout=subprocess.DEVNULL, stderr=subprocess.PIPE, check=False)
+    if not program.exists():
+        sys.exit(built.stderr.decode() + f"no program at {program}")
+    return program
 
 
 def built_peer(name, folder):
@@ -57,8 +60,11 @@ def main():
             given.touch()
             compare([built_program("checksum_bench")], [built_peer("checksum_peer", folder)], given)
         elif which == "dump":
-            given.write_bytes(subprocess.run([sys.executable, BENCH / "packets.py"], stdout=subprocess.PIPE, check=True).stdout)
-            compare([built_program("xns"), "dump"], [built_peer("dump_peer", folder)], given)
+            ours, peer = built_program("xns"), built_peer("dump_peer", folder)
+            for flows in ([], ["1"], ["1000"], ["65536"]):
+                given.write_bytes(subprocess.run([sys.executable, BENCH / "packets.py", *flows], stdout=subprocess.PIPE, check=True).stdout)
+                print(f"flows {flows[0]}:" if flows else "no flows:", end=" ", flush=True)
+                compare([ours, "dump"], [peer], given)
         else:
             sys.exit(__doc__)
 
