@@ -121,19 +121,19 @@ expect 'a closed reader' 3 'xns: read fault' "$work/text"
 
 : > "$work/in"
 run
-expect 'no subcommand' 2 "error: 'xns' requires a subcommand but one was not provided" "$work/text"
+expect 'no subcommand' 2 "error: 'xns' requires a subcommand but one was not provided; the subcommand is dump; try 'xns --help'" "$work/text"
 
 run sim
-expect 'another subcommand' 2 "error: unrecognized subcommand 'sim'" "$work/text"
+expect 'another subcommand' 2 "error: unrecognized subcommand 'sim'; the subcommand is dump; try 'xns --help'" "$work/text"
 
 run dump file
-expect 'a word too many' 2 "error: unexpected argument 'file' found" "$work/text"
+expect 'a word too many' 2 "error: unexpected argument 'file' found; try 'xns --help'" "$work/text"
 
 run dump --loud
-expect 'an option that is none' 2 "error: unexpected argument '--loud' found" "$work/text"
+expect 'an option that is none' 2 "error: unexpected argument '--loud' found; try 'xns --help'" "$work/text"
 
 run "$(printf 'dump\377')"
-expect 'a word that is not UTF-8' 2 'error: a word of the command line is not UTF-8' "$work/text"
+expect 'a word that is not UTF-8' 2 "error: a word of the command line is not UTF-8; try 'xns --help'" "$work/text"
 
 for words in --help -h 'dump --help' 'help' 'help dump'; do
     # shellcheck disable=SC2086
