@@ -6,6 +6,7 @@
     python3 bench/compare.py values       Courier values read, read over pieces, and written; the least time of many
     python3 bench/compare.py c            a million packets of 576 bytes written and read by the library for C, beside plain C and
                                           beside the same in Rattle
+    python3 bench/compare.py dump         `xns dump` of 65,536 packets in hex: of types that no layer reads, and sequenced ones of 1, 1,000 and 65,536 flows
 
 The proved program is built by `rt run` in its crate, the peer by `rustc -O`. Absolute times say little on a shared machine; the
 ratio is of processor time in one run.
@@ -19,9 +20,12 @@ RUNS = 5
 
 def built_program(crate):
     """The program of a crate, proved and built."""
-    nothing = subprocess.DEVNULL
-    subprocess.run(["rt", "run"], cwd=CRATES / crate, stdin=nothing, stdout=nothing, stderr=nothing, check=False)
-    return CRATES / crate / "out" / crate
+    program = CRATES / crate / "out" / crate
+    program.unlink(missing_ok=True)
+    built = subprocess.run(["rt", "run"], cwd=CRATES / crate, stdin=subprocess.DEVNULL, stdout=subprocess.DEVNULL, stderr=subprocess.PIPE, check=False)
+    if not program.exists():
+        sys.exit(built.stderr.decode() + f"no program at {program}")
+    return program
 
 
 def built_peer(name, folder):
@@ -108,6 +112,11 @@ def main():
             compare([library], [built_c("c_codec_peer", folder, False)], given)
             medians = compare([library], [built_program("codec_bench")], given)
             print(f"through C each packet takes {(medians['ours'] - medians['peer']) * 1000:.0f} ns more than in Rattle, for its two calls")
+            ours, peer = built_program("xns"), built_peer("dump_peer", folder)
+            for flows in ([], ["1"], ["1000"], ["65536"]):
+                given.write_bytes(subprocess.run([sys.executable, BENCH / "packets.py", *flows], stdout=subprocess.PIPE, check=True).stdout)
+                print(f"flows {flows[0]}:" if flows else "no flows:", end=" ", flush=True)
+                compare([ours, "dump"], [peer], given)
         else:
             sys.exit(__doc__)
 

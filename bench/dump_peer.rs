@@ -1,5 +1,7 @@
 // A plain Rust `dump` of internet packets (no proofs, std alone): what a user would write without us, to be timed beside
-// `xns dump`. It prints the `idp` line and the data line of each packet, and the faults.
+// `xns dump`. It prints the `idp` line and the data line of each packet, the faults, and of a sequenced data packet without an end of message its
+// header, the number of its item and its words.
+use std::collections::HashMap;
 use std::io::{self, BufRead, Write};
 
 fn nibble(c: u8) -> Option<u8> {
@@ -22,6 +24,11 @@ fn hex(out: &mut Vec<u8>, b: &[u8]) {
     for x in b { out.push(D[(x >> 4) as usize]); out.push(D[(x & 15) as usize]); }
 }
 
+fn near(last: u64, field: u64) -> u64 {
+    let least = last + 32768;
+    (least + (field + 65536 - least % 65536) % 65536).checked_sub(65536).unwrap_or(field)
+}
+
 fn be(b: &[u8]) -> u64 { b.iter().fold(0, |a, x| a << 8 | u64::from(*x)) }
 
 fn main() {
@@ -32,6 +39,7 @@ fn main() {
     let (mut line, mut bytes, mut out) = (Vec::new(), Vec::new(), Vec::new());
     let mut n = 0u32;
     let mut refused = false;
+    let mut items: HashMap<[u8; 20], u64> = HashMap::new();
     loop {
         line.clear();
         if input.read_until(b'\n', &mut line).unwrap() == 0 { break; }
@@ -62,9 +70,25 @@ fn main() {
                         if found == 0xffff { out.extend_from_slice(b"none"); } else { write!(out, "{found:04x}").unwrap(); }
                         writeln!(out, " control {} type {} to {:08x}.{:012x}.{:04x} from {:08x}.{:012x}.{:04x}", bytes[4], bytes[5],
                             be(&bytes[6..10]), be(&bytes[10..16]), be(&bytes[16..18]), be(&bytes[18..22]), be(&bytes[22..28]), be(&bytes[28..30])).unwrap();
+                        let b = &bytes[30..length];
+                        if bytes[5] == 5 && b.len() >= 12 {
+                            writeln!(out, "{n} spp control {:02x} stream {} source {:04x} target {:04x} seq {} ack {} alloc {}", b[0], b[1], be(&b[2..4]), be(&b[4..6]), be(&b[6..8]), be(&b[8..10]), be(&b[10..12])).unwrap();
+                            let mut flow = [0; 20];
+                            flow[..8].copy_from_slice(&bytes[22..30]);
+                            flow[8..16].copy_from_slice(&bytes[10..18]);
+                            flow[16..].copy_from_slice(&b[2..6]);
+                            let field = be(&b[6..8]);
+                            let item = items.entry(flow).and_modify(|last| *last = near(*last, field)).or_insert(field);
+                            writeln!(out, "{n} item {item}").unwrap();
+                            let d = &b[12..];
+                            write!(out, "{n} words ").unwrap();
+                            let mut first = true;
+                            for w in d.chunks(2) { if !first { out.push(b' '); } first = false; hex(&mut out, w); }
+                            out.push(b'\n');
+                        } else {
                         write!(out, "{n} data ").unwrap();
                         hex(&mut out, &bytes[30..length]);
-                        out.push(b'\n');
+                        out.push(b'\n'); }
                     }
                 }
             }

@@ -10,10 +10,15 @@ trap 'rm -rf "$work"' EXIT
 passed=0
 failed=0
 
-(cd $crate && rt run -- dump < stdin) > "$work/build" 2>&1
-if [ ! -x "$program" ]; then
+if ! command -v gcc > /dev/null; then
+    echo "gcc is wanted: it builds what refuses the program memory"
+    exit 1
+fi
+
+rm -f "$program"
+if ! (cd $crate && rt run -- dump < stdin) > "$work/build" 2>&1 || [ ! -x "$program" ]; then
     cat "$work/build"
-    echo "no program at $program"
+    echo "the program was not built"
     exit 1
 fi
 
@@ -56,6 +61,15 @@ echo 5g > "$work/in"
 echo '1 hex refused Digit 1' > "$work/text"
 run dump
 expect 'a refused line' 1 '' "$work/text"
+
+# A flow whose numbers wrap.
+front=ffff002c0005000000010000aa0001020005000000010000aa0003040400400012345678
+for sequence in ffff 0000 fffe 0001; do echo "$front${sequence}000000030005"; done > "$work/in"
+run dump
+grep item "$work/out" > "$work/items"
+cp "$work/items" "$work/out"
+printf '%s\n' '1 item 65535' '2 item 65536' '3 item 65534' '4 item 65537' > "$work/text"
+expect 'a flow that wraps' 0 '' "$work/text"
 
 repeat 65536 '\n' > "$work/in"
 run dump
@@ -107,19 +121,19 @@ expect 'a closed reader' 3 'xns: read fault' "$work/text"
 
 : > "$work/in"
 run
-expect 'no subcommand' 2 "error: 'xns' requires a subcommand but one was not provided" "$work/text"
+expect 'no subcommand' 2 "error: 'xns' requires a subcommand but one was not provided; the subcommand is dump; try 'xns --help'" "$work/text"
 
 run sim
-expect 'another subcommand' 2 "error: unrecognized subcommand 'sim'" "$work/text"
+expect 'another subcommand' 2 "error: unrecognized subcommand 'sim'; the subcommand is dump; try 'xns --help'" "$work/text"
 
 run dump file
-expect 'a word too many' 2 "error: unexpected argument 'file' found" "$work/text"
+expect 'a word too many' 2 "error: unexpected argument 'file' found; try 'xns --help'" "$work/text"
 
 run dump --loud
-expect 'an option that is none' 2 "error: unexpected argument '--loud' found" "$work/text"
+expect 'an option that is none' 2 "error: unexpected argument '--loud' found; try 'xns --help'" "$work/text"
 
 run "$(printf 'dump\377')"
-expect 'a word that is not UTF-8' 2 'error: a word of the command line is not UTF-8' "$work/text"
+expect 'a word that is not UTF-8' 2 "error: a word of the command line is not UTF-8; try 'xns --help'" "$work/text"
 
 for words in --help -h 'dump --help' 'help' 'help dump'; do
     # shellcheck disable=SC2086

@@ -9,12 +9,23 @@ use clap::error::ErrorKind;
 use clap::{Command, Error};
 use std::alloc::{AllocError, Global};
 
+/// What `xns --help` says at its end.
+const HELP: &str =
+    "It reads standard input and writes standard output. `xns dump --help` says what a line is.\n\nIt ends with 0, or with 1 where a line was refused, 2 where the command line is wrong, 3 after a fault.";
+
+/// What `xns dump --help` says at its end.
+const DUMP_HELP: &str =
+    "Each line of standard input is one packet in hex, of either case; spaces and tabs are left out. A line has at most 4,096 bytes, and there are at most 65,536 lines.\n\nIt ends with 0, or with 1 where a line was refused, 2 where the command line is wrong, 3 after a fault.\n\nExample: echo 532300220002000000010000aa0001020002000000010000aa000304040000014869 | xns dump";
+
 /// The program's command, which requires one of its subcommands.
 fn program<'a>(alloc: Global) -> Result<Command<'a>, AllocError>
     ensures { IfOk result (λ command. app_of command ≡ xns_command) }
 {
-    let dump = Command::new(alloc, "dump").about("Prints what each line of hex says");
+    let dump = Command::new(alloc, "dump")
+        .about("Prints what each line of hex says")
+        .after_help(DUMP_HELP);
     Command::new(alloc, "xns")
+        .after_help(HELP)
         .subcommand_required(true)
         .subcommand(dump)
 }
