@@ -3,6 +3,7 @@
 
     python3 bench/compare.py checksum     the cycle checksum of a million packets of 576 bytes
     python3 bench/compare.py dump         `xns dump` of 65,536 packets in hex
+    python3 bench/compare.py values       Courier values read, read over pieces, and written; the least time of many
     python3 bench/compare.py c            a million packets of 576 bytes written and read by the library for C, beside plain C and
                                           beside the same in Rattle
 
@@ -64,6 +65,31 @@ def compare(ours, peer, given):
     return medians
 
 
+def nanoseconds_of(words):
+    """What a program of values found: its lines of counts, and the nanoseconds by value and kind of work."""
+    lines = subprocess.run([*words, "200"], stdout=subprocess.PIPE, check=True, text=True).stdout.splitlines()
+    counts = [line for line in lines if line.endswith(" words")]
+    return counts, {line.rsplit(" ", 1)[0]: int(line.rsplit(" ", 1)[1]) for line in lines if line not in counts}
+
+
+def compare_values(ours, peer):
+    """The least time of each kind of work over all runs: ours to the peer's, and reading over pieces to reading."""
+    least = {"ours": {}, "peer": {}}
+    for _ in range(RUNS):
+        counts = {}
+        for name, words in (("ours", ours), ("peer", peer)):
+            counts[name], found = nanoseconds_of(words)
+            for work, spent in found.items():
+                least[name][work] = min(spent, least[name].get(work, spent))
+        if counts["ours"] != counts["peer"]:
+            sys.exit("the two programs print different things")
+    for work, spent in least["ours"].items():
+        beside = "peer" if work in least["peer"] else "ours"
+        other = least[beside][work if beside == "peer" else work.replace(" pieces", " read")]
+        against = "the peer" if beside == "peer" else "our reading of a slice"
+        print(f"{work}: {spent} ns, {spent / other:.2f} of {against}")
+
+
 def main():
     which = sys.argv[1] if len(sys.argv) == 2 else ""
     with tempfile.TemporaryDirectory() as folder:
@@ -74,6 +100,8 @@ def main():
         elif which == "dump":
             given.write_bytes(subprocess.run([sys.executable, BENCH / "packets.py"], stdout=subprocess.PIPE, check=True).stdout)
             compare([built_program("xns"), "dump"], [built_peer("dump_peer", folder)], given)
+        elif which == "values":
+            compare_values([built_program("values_bench")], [built_peer("values_peer", folder)])
         elif which == "c":
             given.touch()
             library = built_c("c_codec", folder, True)

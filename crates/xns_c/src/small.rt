@@ -4,7 +4,7 @@ ghost use Rattle.std.specs.Prelude.{◌≡◌, ◌≢◌, ◌+◌, ◌<◌, ◌�
 ghost use Rattle.xns_idp.specs.Packet.{PacketModel};
 ghost use Rattle.xns_idp.specs.Reading.{packet_of};
 ghost use Rattle.xns_small.specs.Echo.{IsAnswered, echo_reply};
-ghost use Rattle.xns_small.specs.ErrorReport.{IsComplainedOf, complaint, error_of};
+ghost use Rattle.xns_small.specs.ErrorReport.{MayBeComplainedOf, complaint, error_of};
 ghost use Rattle.xns_small.specs.Exchange.{exchange_of, exchange_spelling};
 ghost use Rattle.xns_c.specs.Given.{IsPut, IsRequestTo};
 ghost use Rattle.xns_c.specs.Results.{ok, no_memory, nothing, short, short_buffer, too_long};
@@ -60,11 +60,11 @@ pub extern "C" fn xns_complain(
     buffer: &mut [u8],
     written: &mut usize,
 ) -> u32
-    ensures complained { IsComplainedOf offending.now → result ≢ nothing }
+    ensures complained { MayBeComplainedOf offending.now → result ≢ nothing }
     ensures written { result ≡ ok → IsPut (complaint (address_in own.now) number parameter offending.now) buffer.old buffer.new written.new }
     ensures short { result ≡ short_buffer → length buffer.old < length (complaint (address_in own.now) number parameter offending.now) }
     ensures memory { result ≢ ok → result ≢ nothing → result ≢ short_buffer → result ≡ no_memory }
-    ensures nothing { result ≢ nothing → IsComplainedOf offending.now }
+    ensures nothing { result ≢ nothing → MayBeComplainedOf offending.now }
     ensures unchanged { result ≢ ok → (buffer.new ≡ buffer.old) × (written.new ≡ written.old) }
 {
     match complain(alloc, own.address(), number, parameter, offending) {

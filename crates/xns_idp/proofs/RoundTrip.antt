@@ -7,7 +7,7 @@ use Rattle.std.proofs.lemmas.List.{take_at, length-append, length-take, length-d
 use Rattle.std.proofs.lemmas.List.Elements.{All-take, All-drop, All-from_get_or, All-replicate}
 use Rattle.xns_idp.specs.Checksum.{words, cycle_checksum}
 use Rattle.xns_idp.specs.Packet.{PacketModel, AreBytes, IsAddress, IsPacket, SpellsPacket, IsPacketAtFront, packet_model, address_bytes, after_checksum, packet_bytes, packet_spelling}
-use Rattle.xns_idp.specs.Reading.{word_at, address_at, made_even, computed_sum, packet_fault, packet_fields, unless, packet_of, decoded}
+use Rattle.xns_idp.specs.Reading.{word_at, address_at, made_even, computed_sum, packet_fault, packet_fields, unless, packet_of, decode_model}
 use Rattle.xns_idp.specs.declared.address.Address.{Address}
 use Rattle.xns_idp.specs.declared.packet.Packet.{Packet}
 use Rattle.xns_idp.specs.declared.fault.IdpFault.{IdpFault}
@@ -142,7 +142,7 @@ packet_found b p k fits e =
     let f = fields_found b fits (no_fault b u.0) in
     subst (λ (x : PacketModel × ℕ). IsPacketAtFront b x.0 x.1) u.1 f
 
-pub is_found : (b : List ℕ) (r : Result (Packet × ℕ) IdpFault) → ((i : ℕ) → get_or b i 0 < 256) → decoded r ≡ packet_of b → IfOk r (λ x. IsPacketAtFront b (packet_model x.0) x.1)
+pub is_found : (b : List ℕ) (r : Result (Packet × ℕ) IdpFault) → ((i : ℕ) → get_or b i 0 < 256) → decode_model r ≡ packet_of b → IfOk r (λ x. IsPacketAtFront b (packet_model x.0) x.1)
 is_found b (Ok x) fits e = packet_found b (packet_model x.0) x.1 (All-from_get_or (λ x. x < 256) b 0 (λ i h. fits i)) (sym e)
 is_found b (Err f) fits e = tt
 
@@ -150,7 +150,7 @@ unless_err : {X : Type 0} (o : Option IdpFault) (x : X) (f : IdpFault) → unles
 unless_err None x f e = absurd cc
 unless_err (Some g) x f e = cc
 
-pub is_fault : (b : List ℕ) (r : Result (Packet × ℕ) IdpFault) → decoded r ≡ packet_of b → IfErr r (λ f. packet_fault b ≡ Some f)
+pub is_fault : (b : List ℕ) (r : Result (Packet × ℕ) IdpFault) → decode_model r ≡ packet_of b → IfErr r (λ f. packet_fault b ≡ Some f)
 unfolding packet_of
 is_fault b (Ok x) e = tt
 is_fault b (Err f) e = unless_err (packet_fault b) (packet_fields b, made_even (word_at b 2)) f (sym e)

@@ -35,6 +35,10 @@ pub record IsPacket (p : PacketModel) : Type 0 where
   pub source : IsAddress p.source
   pub body : AreBytes p.body
 
+-- the broadcast host, which is every host (Network Addresses)
+abbrev pub broadcast : List ℕ
+broadcast = replicate 6 255
+
 -- ---- the bytes of a packet
 
 -- network, host, socket (Network Addresses)

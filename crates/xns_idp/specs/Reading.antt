@@ -49,7 +49,7 @@ packet_fields bytes = record {
 }
 
 -- the value, unless there is a fault
-abbrev pub unless : {X : Type 0} → Option IdpFault → X → Result X IdpFault
+abbrev pub unless : {X F : Type 0} → Option F → X → Result X F
 unless None x = Ok x
 unless (Some f) x = Err f
 
@@ -58,6 +58,6 @@ unfoldable pub packet_of : List ℕ → Result (PacketModel × ℕ) IdpFault
 packet_of bytes = unless (packet_fault bytes) (packet_fields bytes, made_even (word_at bytes 2))
 
 -- what `decode` answers, without where it lies in memory
-abbrev pub decoded : Result (Packet × ℕ) IdpFault → Result (PacketModel × ℕ) IdpFault
-decoded (Ok x) = Ok (packet_model x.0, x.1)
-decoded (Err f) = Err f
+abbrev pub decode_model : Result (Packet × ℕ) IdpFault → Result (PacketModel × ℕ) IdpFault
+decode_model (Ok x) = Ok (packet_model x.0, x.1)
+decode_model (Err f) = Err f

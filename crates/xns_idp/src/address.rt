@@ -1,20 +1,30 @@
-ghost use Rattle.std.specs.Prelude.{◌≡◌, ◌<◌, ◌^◌};
+ghost use Rattle.std.specs.Prelude.{◌≡◌, ◌↔◌, IsTrue};
 
-use crate::known::known_bytes;
+use crate::known::{known_bytes, known_long, known_word};
+
+/// The broadcast host, which is every host (XSIS 028112, Internet Datagram Protocol, Network Addresses).
+const BROADCAST: [u8; 6] = [255; 6];
 
 /// Where a packet goes to or comes from (XSIS 028112, Internet Datagram Protocol, Network Addresses).
 #[derive(Clone, Copy, Debug, PartialEq, Eq)]
 pub struct Address {
     /// The network number, of 32 bits; 0 is an unknown network.
     pub network: u32,
-    /// The host number, of 48 bits, its highest byte first; six bytes of 255 are every host, the broadcast.
+    /// The host number, of 48 bits, its highest byte first; six bytes of 255 are the broadcast host, which is every host.
     pub host: [u8; 6],
     /// The socket number, of 16 bits: who on that host is meant.
     pub socket: u16,
 }
 
 impl Address {
-    ghost use Rattle.xns_idp.specs.Packet.{IsAddress, address_bytes};
+    ghost use Rattle.xns_idp.specs.Packet.{IsAddress, address_bytes, broadcast};
+
+    /// Whether its host is the broadcast host.
+    pub fn is_broadcast(&self) -> bool
+        ensures { IsTrue result ↔ (self.now.host ≡ broadcast) }
+    {
+        self.host == BROADCAST
+    }
 
     /// Does nothing; says to a proof that the numbers of an address are within their types' bounds.
     pub fn known(&self)
@@ -35,11 +45,3 @@ impl Address {
         [n0, n1, n2, n3, h0, h1, h2, h3, h4, h5, s0, s1]
     }
 }
-
-fn known_word(number: u16)
-    ensures { number < 2 ^ 16 }
-{}
-
-fn known_long(number: u32)
-    ensures { number < 2 ^ 32 }
-{}

@@ -1,11 +1,12 @@
 ghost use Rattle.std.specs.Prelude.{◌≡◌, ◌+◌, ◌≤◌, List, ℕ, length, ◌++◌, IfOk, IfErr, Some, Ok};
 ghost use Rattle.xns_idp.specs.Packet.{PacketModel, IsPacket, SpellsPacket, IsPacketAtFront, packet_model};
-ghost use Rattle.xns_idp.specs.Reading.{word_at, address_at, packet_fault, packet_of, decoded};
+ghost use Rattle.xns_idp.specs.Reading.{packet_fault, packet_of, decode_model};
 
 use crate::address::Address;
 use crate::checksum::cycle_sum;
 use crate::fault::IdpFault;
-use crate::packet::{HEADER, LONGEST, NO_SUM, Packet};
+use crate::packet::{HEADER, HEADER_BYTES, LONGEST, NO_SUM, Packet};
+use crate::places::{read_address, read_word};
 
 /// Reads the packet at the front of the bytes, and says how many bytes it took: its length made even, with the garbage
 /// byte. What follows them, as padding of the link, is left unread.
@@ -14,12 +15,12 @@ use crate::packet::{HEADER, LONGEST, NO_SUM, Packet};
 /// and is never a [`IdpFault::BadSum`].
 pub fn decode(bytes: &[u8]) -> Result<(Packet<'_>, usize), IdpFault>
     // The packet of the bytes by the places of its fields, or their first fault.
-    ensures exact { decoded result ≡ packet_of bytes.now }
+    ensures exact { decode_model result ≡ packet_of bytes.now }
     // The bytes that it took spell it.
     ensures found { IfOk result (λ r. IsPacketAtFront bytes.now (packet_model r.0) r.1) }
     // Whatever a front of the bytes spells is read, whatever follows it.
     ensures only { (p : PacketModel) (taken rest : List ℕ) → IsPacket p → SpellsPacket p taken → bytes.now ≡ taken ++ rest →
-        decoded result ≡ Ok (p, length taken) }
+        decode_model result ≡ Ok (p, length taken) }
     // Which fault it is.
     ensures fault { IfErr result (λ f. packet_fault bytes.now ≡ Some f) }
 {
@@ -28,10 +29,10 @@ pub fn decode(bytes: &[u8]) -> Result<(Packet<'_>, usize), IdpFault>
 
 #[tactic(auto, unfolding(crate::specs::Reading::packet_of, crate::specs::Reading::packet_fault, crate::specs::Reading::packet_fields))]
 fn read_packet(bytes: &[u8]) -> Result<(Packet<'_>, usize), IdpFault>
-    ensures { decoded result ≡ packet_of bytes.now }
+    ensures { decode_model result ≡ packet_of bytes.now }
 {
     let have = bytes.len();
-    if have < usize::from(HEADER) {
+    if have < HEADER_BYTES {
         return Err(IdpFault::Short { have });
     }
     let length = read_word(bytes, 2);
@@ -58,30 +59,7 @@ fn read_packet(bytes: &[u8]) -> Result<(Packet<'_>, usize), IdpFault>
         kind: bytes[5],
         target: read_address(bytes, 6),
         source: read_address(bytes, 18),
-        body: &bytes[usize::from(HEADER)..usize::from(length)],
+        body: &bytes[HEADER_BYTES..usize::from(length)],
     };
     Ok((packet, needed))
-}
-
-/// The number of the two bytes at a place.
-fn read_word(bytes: &[u8], at: usize) -> u16
-    requires { at + 2 ≤ length bytes.now }
-    ensures { result ≡ word_at bytes.now at }
-{
-    u16::from_be_bytes([bytes[at], bytes[at + 1]])
-}
-
-/// The address of the twelve bytes at a place.
-#[tactic(auto, unfolding(crate::specs::Reading::address_at))]
-fn read_address(bytes: &[u8], at: usize) -> Address
-    requires { at + 12 ≤ length bytes.now }
-    ensures { result ≡ address_at bytes.now at }
-{
-    let mut host = [0; 6];
-    host.copy_from_slice(&bytes[at + 4..at + 10]);
-    Address {
-        network: u32::from_be_bytes([bytes[at], bytes[at + 1], bytes[at + 2], bytes[at + 3]]),
-        host,
-        socket: read_word(bytes, at + 10),
-    }
 }

@@ -4,7 +4,7 @@ ghost use Rattle.xns_idp.specs.Packet.{packet_model, packet_spelling};
 ghost use Rattle.xns_idp.specs.Reading.{made_even};
 
 use crate::checksum::sum_on;
-use crate::packet::{HEADER, NO_SUM, Packet};
+use crate::packet::{HEADER, HEADER_BYTES, NO_SUM, Packet};
 use std::alloc::{AllocError, Global};
 
 /// The byte that is written behind an odd number of bytes.
@@ -27,7 +27,7 @@ pub fn encode(_alloc: Global, packet: &Packet<'_>, out: &mut Vec<u8>) -> Result<
     let target = packet.target.to_bytes();
     let source = packet.source.to_bytes();
     let sum = checksum_field(packet, &front, &target, &source);
-    out.reserve(usize::from(HEADER) + body.len() + body.len() % 2)?;
+    out.reserve(HEADER_BYTES + body.len() + body.len() % 2)?;
     out.extend_from_slice(&sum.to_be_bytes())?;
     out.extend_from_slice(&front)?;
     out.extend_from_slice(&target)?;

@@ -9,20 +9,18 @@ mod checksum;
 mod decoding;
 mod encoding;
 mod fault;
-mod known;
-mod laws;
+pub mod known;
+pub mod laws;
 mod packet;
+pub mod packet_type;
+pub mod places;
 
 pub use address::Address;
 pub use checksum::cycle_sum;
 pub use decoding::decode;
 pub use encoding::encode;
 pub use fault::IdpFault;
-pub use laws::{
-    an_exchange_shows, another_word_shows, checksum_is_added_and_rotated,
-    packet_at_front_is_its_spelling, written_packet_is_read_again,
-};
-pub use packet::Packet;
+pub use packet::{HEADER_BYTES, Packet};
 
 #[cfg(test)]
 mod tests;

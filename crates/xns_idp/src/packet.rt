@@ -4,6 +4,9 @@ use crate::address::Address;
 use crate::known::known_bytes;
 
 /// A header has so many bytes.
+pub const HEADER_BYTES: usize = 30;
+
+/// The length field of a packet that is a header alone.
 pub(crate) const HEADER: u16 = 30;
 
 /// A packet has at most so many bytes, without the garbage byte.

@@ -121,6 +121,35 @@ fn each_fault_is_named(rt: HostRuntime) -> Result<(), Fail> {
 }
 
 #[test]
+fn a_packet_cut_to_each_length_is_refused(rt: HostRuntime) {
+    for have in 0..34 {
+        let expected = if have < 30 {
+            IdpFault::Short { have }
+        } else {
+            IdpFault::Cut { needed: 34, have }
+        };
+        assert_eq!(rt;
+            fault_of(ECHO_REQUEST.get(..have).unwrap_or(&[])),
+            Some(expected)
+        );
+    }
+}
+
+#[test]
+fn faults_are_told_in_words(rt: HostRuntime) -> Result<(), Fail> {
+    let fault = IdpFault::BadSum {
+        found: 0x5323,
+        computed: 0x322,
+    };
+    let text = format!(in rt.alloc(); "{fault}")?;
+    assert_eq!(rt;
+        text.as_str(),
+        "the checksum field is 5323, and the checksum is 0322"
+    );
+    Ok(())
+}
+
+#[test]
 fn the_shortest_and_the_longest_packets_are_read_again(rt: HostRuntime) -> Result<(), Fail> {
     let (request, _) = decode(&ECHO_REQUEST).ok().ok_or("no packet")?;
     let body = [0x5a; 546];

@@ -2,7 +2,7 @@
 use Rattle.std.proofs.Common.{◌≡◌, ℕ, ◌+◌, ◌*◌, ◌<◌, false, ltb, List, [], ◌∷◌, ◌++◌, length, get_or, Result, Ok, Err, IfOk, refl, sym, ap, subst, ◌∙◌, arith}
 use Rattle.std.specs.Int.{w16, to_be_bytes}
 use Rattle.std.proofs.lemmas.Bool.{le-ltb}
-use Rattle.xns_small.specs.ErrorReport.{ErrorReportModel, IsErrorReport, SpellsError, error_report_model, error_of, error_read, error_spelling}
+use Rattle.xns_small.specs.ErrorReport.{ErrorReportModel, IsErrorReport, SpellsError, error_report_model, error_of, read_error_model, error_spelling}
 use Rattle.xns_small.specs.declared.error_report.ErrorReport.{ErrorReport}
 use Rattle.xns_small.specs.declared.fault.SmallFault.{SmallFault}
 use Rattle.xns_small.proofs.Numbers.{word_back, two_bytes}
@@ -34,6 +34,6 @@ error_spelled (a ∷ b ∷ c ∷ d ∷ rest) v fits e =
     ∙ ap (λ (xs : List ℕ). to_be_bytes w16 (256 * a + b) ++ (xs ++ rest)) (sym (two_bytes (256 * c + d) c d (fits 2) (fits 3) refl)) in
     subst (λ (u : ErrorReportModel). SpellsError u (a ∷ b ∷ c ∷ d ∷ rest)) same spells
 
-pub error_found : (bytes : List ℕ) (r : Result ErrorReport SmallFault) → ((i : ℕ) → get_or bytes i 0 < 256) → error_read r ≡ error_of bytes → IfOk r (λ v. SpellsError (error_report_model v) bytes)
+pub error_found : (bytes : List ℕ) (r : Result ErrorReport SmallFault) → ((i : ℕ) → get_or bytes i 0 < 256) → read_error_model r ≡ error_of bytes → IfOk r (λ v. SpellsError (error_report_model v) bytes)
 error_found bytes (Ok v) fits e = error_spelled bytes (error_report_model v) fits (sym e)
 error_found bytes (Err f) fits e = tt

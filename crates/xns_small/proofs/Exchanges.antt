@@ -2,7 +2,7 @@
 use Rattle.std.proofs.Common.{◌≡◌, ℕ, ◌+◌, ◌*◌, ◌<◌, false, ltb, List, [], ◌∷◌, ◌++◌, length, get_or, Result, Ok, Err, IfOk, refl, sym, ap, subst, ◌∙◌, arith}
 use Rattle.std.specs.Int.{w32, to_be_bytes}
 use Rattle.std.proofs.lemmas.Bool.{le-ltb}
-use Rattle.xns_small.specs.Exchange.{ExchangeModel, IsExchange, SpellsExchange, exchange_model, exchange_of, exchange_read, exchange_spelling}
+use Rattle.xns_small.specs.Exchange.{ExchangeModel, IsExchange, SpellsExchange, exchange_model, exchange_of, read_exchange_model, exchange_spelling}
 use Rattle.xns_small.specs.declared.exchange.Exchange.{Exchange}
 use Rattle.xns_small.specs.declared.fault.SmallFault.{SmallFault}
 use Rattle.xns_small.proofs.Numbers.{word_back, long_back, two_bytes, four_bytes}
@@ -38,6 +38,6 @@ exchange_spelled (a ∷ b ∷ c ∷ d ∷ f ∷ g ∷ rest) v fits e =
     ∙ ap (λ (xs : List ℕ). to_be_bytes w32 number ++ (xs ++ rest)) (sym (two_bytes (256 * f + g) f g (fits 4) (fits 5) refl)) in
     subst (λ (u : ExchangeModel). SpellsExchange u bytes) same spells
 
-pub exchange_found : (bytes : List ℕ) (r : Result Exchange SmallFault) → ((i : ℕ) → get_or bytes i 0 < 256) → exchange_read r ≡ exchange_of bytes → IfOk r (λ v. SpellsExchange (exchange_model v) bytes)
+pub exchange_found : (bytes : List ℕ) (r : Result Exchange SmallFault) → ((i : ℕ) → get_or bytes i 0 < 256) → read_exchange_model r ≡ exchange_of bytes → IfOk r (λ v. SpellsExchange (exchange_model v) bytes)
 exchange_found bytes (Ok v) fits e = exchange_spelled bytes (exchange_model v) fits (sym e)
 exchange_found bytes (Err f) fits e = tt

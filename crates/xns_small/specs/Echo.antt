@@ -1,7 +1,7 @@
 -- The Echo protocol (XSIS 028112, Echo Protocol).
 use Rattle.std.specs.Prelude.{◌≡◌, ℕ, ◌==◌, nat_lt, Bool, true, false, if◌then◌else◌, List, [], ◌∷◌, ◌++◌, length, drop, Result, Ok, Err, ◌⊎◌}
 use Rattle.std.specs.Int.{w16, to_be_bytes}
-use Rattle.xns_idp.specs.Packet.{PacketModel}
+use Rattle.xns_idp.specs.Packet.{PacketModel, broadcast}
 use Rattle.xns_idp.specs.Reading.{word_at}
 use Rattle.xns_idp.specs.declared.address.Address.{Address}
 use Rattle.xns_small.specs.Sending.{sent_packet}
@@ -34,17 +34,13 @@ echo_of bytes =
     else Err (EchoOperation (word_at bytes 0))
 
 -- what `read_echo` answers, without where it lies in memory
-abbrev pub echo_read : Result Echo SmallFault → Result EchoModel SmallFault
-echo_read (Ok v) = Ok (echo_model v)
-echo_read (Err f) = Err f
+abbrev pub read_echo_model : Result Echo SmallFault → Result EchoModel SmallFault
+read_echo_model (Ok v) = Ok (echo_model v)
+read_echo_model (Err f) = Err f
 
 -- ---- the reply
 
--- every host
-abbrev pub broadcast : List ℕ
-broadcast = 255 ∷ 255 ∷ 255 ∷ 255 ∷ 255 ∷ 255 ∷ []
-
--- an Echo request to this socket, of this host or of every host
+-- an Echo request to this socket, of this host or of the broadcast host
 pub record IsAnswered (own : Address) (p : PacketModel) : Type 0 where
   pub kind : p.kind ≡ 2
   pub request : echo_of p.body ≡ Ok (record { reply = false; body = drop 2 p.body })

@@ -1,9 +1,9 @@
 -- The Error protocol (XSIS 028112, Error Protocol).
 use Rattle.std.specs.Prelude.{◌≡◌, ◌≢◌, ℕ, ◌<◌, ◌≤◌, ◌^◌, nat_lt, if◌then◌else◌, List, ◌++◌, length, drop, take, slice_index, slice_range, Result, Ok, Err}
 use Rattle.std.specs.Int.{w16, to_be_bytes}
+use Rattle.xns_idp.specs.Packet.{broadcast}
 use Rattle.xns_idp.specs.Reading.{word_at, address_at}
 use Rattle.xns_idp.specs.declared.address.Address.{Address}
-use Rattle.xns_small.specs.Echo.{broadcast}
 use Rattle.xns_small.specs.Sending.{sent_packet}
 use Rattle.xns_small.specs.declared.error_report.ErrorReport.{ErrorReport}
 use Rattle.xns_small.specs.declared.fault.SmallFault.{SmallFault}
@@ -42,17 +42,17 @@ error_of bytes =
     else Ok (record { number = word_at bytes 0; parameter = word_at bytes 2; quoted = drop 4 bytes })
 
 -- what `read_error` answers, without where it lies in memory
-abbrev pub error_read : Result ErrorReport SmallFault → Result ErrorReportModel SmallFault
-error_read (Ok v) = Ok (error_report_model v)
-error_read (Err f) = Err f
+abbrev pub read_error_model : Result ErrorReport SmallFault → Result ErrorReportModel SmallFault
+read_error_model (Ok v) = Ok (error_report_model v)
+read_error_model (Err f) = Err f
 
 -- ---- the complaint
 
--- a packet of which one may complain: it has a whole header, is no Error packet, and was not sent to every host
-pub record IsComplainedOf (offending : List ℕ) : Type 0 where
+-- a packet of which one may complain: it has a whole header, is no Error packet, and was not sent to the broadcast host
+pub record MayBeComplainedOf (offending : List ℕ) : Type 0 where
   pub header : 30 ≤ length offending
   pub kind : slice_index offending 5 ≢ 3
-  pub target : slice_range offending 10 16 ≢ broadcast
+  pub target : (address_at offending 6).host ≢ broadcast
 
 -- an Error packet to the offending packet's source, by its place in the header, quoting its first 42 bytes
 unfoldable pub complaint : Address → ℕ → ℕ → List ℕ → List ℕ

@@ -38,9 +38,9 @@ exchange_of bytes =
     else Ok (record { id = long_at bytes 0; client = word_at bytes 4; body = drop 6 bytes })
 
 -- what `read_exchange` answers, without where it lies in memory
-abbrev pub exchange_read : Result Exchange SmallFault → Result ExchangeModel SmallFault
-exchange_read (Ok v) = Ok (exchange_model v)
-exchange_read (Err f) = Err f
+abbrev pub read_exchange_model : Result Exchange SmallFault → Result ExchangeModel SmallFault
+read_exchange_model (Ok v) = Ok (exchange_model v)
+read_exchange_model (Err f) = Err f
 
 -- ---- the asking side
 

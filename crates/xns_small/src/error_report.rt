@@ -1,10 +1,11 @@
 ghost use Rattle.std.specs.Prelude.{◌≡◌, ◌+◌, ◌<◌, ◌≤◌, ◌++◌, length, take, IfOk, OnOk, OnErr, Ok, vec_len, vec_capacity};
-ghost use Rattle.xns_small.specs.ErrorReport.{ErrorReportModel, IsErrorReport, SpellsError, error_report_model, error_of, error_read, error_spelling, with_front_quoted};
+ghost use Rattle.xns_small.specs.ErrorReport.{ErrorReportModel, IsErrorReport, SpellsError, error_report_model, error_of, read_error_model, error_spelling, with_front_quoted};
 
 use crate::appending::append;
 use crate::fault::SmallFault;
-use crate::word::read_word;
 use std::alloc::{AllocError, Global};
+use xns_idp::known::known_word;
+use xns_idp::places::read_word;
 
 /// So many bytes of the offending packet are quoted at most: its header and twelve bytes.
 const QUOTED: usize = 42;
@@ -20,18 +21,28 @@ pub struct ErrorReport<'a> {
     pub quoted: &'a [u8],
 }
 
+impl ErrorReport<'_> {
+    /// Does nothing; says to a proof that the numbers of a report are within their types' bounds.
+    pub fn known(&self)
+        ensures { IsErrorReport (error_report_model self.now) }
+    {
+        known_word(self.number);
+        known_word(self.parameter);
+    }
+}
+
 /// Reads the body of an Error packet. An `Err` is [`SmallFault::Short`], for under 4 bytes.
 pub fn read_error(body: &[u8]) -> Result<ErrorReport<'_>, SmallFault>
-    ensures exact { error_read result ≡ error_of body.now }
+    ensures exact { read_error_model result ≡ error_of body.now }
     ensures found { IfOk result (λ report. SpellsError (error_report_model report) body.now) }
-    ensures only { (report : ErrorReportModel) → IsErrorReport report → SpellsError report body.now → error_read result ≡ Ok report }
+    ensures only { (report : ErrorReportModel) → IsErrorReport report → SpellsError report body.now → read_error_model result ≡ Ok report }
 {
     read_report(body)
 }
 
 #[tactic(auto, unfolding(crate::specs::ErrorReport::error_of))]
 fn read_report(body: &[u8]) -> Result<ErrorReport<'_>, SmallFault>
-    ensures { error_read result ≡ error_of body.now }
+    ensures { read_error_model result ≡ error_of body.now }
 {
     let have = body.len();
     if have < 4 {

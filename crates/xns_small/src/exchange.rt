@@ -1,10 +1,11 @@
 ghost use Rattle.std.specs.Prelude.{◌≡◌, ◌+◌, ◌<◌, ◌≤◌, ◌++◌, length, IfOk, OnOk, OnErr, Ok, vec_len, vec_capacity};
-ghost use Rattle.xns_small.specs.Exchange.{ExchangeModel, IsExchange, SpellsExchange, exchange_model, exchange_of, exchange_read, exchange_spelling};
+ghost use Rattle.xns_small.specs.Exchange.{ExchangeModel, IsExchange, SpellsExchange, exchange_model, exchange_of, read_exchange_model, exchange_spelling};
 
 use crate::appending::append;
 use crate::fault::SmallFault;
-use crate::word::{read_long, read_word};
 use std::alloc::{AllocError, Global};
+use xns_idp::known::{known_long, known_word};
+use xns_idp::places::{read_long, read_word};
 
 /// A Packet Exchange request or response, lent from a packet's body (XSIS 028112, Packet Exchange Protocol).
 #[derive(Clone, Copy, Debug, PartialEq, Eq)]
@@ -17,18 +18,28 @@ pub struct Exchange<'a> {
     pub body: &'a [u8],
 }
 
+impl Exchange<'_> {
+    /// Does nothing; says to a proof that the numbers of a packet exchange are within their types' bounds.
+    pub fn known(&self)
+        ensures { IsExchange (exchange_model self.now) }
+    {
+        known_long(self.id);
+        known_word(self.client);
+    }
+}
+
 /// Reads the body of a Packet Exchange packet. An `Err` is [`SmallFault::Short`], for under 6 bytes.
 pub fn read_exchange(body: &[u8]) -> Result<Exchange<'_>, SmallFault>
-    ensures exact { exchange_read result ≡ exchange_of body.now }
+    ensures exact { read_exchange_model result ≡ exchange_of body.now }
     ensures found { IfOk result (λ exchange. SpellsExchange (exchange_model exchange) body.now) }
-    ensures only { (exchange : ExchangeModel) → IsExchange exchange → SpellsExchange exchange body.now → exchange_read result ≡ Ok exchange }
+    ensures only { (exchange : ExchangeModel) → IsExchange exchange → SpellsExchange exchange body.now → read_exchange_model result ≡ Ok exchange }
 {
     read_fields(body)
 }
 
 #[tactic(auto, unfolding(crate::specs::Exchange::exchange_of))]
 fn read_fields(body: &[u8]) -> Result<Exchange<'_>, SmallFault>
-    ensures { exchange_read result ≡ exchange_of body.now }
+    ensures { read_exchange_model result ≡ exchange_of body.now }
 {
     let have = body.len();
     if have < 6 {

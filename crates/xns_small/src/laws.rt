@@ -8,7 +8,7 @@ ghost use Rattle.xns_small.specs.Echo.{EchoModel, IsAnswered, IsReplyTo, echo_of
 ghost use Rattle.xns_small.specs.ErrorReport.{ErrorReportModel, IsErrorReport, error_of, error_spelling};
 ghost use Rattle.xns_small.specs.Exchange.{ExchangeModel, IsExchange, exchange_of, exchange_spelling};
 
-use xns_idp::written_packet_is_read_again;
+use xns_idp::laws::written_packet_is_read_again;
 
 /// What is written of an Echo is read again.
 pub fn written_echo_is_read_again()

@@ -12,22 +12,16 @@ pub mod error_number;
 mod error_report;
 mod exchange;
 mod fault;
-mod host;
-mod laws;
+pub mod laws;
 mod replying;
 mod requester;
 mod sending;
-mod word;
 
 pub use complaining::complain;
 pub use echo::{Echo, read_echo, write_echo};
 pub use error_report::{ErrorReport, read_error, write_error};
 pub use exchange::{Exchange, read_exchange, write_exchange};
 pub use fault::SmallFault;
-pub use laws::{
-    an_answered_echo_carries_the_request, written_echo_is_read_again, written_error_is_read_again,
-    written_exchange_is_read_again,
-};
 pub use replying::answer_echo;
 pub use requester::Requester;
 

@@ -3,19 +3,16 @@ ghost use Rattle.xns_idp.specs.Packet.{packet_model};
 ghost use Rattle.xns_small.specs.Echo.{EchoModel, IsAnswered, echo_of, echo_reply};
 
 use crate::echo::{Echo, read_echo, write_echo};
-use crate::host::is_broadcast;
 use crate::sending::sent_packet;
 use std::alloc::{AllocError, Global};
+use xns_idp::packet_type::ECHO;
 use xns_idp::{Address, Packet};
-
-/// The packet type of Echo.
-const ECHO: u8 = 2;
 
 /// Answers an Echo request: the whole bytes of the reply, a summed packet from `own` to the request's source with the
 /// request's bytes (XSIS 028112, Echo Protocol).
 ///
 /// `None` means that there is nothing to answer: the packet is of another type, its body is no request, its target is another
-/// socket, or another host and not every host. The only error is want of memory.
+/// socket, or another host and not the broadcast host. The only error is want of memory.
 #[tactic(auto, unfolding(crate::specs::Echo::echo_reply))]
 pub fn answer_echo(
     alloc: Global,
@@ -49,7 +46,7 @@ fn echoed_data<'a>(own: Address, packet: &Packet<'a>) -> Option<&'a [u8]>
     if packet.kind != ECHO || packet.target.socket != own.socket {
         return None;
     }
-    if packet.target.host != own.host && !is_broadcast(packet.target.host) {
+    if packet.target.host != own.host && !packet.target.is_broadcast() {
         return None;
     }
     requested_data(packet.body)

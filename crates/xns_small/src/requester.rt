@@ -1,17 +1,14 @@
 ghost use Rattle.std.specs.Prelude.{◌≡◌, ◌≢◌, ◌<◌, ◌≤◌, drop, length, IfOk, MatchOption};
-ghost use Rattle.xns_idp.specs.Packet.{packet_model};
+ghost use Rattle.xns_idp.specs.Packet.{broadcast, packet_model};
 ghost use Rattle.xns_idp.specs.Reading.{long_at};
-ghost use Rattle.xns_small.specs.Echo.{broadcast};
 ghost use Rattle.xns_small.specs.Exchange.{IsResponse, requester_asking};
 
 use crate::exchange::{Exchange, read_exchange, write_exchange};
 use crate::sending::sent_packet;
 use std::alloc::{AllocError, Global};
 use std::marker::Model;
+use xns_idp::packet_type::PACKET_EXCHANGE;
 use xns_idp::{Address, Packet};
-
-/// The packet type of Packet Exchange.
-const PACKET_EXCHANGE: u8 = 4;
 
 /// The asking side of one packet exchange (XSIS 028112, Packet Exchange Protocol). It holds the request, to be sent until the
 /// response comes, and knows the response when it sees it.
@@ -32,7 +29,7 @@ impl Model for Requester {
 
 impl Requester {
     /// Makes the request from `own` to `target`, with a transaction identifier, a client type and at most 540 bytes. The target is
-    /// not every host. The only error is want of memory.
+    /// not the broadcast host. The only error is want of memory.
     #[tactic(auto, unfolding(crate::specs::Exchange::asking_packet))]
     pub fn request(
         alloc: Global,

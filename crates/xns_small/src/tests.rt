@@ -244,6 +244,31 @@ fn short_bodies_and_other_operations_are_refused(rt: HostRuntime) {
 }
 
 #[test]
+fn bodies_are_read(rt: HostRuntime) {
+    let echo = read_echo(&[0, 2, 0x48]).ok();
+    assert!(rt;
+        echo == Some(Echo {
+            reply: true,
+            body: &[0x48]
+        })
+    );
+    let report = read_error(&[0, 2, 0, 9, 7]).ok();
+    let expected = ErrorReport {
+        number: 2,
+        parameter: 9,
+        quoted: &[7],
+    };
+    assert!(rt; report == Some(expected));
+    let exchange = read_exchange(&[0, 1, 0, 2, 0, 3, 0xaa]).ok();
+    let expected = Exchange {
+        id: 0x10002,
+        client: 3,
+        body: &[0xaa],
+    };
+    assert!(rt; exchange == Some(expected));
+}
+
+#[test]
 fn bodies_are_appended(rt: HostRuntime) -> Result<(), Fail> {
     let mut out = vec![in rt.alloc(); 0xaa]?;
     write_echo(

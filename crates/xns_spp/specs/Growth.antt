@@ -1,7 +1,7 @@
 -- What the steps of an end add to its history: nothing of it is ever taken back.
 use Rattle.std.specs.Prelude.{◌≡◌, ◌⊎◌, ℕ, ◌+◌, ◌<◌, ◌≤◌, true, List, ◌++◌, length, slice_get, Some, Ok}
 use Rattle.xns_spp.specs.declared.item.Item.{Item}
-use Rattle.xns_spp.specs.Header.{has_bit, brings_item}
+use Rattle.xns_spp.specs.Header.{system_bit, has_bit, brings_item}
 use Rattle.xns_spp.specs.Item.{item_in}
 use Rattle.xns_spp.specs.Packet.{SppPacketModel, spp_packet_of}
 use Rattle.xns_spp.specs.Receiving.{numbers_in}
@@ -56,7 +56,7 @@ pub record Acknowledges (s : State) (b : List ℕ) (n : ℕ) : Type 0 where
 pub record IsSystemPacket (s : State) (p : SppPacketModel) : Type 0 where
   pub control : ℕ
   pub small : control < 256
-  pub system : has_bit control 128 ≡ true
+  pub system : has_bit control system_bit ≡ true
   pub is : p ≡ system_packet s control
 
 -- the packet of an accepted item that isn't acknowledged, and that was sent once s has gone on as t

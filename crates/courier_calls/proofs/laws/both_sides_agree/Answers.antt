@@ -1,0 +1,8 @@
+use Rattle.std.proofs.lemmas.List.Elements.{recursion_from_All}
+use Rattle.courier_calls.specs.Calls.{IsFitting}
+use Rattle.courier_calls.proofs.Both.{faces}
+use Rattle.courier_calls.proofs.laws.both_sides_agree.Goals as goal
+
+pub returns : goal.returns
+returns g c = λ s calls heard back can fit p q.
+    faces c.written_value_is_read.ensures (record { found = c.value_of_is_spelled.ensures.found; only = c.value_of_is_spelled.ensures.only; fits = c.spelled_value_fits.ensures }) g.S.Service.serving g.S.Service.IsServiceState g.met.S.Service.lawful s calls heard back can (recursion_from_All IsFitting calls fit) p q

@@ -1,0 +1,15 @@
+//! Callers of the libraries, one a module, as the pages of `docs/` show them: proved, run, and what they print is compared.
+#![tactic(auto)]
+
+mod asking;
+mod connection;
+mod echo_server;
+mod hex_lines;
+mod packet;
+
+fn main(rt: HostRuntime) -> Result<(), anyhow::Error> {
+    packet::shorten(&rt)?;
+    echo_server::answer(&rt)?;
+    asking::ask(&rt)?;
+    connection::send_an_item(&rt)
+}

@@ -1,0 +1,35 @@
+use Rattle.std.proofs.Common.{◌≡◌, ◌∙◌, ap, refl, Some, true}
+use Rattle.std.proofs.lemmas.Result.{err_from_is_err_and}
+use Rattle.clap.proofs.OnLiterals.{clap_on_literals}
+use Rattle.clap.specs.Words.{takes}
+use Rattle.xns.proofs.Refusals.{by_clap, by_name}
+use Rattle.xns.specs.declared.command.modes.Mode.{Mode}
+use Rattle.xns.specs.declared.command.modes.Mode.TheVariants.{Dump}
+use Rattle.xns.specs.Command.Arguments.{name_of, named_subcommand, texts, words_of, xns_command}
+use Rattle.xns.proofs.command.arguments.mode.Goals as goal
+
+is_taken : (mode : Mode) → takes xns_command (words_of mode) ≡ true
+unfolding clap_on_literals
+is_taken Dump = refl
+
+is_named : (mode : Mode) → named_subcommand (words_of mode) ≡ Some (name_of mode)
+unfolding clap_on_literals
+is_named Dump = refl
+
+pub returns-in_err-error-clause-alone : goal.returns-in_err-error-clause-alone
+returns-in_err-error-clause-alone c =
+    let p = err_from_is_err_and c.from_residual-in_err-error.result c.from_residual-in_err-error.ensures.1 in
+    rw p.1 (λ mode h. p.2)
+
+pub returns-in_default-clause-alone : goal.returns-in_default-clause-alone
+returns-in_default-clause-alone c = λ mode h.
+    absurd (c.in_default.ensures.none mode (c.in_ok-subcommand_in.ensures.named ∙ ap named_subcommand h ∙ is_named mode))
+
+pub returns-in_err-subcommand_in-clause-kinds : goal.returns-in_err-subcommand_in-clause-kinds
+returns-in_err-subcommand_in-clause-kinds c =
+    let p = err_from_is_err_and c.from_residual.result c.from_residual.ensures.1 in
+    rw (p.1, p.2) (by_clap (texts c.args.words.now) c.in_err-subcommand_in.field-0.0 c.in_err-subcommand_in.ensures.kinds)
+
+pub returns-in_default-clause-kinds : goal.returns-in_default-clause-kinds
+returns-in_default-clause-kinds c =
+    by_name (texts c.args.words.now) _ c.in_ok-error.field-0 c.in_ok-subcommand_in.ensures.kinds c.in_ok-subcommand_in.ensures.named c.in_default.ensures.none c.in_ok-error.ensures.kind

@@ -1,0 +1,27 @@
+use Rattle.std.proofs.Common.{◌≡◌, ◌∙◌, ap, ap₂, sym, refl, Some, true}
+use Rattle.std.proofs.lemmas.Result.{err_from_is_err_and}
+use Rattle.clap.proofs.OnLiterals.{clap_on_literals}
+use Rattle.clap.specs.Words.{fault_of, is_simple_and_free, takes}
+use Rattle.xns.proofs.Refusals.{is_free}
+use Rattle.xns.specs.declared.command.modes.Mode.{Mode}
+use Rattle.xns.specs.declared.command.modes.Mode.TheVariants.{Dump}
+use Rattle.xns.specs.Command.Arguments.{name_of, named_subcommand, texts, words_of, xns_command}
+use Rattle.xns.proofs.command.arguments.subcommand_in.Goals as goal
+
+is_taken : (mode : Mode) → takes xns_command (words_of mode) ≡ true
+unfolding clap_on_literals
+is_taken Dump = refl
+
+is_named : (mode : Mode) → named_subcommand (words_of mode) ≡ Some (name_of mode)
+unfolding clap_on_literals
+is_named Dump = refl
+
+pub returns-in_err-matches-clause-alone : goal.returns-in_err-matches-clause-alone
+returns-in_err-matches-clause-alone c =
+    let p = err_from_is_err_and c.from_residual-in_err-matches.result c.from_residual-in_err-matches.ensures.1 in
+    rw (p.1, p.2) (λ mode h. c.in_err-matches.ensures.passes (ap₂ takes c.in_ok-program.ensures h ∙ is_taken mode))
+
+pub returns-clause-kinds : goal.returns-clause-kinds
+returns-clause-kinds c =
+    let app = c.in_ok-program.ensures in
+    ap (λ command. fault_of command (texts c.args.words.now)) (sym app) ∙ c.in_ok-matches.ensures.kinds (ap is_simple_and_free app ∙ is_free)

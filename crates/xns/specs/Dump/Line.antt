@@ -1,0 +1,48 @@
+-- What a line of the input says.
+use Rattle.std.specs.Prelude.{ℕ, ◌-◌, ◌==◌, ◌||◌, Bool, true, not, List, ◌++◌, length, take, slice_index, codes, if◌then◌else◌, Result, Ok, Err}
+use Rattle.std.specs.List.{filter}
+use Rattle.std.specs.Fmt.{decimal}
+use Rattle.hex.specs.Hex.{decode_of}
+use Rattle.hex.specs.declared.error.FromHexError.{FromHexError}
+use Rattle.hex.specs.declared.error.FromHexError.TheVariants.{InvalidHexCharacter}
+use Rattle.xns.specs.Layers.Packets.{is_packet_refused, packet_text}
+
+-- a line without one carriage return at its end
+abbrev pub without_return : List ℕ → List ℕ
+without_return line = if slice_index line (length line - 1) == 13 then take (length line - 1) line else line
+
+-- a space or a tab
+abbrev pub is_blank : ℕ → Bool
+is_blank byte = byte == 32 || byte == 9
+
+-- the digits of a line
+unfoldable pub digits_of : List ℕ → List ℕ
+digits_of line = filter (λ byte. not (is_blank byte)) (without_return line)
+
+-- why the digits spell no bytes: an odd number of them comes before a bad digit, whose place counts from 0
+unfoldable pub hex_refusal : ℕ → FromHexError → List ℕ
+hex_refusal n (InvalidHexCharacter digit place) = decimal n ++ codes " hex refused Digit " ++ decimal place ++ codes "\n"
+hex_refusal n _ = decimal n ++ codes " hex refused OddLength\n"
+
+abbrev pub report_bytes : ℕ → Result (List ℕ) FromHexError → List ℕ
+report_bytes n (Ok bytes) = packet_text n bytes
+report_bytes n (Err error) = hex_refusal n error
+
+-- the lines of digits: those of the bytes that they spell
+unfoldable pub digits_text : ℕ → List ℕ → List ℕ
+digits_text n digits = report_bytes n (decode_of digits)
+
+abbrev pub is_refusal : Result (List ℕ) FromHexError → Bool
+is_refusal (Ok bytes) = is_packet_refused bytes
+is_refusal (Err error) = true
+
+unfoldable pub are_digits_refused : List ℕ → Bool
+are_digits_refused digits = is_refusal (decode_of digits)
+
+-- what line n says
+unfoldable pub text_of_line : ℕ → List ℕ → List ℕ
+text_of_line n line = digits_text n (digits_of line)
+
+-- whether a line is refused
+unfoldable pub is_refused : List ℕ → Bool
+is_refused line = are_digits_refused (digits_of line)

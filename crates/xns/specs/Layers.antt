@@ -1,0 +1,5 @@
+-- What each layer of a packet says.
+pub mod Packets
+pub mod Sequenced
+pub mod Small
+pub mod Text

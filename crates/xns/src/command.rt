@@ -1,0 +1,3 @@
+//! What the program is asked to do.
+pub mod arguments;
+pub mod modes;

@@ -1,0 +1,126 @@
+//! What a line says.
+ghost use Rattle.std.specs.Prelude.{◌≡◌, ◌≢◌, ◌++◌, [], Err, IfOk, OnOk, length, not, string_bytes};
+ghost use Rattle.std.specs.List.{filter};
+ghost use Rattle.hex.specs.declared.error.FromHexError.{FromHexError};
+ghost use Rattle.xns.specs.Dump.Line.{are_digits_refused, digits_of, digits_text, hex_refusal, is_blank as is_blank_of, is_refused, text_of_line, without_return as without_return_of};
+
+use crate::dump::digits::read_digits;
+use crate::layers::numbers::append_decimal;
+use crate::layers::packets::append_packet;
+use hex::FromHexError;
+use memchr::memchr2;
+use std::alloc::{AllocError, Global};
+
+/// Makes the report of one line after the other, each in the same memory.
+#[derive(Drop)]
+pub(crate) struct Reporter {
+    /// The digits of a line that has blanks.
+    digits: Vec<u8>,
+    /// The bytes that the digits spell.
+    bytes: Vec<u8>,
+    /// The report of the latest line.
+    pub(crate) report: Vec<u8>,
+}
+
+impl Reporter {
+    pub(crate) fn new(alloc: Global) -> Self
+        ensures { result.report.items ≡ [] }
+    {
+        Reporter {
+            digits: Vec::new(alloc),
+            bytes: Vec::new(alloc),
+            report: Vec::new(alloc),
+        }
+    }
+
+    /// Makes the report of a line, and says whether the line is refused.
+    #[tactic(auto, unfolding(crate::specs::Dump::Line::text_of_line, crate::specs::Dump::Line::is_refused, crate::specs::Dump::Line::digits_of))]
+    pub(crate) fn report_line(&mut self, number: usize, line: &[u8]) -> Result<bool, AllocError>
+        ensures { IfOk result (λ refused. (self.new.report.items ≡ text_of_line number line.now) × (refused ≡ is_refused line.now)) }
+    {
+        self.report.clear();
+        let line = without_return(line);
+        match memchr2(b' ', b'\t', line) {
+            None => append_digits(&mut self.report, number, line, &mut self.bytes),
+            Some(_) => {
+                keep_digits(&mut self.digits, line)?;
+                append_digits(
+                    &mut self.report,
+                    number,
+                    self.digits.as_slice(),
+                    &mut self.bytes,
+                )
+            }
+        }
+    }
+}
+
+/// A line without one carriage return at its end.
+fn without_return(line: &[u8]) -> &[u8]
+    ensures { result.now ≡ without_return_of line.now }
+{
+    match line {
+        [rest @ .., b'\r'] => rest,
+        _ => line,
+    }
+}
+
+/// Keeps what is no blank.
+fn keep_digits(digits: &mut Vec<u8>, line: &[u8]) -> Result<(), AllocError>
+    ensures { OnOk result (digits.new.items ≡ filter (λ byte. not (is_blank_of byte)) line.now) }
+{
+    digits.clear();
+    for byte in line {
+        if !is_blank(*byte) {
+            digits.push(*byte)?;
+        }
+    }
+    Ok(())
+}
+
+fn is_blank(byte: u8) -> bool
+    ensures { result ≡ is_blank_of byte }
+{
+    byte == b' ' || byte == b'\t'
+}
+
+/// Appends the lines of digits, and says whether they are refused.
+#[tactic(auto, unfolding(crate::specs::Dump::Line::digits_text, crate::specs::Dump::Line::are_digits_refused))]
+fn append_digits(
+    report: &mut Vec<u8>,
+    number: usize,
+    digits: &[u8],
+    bytes: &mut Vec<u8>,
+) -> Result<bool, AllocError>
+    ensures { IfOk result (λ refused. (report.new.items ≡ report.old.items ++ digits_text number digits.now)
+        × (refused ≡ are_digits_refused digits.now)) }
+{
+    match read_digits(digits, bytes) {
+        Ok(()) => append_packet(report, number, bytes.as_slice()),
+        Err(FromHexError::OutOfMemory) => Err(AllocError),
+        Err(error) => {
+            append_refusal(report, number, &error)?;
+            Ok(true)
+        }
+    }
+}
+
+/// Appends the line of digits that spell no bytes.
+#[tactic(auto, unfolding(crate::specs::Dump::Line::hex_refusal))]
+fn append_refusal(
+    report: &mut Vec<u8>,
+    number: usize,
+    error: &FromHexError,
+) -> Result<(), AllocError>
+    ensures { OnOk result (report.new.items ≡ report.old.items ++ hex_refusal number error.now) }
+{
+    append_decimal(report, number)?;
+    match error {
+        FromHexError::InvalidHexCharacter { index, .. } => {
+            report.extend_from_slice(b" hex refused Digit ")?;
+            append_decimal(report, *index)?;
+            report.extend_from_slice(b"\n")
+        }
+        _ => report.extend_from_slice(b" hex refused OddLength\n"),
+    }
+}

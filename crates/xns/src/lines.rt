@@ -1,0 +1,4 @@
+//! The lines of an input.
+pub(crate) mod cutter;
+pub(crate) mod taker;
+pub(crate) mod taking;

@@ -1,0 +1,34 @@
+//! What lines of an input are handed to.
+use crate::fault::RunFault;
+use std::io::Write;
+
+/// Takes the lines of an input, one after the other. It may write meanwhile.
+pub(crate) trait LineTaker {
+    ghost use Rattle.std.specs.Prelude.{◌≡◌, ◌≤◌, ◌+◌, ◌++◌, ℕ, List, [], ◌∷◌, Option, IfErr, OnOk, length};
+    ghost use Rattle.xns.specs.Lines.Cutter.{StandsAfterLine};
+
+    // The taker has taken these lines, and the writer, which held the first bytes, holds the second.
+    ghost stands: { Self → Option (List ℕ) → Option (List ℕ) → List (List ℕ) → Type 0 };
+
+    // So too, but that a write failed.
+    ghost fails: { Self → Option (List ℕ) → Option (List ℕ) → List (List ℕ) → Type 0 };
+
+    /// Takes the line of that number. Where memory is refused, it stands for the lines before it.
+    fn take_line<W: Write>(
+        &mut self,
+        number: usize,
+        line: &[u8],
+        writer: &mut W,
+    ) -> Result<(), RunFault>
+        requires few { number ≤ 65536 }
+        ensures ok { OnOk result ((before : Option (List ℕ)) (lines : List (List ℕ)) → number ≡ length lines + 1 → stands self.old before (W.contents writer.old) lines
+            → stands self.new before (W.contents writer.new) (lines ++ line.now ∷ [])) }
+        ensures err { IfErr result (λ fault. (before : Option (List ℕ)) (lines : List (List ℕ)) → number ≡ length lines + 1 → stands self.old before (W.contents writer.old) lines
+            → StandsAfterLine fault (stands self.new before (W.contents writer.new)) (fails self.new before (W.contents writer.new)) lines line.now) };
+
+    /// Does what is to be done before more of the input is awaited.
+    fn pause<W: Write>(&mut self, writer: &mut W) -> Result<(), RunFault>
+        ensures ok { OnOk result ((before : Option (List ℕ)) (lines : List (List ℕ)) → stands self.old before (W.contents writer.old) lines → stands self.new before (W.contents writer.new) lines) }
+        ensures err { IfErr result (λ fault. (fault ≡ RunFault.Write) × ((before : Option (List ℕ)) (lines : List (List ℕ)) → stands self.old before (W.contents writer.old) lines
+            → fails self.new before (W.contents writer.new) lines)) };
+}

@@ -1,0 +1,13 @@
+use courier_calls::Call;
+use xns_world::Event;
+
+/// What a line of a simulation says.
+#[derive(Debug, Drop)]
+pub enum Command {
+    /// Nothing.
+    Skip,
+    /// A call is to be made.
+    Call(Call),
+    /// Something happens to the connection.
+    Happen(Event),
+}
