@@ -3,7 +3,7 @@ import ctypes as c
 import sys
 
 lib = c.CDLL(sys.argv[1])
-OK, NOTHING, LONGEST_PACKET, LONGEST_ITEM = 0, 1, 576, 534
+OK, LONGEST_PACKET, LONGEST_ITEM = 0, 576, 534
 
 class Address(c.Structure):
     _fields_ = [("network", c.c_uint32), ("host", c.c_uint8 * 6), ("socket", c.c_uint16)]
