@@ -2,22 +2,19 @@
 use Rattle.std.proofs.Common.{◌≡◌, ℕ, Bool, true, false, refl, ◌+◌, ◌-◌, List, take, drop, length, ap, sym, ◌∙◌, arith, Option, Some, None, Result, Ok, Err}
 use Rattle.std.proofs.lemmas.List.{length-take, take_min}
 use Rattle.std.specs.Prelude.{slice_range}
-use Rattle.xns_idp.specs.declared.fault.IdpFault.{IdpFault}
 use Rattle.xns_idp.specs.Packet.{PacketModel}
-use Rattle.xns_idp.specs.Reading as idp
-use Rattle.xns_idp.specs.Reading.{packet_of, packet_fault, packet_fields, word_at, made_even}
+use Rattle.xns_idp.specs.Reading.{packet_of, packet_fault, packet_fields, word_at, made_even, unless}
 use Rattle.xns_c.specs.declared.address.XnsAddress.{XnsAddress}
 use Rattle.xns_c.specs.Given.{is_yes, as_byte}
 use Rattle.xns_c.specs.Views.{address_in, address_out}
 use Rattle.xns_spp.specs.declared.header.Header.{Header}
-use Rattle.xns_spp.specs.declared.spp_fault.SppFault.{SppFault}
-use Rattle.xns_spp.specs.Header.{header_of, header_fault, header_fields, unless}
+use Rattle.xns_spp.specs.Header.{header_of, header_fault, header_fields}
 
 abbrev from_ok : {X : Type 0} {F : Type 0} → X → Result X F → X
 from_ok d (Ok x) = x
 from_ok d (Err f) = d
 
-unless_ok : {X : Type 0} (o : Option SppFault) (x y : X) → unless o x ≡ Ok y → x ≡ y
+unless_ok : {X F : Type 0} (o : Option F) (x y : X) → unless o x ≡ Ok y → x ≡ y
 unless_ok None x y e = ap (from_ok x) e
 unless_ok (Some f) x y e = ap (from_ok x) e
 
@@ -26,13 +23,9 @@ pub rest_of : (b : List ℕ) (f : Header) (l : List ℕ) → header_of b ≡ Ok 
 unfolding header_of
 rest_of b f l e = ap (λ (p : Header × List ℕ). p.1) (unless_ok (header_fault b) (header_fields b, drop 12 b) (f, l) e)
 
-unless_read : {X : Type 0} (o : Option IdpFault) (x y : X) → idp.unless o x ≡ Ok y → x ≡ y
-unless_read None x y e = ap (from_ok x) e
-unless_read (Some f) x y e = ap (from_ok x) e
-
 body_of : (b : List ℕ) (x : PacketModel × ℕ) → packet_of b ≡ Ok x → slice_range b 30 (word_at b 2) ≡ x.0.body
 unfolding packet_of packet_fields
-body_of b x e = ap (λ (p : PacketModel × ℕ). p.0.body) (unless_read (packet_fault b) (packet_fields b, made_even (word_at b 2)) x e)
+body_of b x e = ap (λ (p : PacketModel × ℕ). p.0.body) (unless_ok (packet_fault b) (packet_fields b, made_even (word_at b 2)) x e)
 
 -- the data stand behind the header
 placed : (b : List ℕ) (x : PacketModel × ℕ) → packet_of b ≡ Ok x → x.0.body ≡ slice_range b 30 (30 + length x.0.body)

@@ -9,11 +9,11 @@ ghost use Rattle.xns_c.specs.Given.{IsPut};
 ghost use Rattle.xns_c.specs.Results.{ok, nothing, no_memory, short_buffer, send_number};
 
 use crate::front::put_front;
-use crate::known::known_bytes;
 use crate::laws::packets_have_their_sizes;
 use crate::results::{NOTHING, OK, send_fault_number};
 use std::alloc::{AllocError, Global};
 use std::marker::Model;
+use xns_idp::known::known_bytes;
 use xns_spp::{Bytes, Endpoint, Item, Received};
 
 /// An endpoint and the packets that it made and that are not yet fetched.

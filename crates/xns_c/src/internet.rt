@@ -15,7 +15,8 @@ use crate::front::put_front;
 use crate::packet::XnsPacket;
 use crate::results::{BAD_ARGUMENT, NO_MEMORY, OK, SHORT_BUFFER, TOO_LONG, idp_fault_number};
 use std::alloc::Global;
-use xns_idp::{Packet, cycle_sum, decode, encode, written_packet_is_read_again};
+use xns_idp::laws::written_packet_is_read_again;
+use xns_idp::{Packet, cycle_sum, decode, encode};
 
 /// The checksum of the words of the bytes, or `BAD_ARGUMENT` for an odd number of bytes
 /// (XSIS 028112, Internet Datagram Protocol, Checksum).

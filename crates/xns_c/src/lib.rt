@@ -15,7 +15,6 @@ mod handling;
 mod header;
 mod internet;
 mod item;
-mod known;
 pub mod laws;
 mod loose;
 mod message;
