@@ -33,6 +33,9 @@ pub(crate) fn sum_on(start: u64, bytes: &[u8]) -> u64
     ensures below { result < 65535 }
     ensures sum { result ≡ sum_from start (words bytes.now) % 65535 }
 {
+    if bytes.len() < BLOCK {
+        return block_sum(start, bytes) % 65535;
+    }
     let mut lanes = u16x32::splat(0);
     let mut at = 0;
     while at + BLOCK <= bytes.len() {

@@ -31,7 +31,7 @@ loop-at-preserved c =
 
 pub returns-clause-sum : goal.returns-clause-sum
 returns-clause-sum c =
-    ap (λ (n : ℕ). n % 65535) c.block_sum.ensures
+    ap (λ (n : ℕ). n % 65535) c.block_sum-2.ensures
     ∙ ap (λ (xs : List ℕ). sum_from (c.lane_sum-sum.result % 65535) (words xs) % 65535) (take_rest c.args.bytes.now c.loop-at.at)
     ∙ sum_from-mod _ (sum_from c.args.start (words c.loop-at.lanes)) (words (drop c.loop-at.at c.args.bytes.now)) (omega (arith, c.lane_sum-sum.ensures))
     ∙ c.loop-at.invariant.same
