@@ -61,34 +61,37 @@ fn time_value(
     if shape.check().is_err() {
         return Ok(());
     }
-    let pieces = pieces_of(alloc, words)?;
     let mut out = Vec::new(alloc);
     let mut least_read = u128::MAX;
-    let mut least_pieces = u128::MAX;
     let mut least_write = u128::MAX;
-    let mut taken = 0;
     for _ in 0..times.max(1) {
         let start = Instant::now(rt)?;
         let whole = read(alloc, shape, words);
         least_read = least_read.min(start.elapsed(rt)?.as_nanos());
-        let start = Instant::now(rt)?;
-        let pieced = read_pieces(alloc, shape, &pieces, 0);
-        least_pieces = least_pieces.min(start.elapsed(rt)?.as_nanos());
-        if whole != pieced {
-            println!(rt; "{name} differs over pieces")?;
-        }
-        let Ok((value, count)) = whole else {
+        let Ok((value, _)) = whole else {
             return Ok(());
         };
-        taken = count;
         out.clear();
         let start = Instant::now(rt)?;
         write(alloc, shape, &value, &mut out)?;
         least_write = least_write.min(start.elapsed(rt)?.as_nanos());
     }
-    if out.as_slice() == words {
-        println!(rt; "{name} {taken} words")?;
+    if out.as_slice() != words {
+        return Ok(());
     }
+    let pieces = pieces_of(alloc, words)?;
+    let mut least_pieces = u128::MAX;
+    let mut taken = 0;
+    for _ in 0..times.max(1) {
+        let start = Instant::now(rt)?;
+        let pieced = read_pieces(alloc, shape, &pieces, 0);
+        least_pieces = least_pieces.min(start.elapsed(rt)?.as_nanos());
+        let Ok((_, count)) = pieced else {
+            return Ok(());
+        };
+        taken = count;
+    }
+    println!(rt; "{name} {taken} words")?;
     if times > 0 {
         println!(rt; "{name} read {least_read}")?;
         println!(rt; "{name} pieces {least_pieces}")?;
