@@ -1,5 +1,5 @@
 -- What a line of the input says.
-use Rattle.std.specs.Prelude.{ℕ, ◌-◌, ◌==◌, ◌||◌, Bool, true, not, List, ◌++◌, length, take, slice_index, codes, if◌then◌else◌, Option, None, Result, Ok, Err}
+use Rattle.std.specs.Prelude.{ℕ, ◌-◌, ◌==◌, ◌||◌, ◌&&◌, Bool, true, false, not, List, [], ◌∷◌, ◌++◌, length, take, slice_index, codes, if◌then◌else◌, Option, None, Result, Ok, Err}
 use Rattle.std.specs.List.{filter}
 use Rattle.std.specs.Fmt.{decimal}
 use Rattle.hex.specs.Hex.{decode_of}
@@ -58,3 +58,14 @@ item_of_line line = digits_item (digits_of line)
 -- whether a line is refused
 unfoldable pub is_refused : List ℕ → Bool
 is_refused line = are_digits_refused (digits_of line)
+
+-- the text begins with the word
+abbrev pub begins_with : List ℕ → List ℕ → Bool
+begins_with [] text = true
+begins_with (letter ∷ word) [] = false
+begins_with (letter ∷ word) (byte ∷ text) = letter == byte && begins_with word text
+
+-- the word stands in the text
+abbrev pub has_word : List ℕ → List ℕ → Bool
+has_word word [] = begins_with word []
+has_word word (byte ∷ text) = begins_with word (byte ∷ text) || has_word word text
