@@ -7,16 +7,16 @@ use Rattle.xns_spp.specs.Receiving.{receive_answer, after_receive}
 use Rattle.xns_world.specs.Landing.{answered, landed, landing}
 use Rattle.xns_world.specs.Network.{IsEnd}
 use Rattle.xns_world.specs.World.{receives}
-use Rattle.std.proofs.lemmas.List.{take-append-le, take_all}
+use Rattle.std.proofs.lemmas.List.{take-append-le}
 use Rattle.std.proofs.lemmas.List.Elements.{All-set, All-more, All-head, All-tail, All-weaker}
-use Rattle.std.proofs.lemmas.Option.{get_or_from_slice_get, slice_get_within, slice_get_read}
+use Rattle.std.proofs.lemmas.Option.{get_or_from_slice_get, slice_get_within}
 use Rattle.std.specs.Prelude.{All, slice_get, slice_set}
 use Rattle.xns_spp.specs.State.{State}
-use Rattle.xns_world.proofs.Later.{Later, settled_later, moved_later, marked_later}
-use Rattle.xns_world.proofs.Sides.{each_end, same_end, same_other, same_marked}
+use Rattle.xns_world.proofs.Later.{settled_later, moved_later, marked_later}
+use Rattle.xns_world.proofs.Sides.{each_end, same_end, same_marked}
 use Rattle.xns_world.specs.Network.{count_of, with_count, moment_of, is_settled, AreRested, unsettled, IsNetwork}
 use Rattle.xns_world.specs.Side.{other}
-use Rattle.xns_world.specs.World.{World, end_of, moment, emitted, joined, moved, marked, is_past, has_passed}
+use Rattle.xns_world.specs.World.{World, end_of, moment, emitted, joined, moved, marked, has_passed}
 use Rattle.xns_world.specs.declared.counts.Counts.{Counts}
 use Rattle.xns_world.specs.declared.emitted.Emitted.{Emitted}
 use Rattle.xns_world.specs.declared.moment.Moment.{Moment}

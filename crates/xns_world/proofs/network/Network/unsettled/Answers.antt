@@ -2,7 +2,6 @@ use Rattle.std.proofs.Common.{ℕ, ◌+◌, length, ap, subst, arith}
 use Rattle.xns_world.proofs.Fronts.{element}
 use Rattle.xns_world.proofs.Networks.{AreListed, listed_more, listed_all}
 use Rattle.xns_world.proofs.network.Network.unsettled.Goals as goal
-use Rattle.xns_world.specs.Network.{IsNetwork}
 use Rattle.std.proofs.Common.{sym, List}
 
 pub loop-number-preserved : goal.loop-number-preserved

@@ -1,0 +1,70 @@
+-- What the program's play of calls stands for.
+use Rattle.std.specs.Prelude.{◌≡◌, ◌≤◌, Bool, true, false, List, map, length, Option, Some, None}
+use Rattle.courier_calls.specs.Calls.{Serving, last_state, outcomes, seen_model, raw_call}
+use Rattle.courier_calls.specs.declared.call.Call.{Call}
+use Rattle.courier_calls.specs.Caller as caller
+use Rattle.courier_calls.specs.Server.{call_of}
+use Rattle.xns_spp.specs.Held.{StandsFor}
+use Rattle.xns_world.specs.CallLaws.{Given}
+use Rattle.xns_world.specs.CallOrder.{IsBetween}
+use Rattle.xns_world.specs.Invariant.{Begins}
+use Rattle.xns_world.specs.Network.{IsNetwork}
+use Rattle.xns_world.specs.ServeEnd.{IsServed}
+use Rattle.xns_world.specs.declared.call_play.CallPlay.{CallPlay}
+use Rattle.xns_world.specs.declared.call_trace.CallTrace.{CallTrace}
+use Rattle.xns_world.specs.declared.calling.CallingEnd.{CallingEnd}
+use Rattle.xns_world.specs.declared.serving.ServingEnd.{ServingEnd}
+use Rattle.xns_world.specs.declared.side.Side.TheVariants.{A}
+use Rattle.xns_world.specs.CallWorld.{Parties, CallWorld, calls_made, seen_at, carried_at, service_at}
+use Rattle.xns_world.specs.World.{handed_at, sent_at, packets_of}
+
+-- the caller's end, with its session, the calls made and the outcomes listed
+pub record IsCalling {S : Type 0} (p : Parties S) (e : CallingEnd) (w : CallWorld) : Type 0 where
+  pub stands : StandsFor e.endpoint w.world.a
+  pub session : caller.StandsFor p.serving.table (caller.held e.caller) (calls_made p w) (handed_at w.world A) (sent_at w.world A) (seen_at p w)
+  pub made : e.made ≡ w.made
+  pub seen : map seen_model e.seen.items ≡ seen_at p w
+
+-- the server's end, with its session and the calls that it decided
+abbrev pub IsServing : {S : Type 0} → Parties S → ServingEnd S → CallWorld → Type 0
+IsServing p e w = IsServed p.serving p.service e w.world.b
+
+-- a step was taken and led to where P holds, or none applied and P holds here
+abbrev pub Stepped : Bool → CallWorld → Option CallWorld → (CallWorld → Type 0) → Type 0
+Stepped true w (Some v) P = P v
+Stepped false w None P = P w
+Stepped _ _ _ P = ⊥
+
+-- what the play hands over is what the world came to
+pub record IsCallTrace {S : Type 0} (p : Parties S) (t : CallTrace S) (w : CallWorld) : Type 0 where
+  pub carried : t.carried.items ≡ map call_of (carried_at w)
+  pub seen : map seen_model t.seen.items ≡ seen_at p w
+  pub service : t.service ≡ service_at p w
+  pub bag : t.bag ≡ packets_of w.world
+
+-- a play stands for a world of calls
+pub record IsCallPlaying {S : Type 0} (p : Parties S) (play : CallPlay S) (w : CallWorld) : Type 0 where
+  pub a : IsCalling p play.a w
+  pub b : IsServing p play.b w
+  pub network : IsNetwork play.network w.world
+
+-- these are the parties of the play, and the world is one between events
+pub record IsReady {S : Type 0} (serving : Serving S) (calls : List Call) (p : Parties S) (w : CallWorld) : Type 0 where
+  pub given : Given p
+  pub between : IsBetween p w
+  pub serving_is : p.serving ≡ serving
+  pub calls_are : p.calls ≡ map raw_call calls
+
+-- where it stood for w, it then stands for what f makes of w
+abbrev pub Goes : {S : Type 0} → Serving S → List Call → CallPlay S → CallPlay S → (Parties S → CallWorld → CallWorld) → Type 0
+Goes {S} serving calls before after f = (p : Parties S) (w : CallWorld) → IsReady serving calls p w → IsCallPlaying p before w → IsCallPlaying p after (f p w)
+
+abbrev pub parties : {S : Type 0} → Serving S → S → List Call → Parties S
+parties serving service calls = record { serving = serving; service = service; calls = map raw_call calls }
+
+-- each call is carried out at most once and in order, and the k-th outcome that the caller saw is the server's to its k-th call
+pub record IsOnceInOrder {S : Type 0} (serving : Serving S) (service : S) (calls : List Call) (t : CallTrace S) : Type 0 where
+  pub carried_once : Begins (map raw_call t.carried.items) (map raw_call calls)
+  pub service_after : t.service ≡ last_state serving service (map raw_call t.carried.items)
+  pub seen_first : Begins (map seen_model t.seen.items) (outcomes serving service (map raw_call calls))
+  pub fewer : length t.seen.items ≤ length t.carried.items

@@ -1,0 +1,118 @@
+ghost use Rattle.std.specs.Prelude.{◌≡◌, ◌++◌, ◌∷◌, List, length, nat_lt, [], OnOk, IfOk, Some, None, true, false, if◌then◌else◌};
+ghost use Rattle.courier_calls.specs.declared.fault.SessionFault.{SessionFault};
+ghost use Rattle.xns_spp.specs.Sending.{is_full, waiting_count, after_send, after_take};
+ghost use Rattle.xns_spp.specs.Item.{IsItem};
+ghost use Rattle.xns_spp.specs.State.{State};
+ghost use Rattle.xns_spp.specs.declared.item.Item.{Item};
+ghost use Rattle.xns_world.specs.CallLaws.{Answering};
+ghost use Rattle.xns_world.specs.ServeEnd.{IsServed, IsHearing, StepsOn, next_of, noted};
+ghost use Rattle.xns_world.specs.Settling.{handed_by, serve_step, serve_stepped_out};
+
+use crate::calling::MOST_STEPS;
+use crate::items::Items;
+use crate::participant::copied;
+use courier_calls::{Call, Server, Service, SessionFault};
+use std::alloc::{AllocError, Global};
+use xns_spp::{Endpoint, Item};
+
+/// The server's end: its endpoint, its session, the calls that were decided and the session's first fault.
+#[derive(Drop)]
+pub struct ServingEnd<'a, S: Service> {
+    pub endpoint: Endpoint,
+    pub server: Server<'a, S>,
+    pub carried: Vec<Call>,
+    pub fault: Option<SessionFault>,
+    /// The items that were handed up.
+    pub handed: Items,
+}
+
+impl<'a, S: Service> ServingEnd<'a, S> {
+    /// Sends the first item that is out.
+    fn send(&mut self)
+        ensures { (s : S) (v : State) (x : Item) → Answering S.serving s → IsServed S.serving s self.old v → next_of S.serving s v ≡ Some x → is_full v ≡ false →
+            IsServed S.serving s self.new (after_send v x) }
+    {
+        if let Some(item) = self.server.next_out() {
+            let _ = self.endpoint.send(item);
+        }
+    }
+
+    /// Feeds an item to the session, which answers a call or refuses the item.
+    fn hear(&mut self, alloc: Global, item: Item) -> Result<(), AllocError>
+        requires { self.old.server.out ≡ [] }
+        ensures hearing { OnOk result ((s : S) (F P : List Item) → Answering S.serving s → IsHearing S.serving s self.old F P → IsHearing S.serving s self.new (F ++ item ∷ []) P) }
+        ensures endpoint { self.new.endpoint ≡ self.old.endpoint }
+        ensures handed { self.new.handed ≡ self.old.handed }
+    {
+        match self.server.feed(alloc, item) {
+            Ok(Some(call)) => {
+                self.carried.push(call)?;
+                Ok(())
+            }
+            Ok(None) => Ok(()),
+            Err(fault) => note(&mut self.fault, fault),
+        }
+    }
+
+    /// Hands up the next item that waits and feeds it to the session; whether there was one.
+    fn feed(&mut self, alloc: Global) -> Result<bool, AllocError>
+        requires { self.old.server.out ≡ [] }
+        ensures { IfOk result (λ b. (s : S) (v : State) → Answering S.serving s → IsServed S.serving s self.old v →
+            (b ≡ nat_lt 0 (waiting_count v)) × IsServed S.serving s self.new (if b then after_take v else v)) }
+    {
+        let Some(item) = self.endpoint.take() else {
+            return Ok(false);
+        };
+        item.known();
+        list(alloc, &mut self.handed, &item)?;
+        self.hear(alloc, item)?;
+        Ok(true)
+    }
+
+    /// Takes the first step that applies; whether one did.
+    fn step(&mut self, alloc: Global) -> Result<bool, AllocError>
+        ensures { IfOk result (λ b. (s : S) (v : State) → Answering S.serving s → IsServed S.serving s self.old v →
+            StepsOn b v (serve_step S.serving s v) (IsServed S.serving s self.new)) }
+    {
+        if !self.server.has_out() {
+            return self.feed(alloc);
+        }
+        if self.endpoint.is_full() {
+            return Ok(false);
+        }
+        self.send();
+        Ok(true)
+    }
+
+    /// Takes steps until none applies.
+    pub fn step_out(&mut self, alloc: Global) -> Result<(), AllocError>
+        ensures { OnOk result ((s : S) (v : State) → Answering S.serving s → IsServed S.serving s self.old v →
+            IsServed S.serving s self.new (serve_stepped_out S.serving s v)) }
+    {
+        for _step in 0..MOST_STEPS {
+            if !self.step(alloc)? {
+                return Ok(());
+            }
+        }
+        Ok(())
+    }
+}
+
+/// Lists an item that was handed up.
+fn list(alloc: Global, handed: &mut Items, item: &Item) -> Result<(), AllocError>
+    ensures { OnOk result (handed.new ≡ handed.old ++ item.now ∷ []) }
+{
+    handed.push(copied(alloc, item)?)
+}
+
+/// Notes a session's fault, unless it says that there was one before; want of memory is the caller's.
+fn note(first: &mut Option<SessionFault>, fault: SessionFault) -> Result<(), AllocError>
+    ensures { OnOk result (noted fault first.old first.new) }
+{
+    match fault {
+        SessionFault::NoMemory => return Err(AllocError),
+        SessionFault::Failed => {}
+        _ => *first = Some(fault),
+    }
+    Ok(())
+}
