@@ -8,7 +8,7 @@ use Rattle.std.proofs.lemmas.List.Sums.{AllPass-from_list_all}
 use Rattle.courier_types.specs.Fits.{Fits, has_shape}
 use Rattle.courier_types.specs.Shape.{ShapeModel, no_shapes}
 use Rattle.courier_types.specs.Value.{ValueModel, no_values, value_and}
-use Rattle.courier_calls.specs.Calls.{ArgumentsModel, CallFits, CallModel, found, given, typed}
+use Rattle.courier_calls.specs.Calls.{ArgumentsModel, CallFits, CallModel, found, raw_words, typed}
 use Rattle.courier_calls.specs.Tally.{tally}
 use Rattle.xns_script.specs.Saying.{are_said, is_cardinal, is_no_fields, is_said}
 
@@ -54,7 +54,7 @@ typed_fits p v q x h =
 
 fits : (p v q : ℕ) (arguments : ArgumentsModel) → is_said (record { program = p; version = v; procedure = q; arguments = arguments }) ≡ true → Fitting p v q arguments
 fits p v q (typed x) h = typed_fits p v q x h
-fits p v q (given words) h = record { arguments = tt; size = le_of (length words) 65530 h }
+fits p v q (raw_words words) h = record { arguments = tt; size = le_of (length words) 65530 h }
 
 pub all_fit : (calls : List CallModel) → are_said calls ≡ true → All (CallFits tally.table) calls
 all_fit calls e = λ k d lt.

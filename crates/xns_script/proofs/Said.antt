@@ -7,7 +7,7 @@ use Rattle.std.proofs.lemmas.Bool.Decides.{nat_tests}
 use Rattle.std.proofs.lemmas.List.Folds.{list_all-append}
 use Rattle.std.proofs.lemmas.List.{map-append}
 use Rattle.courier_calls.specs.declared.call.Call.{Call}
-use Rattle.courier_calls.specs.Calls.{CallModel, call_model, given}
+use Rattle.courier_calls.specs.Calls.{CallModel, call_model, raw_words}
 use Rattle.xns_world.specs.declared.event.Event.{Event}
 use Rattle.xns_world.specs.declared.side.Side.{Side}
 use Rattle.xns_script.specs.Command.{CommandModel, add_call, calls, command_in, command_of, foreign_of, happens, more_words, one_word, raw_call_of, skips, three_words, total_call, two_words}

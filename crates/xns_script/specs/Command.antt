@@ -2,7 +2,7 @@
 use Rattle.std.specs.Prelude.{ℕ, ◌==◌, ◌&&◌, if◌then◌else◌, List, [], ◌∷◌, codes, Option, Some, None, option_map}
 use Rattle.std.specs.Str.{bytes_eq}
 use Rattle.courier_types.specs.Value.{ValueModel, no_values}
-use Rattle.courier_calls.specs.Calls.{CallModel, call_model, typed, given}
+use Rattle.courier_calls.specs.Calls.{CallModel, call_model, typed, raw_words}
 use Rattle.xns_world.specs.declared.event.Event.{Event}
 use Rattle.xns_world.specs.declared.event.Event.TheVariants.{Deliver, Rest, Tick, Foreign}
 use Rattle.xns_world.specs.declared.side.Side.{Side}
@@ -52,7 +52,7 @@ three_words a b c =
     else None
 
 abbrev pub raw_call_of : Option ℕ → Option ℕ → Option ℕ → Option (List ℕ) → Option CommandModel
-raw_call_of (Some p) (Some v) (Some q) (Some ws) = Some (calls (record { program = p; version = v; procedure = q; arguments = given ws }))
+raw_call_of (Some p) (Some v) (Some q) (Some ws) = Some (calls (record { program = p; version = v; procedure = q; arguments = raw_words ws }))
 raw_call_of _ _ _ _ = None
 
 abbrev pub more_words : List ℕ → List ℕ → List ℕ → List ℕ → List ℕ → List (List ℕ) → Option CommandModel

@@ -3,13 +3,14 @@ ghost use Rattle.std.specs.Prelude.{◌≡◌, ◌≢◌, ◌++◌, [], Err, IfO
 ghost use Rattle.std.specs.List.{filter};
 ghost use Rattle.hex.specs.declared.error.FromHexError.{FromHexError};
 ghost use Rattle.xns.specs.Flows.Numbers.{numbered, numbering};
-ghost use Rattle.xns.specs.Dump.Line.{are_digits_refused, digits_item, digits_of, digits_text, hex_refusal, is_blank as is_blank_of, is_refused, item_of_line, text_of_line, without_return as without_return_of};
+ghost use Rattle.xns.specs.Dump.Line.{are_digits_refused, digits_item, digits_of, digits_text, hex_refusal, is_blank as is_blank_of, is_refused, item_of_line, text_of_line};
 
 use crate::dump::digits::read_digits;
 use crate::flows::numbers::FlowNumbers;
 use crate::layers::numbers::append_decimal;
 use crate::layers::packets::append_packet;
 use crate::layers::reported::Reported;
+use crate::lines::line_end::without_return;
 use hex::FromHexError;
 use memchr::memchr2;
 use std::alloc::{AllocError, Global};
@@ -74,16 +75,6 @@ impl Reporter {
                 )
             }
         }
-    }
-}
-
-/// A line without one carriage return at its end.
-fn without_return(line: &[u8]) -> &[u8]
-    ensures { result.now ≡ without_return_of line.now }
-{
-    match line {
-        [rest @ .., b'\r'] => rest,
-        _ => line,
     }
 }
 

@@ -21,6 +21,7 @@ pub(crate) struct Cutter {
     line: Vec<u8>,
     /// How many lines are over.
     count: usize,
+    ghost short: { length line.items ≤ 4096 },
 }
 
 impl Cutter {

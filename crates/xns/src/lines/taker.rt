@@ -21,6 +21,7 @@ pub(crate) trait LineTaker {
         writer: &mut W,
     ) -> Result<(), RunFault>
         requires few { number ≤ 65536 }
+        requires short { length line.now ≤ 4096 }
         ensures ok { OnOk result ((before : Option (List ℕ)) (lines : List (List ℕ)) → number ≡ length lines + 1 → stands self.old before (W.contents writer.old) lines
             → stands self.new before (W.contents writer.new) (lines ++ line.now ∷ [])) }
         ensures err { IfErr result (λ fault. (before : Option (List ℕ)) (lines : List (List ℕ)) → number ≡ length lines + 1 → stands self.old before (W.contents writer.old) lines

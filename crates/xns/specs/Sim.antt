@@ -1,0 +1,3 @@
+-- What `sim` reads and prints.
+pub mod Script
+pub mod Trace
