@@ -32,7 +32,7 @@ pub fn send_an_item(rt: &HostRuntime) -> Result<(), anyhow::Error> {
         body: Bytes::new(b"Hello".to_vec(alloc)?),
     };
     if let Err((fault, _)) = here.send(item) {
-        println!(rt; "not sent: {fault:?}")?;
+        println!(rt; "not sent: {fault}")?;
     }
     let packets = here.flush(alloc)?;
     carry(rt, &packets, &mut there, &mut here)?;
