@@ -1,0 +1,159 @@
+//! Plays 140,000 items each way through a network that loses, repeats and reorders packets, and delivers old ones again.
+#![tactic(auto)]
+
+use std::alloc::{AllocError, Global};
+use xns_idp::Address;
+use xns_spp::{Bytes, Item};
+use xns_world::{Event, Items, Setup, Side, play_items};
+
+const SETUP: Setup = Setup {
+    a: Address {
+        network: 1,
+        host: [0, 0, 0xaa, 0, 3, 4],
+        socket: 0x400,
+    },
+    b: Address {
+        network: 1,
+        host: [0, 0, 0xaa, 0, 1, 2],
+        socket: 5,
+    },
+    a_id: 0x1234,
+    b_id: 0x5678,
+    window: 64,
+    backlog: 64,
+};
+
+/// So many items go out each way in a round.
+const ITEMS: usize = 8;
+
+/// So many rounds are played.
+const ROUNDS: usize = 17_500;
+
+/// So many rounds ago a packet was sent that is delivered again: 24,000 items, within its lifetime.
+const LATE: usize = 3_000;
+
+/// So many rounds ago one was sent that lives no longer: 32,000 items.
+const PAST: usize = 4_000;
+
+fn main(rt: HostRuntime) -> Result<(), anyhow::Error> {
+    let alloc = rt.alloc();
+    let setup = SETUP;
+    if !setup.is_good() {
+        return Ok(());
+    }
+    let events = events(alloc)?;
+    let trace = play_items(alloc, &setup, &events)?;
+    println!(rt;
+        "sent {} and {}",
+        trace.a_sent.as_slice().len(),
+        trace.b_sent.as_slice().len()
+    )?;
+    println!(rt;
+        "handed up in order {} and {}",
+        in_order(&trace.b_handed),
+        in_order(&trace.a_handed)
+    )?;
+    println!(rt; "packets {}", trace.bag.as_slice().len())?;
+    Ok(())
+}
+
+/// How many of the items, from the first on, have their place as their body.
+fn in_order(items: &Items) -> u32 {
+    let mut number = 0_u32;
+    for item in items.as_slice() {
+        if item.body.as_slice() != number.to_be_bytes().as_slice() {
+            return number;
+        }
+        number = number.saturating_add(1);
+    }
+    number
+}
+
+/// The number of the first packet of a round: two packets open the connection; in each round 16 items go out and get 16 replies,
+/// and 8 go again and get 8 replies, which are 48 packets; and a late one is replied to. The past one comes nowhere. So 17,500 rounds
+/// make 2 + 17,500 * 48 + 14,500 = 854,502 packets.
+fn first_packet(round: usize) -> usize {
+    round
+        .saturating_mul(48)
+        .saturating_add(round.saturating_sub(LATE))
+        .saturating_add(2)
+}
+
+fn events(alloc: Global) -> Result<Vec<Event>, AllocError> {
+    let mut events = Vec::new(alloc);
+    events.push(Event::Tick(Side::A))?;
+    events.push(Event::Deliver(0))?;
+    events.push(Event::Deliver(1))?;
+    for round in 0..ROUNDS {
+        let loser = if round % 2 == 0 { Side::A } else { Side::B };
+        push_round(alloc, &mut events, round, loser)?;
+    }
+    Ok(events)
+}
+
+/// Both sides send; the first packet of one side is lost, all others come in reverse, one of them twice; an old packet comes again;
+/// what was lost is sent again with all that followed; and the items are handed up.
+fn push_round(
+    alloc: Global,
+    events: &mut Vec<Event>,
+    round: usize,
+    loser: Side,
+) -> Result<(), AllocError> {
+    let first = first_packet(round);
+    push_sends(alloc, events, round, loser)?;
+    push_sends(alloc, events, round, loser.other())?;
+    push_reversed(events, first.saturating_add(1), ITEMS - 1)?;
+    push_reversed(events, first.saturating_add(ITEMS), ITEMS)?;
+    events.push(Event::Deliver(first.saturating_add(ITEMS)))?;
+    // The last of 7 + 9 replies acknowledges all that the other side sent; those before it are lost.
+    events.push(Event::Deliver(first.saturating_add(31)))?;
+    let mut next = first.saturating_add(32);
+    if round >= LATE {
+        events.push(Event::Deliver(first_packet(round - LATE)))?;
+        next = next.saturating_add(1);
+    }
+    if round >= PAST {
+        events.push(Event::Deliver(first_packet(round - PAST)))?;
+    }
+    events.push(Event::Tick(loser))?;
+    for packet in 0..ITEMS {
+        events.push(Event::Deliver(next.saturating_add(packet)))?;
+    }
+    events.push(Event::Deliver(next.saturating_add(15)))?;
+    for _ in 0..ITEMS {
+        events.push(Event::Take(Side::A))?;
+        events.push(Event::Take(Side::B))?;
+    }
+    Ok(())
+}
+
+/// A side is given the items of a round, each with its place as its body.
+fn push_sends(
+    alloc: Global,
+    events: &mut Vec<Event>,
+    round: usize,
+    side: Side,
+) -> Result<(), AllocError> {
+    let first = round.saturating_mul(ITEMS);
+    for place in 0..ITEMS {
+        let number = u32::try_from(first.saturating_add(place)).unwrap_or(u32::MAX);
+        events.push(Event::Send(
+            side,
+            Item {
+                stream: 0,
+                attention: false,
+                last: true,
+                body: Bytes::new(Vec::from_slice(alloc, &number.to_be_bytes())?),
+            },
+        ))?;
+    }
+    Ok(())
+}
+
+/// So many packets come, the last of them first.
+fn push_reversed(events: &mut Vec<Event>, first: usize, count: usize) -> Result<(), AllocError> {
+    for back in 1..=count {
+        events.push(Event::Deliver(first.saturating_add(count - back)))?;
+    }
+    Ok(())
+}
