@@ -31,7 +31,9 @@ const BODY: [u8; 534] = [0x5a; 534];
 fn main(rt: HostRuntime) -> Result<(), anyhow::Error> {
     let mut words = env::args(&rt)?;
     let is_late = words.nth(1).map_or(false, |word| word.as_str() == "late");
-    let times = words.next().map_or(1, |word| word.parse::<u32>().unwrap_or(1));
+    let times = words
+        .next()
+        .map_or(1, |word| word.parse::<u32>().unwrap_or(1));
     for _ in 0..times {
         let (handed, packets) = connection(rt.alloc(), is_late)?;
         println!(rt; "handed up {handed} of {packets} packets")?;
