@@ -7,6 +7,7 @@
                                           beside the same in Rattle
     python3 bench/compare.py exchange     65,535 items of 534 bytes each way at window 64, in order and with every second packet late, beside
                                           a peer that sums by the standard's loop and one that sums in lanes
+    python3 bench/compare.py calls        100,000 calls of Courier through a caller and a server in memory
     python3 bench/compare.py dump         `xns dump` of 65,536 packets in hex: of types that no layer reads, and sequenced ones of 1, 1,000 and 65,536 flows
 
 The proved program is built by `rt run` in its crate, the peer by `rustc -O`. Absolute times say little on a shared machine; the
@@ -124,6 +125,9 @@ def main():
                 for name, peer in (("loop", loop), ("lanes", lanes)):
                     print(f"{order}, {name}:", end=" ", flush=True)
                     compare([ours, order, "5"], [peer, order, "5"], given)
+        elif which == "calls":
+            given.touch()
+            compare([built_program("calls_bench"), "100000"], [built_peer("calls_peer", folder), "100000"], given)
         else:
             sys.exit(__doc__)
 
