@@ -2,10 +2,12 @@
 """Times a proved program beside a plain Rust peer, five runs of each in turn, and prints the medians and their ratio.
 
     python3 bench/compare.py checksum     the cycle checksum of a million packets of 576 bytes
-    python3 bench/compare.py dump         `xns dump` of 65,536 packets in hex
     python3 bench/compare.py values       Courier values read, read over pieces, and written; the least time of many
     python3 bench/compare.py c            a million packets of 576 bytes written and read by the library for C, beside plain C and
                                           beside the same in Rattle
+    python3 bench/compare.py exchange     65,535 items of 534 bytes each way at window 64, in order and with every second packet late, beside
+                                          a peer that sums by the standard's loop and one that sums in lanes
+    python3 bench/compare.py calls        100,000 calls of Courier through a caller and a server in memory
     python3 bench/compare.py dump         `xns dump` of 65,536 packets in hex: of types that no layer reads, and sequenced ones of 1, 1,000 and 65,536 flows
 
 The proved program is built by `rt run` in its crate, the peer by `rustc -O`. Absolute times say little on a shared machine; the
@@ -28,9 +30,9 @@ def built_program(crate):
     return program
 
 
-def built_peer(name, folder):
-    peer = pathlib.Path(folder) / name
-    subprocess.run(["rustc", "-O", "-o", peer, BENCH / f"{name}.rs"], check=True)
+def built_peer(name, folder, *flags):
+    peer = pathlib.Path(folder) / "-".join([name, *flags[1:]])
+    subprocess.run(["rustc", "-O", "--edition", "2021", *flags, "-o", peer, BENCH / f"{name}.rs"], check=True)
     return peer
 
 
@@ -102,8 +104,11 @@ def main():
             given.touch()
             compare([built_program("checksum_bench")], [built_peer("checksum_peer", folder)], given)
         elif which == "dump":
-            given.write_bytes(subprocess.run([sys.executable, BENCH / "packets.py"], stdout=subprocess.PIPE, check=True).stdout)
-            compare([built_program("xns"), "dump"], [built_peer("dump_peer", folder)], given)
+            ours, peer = built_program("xns"), built_peer("dump_peer", folder)
+            for flows in ([], ["1"], ["1000"], ["65536"]):
+                given.write_bytes(subprocess.run([sys.executable, BENCH / "packets.py", *flows], stdout=subprocess.PIPE, check=True).stdout)
+                print(f"flows {flows[0]}:" if flows else "no flows:", end=" ", flush=True)
+                compare([ours, "dump"], [peer], given)
         elif which == "values":
             compare_values([built_program("values_bench")], [built_peer("values_peer", folder)])
         elif which == "c":
@@ -112,11 +117,17 @@ def main():
             compare([library], [built_c("c_codec_peer", folder, False)], given)
             medians = compare([library], [built_program("codec_bench")], given)
             print(f"through C each packet takes {(medians['ours'] - medians['peer']) * 1000:.0f} ns more than in Rattle, for its two calls")
-            ours, peer = built_program("xns"), built_peer("dump_peer", folder)
-            for flows in ([], ["1"], ["1000"], ["65536"]):
-                given.write_bytes(subprocess.run([sys.executable, BENCH / "packets.py", *flows], stdout=subprocess.PIPE, check=True).stdout)
-                print(f"flows {flows[0]}:" if flows else "no flows:", end=" ", flush=True)
-                compare([ours, "dump"], [peer], given)
+        elif which == "exchange":
+            given.touch()
+            ours = built_program("exchange_bench")
+            loop, lanes = built_peer("exchange_peer", folder, "--cfg", "standard"), built_peer("exchange_peer", folder)
+            for order in ("ordered", "late"):
+                for name, peer in (("loop", loop), ("lanes", lanes)):
+                    print(f"{order}, {name}:", end=" ", flush=True)
+                    compare([ours, order, "5"], [peer, order, "5"], given)
+        elif which == "calls":
+            given.touch()
+            compare([built_program("calls_bench"), "100000"], [built_peer("calls_peer", folder), "100000"], given)
         else:
             sys.exit(__doc__)
 
