@@ -24,19 +24,6 @@ words-two n (a ∷ b ∷ bytes) e h =
     let len : n - 2 ≡ length bytes = omega (arith, e) in
     ap (λ (ws : List ℕ). (256 * a + b) ∷ words ws) (sym (rw len (take_all (length bytes) bytes (omega arith))))
 
--- the next word is added, and the sum may be any with the remainder
-pub one_word : (n sum next total : ℕ) (bytes : List ℕ) → n ≡ length bytes → 2 ≤ length bytes → next % 65535 ≡ (2 * (sum + (256 * get_or bytes 0 0 + get_or bytes 1 0))) % 65535
-    → sum_from sum (words bytes) % 65535 ≡ total → sum_from next (words (take (n - 2) (drop 2 bytes))) % 65535 ≡ total
-one_word n sum next total bytes len two e so_far =
-    let w = 256 * get_or bytes 0 0 + get_or bytes 1 0 in
-    let rest = words (take (n - 2) (drop 2 bytes)) in
-    sum_from-mod next (2 * (sum + w)) rest e ∙ ap (λ (n : ℕ). n % 65535) (sym (sum_from-cons sum w rest)) ∙ ap (λ (ws : List ℕ). sum_from sum ws % 65535) (sym (words-two n bytes len two)) ∙ so_far
-
--- the last byte of an odd number of them, and nothing
-pub sum_from-nil : (start : ℕ) → start < 65535 → sum_from start [] % 65535 ≡ start
-unfolding sum_from
-sum_from-nil start h = omega arith
-
 -- the words of one list, and then those of another
 pub sum_from-append : (start : ℕ) (xs ys : List ℕ) → sum_from start (xs ++ ys) ≡ sum_from (sum_from start xs) ys
 sum_from-append start [] ys = ap (λ (n : ℕ). sum_from n ys) (unfold sum_from in omega arith)
@@ -48,14 +35,7 @@ words-append [] ys e = refl
 words-append (a ∷ []) ys e = absurd (omega (arith, e))
 words-append (a ∷ b ∷ xs) ys e = ap (λ (ws : List ℕ). (256 * a + b) ∷ ws) (words-append xs ys (omega (arith, e)))
 
--- a 0 behind an odd byte makes no difference
-pub words-pad : (xs : List ℕ) → words (xs ++ replicate (length xs % 2) 0) ≡ words xs
-words-pad [] = refl
-words-pad (a ∷ []) = ap (λ (n : ℕ). n ∷ []) (omega arith)
-words-pad (a ∷ b ∷ xs) =
-    let e : suc (suc (length xs)) % 2 ≡ length xs % 2 = omega arith in
-    rw e (ap (λ (ws : List ℕ). (256 * a + b) ∷ ws) (words-pad xs))
-
+-- the checksum is the sum from nothing
 pub cycle_checksum-is : (ws : List ℕ) → cycle_checksum ws ≡ sum_from 0 ws % 65535
 unfolding cycle_checksum sum_from
 cycle_checksum-is ws = omega arith
@@ -66,20 +46,6 @@ goes_on start xs ys e =
     sum_from-mod (sum_from start (words xs) % 65535) (sum_from start (words xs)) (words ys) (omega arith)
     ∙ ap (λ (n : ℕ). n % 65535) (sym (sum_from-append start (words xs) (words ys)))
     ∙ ap (λ (ws : List ℕ). sum_from start ws % 65535) (sym (words-append xs ys e))
-
--- the sum of four pieces, the last with a 0 behind it if it is odd
-pub sum_of_pieces : (a b c d : List ℕ) (x y z r : ℕ) → length a % 2 ≡ 0 → length b % 2 ≡ 0 → length c % 2 ≡ 0
-    → x ≡ sum_from 0 (words a) % 65535 → y ≡ sum_from x (words b) % 65535 → z ≡ sum_from y (words c) % 65535 → r ≡ sum_from z (words d) % 65535
-    → r ≡ cycle_checksum (words (a ++ b ++ c ++ d ++ replicate (length d % 2) 0))
-sum_of_pieces a b c d x y z r ea eb ec hx hy hz hr =
-    let two : y ≡ sum_from 0 (words (a ++ b)) % 65535 = hy ∙ ap (λ (n : ℕ). sum_from n (words b) % 65535) hx ∙ goes_on 0 a b ea in
-    let eab : length (a ++ b) % 2 ≡ 0 = omega (arith, length-append a b) in
-    let three : z ≡ sum_from 0 (words (a ++ b ++ c)) % 65535 = hz ∙ ap (λ (n : ℕ). sum_from n (words c) % 65535) two ∙ goes_on 0 (a ++ b) c eab in
-    let eabc : length (a ++ b ++ c) % 2 ≡ 0 = omega (arith, length-append (a ++ b) c, length-append a b) in
-    let pad = replicate (length d % 2) 0 in
-    let padded : words (a ++ b ++ c ++ d) ≡ words (a ++ b ++ c ++ d ++ pad) =
-    words-append (a ++ b ++ c) d eabc ∙ ap (λ (ws : List ℕ). words (a ++ b ++ c) ++ ws) (sym (words-pad d)) ∙ sym (words-append (a ++ b ++ c) (d ++ pad) eabc) ∙ ap words (sym (append_assoc (a ++ b ++ c) d pad)) in
-    hr ∙ ap (λ (n : ℕ). sum_from n (words d) % 65535) three ∙ goes_on 0 (a ++ b ++ c) d eabc ∙ ap (λ (ws : List ℕ). sum_from 0 ws % 65535) padded ∙ sym (cycle_checksum-is (words (a ++ b ++ c ++ d ++ pad)))
 
 -- doubling loses nothing modulo 65535, so a sum tells what it began with
 pub sum_from-same : (a b : ℕ) (ws : List ℕ) → sum_from a ws % 65535 ≡ sum_from b ws % 65535 → a % 65535 ≡ b % 65535

@@ -17,6 +17,10 @@ pub record PacketModel : Type 0 where
 abbrev pub packet_model : Packet → PacketModel
 packet_model p = record { summed = p.summed; control = p.control; kind = p.kind; target = p.target; source = p.source; body = p.body.now }
 
+-- the packet with more data behind its own
+abbrev pub with_data_behind : PacketModel → List ℕ → PacketModel
+with_data_behind p rest = record p { body = p.body ++ rest }
+
 -- ---- the numbers are within their types' bounds
 
 abbrev pub AreBytes : List ℕ → Type 0

@@ -27,7 +27,7 @@ pub fn cycle_sum(bytes: &[u8]) -> u16
 }
 
 /// The checksum of words of which the first have the checksum `start`, and the others are those of the bytes.
-pub(crate) fn sum_on(start: u64, bytes: &[u8]) -> u64
+fn sum_on(start: u64, bytes: &[u8]) -> u64
     requires small { start < 65535 }
     requires short { length bytes.now ≤ 8160 }
     ensures below { result < 65535 }

@@ -1,9 +1,10 @@
-ghost use Rattle.std.specs.Prelude.{◌≡◌, ◌+◌, ◌<◌, ◌≤◌, ◌++◌, ◌%◌, length, OnOk, OnErr, if◌then◌else◌, replicate, vec_len, vec_capacity};
+ghost use Rattle.std.specs.Prelude.{◌≡◌, ◌+◌, ◌<◌, ◌≤◌, ◌++◌, ◌%◌, if◌then◌else◌, length, drop, OnOk, OnErr, vec_len, vec_capacity};
+ghost use Rattle.std.specs.Int.{w16, to_be_bytes};
 ghost use Rattle.xns_idp.specs.Checksum.{words, cycle_checksum};
-ghost use Rattle.xns_idp.specs.Packet.{packet_model, packet_spelling};
+ghost use Rattle.xns_idp.specs.Packet.{packet_model, packet_spelling, with_data_behind};
 ghost use Rattle.xns_idp.specs.Reading.{made_even};
 
-use crate::checksum::sum_on;
+use crate::checksum::cycle_sum;
 use crate::packet::{HEADER, HEADER_BYTES, NO_SUM, Packet};
 use std::alloc::{AllocError, Global};
 
@@ -14,41 +15,57 @@ const GARBAGE: u8 = 0;
 /// The checksum is computed where the packet is summed.
 ///
 /// The only error is want of memory, after which `out` is as it was.
-pub fn encode(_alloc: Global, packet: &Packet<'_>, out: &mut Vec<u8>) -> Result<(), AllocError>
+pub fn encode(alloc: Global, packet: &Packet<'_>, out: &mut Vec<u8>) -> Result<(), AllocError>
     requires { length packet.now.body.now ≤ 546 }
     ensures ok { OnOk result (out.new.items ≡ out.old.items ++ packet_spelling (packet_model packet.now)) }
     ensures err { OnErr result (out.new.items ≡ out.old.items) }
     // It is refused memory only where `out` has no room for the packet's bytes.
     ensures memory { OnErr result (vec_capacity out.old < vec_len out.old + made_even (30 + length packet.now.body.now)) }
 {
-    let body = packet.body;
-    let [high, low] = (HEADER + body.len() as u16).to_be_bytes();
-    let front = [high, low, packet.control, packet.kind];
-    let target = packet.target.to_bytes();
-    let source = packet.source.to_bytes();
-    let sum = checksum_field(packet, &front, &target, &source);
-    out.reserve(HEADER_BYTES + body.len() + body.len() % 2)?;
-    out.extend_from_slice(&sum.to_be_bytes())?;
-    out.extend_from_slice(&front)?;
-    out.extend_from_slice(&target)?;
-    out.extend_from_slice(&source)?;
-    out.extend_from_slice(body)?;
-    out.extend_from_slice(&[GARBAGE][..body.len() % 2])?;
+    encode_parts(alloc, packet, &[], out)
+}
+
+/// Appends the bytes of a packet whose data are `packet.body` and then `rest`, as `encode` does of the packet with both of them
+/// joined: for a caller who puts a header of its own before bytes that lie elsewhere.
+///
+/// The only error is want of memory, after which `out` is as it was.
+pub fn encode_parts(
+    _alloc: Global,
+    packet: &Packet<'_>,
+    rest: &[u8],
+    out: &mut Vec<u8>,
+) -> Result<(), AllocError>
+    requires { length packet.now.body.now + length rest.now ≤ 546 }
+    ensures ok { OnOk result (out.new.items ≡ out.old.items ++ packet_spelling (with_data_behind (packet_model packet.now) rest.now)) }
+    ensures err { OnErr result (out.new.items ≡ out.old.items) }
+    // It is refused memory only where `out` has no room for the packet's bytes.
+    ensures memory { OnErr result (vec_capacity out.old < vec_len out.old + made_even (30 + (length packet.now.body.now + length rest.now))) }
+{
+    let size = packet.body.len() + rest.len();
+    let start = out.len();
+    out.reserve(HEADER_BYTES + size + size % 2)?;
+    let [high, low] = (HEADER + size as u16).to_be_bytes();
+    out.extend_from_slice(&[0, 0, high, low, packet.control, packet.kind])?;
+    out.extend_from_slice(&packet.target.to_bytes())?;
+    out.extend_from_slice(&packet.source.to_bytes())?;
+    out.extend_from_slice(packet.body)?;
+    out.extend_from_slice(rest)?;
+    out.extend_from_slice(&[GARBAGE][..size % 2])?;
+    put_checksum(&mut out.as_mut_slice()[start..], packet.summed);
     Ok(())
 }
 
-/// The checksum field of the header's other parts and the body, with a garbage byte of 0.
-fn checksum_field(packet: &Packet<'_>, front: &[u8; 4], target: &[u8; 12], source: &[u8; 12]) -> u16
-    requires { length packet.now.body.now ≤ 546 }
-    ensures { result ≡ (if packet.now.summed
-        then cycle_checksum (words (front.now ++ target.now ++ source.now ++ packet.now.body.now ++ replicate (length packet.now.body.now % 2) 0))
-        else 65535) }
+/// Puts the checksum field into a packet, in the place of its first two bytes: the checksum of the words after them, or 65535
+/// where the packet isn't summed.
+fn put_checksum(packet: &mut [u8], summed: bool)
+    requires even { length packet.now % 2 ≡ 0 }
+    requires field { 2 ≤ length packet.now }
+    ensures { packet.new ≡ to_be_bytes w16 (if summed then cycle_checksum (words (drop 2 packet.old)) else 65535) ++ drop 2 packet.old }
 {
-    if !packet.summed {
-        return NO_SUM;
-    }
-    let sum = sum_on(0, front);
-    let sum = sum_on(sum, target);
-    let sum = sum_on(sum, source);
-    sum_on(sum, packet.body) as u16
+    let field = if summed {
+        cycle_sum(&packet[2..])
+    } else {
+        NO_SUM
+    };
+    packet[..2].copy_from_slice(&field.to_be_bytes());
 }
