@@ -84,7 +84,7 @@ unfolding IfGoes
 onward_keeps v None k i = k
 onward_keeps v (Some u) k i = i.keeps
 
-steps_keep : {S : Type 0} (serving : Serving S) (s : S) (v : State) (n : ℕ) → Answering serving s → Steps → Keeps v → Keeps (serve_steps serving s v n)
+pub steps_keep : {S : Type 0} (serving : Serving S) (s : S) (v : State) (n : ℕ) → Answering serving s → Steps → Keeps v → Keeps (serve_steps serving s v n)
 steps_keep serving s v zero a steps k = k
 steps_keep serving s v (suc n) a steps k =
     let u = serve_steps serving s v n in

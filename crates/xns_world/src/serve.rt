@@ -1,19 +1,24 @@
-ghost use Rattle.std.specs.Prelude.{◌≡◌, ◌<◌, ◌≤◌, ◌++◌, List, length, take, fold, All, OnOk, IfOk, None};
+ghost use Rattle.std.specs.Prelude.{◌≡◌, ◌<◌, ◌≤◌, ◌++◌, ℕ, List, length, take, fold, All, OnOk, IfOk, None};
 ghost use Rattle.std.specs.Option.{option_to_list};
+ghost use Rattle.xns_idp.specs.Packet.{AreBytes};
 ghost use Rattle.courier_calls.specs.Table.{table_model, IsCheckedTable};
 ghost use Rattle.xns_spp.specs.State.{IsState};
 ghost use Rattle.xns_world.specs.CallLaws.{Answering};
 ghost use Rattle.xns_world.specs.Serve.{Served, serve, serve_start, serve_settles, serve_receives, serve_hears, IsServeTrace, IsHeard};
+ghost use Rattle.xns_world.specs.Invariant.{Begins};
+ghost use Rattle.xns_world.specs.ServeBounds.{IsServedWithin};
 ghost use Rattle.xns_world.specs.ServePlay.{IsServePlaying, GoesOn, IsWithin};
 ghost use Rattle.xns_world.specs.Setup.{IsGood};
 
 use crate::call_laws::server_laws_are_given;
 use crate::items::Items;
+use crate::serve_laws::served_ends_stay_within_bounds;
 use crate::serve_trace::ServeTrace;
 use crate::serving::ServingEnd;
 use crate::setup::Setup;
 use courier_calls::{Server, Service, Table};
 use std::alloc::{AllocError, Global};
+use xns_idp::known::known_bytes;
 use xns_spp::{Bytes, Endpoint};
 
 /// A server's end, and every packet that it sent.
@@ -115,10 +120,20 @@ fn join(replies: &mut Vec<Bytes>, packets: Vec<Bytes>) -> Result<(), AllocError>
     Ok(())
 }
 
+/// Changes nothing; says to a proof that packets are of bytes.
+fn known_packets(packets: &[Bytes])
+    ensures { All AreBytes packets.now }
+{
+    for packet in packets {
+        known_bytes(packet.as_slice());
+    }
+}
+
 /// What a server makes of these packets, which may be anything.
 ///
 /// Whatever the peer sends, the calls carried are those that the items handed up spell, in order and before the first fault, and each
-/// is carried out once. An `Err` says that memory was refused, and gives no trace.
+/// is carried out once; and after each packet the windows, what the session keeps of an incoming message and the next answer are within
+/// their bounds. An `Err` says that memory was refused, and gives no trace.
 pub fn serve_bytes<S: Service>(
     alloc: Global,
     setup: &Setup,
@@ -133,7 +148,12 @@ pub fn serve_bytes<S: Service>(
     ensures trace { IfOk result (λ t. IsServeTrace S.serving service t (serve S.serving service setup.now packets.now)) }
     ensures heard { IfOk result (λ t. IsHeard S.serving service t) }
     ensures within { IfOk result (λ t. IsWithin t (serve S.serving service setup.now packets.now)) }
+    // After each of the packets.
+    ensures always { IfOk result (λ t. (come : List (List ℕ)) → Begins come packets.now → IsServedWithin S.serving service (serve S.serving service setup.now come)) }
 {
+    setup.known();
+    known_packets(packets);
+    served_ends_stay_within_bounds::<S>();
     server_laws_are_given::<S>();
     let mut play = ServePlay::new(alloc, setup, table, service)?;
     play.settle(alloc)?;

@@ -1,12 +1,20 @@
-//! A server's end that settles comes to an end, as the contract of a function that does nothing.
+//! What holds of a server's end that is given whatever packets, as contracts of functions that do nothing.
 
-ghost use Rattle.std.specs.Prelude.{◌≡◌, None, All};
+ghost use Rattle.std.specs.Prelude.{◌≡◌, ℕ, List, None, All};
+ghost use Rattle.xns_idp.specs.Packet.{AreBytes};
 ghost use Rattle.xns_spp.specs.Item.{IsItem};
 ghost use Rattle.xns_spp.specs.State.{State, IsState};
+ghost use Rattle.xns_world.specs.Serve.{serve};
+ghost use Rattle.xns_world.specs.ServeBounds.{IsServedWithin};
 ghost use Rattle.xns_world.specs.Settling.{serve_step, serve_stepped_out};
+ghost use Rattle.xns_world.specs.Setup.{IsSetup, IsGood};
+ghost use Rattle.xns_world.specs.declared.setup.Setup.{Setup};
 
 use crate::call_laws::server_laws_are_given;
 use courier_calls::Service;
+use courier_calls::laws::{
+    answers_are_short, service_stays_in_its_states, what_is_kept_is_bounded,
+};
 use xns_spp::laws::bounds_hold_after_each_step;
 
 /// However its peer behaves, a server's end that settles comes to where no step applies.
@@ -15,4 +23,16 @@ pub fn served_ends_settle<S: Service>()
 {
     server_laws_are_given::<S>();
     bounds_hold_after_each_step();
+}
+
+/// Whatever packets have come, a server's end and what its session keeps are within their bounds.
+pub fn served_ends_stay_within_bounds<S: Service>()
+    ensures { (s : S) (setup : Setup) (packets : List (List ℕ)) → S.IsServiceState s → IsSetup setup → IsGood setup → All AreBytes packets →
+        IsServedWithin S.serving s (serve S.serving s setup packets) }
+{
+    server_laws_are_given::<S>();
+    bounds_hold_after_each_step();
+    what_is_kept_is_bounded();
+    answers_are_short::<S>();
+    service_stays_in_its_states::<S>();
 }

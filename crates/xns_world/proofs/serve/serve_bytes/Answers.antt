@@ -1,3 +1,4 @@
+use Rattle.xns_world.proofs.ServeBounds.{begun_bytes}
 use Rattle.xns_world.proofs.Serves.{heard_along, within}
 use Rattle.xns_world.specs.Serve.{serve, serve_start, serve_settles}
 use Rattle.xns_world.proofs.serve.serve_bytes.Goals as goal
@@ -33,3 +34,8 @@ returns-clause-within g c =
     let settled = c.in_ok-settle.ensures s w answering c.in_ok-play.ensures in
     let h = c.in_ok-hear_all.ensures s (serve_settles serving s w) answering settled in
     within serving s _ (serve serving s c.args.setup.now c.args.packets.now) _ (trace g c) h.b.stands
+
+pub returns-clause-always : goal.returns-clause-always
+returns-clause-always g c come begins =
+    let s = c.args.service in
+    c.served_ends_stay_within_bounds.ensures s c.args.setup.now come c.requires.state c.known.ensures c.requires.good (begun_bytes come c.args.packets.now begins c.known_packets.ensures)

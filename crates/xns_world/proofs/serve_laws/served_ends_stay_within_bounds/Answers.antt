@@ -1,0 +1,21 @@
+use Rattle.courier_calls.specs.Server.{server_state}
+use Rattle.xns_world.proofs.ServeBounds.{BoundLaws, handed_items, settles_within, hears_all_within, kept_ending}
+use Rattle.xns_world.specs.Serve.{serve, serve_start, serve_settles}
+use Rattle.xns_world.specs.Settling.{handed_by}
+use Rattle.xns_world.proofs.serve_laws.served_ends_stay_within_bounds.Goals as goal
+
+pub returns : goal.returns
+returns g c s setup packets can fits good bytes =
+    let serving = g.S.Service.serving in
+    let bounds = c.bounds_hold_after_each_step.ensures in
+    let laws : BoundLaws = record { steps = record { send = bounds.send; take = bounds.take }; flush = bounds.flush; receive = bounds.receive } in
+    let answering = c.server_laws_are_given.ensures s can in
+    let w = serve_start setup in
+    let first = bounds.responder setup.b setup.a setup.b_id setup.a_id setup.window setup.backlog fits.b fits.a good.b_id fits.b_id good.a_id fits.a_id good.window_least good.window_most good.backlog_least good.backlog_most in
+    let v = (serve serving s setup packets).end in
+    let within = hears_all_within serving s (serve_settles serving s w) packets answering laws (settles_within serving s w answering laws first) bytes in
+    record {
+      end = within;
+      kept = λ p is. c.what_is_kept_is_bounded.ensures (handed_by v) p (kept_ending (handed_by v) p is);
+      answer = λ transaction call words. c.answers_are_short.ensures (server_state serving s (handed_by v)) transaction call (c.service_stays_in_its_states.ensures.items s (handed_by v) can (handed_items v within)) words;
+    }

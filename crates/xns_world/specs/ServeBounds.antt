@@ -1,0 +1,18 @@
+-- What bounds a server's end and its session, whatever packets come.
+use Rattle.std.specs.Prelude.{◌≡◌, ℕ, Ok}
+use Rattle.courier_calls.specs.Calls.{RawCall, Serving, decision, HasWords}
+use Rattle.courier_calls.specs.Conversation.{Phase}
+use Rattle.courier_calls.specs.Cutting.{answer_message}
+use Rattle.courier_calls.specs.Laws.{IsBounded, IsShort}
+use Rattle.courier_calls.specs.Server.{server_ending, server_state}
+use Rattle.xns_spp.specs.State.{IsState}
+use Rattle.xns_world.specs.Serve.{Served}
+use Rattle.xns_world.specs.Settling.{handed_by}
+
+pub record IsServedWithin {S : Type 0} (serving : Serving S) (s : S) (w : Served) : Type 0 where
+  -- at most window items wait or are early, and at most backlog are unacknowledged
+  pub end : IsState w.end
+  -- the session keeps fewer than four bytes of the versions, or at most 131,072 bytes of an incoming message
+  pub kept : (p : Phase) → server_ending (handed_by w.end) ≡ Ok p → IsBounded p
+  -- the answer to whatever call it decides next has at most 131,072 bytes
+  pub answer : (transaction : ℕ) (call : RawCall) → HasWords call → IsShort (answer_message transaction (decision serving (server_state serving s (handed_by w.end)) call))
