@@ -27,6 +27,12 @@ pub record Stays (s t : State) : Type 0 where
   pub accepted : t.accepted ≡ s.accepted
   pub handed : t.handed ≡ s.handed
 
+-- with nothing heard: the same items taken and early, and the same acknowledged
+pub record HearsNothing (s t : State) : Type 0 where
+  pub taken : t.taken ≡ s.taken
+  pub early : t.early ≡ s.early
+  pub acknowledged : t.acknowledged ≡ s.acknowledged
+
 -- the bytes bring item x to an end, and its number is read as k
 pub record Brings (s : State) (b : List ℕ) (k : ℕ) (x : Item) : Type 0 where
   pub packet : SppPacketModel
