@@ -1,0 +1,57 @@
+//! Plays of calls to a tally.
+use crate::items::put_bag;
+use crate::lines::Lines;
+use crate::steps::unfold;
+use crate::telling::{call_text, seen_text};
+use courier_calls::{Call, Tally, tally_table};
+use std::alloc::{AllocError, Global};
+use xns_script::Script;
+use xns_world::{CallTrace, Setup, play_calls};
+
+/// A step has at most so many bytes.
+const MOST_BYTES: usize = 4_096;
+
+pub fn put_carried(alloc: Global, lines: &mut Lines, carried: &[Call]) -> Result<(), AllocError> {
+    for call in carried {
+        lines.put(call_text(alloc, call)?)?;
+    }
+    Ok(())
+}
+
+fn trace_text(alloc: Global, trace: &CallTrace<Tally>) -> Result<String, AllocError> {
+    let mut lines = Lines::new(alloc);
+    put_carried(alloc, &mut lines, trace.carried.as_slice())?;
+    for seen in trace.seen.as_slice() {
+        lines.put(seen_text(alloc, seen)?)?;
+    }
+    lines.put(format!(in alloc; "total {}", trace.service.total())?)?;
+    put_bag(alloc, &mut lines, &trace.bag)?;
+    lines.into_text()
+}
+
+fn read_script(alloc: Global, steps: &str) -> Result<Script, AllocError> {
+    let mut script = Script::new(alloc);
+    let mut number = 0_usize;
+    for step in unfold(alloc, steps)? {
+        number = number.saturating_add(1);
+        if step.len() <= MOST_BYTES {
+            script.read_line(number, step.as_bytes())?;
+        }
+    }
+    Ok(script)
+}
+
+/// What comes of the steps: the calls that the server decided, the outcomes that the caller saw, the total and the packets.
+pub fn play(alloc: Global, setup: &Setup, steps: &str) -> Result<String, AllocError> {
+    let script = read_script(alloc, steps)?;
+    if let Some(number) = script.refused() {
+        return format!(in alloc; "step {number} refused");
+    }
+    if !setup.is_good() {
+        return String::from_str(alloc, "no such ends");
+    }
+    let table = tally_table(alloc)?;
+    let tally = Tally::new();
+    let trace = play_calls(alloc, setup, &table, tally, script.calls(), script.events())?;
+    trace_text(alloc, &trace)
+}

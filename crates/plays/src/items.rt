@@ -1,0 +1,86 @@
+//! Plays of items.
+use crate::draft::read_hex;
+use crate::lines::Lines;
+use crate::steps::unfold;
+use crate::telling::{item_text, packet_text};
+use std::alloc::{AllocError, Global};
+use xns_script::{Command, read_command};
+use xns_spp::{Bytes, Item};
+use xns_world::{Bag, Event, Items, Setup, Side, play_items};
+
+/// Of a play with more packets they are only counted.
+const MOST_PACKETS: usize = 40;
+
+fn side(word: &str) -> Side {
+    if word == "a" { Side::A } else { Side::B }
+}
+
+/// An item that ends a message.
+fn item(alloc: Global, digits: &str) -> Result<Item, AllocError> {
+    Ok(Item {
+        stream: 0,
+        attention: false,
+        last: true,
+        body: Bytes::new(read_hex(alloc, digits)?),
+    })
+}
+
+/// What a step does; `None` where it says nothing.
+fn event(alloc: Global, step: &str) -> Result<Option<Event>, AllocError> {
+    if let Some(words) = step.strip_prefix("send ") {
+        let (word, digits) = words.split_once(' ').unwrap_or((words, ""));
+        return Ok(Some(Event::Send(side(word), item(alloc, digits)?)));
+    }
+    if let Some(word) = step.strip_prefix("take ") {
+        return Ok(Some(Event::Take(side(word))));
+    }
+    match read_command(alloc, step.as_bytes())? {
+        Some(Command::Happen(event)) => Ok(Some(event)),
+        _ => Ok(None),
+    }
+}
+
+fn put_items(alloc: Global, lines: &mut Lines, who: &str, items: &Items) -> Result<(), AllocError> {
+    for item in items.as_slice() {
+        lines.put(item_text(alloc, who, item)?)?;
+    }
+    Ok(())
+}
+
+/// How many packets were sent, and the packets.
+pub fn put_bag(alloc: Global, lines: &mut Lines, bag: &Bag) -> Result<(), AllocError> {
+    let packets = bag.as_slice();
+    lines.put(format!(in alloc; "packets {}", packets.len())?)?;
+    if packets.len() > MOST_PACKETS {
+        return Ok(());
+    }
+    for (side, bytes) in packets {
+        let who = match side {
+            Side::A => "a",
+            Side::B => "b",
+        };
+        lines.put(packet_text(alloc, who, *side, bytes.as_slice())?)?;
+    }
+    Ok(())
+}
+
+/// What comes of the steps: the items that were accepted and handed up, and the packets.
+pub fn play(alloc: Global, setup: &Setup, steps: &str) -> Result<String, AllocError> {
+    let mut events = Vec::new(alloc);
+    for step in unfold(alloc, steps)? {
+        if let Some(event) = event(alloc, step)? {
+            events.push(event)?;
+        }
+    }
+    if !setup.is_good() {
+        return String::from_str(alloc, "no such ends");
+    }
+    let trace = play_items(alloc, setup, events.as_slice())?;
+    let mut lines = Lines::new(alloc);
+    put_items(alloc, &mut lines, "a sent", &trace.a_sent)?;
+    put_items(alloc, &mut lines, "b sent", &trace.b_sent)?;
+    put_items(alloc, &mut lines, "a handed", &trace.a_handed)?;
+    put_items(alloc, &mut lines, "b handed", &trace.b_handed)?;
+    put_bag(alloc, &mut lines, &trace.bag)?;
+    lines.into_text()
+}

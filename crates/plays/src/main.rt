@@ -1,0 +1,59 @@
+//! Plays what its lines say, one play a line; what comes of each is text on lines of its own. It is run to be compared: with text that
+//! was worked out elsewhere, as another compiler builds it, and where memory is refused.
+//!
+//! A line is a kind, the ends' window and backlog, and steps that commas part: `3* STEP; STEP` is two steps three times.
+//!
+//! - `items 4 16, STEP, ..` plays items: `tick a`, `deliver 0`, `rest`, `foreign a HEX`, `send a HEX`, `take a`.
+//! - `calls 4 16, STEP, ..` plays calls to a tally: the lines of a simulation.
+//! - `serve 4 16, PACKET, ..` gives a server of the tally packets. A packet is a header and data in hex, `=534` for as many bytes of
+//!   0, or `whole HEX`. In `245* PACKET` each has the next sequence number.
+//! - `random 4 16, SEED BLOCKS` gives a server packets from a generator, eight a block.
+//! - `responder 4 16, PACKET, STEP, ..` and `initiator` bring an end to a state by `send HEX`, `take`, `tick` and `get PACKET`, and have
+//!   it receive the packet with one field changed, each time at a new end.
+//!
+//! All other lines come back as they are.
+#![tactic(auto)]
+
+mod calls;
+mod damage;
+mod draft;
+mod generator;
+mod items;
+mod lines;
+mod random;
+mod receiving;
+mod serving;
+mod setting;
+mod steps;
+mod telling;
+
+use std::alloc::{AllocError, Global};
+
+fn main(rt: HostRuntime) -> Result<(), anyhow::Error> {
+    for line in rt.lines(rt.alloc()) {
+        let line = line?;
+        match answer(rt.alloc(), line.as_str()) {
+            Ok(text) => println!(rt; "{}", text.as_str().trim_end())?,
+            Err(AllocError) => println!(rt; "no memory")?,
+        }
+    }
+    Ok(())
+}
+
+/// What comes of a line.
+fn answer(alloc: Global, line: &str) -> Result<String, AllocError> {
+    let (head, steps) = line.split_once(',').unwrap_or((line, ""));
+    let Some((kind, setup)) = setting::read_head(head) else {
+        return String::from_str(alloc, line);
+    };
+    let steps = steps.trim();
+    match kind {
+        "items" => items::play(alloc, &setup, steps),
+        "calls" => calls::play(alloc, &setup, steps),
+        "serve" => serving::play(alloc, &setup, steps),
+        "random" => random::play(alloc, &setup, steps),
+        "responder" => receiving::play(alloc, &setup, true, steps),
+        "initiator" => receiving::play(alloc, &setup, false, steps),
+        _ => String::from_str(alloc, line),
+    }
+}

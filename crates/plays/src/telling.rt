@@ -1,0 +1,189 @@
+//! Items, calls, outcomes and packets as text.
+use crate::setting::{A, B};
+use courier_calls::{Arguments, Call, MessageFault, Seen, SessionFault};
+use courier_types::Value;
+use std::alloc::{AllocError, Global};
+use std::fmt;
+use xns_idp::{Address, decode, packet_type};
+use xns_spp::{Dropped, Header, Item, read_header};
+use xns_world::Side;
+
+/// More bytes or words are told by their number.
+const MOST_SHOWN: usize = 40;
+
+/// Bytes in hex, `-` for none, and many by their number.
+#[derive(Drop)]
+struct Hex<'a>(&'a [u8]);
+
+impl fmt::Display for Hex<'_> {
+    fn fmt<W: fmt::Write>(&self, f: &mut fmt::Formatter<W>) -> fmt::Result {
+        let bytes = self.0;
+        if bytes.is_empty() {
+            return write!(f, "-");
+        }
+        if bytes.len() > MOST_SHOWN {
+            return write!(f, "={}", bytes.len());
+        }
+        for byte in bytes {
+            write!(f, "{byte:02x}")?;
+        }
+        Ok(())
+    }
+}
+
+/// Words in hex, parted by spaces; `-` for none, and many by their number.
+#[derive(Drop)]
+struct WordsInHex<'a>(&'a [u16]);
+
+impl fmt::Display for WordsInHex<'_> {
+    fn fmt<W: fmt::Write>(&self, f: &mut fmt::Formatter<W>) -> fmt::Result {
+        let words = self.0;
+        let Some((first, rest)) = words.split_first() else {
+            return write!(f, "-");
+        };
+        if words.len() > MOST_SHOWN {
+            return write!(f, "={}", words.len());
+        }
+        write!(f, "{first:04x}")?;
+        for word in rest {
+            write!(f, " {word:04x}")?;
+        }
+        Ok(())
+    }
+}
+
+/// An item: its body, with what is special of it.
+pub fn item_text(alloc: Global, who: &str, item: &Item) -> Result<String, AllocError> {
+    let body = Hex(item.body.as_slice());
+    let attention = if item.attention { " attention" } else { "" };
+    let last = if item.last { " last" } else { "" };
+    format!(in alloc; "{who} {}{attention}{last} {body}", item.stream)
+}
+
+/// A call, whose arguments are words.
+pub fn call_text(alloc: Global, call: &Call) -> Result<String, AllocError> {
+    let Call {
+        program,
+        version,
+        procedure,
+        arguments,
+    } = call;
+    match arguments {
+        Arguments::Raw(words) => {
+            let words = WordsInHex(words.as_slice());
+            format!(in alloc; "carried {program} {version} {procedure} {words}")
+        }
+        Arguments::Typed(_) => {
+            format!(in alloc; "carried {program} {version} {procedure} typed")
+        }
+    }
+}
+
+/// The number that a value of the tally's outcomes is.
+fn number_of(value: &Value) -> u32 {
+    match value {
+        Value::LongCardinal(number) => *number,
+        _ => u32::MAX,
+    }
+}
+
+pub fn seen_text(alloc: Global, seen: &Seen) -> Result<String, AllocError> {
+    match seen {
+        Seen::Returned(value) => format!(in alloc; "returned {}", number_of(value)),
+        Seen::Aborted(error, value) => { format!(in alloc; "aborted {error} {}", number_of(value)) }
+        Seen::Rejected(reason, words) => {
+            let words = WordsInHex(words.as_slice());
+            format!(in alloc; "rejected {reason} {words}")
+        }
+    }
+}
+
+fn header_text(
+    alloc: Global,
+    who: &str,
+    header: &Header,
+    data: &[u8],
+) -> Result<String, AllocError> {
+    let Header {
+        control,
+        stream,
+        source_id,
+        target_id,
+        sequence,
+        acknowledge,
+        allocation,
+    } = header;
+    let data = Hex(data);
+    format!(in alloc;
+        "{who} {control:02x}{stream:02x} {source_id:04x} {target_id:04x} {sequence:04x} {acknowledge:04x} {allocation:04x} {data}"
+    )
+}
+
+/// A packet of the connection as its header and data, where it is whole, has a sum and goes from this address to that; else its bytes.
+fn packet_between(
+    alloc: Global,
+    who: &str,
+    bytes: &[u8],
+    source: &Address,
+    target: &Address,
+) -> Result<String, AllocError> {
+    if let Ok((packet, taken)) = decode(bytes) {
+        let whole = packet.summed && packet.control == 0 && taken == bytes.len();
+        let right = packet.source == *source && packet.target == *target;
+        if whole && right && packet.kind == packet_type::SEQUENCED_PACKET {
+            if let Ok((header, data)) = read_header(packet.body) {
+                return header_text(alloc, who, &header, data);
+            }
+        }
+    }
+    format!(in alloc; "{who} another packet {}", Hex(bytes))
+}
+
+/// A packet that a side sent.
+pub fn packet_text(
+    alloc: Global,
+    who: &str,
+    side: Side,
+    bytes: &[u8],
+) -> Result<String, AllocError> {
+    match side {
+        Side::A => packet_between(alloc, who, bytes, &A, &B),
+        Side::B => packet_between(alloc, who, bytes, &B, &A),
+    }
+}
+
+fn message_fault(fault: MessageFault) -> &'static str {
+    match fault {
+        MessageFault::OddLength => "OddLength",
+        MessageFault::ShortMessage => "ShortMessage",
+        MessageFault::UnknownKind { .. } => "UnknownKind",
+        MessageFault::TooLong => "TooLong",
+    }
+}
+
+pub fn session_fault(fault: &Option<SessionFault>) -> &'static str {
+    match fault {
+        None => "none",
+        Some(SessionFault::NoCommonVersion) => "NoCommonVersion",
+        Some(SessionFault::BadVersions) => "BadVersions",
+        Some(SessionFault::BadMessage(fault)) => message_fault(*fault),
+        Some(SessionFault::WrongTransaction) => "WrongTransaction",
+        Some(SessionFault::BadReply) => "BadReply",
+        Some(SessionFault::Stream { .. }) => "Stream",
+        Some(SessionFault::NoMemory) => "NoMemory",
+        Some(SessionFault::Failed) => "Failed",
+    }
+}
+
+pub fn dropped_text(dropped: &Option<Dropped>) -> &'static str {
+    match dropped {
+        None => "-",
+        Some(Dropped::NotIdp) => "NotIdp",
+        Some(Dropped::NotSpp) => "NotSpp",
+        Some(Dropped::NotOurs) => "NotOurs",
+        Some(Dropped::AheadOfUs) => "AheadOfUs",
+        Some(Dropped::OutOfOrder) => "OutOfOrder",
+        Some(Dropped::NoRoom) => "NoRoom",
+        Some(Dropped::Repeat) => "Repeat",
+    }
+}

@@ -1,0 +1,8 @@
+#!/bin/sh
+# All proofs, wrong bodies, tests and programs from nothing, and then the scripts that try what was built.
+set -eu
+cd "$(dirname "$0")/.."
+rt ci
+for script in program conversations plays refusals c captures; do
+    sh "tests/$script.sh"
+done

@@ -1,0 +1,82 @@
+#!/bin/sh
+# Compares what the program `plays` prints with a second account of it, tests/plays.py, which was written from the documents; and
+# refuses each growth of it in turn, while items are played, while calls are, and while a server is given packets. Each run must end by
+# itself, and tell want of memory and nothing else, or the whole text. Its last line is 'N passed, M failed', and it ends with 1 where
+# one failed. It builds the program first.
+set -u
+cd "$(dirname "$0")/.."
+crate=crates/plays
+program=$PWD/$crate/out/plays
+work=$(mktemp -d)
+trap 'rm -rf "$work"' EXIT
+passed=0
+failed=0
+
+(cd $crate && rt run < stdin) > "$work/build" 2>&1
+if [ ! -x "$program" ]; then
+    cat "$work/build"
+    echo "no program at $program"
+    exit 1
+fi
+gcc -O1 -shared -fPIC -o "$work/refuse_growth.so" tests/refuse_growth.c
+echo 'no memory' > "$work/none"
+
+pass() {
+    passed=$((passed + 1))
+}
+
+fail() {
+    failed=$((failed + 1))
+    echo "FAILED $1"
+}
+
+# ---- a second account
+
+if python3 tests/plays.py < $crate/stdin > "$work/account" && cmp "$work/account" $crate/stdout; then
+    pass
+else
+    fail 'the stored text is not what the documents say'
+fi
+"$program" < $crate/stdin > "$work/out"
+if cmp "$work/out" $crate/stdout; then pass; else fail 'the program prints another text'; fi
+
+# ---- each growth refused in turn
+
+# What the line prints where nothing is refused is looked at first, and then each growth is refused.
+refuse_each() {
+    name=$1
+    printf '%s\n' "$2" > "$work/in"
+    timeout 20 "$program" < "$work/in" > "$work/whole" || fail "$name, nothing refused"
+    python3 tests/plays.py < "$work/in" | cmp - "$work/whole" || fail "$name, another text"
+    growth=1
+    wanted=0
+    while [ $growth -le 5000 ]; do
+        rm -f "$work/refused"
+        timeout 20 env REFUSE_AT=$growth REFUSED="$work/refused" LD_PRELOAD="$work/refuse_growth.so" "$program" < "$work/in" > "$work/out" 2> /dev/null
+        ended=$?
+        [ -e "$work/refused" ] || break
+        if [ $ended -eq 0 ] && cmp -s "$work/out" "$work/whole"; then
+            pass
+        elif [ $ended -eq 0 ] && cmp -s "$work/out" "$work/none"; then
+            wanted=$((wanted + 1))
+            pass
+        elif [ $ended -eq 1 ] && [ ! -s "$work/out" ]; then
+            pass
+        else
+            fail "$name, growth $growth refused: it ended with $ended and printed"
+            cat "$work/out"
+        fi
+        growth=$((growth + 1))
+    done
+    echo "$name: $((growth - 1)) growths, of which $wanted were told as want of memory"
+    if [ $growth -gt 1 ] && [ $growth -le 5000 ] && [ $wanted -gt 0 ]; then pass; else fail "$name, growths"; fi
+}
+
+versions='5000 1234 5678 0000 0000 0064 00030003'
+add='0000 0001 0000 0007 0002 0001 0005'
+refuse_each 'items' 'items 4 16, tick a, deliver 0, deliver 1, send a 01, send a 02, deliver 3, deliver 2, take b, tick a, rest, take b'
+refuse_each 'calls' 'calls 4 16, call add 5, call raw 7 9 1 0005, tick a, deliver 0, deliver 1, deliver 4, deliver 3, 6* rest'
+refuse_each 'a server' "serve 4 16, $versions, 5000 1234 5678 0002 0000 0064 $add, 5000 1234 5678 0001 0000 0064 $add, 50fe 1234 5678 0003 0000 0064 00"
+
+echo "$passed passed, $failed failed"
+[ "$failed" -eq 0 ]
