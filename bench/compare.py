@@ -8,6 +8,8 @@
     python3 bench/compare.py exchange     65,535 items of 534 bytes each way at window 64, in order and with every second packet late, beside
                                           a peer that sums by the standard's loop and one that sums in lanes
     python3 bench/compare.py calls        100,000 calls of Courier through a caller and a server in memory
+    python3 bench/compare.py sim          `xns sim` of 2,500, 5,000 and 10,000 calls Add, and of 5,000 calls with 50,000 events, among them 30,000
+                                          packets that come again; nearly as many lines as an input may have
     python3 bench/compare.py dump         `xns dump` of 65,536 packets in hex: of types that no layer reads, and sequenced ones of 1, 1,000 and 65,536 flows
 
 The proved program is built by `rt run` in its crate, the peer by `rustc -O`. Absolute times say little on a shared machine; the
@@ -109,6 +111,12 @@ def main():
                 given.write_bytes(subprocess.run([sys.executable, BENCH / "packets.py", *flows], stdout=subprocess.PIPE, check=True).stdout)
                 print(f"flows {flows[0]}:" if flows else "no flows:", end=" ", flush=True)
                 compare([ours, "dump"], [peer], given)
+        elif which == "sim":
+            ours, peer = built_program("xns"), built_peer("sim_peer", folder)
+            for words in (["2500"], ["5000"], ["10000"], ["5000", "6"]):
+                given.write_bytes(subprocess.run([sys.executable, BENCH / "script.py", *words], stdout=subprocess.PIPE, check=True).stdout)
+                print(f"{words[0]} calls{' with repeats' if len(words) > 1 else ''}:", end=" ", flush=True)
+                compare([ours, "sim"], [peer], given)
         elif which == "values":
             compare_values([built_program("values_bench")], [built_peer("values_peer", folder)])
         elif which == "c":

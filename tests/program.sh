@@ -16,7 +16,7 @@ if ! command -v gcc > /dev/null; then
 fi
 
 rm -f "$program"
-if ! (cd $crate && rt run -- dump < stdin) > "$work/build" 2>&1 || [ ! -x "$program" ]; then
+if ! (cd $crate && rt run -- sim < stdin) > "$work/build" 2>&1 || [ ! -x "$program" ]; then
     cat "$work/build"
     echo "the program was not built"
     exit 1
@@ -41,16 +41,29 @@ run() {
     ended=$?
 }
 
-# How many lines of one byte.
+# A test ended with the status; if that is not 0, the line says what is wrong.
+saw() {
+    if [ "$2" -eq 0 ]; then passed=$((passed + 1)); else
+        failed=$((failed + 1))
+        echo "FAILED $1"
+    fi
+}
+
+# So many bytes of one kind.
 repeat() {
     head -c "$1" /dev/zero | tr '\0' "$2"
 }
 
+# An Echo request, and what `dump` prints of it.
+echo 532300220002000000010000aa0001020002000000010000aa000304040000014869 > "$work/packet"
+printf '%s\n' '1 idp length 34 sum 5323 control 0 type 2 to 00000001.0000aa000102.0002 from 00000001.0000aa000304.0400' '1 echo request 4869' > "$work/packet.text"
+: > "$work/nothing"
+
 # ---- what is printed, with 0 and 1
 
-cat $crate/stdin > "$work/in"
+cat "$work/packet" > "$work/in"
 run dump
-expect 'a packet' 0 '' $crate/stdout
+expect 'a packet' 0 '' "$work/packet.text"
 
 : > "$work/in"
 : > "$work/text"
@@ -80,6 +93,87 @@ echo '1 idp refused Short 0' > "$work/text"
 run dump
 expect 'a line of 4,096 bytes' 1 '' "$work/text"
 
+# ---- plays of calls
+
+# The program on the lines of $work/in prints the words, each as a line.
+plays() {
+    name=$1 status=$2
+    shift 2
+    printf '%s\n' "$@" > "$work/text"
+    run sim
+    expect "$name" "$status" '' "$work/text"
+}
+
+# So many lines `rest`.
+rests() {
+    repeat "$1" r | sed 's/r/rest\n/g'
+}
+
+cat $crate/stdin > "$work/in"
+run sim
+expect 'both first answers are lost' 0 '' $crate/stdout
+
+{ printf '%s\n' 'call add 5' 'call raw 9 1 1 -' 'call raw 7 9 1 0005' 'call raw 7 2 8 -' 'call raw 7 2 1 0005 0006' 'call total' 'tick a' && rests 14; } > "$work/in"
+plays 'six calls, of which four are rejected' 0 'calls 6' 'carried 6' '1 returned 5' '2 rejected 0 -' '3 rejected 1 0001 0002' '4 rejected 2 -' '5 rejected 3 -' '6 returned 5' 'total 5' 'packets 30'
+
+: > "$work/in"
+plays 'no lines' 0 'calls 0' 'carried 0' 'total 0' 'packets 0'
+printf '# x\n\n#' > "$work/in"
+plays 'lines that say nothing' 0 'calls 0' 'carried 0' 'total 0' 'packets 0'
+printf 'call add 1\r\ntick a\r\nrest' > "$work/in"
+plays 'a line ends with a return, or with the input' 0 'calls 1' 'carried 0' 'total 0' 'packets 3'
+printf '%s\n' 'foreign a 0a0B' 'foreign b ff' 'deliver 4294967295' 'call raw 4294967295 65535 65535 aBcD -' > "$work/in"
+plays 'a dash behind words' 1 '4 refused'
+printf '%s\n' 'foreign a 0a0B' 'foreign b ff' 'deliver 4294967295' 'call raw 4294967295 65535 65535 aBcD' 'call add 65535' > "$work/in"
+plays 'the greatest numbers' 0 'calls 2' 'carried 0' 'total 0' 'packets 0'
+
+for line in 'deliver 01' 'call add 65536' 'tick c' 'rest ' 'foreign a 5' 'deliver 4294967296' 'call raw 4294967296 1 1 -' 'call raw 1 65536 1 -' 'call raw 1 1 1' 'call raw 1 1 1 005' 'foreign a' 'call  total' ' rest' 'Rest' 'call add'; do
+    echo "$line" > "$work/in"
+    plays "the line '$line'" 1 '1 refused'
+done
+printf '%s\n' 'call add 5' '' 'tick a' 'tick c' 'rest' 'deliver 01' > "$work/in"
+plays 'the first of two bad lines' 1 '4 refused'
+
+# The packets are 0 opening, 1 reply, 2 versions of b, 3 versions of a, 4 call, 5 reply to 3, 6 reply to 4, 7 answer.
+printf '%s\n' 'call add 5' 'tick a' 'deliver 0' 'deliver 1' 'deliver 3' 'deliver 4' 'deliver 4' 'deliver 2' 'deliver 7' > "$work/in"
+plays 'a repeat of a call' 0 'calls 1' 'carried 1' '1 returned 5' 'total 5' 'packets 11'
+printf '%s\n' 'call add 5' 'tick a' 'deliver 0' 'deliver 1' 'deliver 4' 'deliver 3' 'deliver 2' 'deliver 7' > "$work/in"
+plays 'a call before the versions' 0 'calls 1' 'carried 1' '1 returned 5' 'total 5' 'packets 10'
+
+# A call of two items, by a call whose second word is over what is listed: rejected.
+long="call raw 9 1 1 $(repeat 263 w | sed 's/w/ 0000/g' | cut -c2-)"
+
+# What b takes is its caller's versions and two items for each of so many calls, and one for each of so many more.
+lasting() {
+    i=0
+    while [ $i -lt "$1" ]; do
+        printf '%s\nrest\nrest\n' "$long"
+        i=$((i + 1))
+    done
+    while [ $i -lt $(($1 + $2)) ]; do
+        printf 'call add 1\nrest\nrest\n'
+        i=$((i + 1))
+    done
+}
+
+# How many packets the lines of $work/in come to, in the end.
+packets() {
+    run sim
+    [ "$ended" -eq 0 ] && sed -n 's/^packets //p' "$work/out"
+}
+
+# The first packet once more, after so many items: it is answered after 30,000, and comes nowhere after 30,001.
+for more in 1 2; do
+    { echo 'tick a' && rests 2 && lasting 14999 $more; } > "$work/in"
+    before=$(packets)
+    echo 'deliver 0' >> "$work/in"
+    after=$(packets)
+    tail -n 3 "$work/out" | head -n 2 > "$work/tail"
+    cp "$work/tail" "$work/out"
+    printf '%s\n' "$((14999 + more)) returned $more" "total $more" > "$work/text"
+    expect "a connection of $((29999 + more)) items" $((before + 2 - more - after)) '' "$work/text"
+done
+
 # ---- faults, with 3
 
 { echo 48 && repeat 4097 ' '; } > "$work/in"
@@ -99,7 +193,7 @@ printf '' > "$work/err"
 ended=$lines
 expect 'the text of 65,536 lines' 65536 '' -
 
-cat $crate/stdin > "$work/in"
+cat "$work/packet" > "$work/in"
 "$program" dump < "$work/in" > /dev/full 2> "$work/err"
 ended=$?
 expect 'a full device' 3 'xns: write fault' -
@@ -117,14 +211,39 @@ expect 'a directory as reader' 3 'xns: read fault' "$work/text"
 ended=$?
 expect 'a closed reader' 3 'xns: read fault' "$work/text"
 
+repeat 65536 '\n' > "$work/in"
+plays '65,536 lines of a script' 0 'calls 0' 'carried 0' 'total 0' 'packets 0'
+{ echo 'tick c' && repeat 65537 '\n'; } > "$work/in"
+run sim
+expect '65,537 lines behind a bad one' 3 'xns: too many lines' "$work/nothing"
+{ printf '#' && repeat 4095 ' '; } > "$work/in"
+plays 'a comment of 4,096 bytes' 0 'calls 0' 'carried 0' 'total 0' 'packets 0'
+{ echo 'tick c' && repeat 4097 '#'; } > "$work/in"
+run sim
+expect 'a line of 4,097 bytes behind a bad one' 3 'xns: line too long' "$work/nothing"
+"$program" sim < /dev/zero > "$work/out" 2> "$work/err"
+ended=$?
+expect 'an endless line' 3 'xns: line too long' "$work/nothing"
+yes '' | "$program" sim > "$work/out" 2> "$work/err"
+ended=$?
+expect 'endless lines' 3 'xns: too many lines' "$work/nothing"
+
+cat $crate/stdin > "$work/in"
+"$program" sim < "$work/in" > /dev/full 2> "$work/err"
+ended=$?
+expect 'a play for a full device' 3 'xns: write fault' -
+"$program" sim < / > "$work/out" 2> "$work/err"
+ended=$?
+expect 'a directory as script' 3 'xns: read fault' "$work/nothing"
+
 # ---- the command line, with 2, and help, with 0
 
 : > "$work/in"
 run
-expect 'no subcommand' 2 "error: 'xns' requires a subcommand but one was not provided; the subcommand is dump; try 'xns --help'" "$work/text"
+expect 'no subcommand' 2 "error: 'xns' requires a subcommand but one was not provided; the subcommands are dump and sim; try 'xns --help'" "$work/text"
 
-run sim
-expect 'another subcommand' 2 "error: unrecognized subcommand 'sim'; the subcommand is dump; try 'xns --help'" "$work/text"
+run play
+expect 'another subcommand' 2 "error: unrecognized subcommand 'play'; the subcommands are dump and sim; try 'xns --help'" "$work/text"
 
 run dump file
 expect 'a word too many' 2 "error: unexpected argument 'file' found; try 'xns --help'" "$work/text"
@@ -135,36 +254,98 @@ expect 'an option that is none' 2 "error: unexpected argument '--loud' found; tr
 run "$(printf 'dump\377')"
 expect 'a word that is not UTF-8' 2 "error: a word of the command line is not UTF-8; try 'xns --help'" "$work/text"
 
-for words in --help -h 'dump --help' 'help' 'help dump'; do
+run sim file
+expect 'a word too many behind sim' 2 "error: unexpected argument 'file' found; try 'xns --help'" "$work/text"
+
+for words in --help -h 'dump --help' 'sim --help' 'help' 'help dump' 'help sim'; do
     # shellcheck disable=SC2086
     run $words
     expect "$words" 0 '' -
-    if grep -q '^Usage: xns' "$work/out"; then passed=$((passed + 1)); else
-        failed=$((failed + 1))
-        echo "FAILED $words: no usage on standard output"
-    fi
+    grep -q '^Usage: xns' "$work/out"
+    saw "$words: no usage on standard output" $?
 done
 
-# ---- each growth refused in turn: the whole text, or a front of it with 3
+# ---- each read and each write failing in turn, and each growth refused
 
-{ cat $crate/stdin && echo 5g; } > "$work/in"
-"$program" dump < "$work/in" > "$work/text"
+gcc -O1 -shared -fPIC -o "$work/fail_streams.so" tests/fail_streams.c
 gcc -O1 -shared -fPIC -o "$work/refuse_growth.so" tests/refuse_growth.c
-growth=1
-while [ $growth -le 1000 ]; do
-    rm -f "$work/refused"
-    REFUSE_AT=$growth REFUSED=$work/refused LD_PRELOAD=$work/refuse_growth.so "$program" dump < "$work/in" > "$work/out" 2> "$work/err"
+
+# The program on the words, of which the numbered call fails; $work/failed is then there.
+run_failing() {
+    name=$1 number=$2
+    shift 2
+    rm -f "$work/failed"
+    env "$name=$number" FAILED="$work/failed" LD_PRELOAD="$library" "$program" "$@" < "$work/in" > "$work/out" 2> "$work/err"
     ended=$?
-    [ -e "$work/refused" ] || break
-    if [ "$ended" -eq 1 ]; then
-        expect "growth $growth refused, and done without" 1 '' "$work/text"
-    else
-        head -c "$(wc -c < "$work/out")" "$work/text" > "$work/front"
-        expect "growth $growth refused" 3 'xns: no memory' "$work/front"
-    fi
-    growth=$((growth + 1))
-done
-expect "a run that asks for fewer than $growth growths" 1 '' "$work/text"
+}
+
+# What was written is a front of the text.
+take_front() {
+    head -c "$(wc -c < "$work/out")" "$work/text" > "$work/front"
+}
+
+# Each read fails in turn, then each write: `dump` has written a front of the text, `sim` nothing before a failed write. Nothing fails in the last run.
+fail_streams() {
+    mode=$1 fine=$2
+    library=$work/fail_streams.so
+    for call in READ WRITE; do
+        at=1
+        while [ $at -le 1000 ]; do
+            run_failing "FAIL_$call" $at "$mode"
+            [ -e "$work/failed" ] || break
+            take_front
+            [ "$mode $call" = 'sim READ' ] && : > "$work/front"
+            line=$(echo $call | tr '[:upper:]' '[:lower:]')
+            expect "$mode: $line $at failed" 3 "xns: $line fault" "$work/front"
+            at=$((at + 1))
+        done
+        [ $at -gt 1 ]
+        saw "$mode: no $call to fail" $?
+        expect "$mode: fewer than $at calls of $call" "$fine" '' "$work/text"
+    done
+}
+
+# Each growth is refused in turn: the whole text, or 3 and of `dump` a front of the text, of `sim` nothing.
+refuse_growths() {
+    mode=$1 fine=$2
+    library=$work/refuse_growth.so
+    growth=1
+    while [ $growth -le 1000 ]; do
+        rm -f "$work/failed"
+        REFUSE_AT=$growth REFUSED=$work/failed LD_PRELOAD=$library "$program" "$mode" < "$work/in" > "$work/out" 2> "$work/err"
+        ended=$?
+        [ -e "$work/failed" ] || break
+        if [ "$ended" -eq "$fine" ]; then
+            expect "$mode: growth $growth refused, and done without" "$fine" '' "$work/text"
+        else
+            take_front
+            [ "$mode" = sim ] && : > "$work/front"
+            expect "$mode: growth $growth refused" 3 'xns: no memory' "$work/front"
+        fi
+        growth=$((growth + 1))
+    done
+    [ $growth -gt 1 ]
+    saw "$mode: no growth to refuse" $?
+    expect "$mode: a run that asks for fewer than $growth growths" "$fine" '' "$work/text"
+}
+
+{ cat "$work/packet" && echo 5g; } > "$work/in"
+"$program" dump < "$work/in" > "$work/text"
+refuse_growths dump 1
+MOST=50
+export MOST
+fail_streams dump 1
+
+cat $crate/stdin > "$work/in"
+cat $crate/stdout > "$work/text"
+fail_streams sim 0
+unset MOST
+refuse_growths sim 0
+
+library=$work/fail_streams.so
+echo 'tick c' > "$work/in"
+run_failing FAIL_READ 2 sim
+expect 'a bad line before a read that fails' 3 'xns: read fault' "$work/nothing"
 
 echo "$passed passed, $failed failed"
 [ "$failed" -eq 0 ]

@@ -1,5 +1,5 @@
 -- The text of outcomes.
-use Rattle.std.proofs.Common.{◌≡◌, ◌∙◌, ap, sym, refl, arith, ℕ, ◌+◌, ◌<◌, List, [], ◌∷◌, ◌++◌, append_assoc, append-nil, add-zero, length, map, take, get_or}
+use Rattle.std.proofs.Common.{◌≡◌, ◌∙◌, ap, sym, arith, ℕ, ◌+◌, ◌<◌, List, [], ◌∷◌, ◌++◌, append_assoc, append-nil, add-zero, length, map, take, get_or}
 use Rattle.std.proofs.lemmas.List.{length-map, length-take-le, map_more}
 use Rattle.courier_calls.specs.declared.call.Seen.{Seen}
 use Rattle.courier_calls.specs.Calls.{SeenModel, seen_model}

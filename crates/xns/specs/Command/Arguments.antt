@@ -1,17 +1,17 @@
 -- The command line of the program.
-use Rattle.std.specs.Prelude.{List, ◌∷◌, [], Option, Some, None, option_map, codes, map, Bool, true, false, if◌then◌else◌}
+use Rattle.std.specs.Prelude.{List, ◌∷◌, [], Option, Some, None, option_map, codes, map, Bool, true, false, ◌||◌, if◌then◌else◌}
 use Rattle.std.specs.Borrow.{Bor}
 use Rattle.std.specs.Str.{bytes_eq}
 use Rattle.clap.specs.Kinds.{or_else}
 use Rattle.clap.specs.Words.{App, Kinds, Text, fault_of, new_app, subcommand_of, with_subcommand}
 use Rattle.clap.specs.declared.error.kind.ErrorKind.TheVariants as kind
 use Rattle.xns.specs.declared.command.modes.Mode.{Mode}
-use Rattle.xns.specs.declared.command.modes.Mode.TheVariants.{Dump}
+use Rattle.xns.specs.declared.command.modes.Mode.TheVariants.{Dump, Sim}
 
--- `xns` with the subcommand `dump`, which is required
+-- `xns` with the subcommands `dump` and `sim`, one of which is required
 abbrev pub xns_command : App
 xns_command =
-    let subcommands = with_subcommand (new_app (codes "xns")) (new_app (codes "dump")).top in
+    let subcommands = with_subcommand (with_subcommand (new_app (codes "xns")) (new_app (codes "dump")).top) (new_app (codes "sim")).top in
     record subcommands { top = record subcommands.top { subcommand_required = true } }
 
 -- the subcommand that the words name, by clap's meaning
@@ -20,10 +20,11 @@ named_subcommand words = option_map (λ p. p.0) (subcommand_of xns_command words
 
 abbrev pub name_of : Mode → Text
 name_of Dump = codes "dump"
+name_of Sim = codes "sim"
 
 abbrev pub is_mode : Option Text → Bool
 is_mode None = false
-is_mode (Some name) = bytes_eq name (codes "dump")
+is_mode (Some name) = bytes_eq name (codes "dump") || bytes_eq name (codes "sim")
 
 -- the kinds of error with which words may be refused: those of clap's meaning, and else that no mode is named
 abbrev pub refusals_of : List Text → Kinds

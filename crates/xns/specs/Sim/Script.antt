@@ -1,6 +1,7 @@
 -- A script that takes the lines of an input.
-use Rattle.std.specs.Prelude.{◌≡◌, ℕ, List, Option, map}
-use Rattle.xns.specs.Lines.{without_return}
+use Rattle.std.specs.Prelude.{◌≡◌, ℕ, List, Option, Some, map}
+use Rattle.std.specs.Io.KnownBytes.{Consumes}
+use Rattle.xns.specs.Lines.{IsWithinLimits, lines_of, without_return}
 use Rattle.xns_script.specs.Reading.{HasRead}
 use Rattle.xns_script.specs.declared.script.Script.{Script}
 
@@ -11,3 +12,10 @@ stands_for script before after lines = HasRead script (map without_return lines)
 -- it does not write
 abbrev pub never : Script → Option (List ℕ) → Option (List ℕ) → List (List ℕ) → Type 0
 never script before after lines = ⊥
+
+-- the script has read the whole input, and nothing was written
+pub record HasReadAll (script : Script) (input : List ℕ) (left before after : Option (List ℕ)) : Type 0 where
+  pub consumed : Consumes (Some input) left input
+  pub within : IsWithinLimits input
+  pub read : HasRead script (map without_return (lines_of input))
+  pub unwritten : after ≡ before

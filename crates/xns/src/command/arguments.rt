@@ -11,11 +11,15 @@ use std::alloc::{AllocError, Global};
 
 /// What `xns --help` says at its end.
 const HELP: &str =
-    "It reads standard input and writes standard output. `xns dump --help` says what a line is.\n\nIt ends with 0, or with 1 where a line was refused, 2 where the command line is wrong, 3 after a fault.";
+    "It reads standard input and writes standard output. `xns dump --help` and `xns sim --help` say what a line is.\n\nIt ends with 0, or with 1 where a line was refused, 2 where the command line is wrong, 3 after a fault.";
 
 /// What `xns dump --help` says at its end.
 const DUMP_HELP: &str =
     "Each line of standard input is one packet in hex, of either case; spaces and tabs are left out. A line has at most 4,096 bytes, and there are at most 65,536 lines.\n\nIt ends with 0, or with 1 where a line was refused, 2 where the command line is wrong, 3 after a fault.\n\nExample: echo 532300220002000000010000aa0001020002000000010000aa000304040000014869 | xns dump";
+
+/// What `xns sim --help` says at its end.
+const SIM_HELP: &str =
+    "Each line of standard input is `call add N`, `call total` or `call raw PROGRAM VERSION PROCEDURE WORDS`, which makes a call; `tick a`, `tick b`, `deliver N`, `rest`, `foreign a HEX` or `foreign b HEX`, which lets something happen; or empty, or a comment after #. A line has at most 4,096 bytes, and there are at most 65,536 lines.\n\nIt ends with 0, or with 1 where a line was refused, 2 where the command line is wrong, 3 after a fault.\n\nExample: printf '%s\\n' 'call add 5' 'tick a' rest rest rest rest rest | xns sim";
 
 /// The program's command, which requires one of its subcommands.
 fn program<'a>(alloc: Global) -> Result<Command<'a>, AllocError>
@@ -24,10 +28,14 @@ fn program<'a>(alloc: Global) -> Result<Command<'a>, AllocError>
     let dump = Command::new(alloc, "dump")
         .about("Prints what each line of hex says")
         .after_help(DUMP_HELP);
+    let sim = Command::new(alloc, "sim")
+        .about("Plays calls through a network that loses, repeats and reorders")
+        .after_help(SIM_HELP);
     Command::new(alloc, "xns")
         .after_help(HELP)
         .subcommand_required(true)
-        .subcommand(dump)
+        .subcommand(dump)?
+        .subcommand(sim)
 }
 
 /// Reads the words of the command line, the program's name first.
@@ -68,6 +76,7 @@ fn mode_named(name: Option<&str>) -> Option<Mode>
 {
     match name {
         Some("dump") => Some(Mode::Dump),
+        Some("sim") => Some(Mode::Sim),
         _ => None,
     }
 }
