@@ -80,7 +80,22 @@ echo '1 idp refused Short 0' > "$work/text"
 run dump
 expect 'a line of 4,096 bytes' 1 '' "$work/text"
 
+# The echo request of the first line of the input cut to each length.
+echo=$(head -n 1 $crate/stdin)
+for length in $(seq 0 33); do
+    printf '%s\n' "$(printf %s "$echo" | head -c $((2 * length)))" > "$work/in"
+    if [ "$length" -lt 30 ]; then reason="Short $length"; else reason="Cut 34 $length"; fi
+    echo "1 idp refused $reason" > "$work/text"
+    run dump
+    expect "an echo request cut to $length bytes" 1 '' "$work/text"
+done
+
 # ---- faults, with 3
+
+{ head -n 1 $crate/stdin && repeat 4097 ' '; } > "$work/in"
+head -n 2 $crate/stdout > "$work/text"
+run dump
+expect 'a line of 4,097 bytes after an echo request' 3 'xns: line too long' "$work/text"
 
 { echo 48 && repeat 4097 ' '; } > "$work/in"
 echo '1 idp refused Short 1' > "$work/text"
@@ -165,6 +180,31 @@ while [ $growth -le 1000 ]; do
     growth=$((growth + 1))
 done
 expect "a run that asks for fewer than $growth growths" 1 '' "$work/text"
+
+# ---- each read and each write failing in turn, whole and a few bytes at a time: a front of the text with 3
+
+gcc -O1 -shared -fPIC -o "$work/refuse_stream.so" tests/refuse_stream.c
+"$program" dump < "$work/in" > "$work/text"
+for short in 0 7; do
+    for kind in read write; do
+        call=1
+        while [ $call -le 10000 ]; do
+            rm -f "$work/refused"
+            if [ $kind = read ]; then reads=$call writes=0; else reads=0 writes=$call; fi
+            SHORT=$short FAIL_READ=$reads FAIL_WRITE=$writes REFUSED=$work/refused LD_PRELOAD=$work/refuse_stream.so "$program" dump < "$work/in" > "$work/out" 2> "$work/err"
+            ended=$?
+            [ -e "$work/refused" ] || break
+            head -c "$(wc -c < "$work/out")" "$work/text" > "$work/front"
+            expect "$kind $call failing, $short bytes at a time" 3 "xns: $kind fault" "$work/front"
+            call=$((call + 1))
+        done
+        expect "a run of fewer than $call ${kind}s, $short bytes at a time" 1 '' "$work/text"
+        if [ $call -eq 1 ]; then
+            failed=$((failed + 1))
+            echo "FAILED: no $kind was seen"
+        fi
+    done
+done
 
 echo "$passed passed, $failed failed"
 [ "$failed" -eq 0 ]
