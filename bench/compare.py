@@ -10,7 +10,8 @@
     python3 bench/compare.py calls        100,000 calls of Courier through a caller and a server in memory
     python3 bench/compare.py sim          `xns sim` of 2,500, 5,000 and 10,000 calls Add, and of 5,000 calls with 50,000 events, among them 30,000
                                           packets that come again; nearly as many lines as an input may have
-    python3 bench/compare.py dump         `xns dump` of 65,536 packets in hex: of types that no layer reads, and sequenced ones of 1, 1,000 and 65,536 flows
+    python3 bench/compare.py dump         `xns dump` of 65,536 packets in hex: of types that no layer reads, of types 2 to 4, and sequenced ones of 1, 1,000
+                                          and 65,536 flows; and the largest resident memory of each
 
 The proved program is built by `rt run` in its crate, the peer by `rustc -O`. Absolute times say little on a shared machine; the
 ratio is of processor time in one run.
@@ -50,27 +51,28 @@ def built_c(name, folder, library):
     return program
 
 
-def seconds_of(words, given):
-    """Processor seconds of one run, and its output."""
+def run_once(words, given):
+    """Processor seconds and the largest resident memory, in kilobytes, of one run, and its output."""
     with open(given, "rb") as lines, tempfile.TemporaryFile() as output:
         started = subprocess.Popen(words, stdin=lines, stdout=output)
         _, _, used = os.wait4(started.pid, 0)
         output.seek(0)
-        return used.ru_utime + used.ru_stime, output.read()
+        return used.ru_utime + used.ru_stime, used.ru_maxrss, output.read()
 
 
 def compare(ours, peer, given):
     times = {"ours": [], "peer": []}
+    memory = {}
     outputs = {}
     for _ in range(RUNS):
         for name, words in (("ours", ours), ("peer", peer)):
-            seconds, outputs[name] = seconds_of(words, given)
+            seconds, memory[name], outputs[name] = run_once(words, given)
             times[name].append(seconds)
     if outputs["ours"] != outputs["peer"]:
         sys.exit("the two programs print different things")
     medians = {name: statistics.median(runs) for name, runs in times.items()}
-    print(f"ours {medians['ours']:.3f} s, peer {medians['peer']:.3f} s: the peer takes {medians['peer'] / medians['ours']:.1f} times as long")
-    return medians
+    print(f"ours {medians['ours']:.3f} s, peer {medians['peer']:.3f} s: the peer takes {medians['peer'] / medians['ours']:.1f} times as long, ours {medians['ours'] / medians['peer']:.2f} of its time")
+    return medians, memory
 
 
 def nanoseconds_of(words):
@@ -107,10 +109,11 @@ def main():
             compare([built_program("checksum_bench")], [built_peer("checksum_peer", folder)], given)
         elif which == "dump":
             ours, peer = built_program("xns"), built_peer("dump_peer", folder)
-            for flows in ([], ["1"], ["1000"], ["65536"]):
-                given.write_bytes(subprocess.run([sys.executable, BENCH / "packets.py", *flows], stdout=subprocess.PIPE, check=True).stdout)
-                print(f"flows {flows[0]}:" if flows else "no flows:", end=" ", flush=True)
-                compare([ours, "dump"], [peer], given)
+            for which in (["data"], ["echo"], ["error"], ["exchange"], ["sequenced", "1"], ["sequenced", "1000"], ["sequenced", "65536"]):
+                given.write_bytes(subprocess.run([sys.executable, BENCH / "packets.py", *which], stdout=subprocess.PIPE, check=True).stdout)
+                print(" ".join(which) + ":", end=" ", flush=True)
+                _, memory = compare([ours, "dump"], [peer], given)
+                print(f"    resident memory: ours {memory['ours']} kB, peer {memory['peer']} kB")
         elif which == "sim":
             ours, peer = built_program("xns"), built_peer("sim_peer", folder)
             for words in (["2500"], ["5000"], ["10000"], ["5000", "6"]):
@@ -123,7 +126,7 @@ def main():
             given.touch()
             library = built_c("c_codec", folder, True)
             compare([library], [built_c("c_codec_peer", folder, False)], given)
-            medians = compare([library], [built_program("codec_bench")], given)
+            medians, _ = compare([library], [built_program("codec_bench")], given)
             print(f"through C each packet takes {(medians['ours'] - medians['peer']) * 1000:.0f} ns more than in Rattle, for its two calls")
         elif which == "exchange":
             given.touch()

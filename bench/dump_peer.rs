@@ -1,6 +1,6 @@
 // A plain Rust `dump` of internet packets (no proofs, std alone): what a user would write without us, to be timed beside
-// `xns dump`. It prints the `idp` line and the data line of each packet, the faults, and of a sequenced data packet without an end of message its
-// header, the number of its item and its words.
+// `xns dump`. It prints the `idp` line of each packet, the faults, the line of an Echo, Error or Packet Exchange packet that is whole, of a sequenced
+// data packet without an end of message its header, the number of its item and its words, and else the data line.
 use std::collections::HashMap;
 use std::io::{self, BufRead, Write};
 
@@ -86,9 +86,15 @@ fn main() {
                             for w in d.chunks(2) { if !first { out.push(b' '); } first = false; hex(&mut out, w); }
                             out.push(b'\n');
                         } else {
-                        write!(out, "{n} data ").unwrap();
-                        hex(&mut out, &bytes[30..length]);
-                        out.push(b'\n'); }
+                            let rest = match bytes[5] {
+                                2 if b.len() >= 2 => { write!(out, "{n} echo {} ", if b[1] == 1 { "request" } else { "reply" }).unwrap(); &b[2..] }
+                                3 if b.len() >= 4 => { write!(out, "{n} error {} parameter {} quoted ", be(&b[0..2]), be(&b[2..4])).unwrap(); &b[4..] }
+                                4 if b.len() >= 6 => { write!(out, "{n} exchange id {:08x} client {} body ", be(&b[0..4]), be(&b[4..6])).unwrap(); &b[6..] }
+                                _ => { write!(out, "{n} data ").unwrap(); b }
+                            };
+                            hex(&mut out, rest);
+                            out.push(b'\n');
+                        }
                     }
                 }
             }

@@ -1,8 +1,9 @@
 #!/usr/bin/env python3
 """Prints 65,536 summed internet packets as lines of hex, of several sizes; the same each time.
 
-    packets.py            of types that no layer reads
-    packets.py FLOWS      sequenced data packets without an end of message, of so many flows in turn
+    packets.py                     of types that no layer reads
+    packets.py echo                Echo requests and replies; so also error and exchange, for Error and Packet Exchange
+    packets.py sequenced FLOWS     sequenced data packets without an end of message, of so many flows in turn
 """
 import random, sys
 
@@ -14,21 +15,31 @@ def cycle(b):
     return s
 
 
-def packet(kind, source_host, body):
+def packet(kind, body, source_host=bytes.fromhex("0000aa000304")):
     length = 30 + len(body)
     rest = length.to_bytes(2, "big") + bytes([0, kind]) + bytes.fromhex("000000010000aa000102000200000001") + source_host + b"\4\0" + body + (b"\0" if length % 2 else b"")
     return (cycle(rest).to_bytes(2, "big") + rest).hex()
 
 
-def some_bytes(sizes):
-    return bytes(random.randrange(256) for _ in range(random.choice(sizes)))
+def some_bytes(largest):
+    return bytes(random.randrange(256) for _ in range(random.choice([2, 16, 40, 300, largest])))
+
+
+def packet_of(which, flows, i):
+    if which == "echo":
+        return packet(2, random.choice([b"\0\1", b"\0\2"]) + some_bytes(544))
+    if which == "error":
+        return packet(3, random.randrange(65536).to_bytes(2, "big") + b"\0\0" + some_bytes(42))
+    if which == "exchange":
+        return packet(4, i.to_bytes(4, "big") + b"\0\1" + some_bytes(540))
+    if which == "sequenced":
+        header = bytes.fromhex("400012345678") + (i // flows % 65536).to_bytes(2, "big") + bytes.fromhex("00000003")
+        return packet(5, header + some_bytes(534), bytes.fromhex("0000aa00") + (i % flows).to_bytes(2, "big"))
+    return packet(random.choice([1, 6, 7, 20]), some_bytes(546))
 
 
 random.seed(1)
-flows = int(sys.argv[1]) if len(sys.argv) > 1 else 0
+which = sys.argv[1] if len(sys.argv) > 1 else "data"
+flows = int(sys.argv[2]) if len(sys.argv) > 2 else 1
 for i in range(65536):
-    if flows == 0:
-        print(packet(random.choice([1, 6, 7, 20]), bytes.fromhex("0000aa000304"), some_bytes([2, 16, 40, 300, 546])))
-    else:
-        header = bytes.fromhex("400012345678") + (i // flows % 65536).to_bytes(2, "big") + bytes.fromhex("00000003")
-        print(packet(5, bytes.fromhex("0000aa00") + (i % flows).to_bytes(2, "big"), header + some_bytes([2, 16, 40, 300, 534])))
+    print(packet_of(which, flows, i))

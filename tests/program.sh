@@ -93,6 +93,16 @@ echo '1 idp refused Short 0' > "$work/text"
 run dump
 expect 'a line of 4,096 bytes' 1 '' "$work/text"
 
+# The echo request cut to each length.
+echo=$(head -n 1 "$work/packet")
+for length in $(seq 0 33); do
+    printf '%s\n' "$(printf %s "$echo" | head -c $((2 * length)))" > "$work/in"
+    if [ "$length" -lt 30 ]; then reason="Short $length"; else reason="Cut 34 $length"; fi
+    echo "1 idp refused $reason" > "$work/text"
+    run dump
+    expect "an echo request cut to $length bytes" 1 '' "$work/text"
+done
+
 # ---- plays of calls
 
 # The program on the lines of $work/in prints the words, each as a line.
@@ -175,6 +185,11 @@ for more in 1 2; do
 done
 
 # ---- faults, with 3
+
+{ head -n 1 $crate/stdin && repeat 4097 ' '; } > "$work/in"
+head -n 2 $crate/stdout > "$work/text"
+run dump
+expect 'a line of 4,097 bytes after an echo request' 3 'xns: line too long' "$work/text"
 
 { echo 48 && repeat 4097 ' '; } > "$work/in"
 echo '1 idp refused Short 1' > "$work/text"

@@ -18,8 +18,13 @@ use std::io::{Read, Write};
 ///
 /// Byte 10 ends a line, and so does the end of the input after a byte; lines count from 1. One byte 13 at a line's end,
 /// and each space and tab, are dropped; the rest are hex digits of either case. They spell an internet packet
-/// (XSIS 028112, Internet Datagram Protocol, Packet Format), which prints as a line with its header's fields and one
-/// with its data, or they are refused in one line that says why. Bytes behind the packet are left unread.
+/// (XSIS 028112, Internet Datagram Protocol, Packet Format), or they are refused in one line that says why. Bytes behind
+/// the packet are left unread.
+///
+/// A packet prints two to four lines: its header's fields, then what its packet type makes of its body. That is one line
+/// for Echo, Error, Packet Exchange, a body that is refused, and the data of any other type; for a sequenced packet its
+/// header, the number of its item where it brings one to a known destination, and its words, message or data if it has
+/// any.
 ///
 /// # Errors
 /// `Read` where a read fails, for whatever reason; `Write` where a write fails or takes no byte; `LineTooLong` where a
@@ -27,7 +32,9 @@ use std::io::{Read, Write};
 /// lines; `NoMemory` where a growth is refused. Of the limits' faults the one that comes first in the input is
 /// answered. The text of all lines before the fault is written first, but for a write that fails.
 ///
-/// It holds one piece of the input, one line and one buffer of text, whatever the input.
+/// It holds one piece of 65,536 bytes of the input, one line of at most 4,096 bytes, its digits without blanks, their
+/// values and the bytes that they spell, the text of that line, the words of a message, some 65,536 bytes of text that
+/// isn't written yet, and the number of the last item of each flow. A line begins at most one flow.
 pub fn dump<R: Read, W: Write>(
     alloc: Global,
     reader: &mut R,

@@ -5,7 +5,7 @@ ghost use Rattle.hex.specs.declared.error.FromHexError.{FromHexError};
 ghost use Rattle.xns.specs.Flows.Numbers.{numbered, numbering};
 ghost use Rattle.xns.specs.Dump.Line.{are_digits_refused, digits_item, digits_of, digits_text, hex_refusal, is_blank as is_blank_of, is_refused, item_of_line, text_of_line};
 
-use crate::dump::digits::read_digits;
+use crate::dump::digits::DigitReader;
 use crate::flows::numbers::FlowNumbers;
 use crate::layers::numbers::append_decimal;
 use crate::layers::packets::append_packet;
@@ -20,8 +20,8 @@ use std::alloc::{AllocError, Global};
 pub(crate) struct Reporter {
     /// The digits of a line that has blanks.
     digits: Vec<u8>,
-    /// The bytes that the digits spell.
-    bytes: Vec<u8>,
+    /// Reads the digits.
+    reader: DigitReader,
     /// The report of the latest line.
     pub(crate) report: Vec<u8>,
     /// Where the words of a message are kept.
@@ -34,7 +34,7 @@ impl Reporter {
     {
         Reporter {
             digits: Vec::new(alloc),
-            bytes: Vec::new(alloc),
+            reader: DigitReader::new(alloc),
             report: Vec::new(alloc),
             alloc,
         }
@@ -60,7 +60,7 @@ impl Reporter {
                 &mut self.report,
                 number,
                 line,
-                &mut self.bytes,
+                &mut self.reader,
                 numbers,
             ),
             Some(_) => {
@@ -70,7 +70,7 @@ impl Reporter {
                     &mut self.report,
                     number,
                     self.digits.as_slice(),
-                    &mut self.bytes,
+                    &mut self.reader,
                     numbers,
                 )
             }
@@ -104,15 +104,15 @@ fn append_digits(
     report: &mut Vec<u8>,
     number: usize,
     digits: &[u8],
-    bytes: &mut Vec<u8>,
+    reader: &mut DigitReader,
     numbers: &FlowNumbers,
 ) -> Result<Reported, AllocError>
     ensures { IfOk result (λ reported. (report.new.items ≡ report.old.items ++ digits_text number (numbering numbers.now.last) digits.now)
         × (reported.is_refused ≡ are_digits_refused digits.now)
         × (reported.item ≡ numbered (numbering numbers.now.last) (digits_item digits.now))) }
 {
-    match read_digits(digits, bytes) {
-        Ok(()) => append_packet(alloc, report, number, bytes.as_slice(), numbers),
+    match reader.read_digits(digits) {
+        Ok(()) => append_packet(alloc, report, number, reader.bytes.as_slice(), numbers),
         Err(FromHexError::OutOfMemory) => Err(AllocError),
         Err(error) => {
             append_refusal(report, number, &error)?;

@@ -5,6 +5,7 @@ ghost use Rattle.std.specs.Fmt.{decimal};
 ghost use Rattle.hex.specs.Hex.{encode_lower};
 ghost use Rattle.xns.specs.Layers.Text.{address_text, bytes_or_dash as bytes_or_dash_of, data_line, hex_word, words_in_hex, words_line, words_or_dash, words_text};
 
+use crate::layers::digits::{word_and_space, write_digits};
 use itoa::Buffer;
 use std::alloc::AllocError;
 use xns_idp::Address;
@@ -34,10 +35,8 @@ pub(crate) fn append_hex(report: &mut Vec<u8>, bytes: &[u8]) -> Result<(), Alloc
         return Err(AllocError);
     };
     report.resize(end, 0)?;
-    match hex::encode_to_slice(bytes, &mut report.as_mut_slice()[start..]) {
-        Ok(()) => Ok(()),
-        Err(_) => Err(AllocError),
-    }
+    write_digits(bytes, &mut report.as_mut_slice()[start..]);
+    Ok(())
 }
 
 /// Appends a word as four digits.
@@ -76,11 +75,9 @@ fn append_words(report: &mut Vec<u8>, bytes: &[u8]) -> Result<(), AllocError>
     ensures { OnOk result (report.new.items ≡ report.old.items ++ words_in_hex bytes.now) }
 {
     let mut left = bytes;
-    while left.len() > 2 {
-        let (word, rest) = left.split_at(2);
-        append_hex(report, word)?;
-        report.extend_from_slice(b" ")?;
-        left = rest;
+    while let [high, low, _, ..] = left {
+        report.extend_from_slice(&word_and_space(*high, *low))?;
+        left = &left[2..];
     }
     append_hex(report, left)
 }

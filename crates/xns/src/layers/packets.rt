@@ -11,19 +11,8 @@ use crate::layers::reported::Reported;
 use crate::layers::sequenced::append_sequenced;
 use crate::layers::small::{append_echo, append_error, append_exchange};
 use std::alloc::{AllocError, Global};
+use xns_idp::packet_type::{ECHO, ERROR, PACKET_EXCHANGE, SEQUENCED_PACKET};
 use xns_idp::{IdpFault, Packet, decode};
-
-/// The packet type of Echo.
-const ECHO: u8 = 2;
-
-/// The packet type of Error.
-const ERROR: u8 = 3;
-
-/// The packet type of Packet Exchange.
-const PACKET_EXCHANGE: u8 = 4;
-
-/// The packet type of Sequenced Packet.
-const SEQUENCED_PACKET: u8 = 5;
 
 /// Appends the lines of bytes.
 #[tactic(auto, unfolding(crate::specs::Layers::Packets::packet_text, crate::specs::Layers::Packets::is_packet_refused, crate::specs::Layers::Packets::packet_item))]
