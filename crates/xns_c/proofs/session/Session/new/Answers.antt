@@ -1,5 +1,4 @@
-use Rattle.std.proofs.Common.{◌≡◌, ◌∙◌, List, [], ◌∷◌, false, None, arith}
-use Rattle.xns_spp.specs.declared.item.Item.{Item}
+use Rattle.std.proofs.Common.{◌≡◌, ◌∙◌, [], ◌∷◌, false, None, arith}
 use Rattle.courier_calls.specs.Cutting.{versions_item}
 use Rattle.courier_calls.proofs.Cuts.{last_item}
 use Rattle.xns_c.proofs.session.Session.new.Goals as goal
