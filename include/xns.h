@@ -1,21 +1,22 @@
 /* The XNS stack for programs in C, and for others by their foreign function interface: internet packets, Echo, Error, Packet
- * Exchange, and one end of a connection of the Sequenced Packet Protocol. x86-64, Linux. C99 or later, and C++.
+ * Exchange, one end of a connection of the Sequenced Packet Protocol, and the side of a Courier conversation that calls. x86-64, Linux. C99 or later, and C++.
  *
  * What the calls do is proved, if the caller keeps to this:
  *  - A pointer is not null, and what it points to is there, of its type, aligned, and for a buffer as long as is said.
  *  - A pointer with a length is that many bytes; it is not null even where the length is 0.
  *  - What a call writes to overlaps nothing else that the call is given.
- *  - A `struct xns_endpoint` begins as XNS_ENDPOINT_NONE and is written by these calls alone. It is not copied to be used twice.
- *  - One call at a time is made on an endpoint. No call is made in a signal handler.
+ *  - A `struct xns_endpoint` begins as XNS_ENDPOINT_NONE and a `struct xns_caller` as XNS_CALLER_NONE. They are written by these calls
+ *    alone, and not copied to be used twice.
+ *  - One call at a time is made on an endpoint or a caller. No call is made in a signal handler.
  *  - malloc, realloc and free are one allocator, and what it gave to the library is not written by others.
  *
  * Units: lengths, places and rooms are bytes, but for the words of Courier, which are counted in words. Numbers are the machine's own; the
  * bytes of packets have the high byte first.
  *
- * Ownership: what the caller passes stays the caller's, and no call keeps a pointer to it. An endpoint's memory is the library's,
- * until xns_endpoint_free.
+ * Ownership: what the caller passes stays the caller's, and no call keeps a pointer to it. The memory of an endpoint or a
+ * caller is the library's, until xns_endpoint_free or xns_caller_free.
  *
- * A call that answers other than XNS_OK has written nothing through its pointers, but for the endpoint: what becomes of that is said
+ * A call that answers other than XNS_OK has written nothing through its pointers, but for the handle: what becomes of what it holds is said
  * with the call.
  */
 #ifndef XNS_H
@@ -33,10 +34,11 @@ extern "C" {
 enum xns_result {
     XNS_OK = 0,            /* it was done */
     XNS_NOTHING = 1,       /* there is nothing of what was asked for */
-    XNS_NO_MEMORY = 2,     /* malloc answered null; all is as it was before the call, which can be made again */
+    XNS_NO_MEMORY = 2,     /* malloc answered null; all is as it was before the call, which can be made again, but for what the call says */
     XNS_NO_ENDPOINT = 3,   /* there is no endpoint in the handle */
     XNS_SHORT_BUFFER = 4,  /* the buffer is too short */
     XNS_BAD_ARGUMENT = 5,  /* an argument is not allowed */
+    XNS_NO_CALLER = 6,     /* there is no caller in the handle */
     XNS_SHORT = 11,        /* fewer bytes than a header has */
     XNS_LENGTH_SMALL = 12, /* the length field is below 30 */
     XNS_LENGTH_LARGE = 13, /* the length field is above 576 */
@@ -49,7 +51,14 @@ enum xns_result {
     XNS_ODD_LENGTH = 41,   /* a message of an odd number of bytes */
     XNS_SHORT_MESSAGE = 42, /* fewer bytes than the head of such a message has */
     XNS_UNKNOWN_KIND = 43, /* a message of another kind than the four */
-    XNS_LONG_MESSAGE = 44  /* a message of more than 131,072 bytes */
+    XNS_LONG_MESSAGE = 44, /* a message of more than 131,072 bytes */
+    XNS_NO_COMMON_VERSION = 51, /* the peer does not speak version 3 */
+    XNS_BAD_VERSIONS = 52, /* a mark within the peer's version range, or its lowest version above its highest */
+    XNS_WRONG_TRANSACTION = 53, /* an answer to another call, or to none */
+    XNS_BAD_REPLY = 54,    /* the peer of a caller calls */
+    XNS_OTHER_STREAM = 55, /* an item whose datastream is not 0 */
+    XNS_STOPPED = 56,      /* the conversation has stopped */
+    XNS_BUSY = 57          /* a call waits for its answer, or an answer was not picked up */
 };
 
 /* Why a received packet's item was neither taken nor kept. After the first four the endpoint is as it was. */
@@ -229,6 +238,42 @@ uint32_t xns_endpoint_tick(struct xns_endpoint *endpoint);
 
 /* Writes the next packet that is to be sent; each is given once. XNS_NO_ENDPOINT, XNS_NOTHING where there is none, XNS_SHORT_BUFFER. */
 uint32_t xns_endpoint_next_packet(struct xns_endpoint *endpoint, uint8_t *buffer, size_t room, size_t *written);
+
+/* ---- the side of a Courier conversation that calls */
+
+/* The handle of a caller, or of none. A caller keeps a conversation, whatever carries its items: what xns_caller_next_item gives is sent, in
+ * order, and each item that comes is fed, in order. It knows no types: arguments, results and errors are words. One call at a time waits for its
+ * answer. */
+struct xns_caller {
+    void *at;
+};
+
+#define XNS_CALLER_NONE { 0 }
+
+/* Puts a new caller into the handle, whose versions are to go out. The one that was there is freed first, in any case. XNS_NO_MEMORY: there is
+ * then no caller. */
+uint32_t xns_caller_new(struct xns_caller *caller);
+
+/* Frees the caller, if there is one. The handle may be used again. */
+void xns_caller_free(struct xns_caller *caller);
+
+/* Puts out a call with so many words of arguments, which it copies; it may be made before the peer's versions have come. XNS_NO_CALLER,
+ * XNS_STOPPED, XNS_BUSY, XNS_TOO_LONG over 65,530 words, XNS_NO_MEMORY: the caller is as it was. */
+uint32_t xns_caller_call(struct xns_caller *caller, uint32_t program, uint16_t version, uint16_t procedure, const uint16_t *words, size_t count);
+
+/* Gives the next item that is to go out, once, its bytes to the front of the buffer; 534 bytes are always enough. XNS_NO_CALLER, XNS_NOTHING
+ * where there is none, XNS_SHORT_BUFFER: the item stays. */
+uint32_t xns_caller_next_item(struct xns_caller *caller, struct xns_item *item, uint8_t *buffer, size_t room);
+
+/* Takes in an item that came, whose bytes it copies; `last` is 0 where no message ends with it. XNS_NO_CALLER; or the conversation stops:
+ * XNS_NO_COMMON_VERSION, XNS_BAD_VERSIONS, XNS_ODD_LENGTH, XNS_SHORT_MESSAGE, XNS_UNKNOWN_KIND, XNS_LONG_MESSAGE, XNS_WRONG_TRANSACTION,
+ * XNS_BAD_REPLY, XNS_OTHER_STREAM, XNS_NO_MEMORY. From then on each item and call is answered XNS_STOPPED; what is out and an answer that is there
+ * can still be fetched. */
+uint32_t xns_caller_feed(struct xns_caller *caller, uint8_t stream, uint8_t last, const uint8_t *body, size_t length);
+
+/* Gives the answer that is there, once, its words to the front of a buffer with room for so many words: a return with the results, an abort with its
+ * error's number and arguments, or a reject with its reason. XNS_NO_CALLER, XNS_NOTHING where there is none, XNS_SHORT_BUFFER: the answer stays. */
+uint32_t xns_caller_outcome(struct xns_caller *caller, struct xns_message *message, uint16_t *words, size_t room, size_t *count);
 
 #ifdef __cplusplus
 }

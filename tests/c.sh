@@ -85,11 +85,14 @@ build() {
 }
 
 build calls -Wl,--wrap=malloc,--wrap=realloc tests/c/calls.c tests/c/refuse.c
-for example in endpoints fields echo; do
+for example in endpoints fields echo courier; do
     build $example examples/c/$example.c
 done
 expect 'each call, and each growth refused' "$work/calls"
 expect 'two endpoints, 1,000 items each way' "$work/endpoints" 1000
+echo 42 > "$work/text"
+expect 'a call over a connection' "$work/courier"
+expect 'is answered' cmp "$work/out" "$work/text"
 
 echo 532300220002000000010000aa0001020002000000010000aa000304040000014869 > "$work/request"
 echo 172700220002000000010000aa0003040400000000010000aa000102000200024869 > "$work/reply"
@@ -125,7 +128,7 @@ else left_out 'tshark and text2pcap' 'whether they read what the endpoints sent'
 # ---- no error and no leak
 
 if has valgrind; then
-    for words in calls 'endpoints 100'; do
+    for words in calls courier 'endpoints 100'; do
         # shellcheck disable=SC2086
         expect "$words under valgrind" valgrind -q --leak-check=full --show-leak-kinds=all --error-exitcode=9 "$work/"$words
     done

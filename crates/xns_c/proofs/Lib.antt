@@ -3,3 +3,6 @@ pub mod Owned
 pub mod Places
 pub mod Kept
 pub mod Sizes
+pub mod CallerOwned
+pub mod Told
+pub mod Done

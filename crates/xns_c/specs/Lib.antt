@@ -5,3 +5,7 @@ pub mod Views
 pub mod Handle
 pub mod Given
 pub mod Courier
+pub mod Talk
+pub mod CallerOwned
+pub mod CallerHandle
+pub mod Talks

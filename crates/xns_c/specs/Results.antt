@@ -26,11 +26,20 @@ short_buffer = 4
 abbrev pub bad_argument : ℕ
 bad_argument = 5
 
+abbrev pub no_caller : ℕ
+no_caller = 6
+
 abbrev pub short : ℕ
 short = 11
 
 abbrev pub too_long : ℕ
 too_long = 21
+
+abbrev pub stopped : ℕ
+stopped = 56
+
+abbrev pub busy : ℕ
+busy = 57
 
 -- why bytes are no internet packet
 abbrev pub idp_fault_number : IdpFault → ℕ

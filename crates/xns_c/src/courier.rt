@@ -18,7 +18,7 @@ use std::alloc::Global;
 const LONGEST: usize = 131_072;
 
 /// Why bytes are no message.
-fn message_fault_number(fault: MessageFault) -> u32
+pub fn message_fault_number(fault: MessageFault) -> u32
     ensures number { result ≡ message_fault_number fault }
     ensures large { 40 < result }
 {
@@ -31,7 +31,7 @@ fn message_fault_number(fault: MessageFault) -> u32
 }
 
 /// A message but for its words, and these.
-fn parts_of(message: &Message) -> (XnsMessage, &[u16])
+pub fn parts_of(message: &Message) -> (XnsMessage, &[u16])
     ensures given { message_given result.0 (words_in message.now) ≡ Some message.now }
     ensures words { result.1.now ≡ words_in message.now }
 {
@@ -84,7 +84,7 @@ fn short_head(kind: u8, transaction: u16, number: u16) -> XnsMessage
 }
 
 /// Puts words to the front of a buffer, and says how many. Of a buffer that is too short nothing is written.
-fn put_words(words: &[u16], buffer: &mut [u16], count: &mut usize) -> u32
+pub fn put_words(words: &[u16], buffer: &mut [u16], count: &mut usize) -> u32
     ensures put { length words.now ≤ length buffer.old → (result ≡ ok) × IsPut words.now buffer.old buffer.new count.new }
     ensures short { length buffer.old < length words.now → result ≡ short_buffer }
     ensures unchanged { length buffer.old < length words.now → (buffer.new ≡ buffer.old) × (count.new ≡ count.old) }

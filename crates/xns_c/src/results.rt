@@ -24,11 +24,20 @@ pub const SHORT_BUFFER: u32 = 4;
 /// An argument is not allowed.
 pub const BAD_ARGUMENT: u32 = 5;
 
+/// The handle has no caller.
+pub const NO_CALLER: u32 = 6;
+
 /// There are fewer bytes than a header has.
 pub const SHORT: u32 = 11;
 
 /// There are more bytes of data than a packet carries.
 pub const TOO_LONG: u32 = 21;
+
+/// The session has stopped.
+pub const STOPPED: u32 = 56;
+
+/// A call waits for its answer, or an answer was not picked up.
+pub const BUSY: u32 = 57;
 
 /// Why bytes are no internet packet.
 pub fn idp_fault_number(fault: IdpFault) -> u32

@@ -1,5 +1,4 @@
-use Rattle.std.proofs.Common.{◌≡◌, Ok, List, ℕ, drop, ◌∙◌, ap, sym}
-use Rattle.xns_spp.specs.declared.header.Header.{Header}
+use Rattle.std.proofs.Common.{◌≡◌, Ok, drop, ◌∙◌, ap, sym}
 use Rattle.xns_c.specs.Views.{header_in}
 use Rattle.xns_c.proofs.Places.{rest_of}
 use Rattle.xns_c.proofs.sequenced.xns_header_read.Goals as goal

@@ -1,0 +1,5 @@
+use Rattle.xns_c.proofs.Done.{start, calls, gives, feeds, hands, refuses}
+use Rattle.xns_c.proofs.laws.a_session_is_its_conversation.Goals as goal
+
+pub returns : goal.returns
+returns c = record { start = start; call = calls; give = gives; feed = feeds; hand = hands; fault = refuses }

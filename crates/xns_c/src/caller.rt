@@ -1,0 +1,159 @@
+//! The calling side of a Courier conversation that C holds by its handle.
+
+ghost use Rattle.std.specs.Prelude.{◌≡◌, ◌≢◌, ◌<◌, ◌≤◌, ℕ, List, [], ◌∷◌, length, true, false, IfOk, IfSome, Ok, Some, None};
+ghost use Rattle.xns_spp.specs.declared.item.Item.{Item};
+ghost use Rattle.courier_calls.specs.declared.message.Message.{Message};
+ghost use Rattle.courier_calls.specs.Calls.{words_call};
+ghost use Rattle.xns_c.specs.CallerHandle.{talk_of};
+ghost use Rattle.xns_c.specs.Courier.{message_given, words_in};
+ghost use Rattle.xns_c.specs.Given.{GivesItem, IsPut};
+ghost use Rattle.xns_c.specs.Results.{ok, nothing, no_memory, no_caller, short_buffer, stopped};
+ghost use Rattle.xns_c.specs.Talk.{Talk, new_talk, called, call_number, after_item, heard_number, IsStopped};
+ghost use Rattle.xns_c.specs.Views.{item_given};
+
+use crate::caller_handle::XnsCaller;
+use crate::item::XnsItem;
+use crate::message::XnsMessage;
+use crate::results::{NO_CALLER, NO_MEMORY, OK};
+use crate::session::Session;
+use std::alloc::{AllocError, Global};
+
+fn make_session(alloc: Global) -> Result<Box<Session>, AllocError>
+    ensures { IfOk result (λ b. b.value ≡ new_talk) }
+{
+    let session = Session::new(alloc)?;
+    Ok(Box::new(alloc, session)?)
+}
+
+/// Makes a session whose versions are to go out, in the place of the one that the handle had, which is freed in any case.
+///
+/// `NO_MEMORY` where memory is refused. The handle then has no session.
+#[unsafe(no_mangle)]
+pub extern "C" fn xns_caller_new(alloc: Global, handle: &mut XnsCaller) -> u32
+    ensures made { result ≡ ok → talk_of handle.new ≡ Some new_talk }
+    ensures memory { result ≢ ok → (result ≡ no_memory) × (talk_of handle.new ≡ None) }
+{
+    let _ = handle.take(alloc);
+    match make_session(alloc) {
+        Ok(session) => {
+            handle.put(session);
+            OK
+        }
+        Err(_) => NO_MEMORY,
+    }
+}
+
+/// Frees the session, if there is one. The handle then has none, and may be used again.
+#[unsafe(no_mangle)]
+pub extern "C" fn xns_caller_free(alloc: Global, handle: &mut XnsCaller)
+    ensures { talk_of handle.new ≡ None }
+{
+    let _freed = handle.take(alloc);
+}
+
+/// Puts out a call of these words (XSIS 038112, Courier, Call message).
+///
+/// `NO_CALLER`; else `STOPPED`; `BUSY` where a call waits for its answer, or an answer was not picked up; `TOO_LONG` for more than 65,530 words;
+/// `NO_MEMORY` where memory is refused.
+#[unsafe(no_mangle)]
+pub extern "C" fn xns_caller_call(
+    alloc: Global,
+    handle: &mut XnsCaller,
+    program: u32,
+    version: u16,
+    procedure: u16,
+    words: &[u16],
+) -> u32
+    ensures number { (t : Talk) → talk_of handle.old ≡ Some t → result ≢ no_memory → result ≡ call_number t (words_call program version procedure words.now) }
+    ensures memory { (t : Talk) → talk_of handle.old ≡ Some t → result ≡ no_memory → call_number t (words_call program version procedure words.now) ≡ ok }
+    ensures called { (t : Talk) → talk_of handle.old ≡ Some t → result ≡ ok → talk_of handle.new ≡ Some (called t (words_call program version procedure words.now)) }
+    ensures none { talk_of handle.old ≡ None → result ≡ no_caller }
+    ensures unchanged { result ≢ ok → talk_of handle.new ≡ talk_of handle.old }
+{
+    let Some(mut session) = handle.take(alloc) else {
+        return NO_CALLER;
+    };
+    let result = session.call(alloc, program, version, procedure, words);
+    handle.put(session);
+    result
+}
+
+/// Gives the next item that is to go out, its bytes to the front of the buffer. Each is given once.
+///
+/// `NO_CALLER`; `NOTHING` where there is none; `SHORT_BUFFER` where the item is longer than the buffer.
+#[unsafe(no_mangle)]
+pub extern "C" fn xns_caller_next_item(
+    alloc: Global,
+    handle: &mut XnsCaller,
+    item: &mut XnsItem,
+    buffer: &mut [u8],
+) -> u32
+    ensures given { (t : Talk) (x : Item) (xs : List Item) → talk_of handle.old ≡ Some t → t.out ≡ x ∷ xs → length x.body ≤ length buffer.old →
+        (result ≡ ok) × GivesItem x item.new × IsPut x.body buffer.old buffer.new item.new.length }
+    ensures rest { (t : Talk) (x : Item) (xs : List Item) → talk_of handle.old ≡ Some t → t.out ≡ x ∷ xs → length x.body ≤ length buffer.old →
+        talk_of handle.new ≡ Some (record t { out = xs }) }
+    ensures short { (t : Talk) (x : Item) (xs : List Item) → talk_of handle.old ≡ Some t → t.out ≡ x ∷ xs → length buffer.old < length x.body → result ≡ short_buffer }
+    ensures nothing { (t : Talk) → talk_of handle.old ≡ Some t → t.out ≡ [] → result ≡ nothing }
+    ensures none { talk_of handle.old ≡ None → result ≡ no_caller }
+    ensures unchanged { result ≢ ok → (talk_of handle.new ≡ talk_of handle.old) × (item.new ≡ item.old) × (buffer.new ≡ buffer.old) }
+{
+    let Some(mut session) = handle.take(alloc) else {
+        return NO_CALLER;
+    };
+    let result = session.next_item(item, buffer);
+    handle.put(session);
+    result
+}
+
+/// Takes in an item of the peer's, whose bytes are copied. `last` is 0 for no.
+///
+/// `NO_CALLER`; else why the session stops, and from then on `STOPPED`. `NO_MEMORY` where memory is refused: the session stops too.
+#[unsafe(no_mangle)]
+pub extern "C" fn xns_caller_feed(
+    alloc: Global,
+    handle: &mut XnsCaller,
+    stream: u8,
+    last: u8,
+    body: &[u8],
+) -> u32
+    ensures number { (t : Talk) → talk_of handle.old ≡ Some t → t.failed ≡ false → result ≢ no_memory → result ≡ heard_number (after_item t (item_given stream 0 last body.now)) }
+    ensures heard { (t n : Talk) → talk_of handle.old ≡ Some t → result ≡ ok → after_item t (item_given stream 0 last body.now) ≡ Ok n → talk_of handle.new ≡ Some n }
+    ensures stops { (t : Talk) → talk_of handle.old ≡ Some t → result ≢ ok → IfSome (talk_of handle.new) (IsStopped t) }
+    ensures stays { (t : Talk) → talk_of handle.old ≡ Some t → talk_of handle.new ≢ None }
+    ensures refuses { (t : Talk) → talk_of handle.old ≡ Some t → t.failed ≡ true → (result ≡ stopped) × (talk_of handle.new ≡ talk_of handle.old) }
+    ensures none { talk_of handle.old ≡ None → (result ≡ no_caller) × (talk_of handle.new ≡ None) }
+{
+    let Some(mut session) = handle.take(alloc) else {
+        return NO_CALLER;
+    };
+    let result = session.feed(alloc, stream, last, body);
+    handle.put(session);
+    result
+}
+
+/// Gives the answer that is there, once: a return, an abort or a reject, its words to the front of a buffer.
+///
+/// `NO_CALLER`; `NOTHING` where there is none; `SHORT_BUFFER` where it has more words than the buffer has room for.
+#[unsafe(no_mangle)]
+pub extern "C" fn xns_caller_outcome(
+    alloc: Global,
+    handle: &mut XnsCaller,
+    message: &mut XnsMessage,
+    words: &mut [u16],
+    count: &mut usize,
+) -> u32
+    ensures given { (t : Talk) (m : Message) → talk_of handle.old ≡ Some t → t.outcome ≡ Some m → length (words_in m) ≤ length words.old →
+        (result ≡ ok) × (message_given message.new (words_in m) ≡ Some m) × IsPut (words_in m) words.old words.new count.new }
+    ensures rest { (t : Talk) → talk_of handle.old ≡ Some t → result ≡ ok → talk_of handle.new ≡ Some (record t { outcome = None }) }
+    ensures short { (t : Talk) (m : Message) → talk_of handle.old ≡ Some t → t.outcome ≡ Some m → length words.old < length (words_in m) → result ≡ short_buffer }
+    ensures nothing { (t : Talk) → talk_of handle.old ≡ Some t → t.outcome ≡ None → result ≡ nothing }
+    ensures none { talk_of handle.old ≡ None → result ≡ no_caller }
+    ensures unchanged { result ≢ ok → (talk_of handle.new ≡ talk_of handle.old) × (message.new ≡ message.old) × (words.new ≡ words.old) × (count.new ≡ count.old) }
+{
+    let Some(mut session) = handle.take(alloc) else {
+        return NO_CALLER;
+    };
+    let result = session.outcome(message, words, count);
+    handle.put(session);
+    result
+}

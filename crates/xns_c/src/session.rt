@@ -1,0 +1,286 @@
+//! The side of a Courier conversation that calls. It reads no shapes: a call goes out with its words, and its answer comes as a message.
+
+ghost use Rattle.std.specs.Prelude.{◌≡◌, ◌≢◌, ◌<◌, ◌≤◌, ℕ, List, [], ◌∷◌, length, true, false, OnErr, IfOk, Some, None, Ok};
+ghost use Rattle.xns_spp.specs.declared.item.Item.{Item};
+ghost use Rattle.courier_calls.specs.declared.message.Message.{Message};
+ghost use Rattle.courier_calls.specs.Calls.{words_call};
+ghost use Rattle.courier_calls.specs.Cutting.{call_message};
+ghost use Rattle.courier_calls.specs.Head.{with_words};
+ghost use Rattle.courier_calls.specs.Message.{message_words};
+ghost use Rattle.courier_calls.specs.Refusal.{Follows};
+ghost use Rattle.xns_c.specs.Courier.{message_given, words_in};
+ghost use Rattle.xns_c.specs.Given.{GivesItem, IsPut};
+ghost use Rattle.xns_c.specs.Results.{ok, nothing, no_memory, short_buffer, stopped};
+ghost use Rattle.xns_c.specs.Talk.{Talk, new_talk, called, call_number, reply_fault, after_item, heard_number, session_fault_number, IsStopped};
+ghost use Rattle.xns_c.specs.Views.{item_given};
+
+use crate::courier::{message_fault_number, parts_of, put_words};
+use crate::flag::as_byte;
+use crate::front::put_front;
+use crate::item::XnsItem;
+use crate::message::XnsMessage;
+use crate::results::{BUSY, NO_MEMORY, NOTHING, OK, STOPPED, TOO_LONG};
+use courier_calls::{Head, Incoming, Message, SessionFault, cut};
+use std::alloc::{AllocError, Global};
+use std::collections::VecDeque;
+use std::marker::Model;
+use xns_spp::{Bytes, Item};
+
+/// The most words that a call may have: with six words before them they are 131,072 bytes.
+const MOST_WORDS: usize = 65_530;
+
+/// The side that calls, one call at a time.
+#[derive(Drop)]
+pub struct Session {
+    incoming: Incoming,
+    out: VecDeque<Item>,
+    failed: bool,
+    transaction: u16,
+    waiting: bool,
+    outcome: Option<Message>,
+}
+
+impl Model for Session {
+    ghost use Rattle.xns_c.specs.Talk.{Talk};
+
+    ghost Value = { Talk };
+
+    ghost view = { λ s. record { phase = s.incoming; out = s.out.items; failed = s.failed; transaction = s.transaction; waiting = s.waiting; outcome = s.outcome } };
+}
+
+/// The words of a call's message.
+fn call_words(
+    alloc: Global,
+    transaction: u16,
+    program: u32,
+    version: u16,
+    procedure: u16,
+    words: &[u16],
+) -> Result<Vec<u16>, AllocError>
+    ensures { IfOk result (λ w. w.items ≡ message_words (call_message transaction (words_call program version procedure words.now))) }
+{
+    let high = (program / 65536) as u16;
+    let low = (program % 65536) as u16;
+    let mut all = Vec::new(alloc);
+    all.extend_from_slice(&[0, transaction, high, low, version, procedure])?;
+    all.extend_from_slice(words)?;
+    Ok(all)
+}
+
+/// Why a message is no answer to the call that waits.
+fn reply_fault(head: Head, waiting: bool, expects: u16) -> Option<SessionFault>
+    ensures { (words : List ℕ) → result ≡ reply_fault waiting expects (with_words head words) }
+{
+    let found = match head {
+        Head::Call { .. } => return Some(SessionFault::BadReply),
+        Head::Reject { transaction, .. } => transaction,
+        Head::Return { transaction } => transaction,
+        Head::Abort { transaction, .. } => transaction,
+    };
+    if waiting && found == expects {
+        None
+    } else {
+        Some(SessionFault::WrongTransaction)
+    }
+}
+
+/// Why a session stops.
+fn session_fault_number(fault: SessionFault) -> u32
+    ensures number { result ≡ session_fault_number fault }
+    ensures large { 1 < result }
+{
+    match fault {
+        SessionFault::NoCommonVersion => 51,
+        SessionFault::BadVersions => 52,
+        SessionFault::BadMessage(fault) => message_fault_number(fault),
+        SessionFault::WrongTransaction => 53,
+        SessionFault::BadReply => 54,
+        SessionFault::Stream { kind: _ } => 55,
+        SessionFault::NoMemory => NO_MEMORY,
+        SessionFault::Failed => STOPPED,
+    }
+}
+
+/// An item of these parts, whose bytes are copied.
+fn copied_item(alloc: Global, stream: u8, last: u8, body: &[u8]) -> Result<Item, AllocError>
+    ensures { IfOk result (λ x. x ≡ item_given stream 0 last body.now) }
+{
+    let mut bytes = Vec::new(alloc);
+    bytes.extend_from_slice(body)?;
+    Ok(Item {
+        stream,
+        attention: false,
+        last: last != 0,
+        body: Bytes::new(bytes),
+    })
+}
+
+impl Session {
+    /// A session whose versions are out. The only error is want of memory.
+    pub fn new(alloc: Global) -> Result<Session, AllocError>
+        ensures { IfOk result (λ s. s ≡ new_talk) }
+    {
+        Ok(Session {
+            incoming: Incoming::new(alloc),
+            out: cut(alloc, &[3, 3])?,
+            failed: false,
+            transaction: 0,
+            waiting: false,
+            outcome: None,
+        })
+    }
+
+    /// Why a call of so many words can't be made now, or `OK`.
+    fn call_number(&self, count: usize) -> u32
+        ensures number { (program version procedure : ℕ) (words : List ℕ) → length words ≡ count → result ≡ call_number self.now (words_call program version procedure words) }
+        ensures apart { result ≢ no_memory }
+    {
+        if self.failed {
+            STOPPED
+        } else if self.waiting || self.outcome.is_some() {
+            BUSY
+        } else if count > MOST_WORDS {
+            TOO_LONG
+        } else {
+            OK
+        }
+    }
+
+    /// Puts the items of a call behind those that are to go out.
+    fn put_out(
+        &mut self,
+        alloc: Global,
+        program: u32,
+        version: u16,
+        procedure: u16,
+        words: &[u16],
+    ) -> Result<(), AllocError>
+        ensures called { result ≡ Ok tt → self.new ≡ called self.old (words_call program version procedure words.now) }
+        ensures unchanged { OnErr result (self.new ≡ self.old) }
+    {
+        let transaction = self.transaction.wrapping_add(1);
+        let all = call_words(alloc, transaction, program, version, procedure, words)?;
+        let mut items = cut(alloc, all.as_slice())?;
+        self.out.append(&mut items)?;
+        self.transaction = transaction;
+        self.waiting = true;
+        Ok(())
+    }
+
+    /// Puts out a call, and says by a number whether it did.
+    pub fn call(
+        &mut self,
+        alloc: Global,
+        program: u32,
+        version: u16,
+        procedure: u16,
+        words: &[u16],
+    ) -> u32
+        ensures number { result ≢ no_memory → result ≡ call_number self.old (words_call program version procedure words.now) }
+        ensures memory { result ≡ no_memory → call_number self.old (words_call program version procedure words.now) ≡ ok }
+        ensures called { result ≡ ok → self.new ≡ called self.old (words_call program version procedure words.now) }
+        ensures unchanged { result ≢ ok → self.new ≡ self.old }
+    {
+        let number = self.call_number(words.len());
+        if number != OK {
+            return number;
+        }
+        match self.put_out(alloc, program, version, procedure, words) {
+            Ok(()) => OK,
+            Err(_) => NO_MEMORY,
+        }
+    }
+
+    /// Gives the next item that is to go out, its bytes to the front of the buffer. Where the buffer is too short the item stays.
+    pub fn next_item(&mut self, item: &mut XnsItem, buffer: &mut [u8]) -> u32
+        ensures given { (x : Item) (xs : List Item) → self.old.out ≡ x ∷ xs → length x.body ≤ length buffer.old →
+            (result ≡ ok) × GivesItem x item.new × IsPut x.body buffer.old buffer.new item.new.length }
+        ensures rest { (x : Item) (xs : List Item) → self.old.out ≡ x ∷ xs → length x.body ≤ length buffer.old → self.new ≡ record self.old { out = xs } }
+        ensures short { (x : Item) (xs : List Item) → self.old.out ≡ x ∷ xs → length buffer.old < length x.body → result ≡ short_buffer }
+        ensures none { self.old.out ≡ [] → result ≡ nothing }
+        ensures unchanged { result ≢ ok → (self.new ≡ self.old) × (item.new ≡ item.old) × (buffer.new ≡ buffer.old) }
+    {
+        let Some(first) = self.out.front() else {
+            return NOTHING;
+        };
+        let mut length = 0;
+        let result = put_front(first.body.as_slice(), buffer, &mut length);
+        if result == OK {
+            *item = XnsItem {
+                stream: first.stream,
+                attention: as_byte(first.attention),
+                last: as_byte(first.last),
+                length,
+            };
+            let _ = self.out.pop_front();
+        }
+        result
+    }
+
+    /// Takes in one more item, whose bytes are copied, and keeps the answer that it ends.
+    fn take_item(
+        &mut self,
+        alloc: Global,
+        stream: u8,
+        last: u8,
+        body: &[u8],
+    ) -> Result<(), SessionFault>
+        ensures hears { Follows result (after_item self.old (item_given stream 0 last body.now)) self.new }
+        ensures beside { self.new ≡ record self.old { phase = self.new.phase; waiting = self.new.waiting; outcome = self.new.outcome } }
+        ensures same { OnErr result ((self.new.waiting ≡ self.old.waiting) × (self.new.outcome ≡ self.old.outcome)) }
+    {
+        let item = copied_item(alloc, stream, last, body)?;
+        let Some(message) = self.incoming.take(alloc, item)? else {
+            return Ok(());
+        };
+        let head = message.head();
+        if let Some(fault) = reply_fault(head, self.waiting, self.transaction) {
+            return Err(fault);
+        }
+        let words = message.words(alloc)?;
+        self.outcome = Some(head.with_words(words));
+        self.waiting = false;
+        Ok(())
+    }
+
+    /// Takes in one more item, and says by a number whether the session goes on. Where it does not each further item and call is refused.
+    #[tactic(auto, using(crate::proofs::Told::told))]
+    pub fn feed(&mut self, alloc: Global, stream: u8, last: u8, body: &[u8]) -> u32
+        ensures number { self.old.failed ≡ false → result ≢ no_memory → result ≡ heard_number (after_item self.old (item_given stream 0 last body.now)) }
+        ensures heard { result ≡ ok → after_item self.old (item_given stream 0 last body.now) ≡ Ok self.new }
+        ensures stops { result ≢ ok → IsStopped self.old self.new }
+        ensures refuses { self.old.failed ≡ true → (result ≡ stopped) × (self.new ≡ self.old) }
+    {
+        if self.failed {
+            return STOPPED;
+        }
+        match self.take_item(alloc, stream, last, body) {
+            Ok(()) => OK,
+            Err(fault) => {
+                self.failed = true;
+                session_fault_number(fault)
+            }
+        }
+    }
+
+    /// Gives the answer that is there, once, its words to the front of a buffer. Where the buffer is too short the answer stays.
+    pub fn outcome(&mut self, message: &mut XnsMessage, words: &mut [u16], count: &mut usize) -> u32
+        ensures given { (m : Message) → self.old.outcome ≡ Some m → length (words_in m) ≤ length words.old →
+            (result ≡ ok) × (message_given message.new (words_in m) ≡ Some m) × IsPut (words_in m) words.old words.new count.new }
+        ensures rest { result ≡ ok → self.new ≡ record self.old { outcome = None } }
+        ensures short { (m : Message) → self.old.outcome ≡ Some m → length words.old < length (words_in m) → result ≡ short_buffer }
+        ensures none { self.old.outcome ≡ None → result ≡ nothing }
+        ensures unchanged { result ≢ ok → (self.new ≡ self.old) × (message.new ≡ message.old) × (words.new ≡ words.old) × (count.new ≡ count.old) }
+    {
+        let Some(found) = &self.outcome else {
+            return NOTHING;
+        };
+        let (head, rest) = parts_of(found);
+        let result = put_words(rest, words, count);
+        if result == OK {
+            *message = head;
+            self.outcome = None;
+        }
+        result
+    }
+}
