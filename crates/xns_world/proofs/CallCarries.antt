@@ -1,6 +1,6 @@
 -- What is true of a world of calls stays true as a side takes a step.
 use Rattle.std.proofs.Common.{◌≡◌, ℕ, ◌≤◌, true, List, [], ◌∷◌, ◌++◌, length, take, Some, None, refl, sym, ◌∙◌, ap, subst, arith}
-use Rattle.std.specs.Prelude.{slice_get, All, nat_lt, ◌==◌}
+use Rattle.std.specs.Prelude.{slice_get, All, nat_lt, ◌==◌, is_ok}
 use Rattle.std.proofs.lemmas.Bool.{ltb-true, and_parts}
 use Rattle.std.proofs.lemmas.List.Elements.{All-take, All-weaker}
 use Rattle.std.proofs.lemmas.List.{take_all, take-append-le}
@@ -10,12 +10,13 @@ use Rattle.courier_calls.specs.Caller.{answers}
 use Rattle.courier_calls.specs.Laws.{SidesAgree, IsSendableItem}
 use Rattle.courier_calls.specs.Server.{server_items}
 use Rattle.xns_spp.specs.Item.{IsItem, IsShortItem}
-use Rattle.xns_spp.specs.Sending.{send_fault, take_answer}
+use Rattle.xns_spp.specs.Sending.{send_answer, take_answer}
 use Rattle.xns_spp.specs.declared.item.Item.{Item}
-use Rattle.xns_world.proofs.Fronts.{begins_itself, begins_then, begins_length, element}
+use Rattle.xns_world.proofs.Fronts.{begins_itself, begins_then, begins_length, element, begins_more}
 use Rattle.xns_world.specs.declared.side.Side.{Side}
 use Rattle.xns_world.specs.declared.side.Side.TheVariants.{A, B}
-use Rattle.xns_world.specs.Invariant.{Begins, Holds}
+use Rattle.xns_spp.specs.Growth.{Begins}
+use Rattle.xns_world.specs.Invariant.{Holds}
 use Rattle.xns_world.specs.World.{World, end_of, sends, takes, sent_at, handed_at}
 use Rattle.xns_world.specs.CallLaws.{Given}
 use Rattle.xns_world.proofs.CallQuiet.{IsQuiet, Accepts, send_accepts, HandsUp, take_hands_up, one_more}
@@ -54,16 +55,6 @@ quiet_holds p w v h holds q = grown p w v h holds q.handed (λ t. subst (λ (l :
 
 -- ---- an item that is out is sent
 
-rest_more : (xs rest : List Item) (x : Item) → slice_get (xs ++ rest) (length xs) ≡ Some x → (r : List Item) × ((xs ++ x ∷ []) ++ r ≡ xs ++ rest)
-rest_more [] [] x h = absurd (cc)
-rest_more [] (y ∷ rest) x h = (rest, cc)
-rest_more (z ∷ xs) rest x h = let more = rest_more xs rest x h in (more.0, ap (λ (l : List Item). z ∷ l) more.1)
-
-begins_more : (xs ys : List Item) (x : Item) → Begins xs ys → slice_get ys (length xs) ≡ Some x → Begins (xs ++ x ∷ []) ys
-begins_more xs ys x b h =
-    let more = rest_more xs b.0 x (subst (λ (l : List Item). slice_get l (length xs) ≡ Some x) (sym b.1) h) in
-    (more.0, more.1 ∙ b.1)
-
 -- of a list whose elements are short items, a front is of items
 begun_items : (xs ys : List Item) → Begins xs ys → All IsShortItem ys → All IsItem xs
 begun_items xs ys b h =
@@ -72,9 +63,9 @@ begun_items xs ys b h =
     All-weaker IsShortItem IsItem (λ x i. i.fits) xs (subst (All IsShortItem) front (All-take IsShortItem (length xs) (xs ++ b.0) all))
 
 out_pieces : {S : Type 0} (p : Parties S) (w : CallWorld) (side : Side) → Given p → CallsHold p w → All IsSendableItem (put_out p w side)
-out_pieces p w A g h = g.pieces.caller (calls_made p w) (All-take IsFitting w.made p.calls g.fitting)
+out_pieces p w A g h = g.answering.pieces.caller (calls_made p w) (All-take IsFitting w.made p.calls g.fitting)
 out_pieces p w B g h =
-    g.pieces.server (handed_at w.world B)
+    g.answering.pieces.server (handed_at w.world B)
     (begun_items (handed_at w.world B) (sent_at w.world A) (g.world.order w.world B h.holds) (h.holds.ends A).fits.items)
 
 pub at_place : (xs : List Item) (k : ℕ) (x : Item) → slice_get xs k ≡ Some x → All IsSendableItem xs → IsSendableItem x
@@ -89,9 +80,9 @@ sent_out p w A x is a h B = subst (λ (l : List Item). Begins l (put_out p w B))
 sent_out p w B x is a h A = subst (λ (l : List Item). Begins l (put_out p w A)) (sym a.there) (h.out A)
 sent_out p w B x is a h B = subst (λ (l : List Item). Begins l (put_out p w B)) (sym a.here) (begins_more (sent_at w.world B) (put_out p w B) x (h.out B) is)
 
-pub sends_hold : {S : Type 0} (p : Parties S) (w : CallWorld) (side : Side) (x : Item) → Given p → CallsHold p w → next_out p w side ≡ Some x → send_fault (end_of w.world side) x ≡ None → CallsHold p (sends_next w side x)
+pub sends_hold : {S : Type 0} (p : Parties S) (w : CallWorld) (side : Side) (x : Item) → Given p → CallsHold p w → next_out p w side ≡ Some x → is_ok (send_answer (end_of w.world side) x) ≡ true → CallsHold p (sends_next w side x)
 sends_hold p w side x g h is ok =
-    let a = send_accepts w.world side x ok in
+    let a = send_accepts g.answering.ends w.world side x ok in
     let piece = next_piece p w side x g h is in
     grown p w (sends w.world side x) h (g.world.send w.world side x piece.short.fits h.holds) a.handed (sent_out p w side x is a h)
 
@@ -114,7 +105,7 @@ fed_out p w B x g u h B =
 
 pub feeds_hold : {S : Type 0} (p : Parties S) (w : CallWorld) (side : Side) (x : Item) → Given p → CallsHold p w → take_answer (end_of w.world side) ≡ Some x → CallsHold p (feeds w side)
 feeds_hold p w side x g h is =
-    let u = take_hands_up w.world side x is in
+    let u = take_hands_up g.answering.ends w.world side x is in
     let more = begins_length (outcomes_read p w) (outcomes_read p (feeds w side)) (read_more p w side x g u) in
     record { holds = g.world.take w.world side h.holds; out = fed_out p w side x g u h; made = h.made; listed = omega (arith, more, h.listed) }
 

@@ -1,6 +1,6 @@
 -- What the two ends of a play of calls stand for after each step.
 use Rattle.std.proofs.Common.{◌≡◌, ℕ, zero, suc, ◌+◌, ◌-◌, ◌<◌, ◌≤◌, Bool, true, false, List, [], ◌∷◌, ◌++◌, length, map, take, Option, Some, None, Result, Ok, Err, refl, sym, ◌∙◌, ap, subst, arith, length-append}
-use Rattle.std.specs.Prelude.{slice_get, nat_lt, ◌==◌, ◌&&◌, if◌then◌else◌, IfOk}
+use Rattle.std.specs.Prelude.{slice_get, nat_lt, ◌==◌, ◌&&◌, if◌then◌else◌, IfOk, is_some}
 use Rattle.std.specs.Option.{option_to_list}
 use Rattle.std.proofs.lemmas.Bool.{le-ltb, lt-ltb, ltb-true, ltb-false, eq-eqb, ne_eqb}
 use Rattle.std.proofs.lemmas.List.{take_all, take-append-le, length-take-le, map-append, length-map}
@@ -12,23 +12,23 @@ use Rattle.courier_calls.specs.declared.call.Call.{Call}
 use Rattle.courier_calls.specs.declared.call.Seen.{Seen}
 use Rattle.courier_calls.specs.declared.caller.Caller.{Caller}
 use Rattle.xns_spp.specs.Held.{Held, StandsFor}
-use Rattle.xns_spp.specs.Sending.{is_full, waiting_count, after_send, take_answer, handing, after_take}
+use Rattle.xns_spp.specs.Sending.{is_full, waiting_count, after_send, take_answer, after_take}
 use Rattle.xns_spp.specs.State.{State}
 use Rattle.xns_spp.specs.declared.item.Item.{Item}
 use Rattle.xns_world.proofs.CallCarries.{next_piece, calls, read_more}
 use Rattle.xns_world.proofs.CallQuiet.{not_refused, one_more, send_accepts, take_hands_up}
-use Rattle.xns_world.proofs.CallSettling.{steps_are}
 use Rattle.xns_world.proofs.Fronts.{element}
 use Rattle.xns_world.specs.declared.side.Side.{Side}
 use Rattle.xns_world.specs.declared.calling.CallingEnd.{CallingEnd}
 use Rattle.xns_world.specs.declared.side.Side.TheVariants.{A}
-use Rattle.xns_world.specs.Invariant.{Begins}
+use Rattle.xns_spp.specs.Growth.{Begins}
 use Rattle.xns_world.specs.CallLaws.{Given}
 use Rattle.xns_world.specs.CallOrder.{CallsHold}
-use Rattle.xns_world.specs.CallPlay.{IsCalling, Stepped}
-use Rattle.xns_world.specs.CallWorld.{Parties, CallWorld, or_caller, calls_made, next_out, outcomes_read, sends_next, feeds, lists, makes, has_outcome, may_call, caller_step, step_with, step, onward, steps, stepped_out, seen_at}
-use Rattle.xns_world.specs.Settling.{most_steps}
+use Rattle.xns_world.specs.CallPlay.{IsCalling}
+use Rattle.xns_world.specs.CallWorld.{Parties, CallWorld, or_caller, calls_made, next_out, outcomes_read, sends_next, feeds, lists, makes, has_outcome, may_call, caller_step, step_with, step, seen_at}
+use Rattle.xns_world.specs.Settling.{most_steps, Stepped}
 use Rattle.xns_world.specs.World.{World, sends, takes, sent_at, handed_at}
+use Rattle.xns_world.specs.EndLaws.{EndLaws}
 
 -- ---- what is out
 
@@ -78,8 +78,7 @@ pub calling_sends : {S : Type 0} (p : Parties S) (e : CallingEnd) (w : CallWorld
     → caller.StandsFor p.serving.table (caller.held new) (calls_made p w) (handed_at w.world A) (sent_at w.world A ++ x ∷ []) (seen_at p w)
     → IsCalling p (record e { endpoint = endpoint; caller = new }) (sends_next w A x)
 calling_sends p e w x endpoint new g holds h is full stands session =
-    let ok = not_refused w.world.a x (next_piece p w A x g holds is) full in
-    let a = send_accepts w.world A x ok in
+    let a = send_accepts g.answering.ends w.world A x (not_refused g.answering.ends w.world.a x (next_piece p w A x g holds is) full) in
     let v : World = sends w.world A x in
     let here : caller.StandsFor p.serving.table (caller.held new) (calls_made p w) (handed_at w.world A) (sent_at v A) (seen_at p w) =
     subst (λ (l : List Item). caller.StandsFor p.serving.table (caller.held new) (calls_made p w) (handed_at w.world A) l (seen_at p w)) (sym a.here) session in
@@ -92,24 +91,16 @@ calling_sends p e w x endpoint new g holds h is full stands session =
 
 -- ---- an item is fed
 
-pub not_waiting : (s : State) → None ≡ take_answer s → nat_lt 0 (waiting_count s) ≡ false
-not_waiting s is =
-    let waits : ℕ = waiting_count s in
-    elim (nat_lt 0 waits) as (λ v. nat_lt 0 waits ≡ v → v ≡ false) [
-      | true ↦ λ t. let more = ltb-true 0 waits t in let e = element s.taken s.handed (omega (arith, more)) in absurd (let f = e.1 in cc)
-      | false ↦ λ t. refl
-    ] refl
+pub not_waiting : EndLaws → (s : State) → None ≡ take_answer s → nat_lt 0 (waiting_count s) ≡ false
+not_waiting laws s is = laws.waits s ∙ ap is_some (sym is)
 
-pub is_waiting : (s : State) (x : Item) → Some x ≡ take_answer s → nat_lt 0 (waiting_count s) ≡ true
-is_waiting s x is = let less = slice_get_within s.taken s.handed x (sym is) in lt-ltb 0 (waiting_count s) (omega (arith, less))
+pub is_waiting : EndLaws → (s : State) (x : Item) → Some x ≡ take_answer s → nat_lt 0 (waiting_count s) ≡ true
+is_waiting laws s x is = laws.waits s ∙ ap is_some (sym is)
 
-pub none_taken : (s : State) → None ≡ take_answer s → after_take s ≡ s
-none_taken s is = ap (λ (o : Option Item). handing o s) (sym is)
-
-pub calling_none : {S : Type 0} (p : Parties S) (e : CallingEnd) (w : CallWorld) (endpoint : Held) → IsCalling p e w → None ≡ take_answer w.world.a → StandsFor endpoint (after_take w.world.a)
+pub calling_none : {S : Type 0} (p : Parties S) (e : CallingEnd) (w : CallWorld) (endpoint : Held) → Given p → IsCalling p e w → None ≡ take_answer w.world.a → StandsFor endpoint (after_take w.world.a)
     → (false ≡ nat_lt 0 (waiting_count w.world.a)) × IsCalling p (record e { endpoint = endpoint }) w
-calling_none p e w endpoint h is stands =
-    (sym (not_waiting w.world.a is), record { stands = subst (λ (s : State). StandsFor endpoint s) (none_taken w.world.a is) stands; session = h.session; made = h.made; seen = h.seen })
+calling_none p e w endpoint g h is stands =
+    (sym (not_waiting g.answering.ends w.world.a is), record { stands = subst (λ (s : State). StandsFor endpoint s) (g.answering.ends.none w.world.a (sym is)) stands; session = h.session; made = h.made; seen = h.seen })
 
 front_same : (n : ℕ) (xs ys : List SeenModel) → Begins xs ys → n ≤ length xs → take n ys ≡ take n xs
 front_same n xs ys b h = ap (take n) (sym b.1) ∙ take-append-le n xs b.0 h
@@ -119,14 +110,14 @@ pub calling_feeds : {S : Type 0} (p : Parties S) (e : CallingEnd) (w : CallWorld
     → caller.StandsFor p.serving.table (caller.held new) (calls_made p w) (handed_at w.world A ++ x ∷ []) (sent_at w.world A) (seen_at p w)
     → (true ≡ nat_lt 0 (waiting_count w.world.a)) × IsCalling p (record e { endpoint = endpoint; caller = new }) (feeds w A)
 calling_feeds p e w x endpoint new g holds h is stands session =
-    let u = take_hands_up w.world A x (sym is) in
+    let u = take_hands_up g.answering.ends w.world A x (sym is) in
     let v : World = takes w.world A in
     let same : seen_at p (feeds w A) ≡ seen_at p w = front_same w.listed (outcomes_read p w) (outcomes_read p (feeds w A)) (read_more p w A x g u) holds.listed in
     let fed : caller.StandsFor p.serving.table (caller.held new) (calls_made p w) (handed_at v A) (sent_at w.world A) (seen_at p w) =
     subst (λ (l : List Item). caller.StandsFor p.serving.table (caller.held new) (calls_made p w) l (sent_at w.world A) (seen_at p w)) (sym u.here) session in
     let put : caller.StandsFor p.serving.table (caller.held new) (calls_made p w) (handed_at v A) (sent_at v A) (seen_at p w) =
     subst (λ (l : List Item). caller.StandsFor p.serving.table (caller.held new) (calls_made p w) (handed_at v A) l (seen_at p w)) (sym (u.accepted A)) fed in (
-      sym (is_waiting w.world.a x is),
+      sym (is_waiting g.answering.ends w.world.a x is),
       record {
         stands = stands;
         session = subst (λ (l : List SeenModel). caller.StandsFor p.serving.table (caller.held new) (calls_made p w) (handed_at v A) (sent_at v A) l) (sym same) put;
@@ -197,6 +188,12 @@ fed_or_not : {S : Type 0} (p : Parties S) (w : CallWorld) (b c : Bool) (P : Call
 fed_or_not p w b true P h = h
 fed_or_not p w b false P h = h
 
+pub stepped_feed : {S : Type 0} (p : Parties S) (w : CallWorld) (b : Bool) (P : CallWorld → Type 0) → b ≡ true → (b ≡ nat_lt 0 (waiting_count w.world.a)) × P (if b then feeds w A else w)
+    → Stepped true w (if nat_lt 0 (waiting_count w.world.a) then Some (feeds w A) else caller_step p w A) P
+stepped_feed p w b P is h =
+    subst (λ (c : Bool). Stepped true w (if c then Some (feeds w A) else caller_step p w A) P) (sym is ∙ h.0)
+    (subst (λ (c : Bool). P (if c then feeds w A else w)) is h.1)
+
 pub stepped_none : {S : Type 0} (p : Parties S) (w : CallWorld) (b : Bool) (P : CallWorld → Type 0) → next_out p w A ≡ None
     → Stepped b w (if nat_lt 0 (waiting_count w.world.a) then Some (feeds w A) else caller_step p w A) P → Stepped b w (step p A w) P
 stepped_none p w b P is h = subst (λ (o : Option Item). Stepped b w (step_with p w A o) P) (sym is) (fed_or_not p w b (nat_lt 0 (waiting_count w.world.a)) P h)
@@ -230,38 +227,6 @@ nothing_out (x ∷ out) h = absurd (let l = ltb-false 0 (length (x ∷ out)) h i
 pub something_out : (out : List Item) → nat_lt 0 (length out) ≡ true → (x : Item) × (slice_get out 0 ≡ Some x)
 something_out [] h = absurd (let l = ltb-true 0 (length {A = Item} []) h in omega arith)
 something_out (x ∷ out) h = (x, refl)
-
--- ---- many steps
-
-pub stepped_on : (w : CallWorld) (o : Option CallWorld) (P : CallWorld → Type 0) → Stepped true w o P → P (onward w o)
-stepped_on w None P h = absurd h
-stepped_on w (Some v) P h = h
-
-pub record Stopped (w : CallWorld) (o : Option CallWorld) (P : CallWorld → Type 0) : Type 0 where
-  pub none : o ≡ None
-  pub here : P w
-
-pub stepped_not : (w : CallWorld) (o : Option CallWorld) (P : CallWorld → Type 0) → Stepped false w o P → Stopped w o P
-stepped_not w None P h = record { none = refl; here = h }
-stepped_not w (Some v) P h = absurd h
-
--- where no step applies the world stays
-steps_stay : {S : Type 0} (p : Parties S) (side : Side) (w : CallWorld) (n k m : ℕ) → m ≡ k + n → step p side (steps p side w n) ≡ None → steps p side w m ≡ steps p side w n
-steps_stay p side w n zero m is none = let e : m ≡ n = omega arith in ap (λ (i : ℕ). steps p side w i) e
-steps_stay p side w n (suc k) m is none =
-    let e : m ≡ suc (k + n) = omega arith in
-    let same = steps_stay p side w n k (k + n) refl none in
-    ap (λ (i : ℕ). steps p side w i) e
-    ∙ (ap (λ (v : CallWorld). onward v (step p side v)) same
-    ∙ ap (λ (o : Option CallWorld). onward (steps p side w n) o) none)
-
-pub stepped_all : {S : Type 0} (p : Parties S) (side : Side) (w : CallWorld) (n : ℕ) → n ≤ 257 → step p side (steps p side w n) ≡ None → steps p side w n ≡ stepped_out p side w
-stepped_all p side w n h none =
-    let count : most_steps ≡ (257 - n) + n = omega (arith, steps_are) in
-    sym (steps_stay p side w n (257 - n) most_steps count none)
-
-pub stepped_end : {S : Type 0} (p : Parties S) (side : Side) (w : CallWorld) (n : ℕ) → n ≡ 257 → steps p side w n ≡ stepped_out p side w
-stepped_end p side w n is = let e : n ≡ most_steps = omega (arith, steps_are) in ap (λ (k : ℕ). steps p side w k) e
 
 -- ---- what a call's clauses leave
 

@@ -17,7 +17,6 @@ use Rattle.xns_spp.specs.declared.item.Item.{Item}
 use Rattle.xns_world.proofs.CallQuiet.{IsQuiet, flush_quiet, tick_quiet, land_quiet}
 use Rattle.xns_world.proofs.CallRuns.{LeavesCaller, server_steps, quiet_between}
 use Rattle.xns_world.proofs.CallSettling.{steps_hold}
-use Rattle.xns_world.proofs.Continues.{send_same, take_same}
 use Rattle.xns_world.proofs.Later.{Later, later_itself, later_then, moved_later, flushes_later, landing_later}
 use Rattle.xns_world.proofs.Networks.{quiet, lands_as}
 use Rattle.xns_world.proofs.Plays.{no_landing}
@@ -32,17 +31,19 @@ use Rattle.xns_world.specs.declared.network.Network.{Network}
 use Rattle.xns_world.specs.declared.serving.ServingEnd.{ServingEnd}
 use Rattle.xns_world.specs.declared.side.Side.{Side}
 use Rattle.xns_world.specs.declared.side.Side.TheVariants.{A, B}
-use Rattle.xns_world.specs.Invariant.{Begins, Holds}
+use Rattle.xns_spp.specs.Growth.{Begins}
+use Rattle.xns_world.specs.Invariant.{Holds}
 use Rattle.xns_world.specs.Landing.{landing, end_reached}
 use Rattle.xns_world.specs.Network.{IsNetwork, IsEnd}
 use Rattle.xns_world.specs.Side.{other}
 use Rattle.xns_world.specs.CallLaws.{Given}
 use Rattle.xns_world.specs.CallOrder.{IsBetween, AreOnceInOrder}
 use Rattle.xns_world.specs.CallPlay.{IsCalling, IsServing, IsCallPlaying, IsReady, IsCallTrace, IsOnceInOrder, parties}
-use Rattle.xns_world.specs.CallWorld.{Parties, CallWorld, or_caller, calls_made, next_out, outcomes_read, in_world, lists, makes, has_outcome, may_call, caller_step, step_with, onward, steps, stepped_out, settles, arrived, delivers, seen_at, carried_at}
-use Rattle.xns_world.specs.Settling.{most_steps}
+use Rattle.xns_world.specs.CallWorld.{Parties, CallWorld, or_caller, calls_made, next_out, outcomes_read, in_world, lists, makes, has_outcome, may_call, caller_step, step_with, settles, arrived, delivers, seen_at, carried_at, step}
+use Rattle.xns_world.specs.Settling.{most_steps, onward, steps, stepped_out}
 use Rattle.xns_world.specs.ServeEnd.{IsServed}
 use Rattle.xns_world.specs.World.{World, end_of, moved, flushes, ticks, marked, handed_at, sent_at}
+use Rattle.xns_world.specs.EndLaws.{EndLaws}
 
 -- ---- what the steps of a side leave
 
@@ -76,25 +77,25 @@ caller_leaves : {S : Type 0} (p : Parties S) (side : Side) (w : CallWorld) → L
 caller_leaves p A w = calling_leaves p w (has_outcome p w) (may_call p w)
 caller_leaves p B w = leaves_same B w w refl
 
-send_leaves : {S : Type 0} (p : Parties S) (side : Side) (w : CallWorld) (x : Item) (b : Bool) → Leaves side w (onward w (or_caller p w side (if b then None else Some (after_send (end_of w.world side) x))))
-send_leaves p side w x true = caller_leaves p side w
-send_leaves p side w x false = leaves_moved side w (after_send (end_of w.world side) x) (send_same (end_of w.world side) x)
+send_leaves : {S : Type 0} → EndLaws → (p : Parties S) (side : Side) (w : CallWorld) (x : Item) (b : Bool) → Leaves side w (onward w (or_caller p w side (if b then None else Some (after_send (end_of w.world side) x))))
+send_leaves laws p side w x true = caller_leaves p side w
+send_leaves laws p side w x false = leaves_moved side w (after_send (end_of w.world side) x) (laws.send_hears (end_of w.world side) x).taken
 
-feed_leaves : {S : Type 0} (p : Parties S) (side : Side) (w : CallWorld) (b : Bool) → Leaves side w (onward w (or_caller p w side (if b then Some (after_take (end_of w.world side)) else None)))
-feed_leaves p side w true = leaves_moved side w (after_take (end_of w.world side)) (take_same (end_of w.world side))
-feed_leaves p side w false = caller_leaves p side w
+feed_leaves : {S : Type 0} → EndLaws → (p : Parties S) (side : Side) (w : CallWorld) (b : Bool) → Leaves side w (onward w (or_caller p w side (if b then Some (after_take (end_of w.world side)) else None)))
+feed_leaves laws p side w true = leaves_moved side w (after_take (end_of w.world side)) (laws.take_hears (end_of w.world side)).taken
+feed_leaves laws p side w false = caller_leaves p side w
 
-step_leaves : {S : Type 0} (p : Parties S) (side : Side) (w : CallWorld) (o : Option Item) → Leaves side w (onward w (step_with p w side o))
-step_leaves p side w (Some x) = send_leaves p side w x (is_full (end_of w.world side))
-step_leaves p side w None = feed_leaves p side w (nat_lt 0 (waiting_count (end_of w.world side)))
+step_leaves : {S : Type 0} → EndLaws → (p : Parties S) (side : Side) (w : CallWorld) (o : Option Item) → Leaves side w (onward w (step_with p w side o))
+step_leaves laws p side w (Some x) = send_leaves laws p side w x (is_full (end_of w.world side))
+step_leaves laws p side w None = feed_leaves laws p side w (nat_lt 0 (waiting_count (end_of w.world side)))
 
-pub steps_leave : {S : Type 0} (p : Parties S) (side : Side) (w : CallWorld) (n : ℕ) → Leaves side w (steps p side w n)
-steps_leave p side w zero = leaves_same side w w refl
-steps_leave p side w (suc n) =
-    let v = steps p side w n in
+pub steps_leave : {S : Type 0} → EndLaws → (p : Parties S) (side : Side) (w : CallWorld) (n : ℕ) → Leaves side w (steps (step p side) w n)
+steps_leave laws p side w zero = leaves_same side w w refl
+steps_leave laws p side w (suc n) =
+    let v = steps (step p side) w n in
     let u = onward v (step_with p v side (next_out p v side)) in
-    let before = steps_leave p side w n in
-    let now = step_leaves p side v (next_out p v side) in
+    let before = steps_leave laws p side w n in
+    let now = step_leaves laws p side v (next_out p v side) in
     record { there = now.there ∙ before.there; network = λ m h. now.network m (before.network m h); later = later_then w.world v.world u.world before.later now.later }
 
 -- ---- an end whose world goes on elsewhere
@@ -139,36 +140,36 @@ quiet_serving p e w u endpoint q stands h = served_on p.serving p.service e w.wo
 -- ---- a side settles
 
 pub settled_a : {S : Type 0} (p : Parties S) (play : CallPlay S) (w : CallWorld) (a : CallingEnd) (endpoint : Held) (network : Network) → Given p → IsBetween p w → IsCallPlaying p play w
-    → IsCalling p a (stepped_out p A w) → IsEnd endpoint network (flushes (stepped_out p A w).world A) A
+    → IsCalling p a (stepped_out (step p A) w) → IsEnd endpoint network (flushes (stepped_out (step p A) w).world A) A
     → IsCallPlaying p (record play { a = record a { endpoint = endpoint }; network = network }) (settles p A w)
 settled_a p play w a endpoint network g b h i end =
-    let v = stepped_out p A w in
+    let v = stepped_out (step p A) w in
     let holds = (steps_hold p A w most_steps g b.holds).holds in
     record {
-      a = quiet_calling p a v (flushes v.world A) endpoint (flush_quiet v.world A holds) end.stands i;
-      b = other_serving p play.b w (settles p A w) (steps_leave p A w most_steps).there h.b;
+      a = quiet_calling p a v (flushes v.world A) endpoint (flush_quiet g.answering.ends v.world A holds) end.stands i;
+      b = other_serving p play.b w (settles p A w) (steps_leave g.answering.ends p A w most_steps).there h.b;
       network = end.network;
     }
 
 pub settled_b : {S : Type 0} (p : Parties S) (play : CallPlay S) (w : CallWorld) (s : ServingEnd S) (endpoint : Held) (network : Network) → Given p → IsBetween p w → IsCallPlaying p play w
-    → IsServing p s (stepped_out p B w) → IsEnd endpoint network (flushes (stepped_out p B w).world B) B
+    → IsServing p s (stepped_out (step p B) w) → IsEnd endpoint network (flushes (stepped_out (step p B) w).world B) B
     → IsCallPlaying p (record play { b = record s { endpoint = endpoint }; network = network }) (settles p B w)
 settled_b p play w s endpoint network g b h i end =
-    let v = stepped_out p B w in
+    let v = stepped_out (step p B) w in
     let l = server_steps p w most_steps in
     let holds = (steps_hold p B w most_steps g b.holds).holds in
     record {
       a = other_calling p play.a w (settles p B w) (record { world = l.world; made = l.made; listed = l.listed }) h.a;
-      b = quiet_serving p s v (flushes v.world B) endpoint (flush_quiet v.world B holds) end.stands i;
+      b = quiet_serving p s v (flushes v.world B) endpoint (flush_quiet g.answering.ends v.world B holds) end.stands i;
       network = end.network;
     }
 
 -- the end as it stands before it flushes
-pub stepped_end_a : {S : Type 0} (p : Parties S) (play : CallPlay S) (w : CallWorld) (a : CallingEnd) → IsCallPlaying p play w → IsCalling p a (stepped_out p A w) → IsEnd a.endpoint play.network (stepped_out p A w).world A
-stepped_end_a p play w a h i = record { stands = i.stands; network = (steps_leave p A w most_steps).network play.network h.network }
+pub stepped_end_a : {S : Type 0} (p : Parties S) (play : CallPlay S) → EndLaws → (w : CallWorld) (a : CallingEnd) → IsCallPlaying p play w → IsCalling p a (stepped_out (step p A) w) → IsEnd a.endpoint play.network (stepped_out (step p A) w).world A
+stepped_end_a p play laws w a h i = record { stands = i.stands; network = (steps_leave laws p A w most_steps).network play.network h.network }
 
-pub stepped_end_b : {S : Type 0} (p : Parties S) (play : CallPlay S) (w : CallWorld) (s : ServingEnd S) → IsCallPlaying p play w → IsServing p s (stepped_out p B w) → IsEnd s.endpoint play.network (stepped_out p B w).world B
-stepped_end_b p play w s h i = record { stands = i.stands; network = (steps_leave p B w most_steps).network play.network h.network }
+pub stepped_end_b : {S : Type 0} (p : Parties S) (play : CallPlay S) → EndLaws → (w : CallWorld) (s : ServingEnd S) → IsCallPlaying p play w → IsServing p s (stepped_out (step p B) w) → IsEnd s.endpoint play.network (stepped_out (step p B) w).world B
+stepped_end_b p play laws w s h i = record { stands = i.stands; network = (steps_leave laws p B w most_steps).network play.network h.network }
 
 -- ---- a packet is delivered
 
@@ -211,14 +212,14 @@ pub landed_a : {S : Type 0} (serving : Serving S) (cs : List Call) (p : Parties 
     → Heard serving cs p (record play { a = record play.a { endpoint = endpoint }; network = network }) (in_world w u)
 landed_a serving cs p play w k u endpoint network r h came end =
     let holds = r.between.holds.holds in
-    heard_a serving cs p play w u endpoint network r h (r.given.world.land w.world k (A, u) holds came) (land_quiet w.world k (A, u) holds came) (landed_other w.world u A k came) end
+    heard_a serving cs p play w u endpoint network r h (r.given.world.land w.world k (A, u) holds came) (land_quiet r.given.answering.ends w.world k (A, u) holds came) (landed_other w.world u A k came) end
 
 pub landed_b : {S : Type 0} (serving : Serving S) (cs : List Call) (p : Parties S) (play : CallPlay S) (w : CallWorld) (k : ℕ) (u : World) (endpoint : Held) (network : Network) → IsReady serving cs p w → IsCallPlaying p play w
     → landing w.world k ≡ Some (B, u) → IsEnd endpoint network u B
     → Heard serving cs p (record play { b = record play.b { endpoint = endpoint }; network = network }) (in_world w u)
 landed_b serving cs p play w k u endpoint network r h came end =
     let holds = r.between.holds.holds in
-    heard_b serving cs p play w u endpoint network r h (r.given.world.land w.world k (B, u) holds came) (land_quiet w.world k (B, u) holds came) (landed_other w.world u B k came) end
+    heard_b serving cs p play w u endpoint network r h (r.given.world.land w.world k (B, u) holds came) (land_quiet r.given.answering.ends w.world k (B, u) holds came) (landed_other w.world u B k came) end
 
 pub delivers_to : {S : Type 0} (p : Parties S) (w : CallWorld) (k : ℕ) (side : Side) (u : World) → landing w.world k ≡ Some (side, u) → settles p side (in_world w u) ≡ delivers p w k
 delivers_to p w k side u lands = sym (ap (λ (o : Option (Side × World)). arrived p w o) lands)
@@ -235,27 +236,27 @@ pub ticked_a : {S : Type 0} (serving : Serving S) (cs : List Call) (p : Parties 
     → IsEnd endpoint network (ticks w.world A) A → Heard serving cs p (record play { a = record play.a { endpoint = endpoint }; network = network }) (in_world w (ticks w.world A))
 ticked_a serving cs p play w endpoint network r h end =
     let holds = r.between.holds.holds in
-    heard_a serving cs p play w (ticks w.world A) endpoint network r h (r.given.world.tick w.world A holds) (tick_quiet w.world A holds) refl end
+    heard_a serving cs p play w (ticks w.world A) endpoint network r h (r.given.world.tick w.world A holds) (tick_quiet r.given.answering.ends w.world A holds) refl end
 
 pub ticked_b : {S : Type 0} (serving : Serving S) (cs : List Call) (p : Parties S) (play : CallPlay S) (w : CallWorld) (endpoint : Held) (network : Network) → IsReady serving cs p w → IsCallPlaying p play w
     → IsEnd endpoint network (ticks w.world B) B → Heard serving cs p (record play { b = record play.b { endpoint = endpoint }; network = network }) (in_world w (ticks w.world B))
 ticked_b serving cs p play w endpoint network r h end =
     let holds = r.between.holds.holds in
-    heard_b serving cs p play w (ticks w.world B) endpoint network r h (r.given.world.tick w.world B holds) (tick_quiet w.world B holds) refl end
+    heard_b serving cs p play w (ticks w.world B) endpoint network r h (r.given.world.tick w.world B holds) (tick_quiet r.given.answering.ends w.world B holds) refl end
 
 -- ---- deliveries in turn
 
-settles_later : {S : Type 0} (p : Parties S) (side : Side) (w : CallWorld) → Later w.world (settles p side w).world
-settles_later p side w =
-    let v = stepped_out p side w in
-    later_then w.world v.world (flushes v.world side) (steps_leave p side w most_steps).later (flushes_later v.world side)
+settles_later : {S : Type 0} → EndLaws → (p : Parties S) (side : Side) (w : CallWorld) → Later w.world (settles p side w).world
+settles_later laws p side w =
+    let v = stepped_out (step p side) w in
+    later_then w.world v.world (flushes v.world side) (steps_leave laws p side w most_steps).later (flushes_later laws v.world side)
 
-arrived_later : {S : Type 0} (p : Parties S) (w : CallWorld) (k : ℕ) (o : Option (Side × World)) → landing w.world k ≡ o → Later w.world (arrived p w o).world
-arrived_later p w k None e = later_itself w.world
-arrived_later p w k (Some l) e = later_then w.world l.1 (arrived p w (Some l)).world (landing_later w.world k l e) (settles_later p l.0 (in_world w l.1))
+arrived_later : {S : Type 0} → EndLaws → (p : Parties S) (w : CallWorld) (k : ℕ) (o : Option (Side × World)) → landing w.world k ≡ o → Later w.world (arrived p w o).world
+arrived_later laws p w k None e = later_itself w.world
+arrived_later laws p w k (Some l) e = later_then w.world l.1 (arrived p w (Some l)).world (landing_later laws w.world k l e) (settles_later laws p l.0 (in_world w l.1))
 
-pub delivering : {S : Type 0} (p : Parties S) → Delivering {W = CallWorld} (λ w. w.world) (delivers p)
-delivering p = record { later = λ w k. arrived_later p w k (landing w.world k) refl; nowhere = delivers_none p }
+pub delivering : {S : Type 0} (p : Parties S) → EndLaws → Delivering {W = CallWorld} (λ w. w.world) (delivers p)
+delivering p laws = record { later = λ w k. arrived_later laws p w k (landing w.world k) refl; nowhere = delivers_none p }
 
 -- ---- the headline, of what the play hands over
 

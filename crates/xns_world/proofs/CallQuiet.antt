@@ -1,13 +1,13 @@
 -- What each step of a world does to the items accepted and handed up.
 use Rattle.std.proofs.Common.{◌≡◌, ℕ, ◌+◌, ◌≤◌, Bool, true, false, List, [], ◌∷◌, ◌++◌, length, take, Option, Some, None, refl, sym, ◌∙◌, ap, subst}
 use Rattle.std.specs.Option.{option_to_list}
-use Rattle.std.specs.Prelude.{slice_get, if◌then◌else◌, ◌||◌, ◌&&◌, not, ◌==◌}
+use Rattle.std.specs.Prelude.{slice_get, if◌then◌else◌, ◌||◌, ◌&&◌, not, ◌==◌, is_ok}
 use Rattle.std.proofs.lemmas.Bool.{le-ltb}
 use Rattle.std.proofs.lemmas.List.{take_more}
 use Rattle.std.proofs.lemmas.Option.{slice_get_within, get_or_from_slice_get}
 use Rattle.courier_calls.specs.Laws.{IsSendableItem}
 use Rattle.xns_spp.specs.Receiving.{receive_answer, after_receive}
-use Rattle.xns_spp.specs.Sending.{send_fault, accepting, after_send, take_answer, handing, after_take, flush_answer, after_flush, tick_answer, after_tick, is_full}
+use Rattle.xns_spp.specs.Sending.{after_send, take_answer, after_take, flush_answer, after_flush, tick_answer, after_tick, is_full, send_answer}
 use Rattle.xns_spp.specs.State.{State}
 use Rattle.xns_spp.specs.declared.item.Item.{Item}
 use Rattle.xns_spp.specs.declared.send_fault.SendFault.{SendFault}
@@ -24,6 +24,7 @@ use Rattle.xns_world.specs.Events.{happens}
 use Rattle.xns_world.specs.Landing.{landing}
 use Rattle.xns_world.specs.Side.{other}
 use Rattle.xns_world.specs.World.{World, end_of, moved, flushes, ticks, sends, takes, marked, sent_at, handed_at}
+use Rattle.xns_world.specs.EndLaws.{EndLaws}
 
 -- nothing is accepted or handed up
 pub record IsQuiet (w v : World) : Type 0 where
@@ -39,11 +40,11 @@ moved_quiet w side t bs c h = record {
   handed = λ u. each_end w side t bs (λ v s. take s.handed s.taken ≡ handed_at w v) (handed_same (end_of w side) t c h) u refl;
 }
 
-pub flush_quiet : (w : World) (side : Side) → Holds w → IsQuiet w (flushes w side)
-flush_quiet w side h = moved_quiet w side (after_flush (end_of w side)) (flush_answer (end_of w side)) (flush_continues (end_of w side)) (h.ends side).fits.bounds.handed_taken
+pub flush_quiet : EndLaws → (w : World) (side : Side) → Holds w → IsQuiet w (flushes w side)
+flush_quiet laws w side h = moved_quiet w side (after_flush (end_of w side)) (flush_answer (end_of w side)) (flush_continues laws (end_of w side)) (h.ends side).fits.bounds.handed_taken
 
-pub tick_quiet : (w : World) (side : Side) → Holds w → IsQuiet w (ticks w side)
-tick_quiet w side h = moved_quiet w side (after_tick (end_of w side)) (tick_answer (end_of w side)) (tick_continues (end_of w side)) (h.ends side).fits.bounds.handed_taken
+pub tick_quiet : EndLaws → (w : World) (side : Side) → Holds w → IsQuiet w (ticks w side)
+tick_quiet laws w side h = moved_quiet w side (after_tick (end_of w side)) (tick_answer (end_of w side)) (tick_continues laws (end_of w side)) (h.ends side).fits.bounds.handed_taken
 
 marked_quiet : (w : World) (k : ℕ) (x : Emitted) → IsQuiet w (marked w k x)
 marked_quiet w k x = record {
@@ -51,8 +52,8 @@ marked_quiet w k x = record {
   handed = λ side. ap (λ (s : State). take s.handed s.taken) (same_marked w k x side);
 }
 
-pub land_quiet : (w : World) (k : ℕ) (l : Side × World) → Holds w → landing w k ≡ Some l → IsQuiet w l.1
-land_quiet w k l h e =
+pub land_quiet : EndLaws → (w : World) (k : ℕ) (l : Side × World) → Holds w → landing w k ≡ Some l → IsQuiet w l.1
+land_quiet laws w k l h e =
     let side : Side = l.0 in
     let lands = lands_as w k side l.1 e in
     let x : Emitted = lands.packet in
@@ -60,36 +61,15 @@ land_quiet w k l h e =
     let s : State = end_of w side in
     let t : State = after_receive s x.bytes in
     let same : s ≡ end_of v side = sym (same_marked w k x side) in
-    let on : Continues (end_of v side) t = subst (λ (q : State). Continues q t) same (receive_continues s x.bytes) in
+    let on : Continues (end_of v side) t = subst (λ (q : State). Continues q t) same (receive_continues laws s x.bytes) in
     let within : (end_of v side).handed ≤ length (end_of v side).taken = subst (λ (q : State). q.handed ≤ length q.taken) same (h.ends side).fits.bounds.handed_taken in
     let bs : List (List ℕ) = option_to_list (receive_answer s x.bytes).reply in
     subst (λ (u : World). IsQuiet w u) lands.world (quiet_then w v (moved v side t bs) (marked_quiet w k x) (moved_quiet v side t bs on within))
 
-pub foreign_same : (w : World) (side : Side) (bytes : List ℕ) → happens w (Foreign side bytes) ≡ w
-foreign_same w side bytes = foreign_changes_nothing w side bytes
-
 -- ---- an item is accepted
 
-not_either : (p q : Bool) → (p || q) ≡ false → (p ≡ false) × (q ≡ false)
-not_either true q h = absurd (cc)
-not_either false q h = (refl, h)
-
-none_of : (p q r t : Bool) → p ≡ false → q ≡ false → (r || t) ≡ false → (if p then Some TooLong else if q then Some AttentionSize else if r then Some Exhausted else if t then Some Full else None) ≡ None
-none_of true q r t a b c = absurd (cc)
-none_of false true r t a b c = absurd (cc)
-none_of false false true t a b c = absurd (cc)
-none_of false false false true a b c = absurd (cc)
-none_of false false false false a b c = refl
-
-not_attention : (b c : Bool) → b ≡ false → (b && c) ≡ false
-not_attention true c h = absurd (cc)
-not_attention false c h = refl
-
-pub not_refused : (s : State) (x : Item) → IsSendableItem x → is_full s ≡ false → send_fault s x ≡ None
-not_refused s x p full = none_of _ _ _ _ (le-ltb 534 (length x.body) p.short.size) (not_attention x.attention (not (length x.body == 1)) p.plain) full
-
-pub accepted_one : (s : State) (x : Item) → send_fault s x ≡ None → after_send s x ≡ record s { accepted = s.accepted ++ x ∷ [] }
-accepted_one s x h = ap (λ (o : Option SendFault). accepting o s x) h
+pub not_refused : EndLaws → (s : State) (x : Item) → IsSendableItem x → is_full s ≡ false → is_ok (send_answer s x) ≡ true
+not_refused laws s x p full = laws.fits s x p.short p.plain full
 
 -- an item joins those that the end accepted
 pub record Accepts (w v : World) (side : Side) (x : Item) : Type 0 where
@@ -97,10 +77,10 @@ pub record Accepts (w v : World) (side : Side) (x : Item) : Type 0 where
   pub there : sent_at v (other side) ≡ sent_at w (other side)
   pub handed : (t : Side) → handed_at v t ≡ handed_at w t
 
-pub send_accepts : (w : World) (side : Side) (x : Item) → send_fault (end_of w side) x ≡ None → Accepts w (sends w side x) side x
-send_accepts w side x h =
+pub send_accepts : EndLaws → (w : World) (side : Side) (x : Item) → is_ok (send_answer (end_of w side) x) ≡ true → Accepts w (sends w side x) side x
+send_accepts laws w side x h =
     let t : State = after_send (end_of w side) x in
-    let is = accepted_one (end_of w side) x h in
+    let is = laws.accepted (end_of w side) x h in
     record {
       here = ap (λ (s : State). s.accepted) (same_end w side t [] ∙ is);
       there = ap (λ (s : State). s.accepted) (same_other w side t []);
@@ -114,20 +94,17 @@ one_more {X} xs k x h =
     take_more xs k x (slice_get_within xs k x h)
     ∙ ap (λ (y : X). take k xs ++ y ∷ []) (get_or_from_slice_get xs k x x h)
 
-pub taken_one : (s : State) (x : Item) → take_answer s ≡ Some x → after_take s ≡ record s { handed = s.handed + 1 }
-taken_one s x h = ap (λ (o : Option Item). handing o s) h
-
 pub record HandsUp (w v : World) (side : Side) (x : Item) : Type 0 where
   pub accepted : (t : Side) → sent_at v t ≡ sent_at w t
   pub here : handed_at v side ≡ handed_at w side ++ x ∷ []
   pub there : handed_at v (other side) ≡ handed_at w (other side)
 
-pub take_hands_up : (w : World) (side : Side) (x : Item) → take_answer (end_of w side) ≡ Some x → HandsUp w (takes w side) side x
-take_hands_up w side x h =
+pub take_hands_up : EndLaws → (w : World) (side : Side) (x : Item) → take_answer (end_of w side) ≡ Some x → HandsUp w (takes w side) side x
+take_hands_up laws w side x h =
     let t : State = after_take (end_of w side) in
-    let is = taken_one (end_of w side) x h in
+    let is = laws.handed (end_of w side) x h in
     record {
       accepted = λ u. each_end w side t [] (λ v s. s.accepted ≡ sent_at w v) (ap (λ (s : State). s.accepted) is) u refl;
-      here = ap (λ (s : State). take s.handed s.taken) (same_end w side t [] ∙ is) ∙ one_more (end_of w side).taken (end_of w side).handed x h;
+      here = ap (λ (s : State). take s.handed s.taken) (same_end w side t [] ∙ is) ∙ laws.more (end_of w side) x h;
       there = ap (λ (s : State). take s.handed s.taken) (same_other w side t []);
     }

@@ -15,18 +15,20 @@ use Rattle.xns_world.specs.declared.event.Event.TheVariants.{Deliver, Rest, Tick
 use Rattle.xns_world.specs.declared.setup.Setup.{Setup}
 use Rattle.xns_world.specs.declared.side.Side.{Side}
 use Rattle.xns_world.specs.declared.side.Side.TheVariants.{A, B}
-use Rattle.xns_world.specs.Invariant.{Begins, Holds}
+use Rattle.xns_spp.specs.Growth.{Begins}
+use Rattle.xns_world.specs.Invariant.{Holds}
 use Rattle.xns_world.specs.Events.{undelivered}
 use Rattle.xns_world.specs.Landing.{landing}
 use Rattle.xns_world.specs.Setup.{IsSetup, IsGood}
 use Rattle.xns_world.specs.World.{World, start, end_of, flushes, ticks, sent_at, handed_at}
 use Rattle.xns_world.proofs.CallCarries.{faces, same_read, quiet_holds}
 use Rattle.xns_world.specs.CallLaws.{Given}
-use Rattle.xns_world.proofs.CallQuiet.{IsQuiet, flush_quiet, tick_quiet, land_quiet, foreign_same}
+use Rattle.xns_world.proofs.CallQuiet.{IsQuiet, flush_quiet, tick_quiet, land_quiet}
+use Rattle.xns_world.proofs.Foreign.{foreign_changes_nothing}
 use Rattle.xns_world.proofs.CallSettling.{steps_hold, settles_end}
 use Rattle.xns_world.specs.CallOrder.{CallsHold, AllListed, IsBetween, AreOnceInOrder, MeetNoFault}
-use Rattle.xns_world.specs.CallWorld.{Parties, CallWorld, or_caller, calls_made, put_out, next_out, outcomes_read, in_world, lists, makes, has_outcome, may_call, step_with, onward, steps, stepped_out, settles, arrived, delivers, call_happens, call_start, begun, run_calls, carried_at, seen_at}
-use Rattle.xns_world.specs.Settling.{most_steps}
+use Rattle.xns_world.specs.CallWorld.{Parties, CallWorld, or_caller, calls_made, put_out, next_out, outcomes_read, in_world, lists, makes, has_outcome, may_call, step_with, settles, arrived, delivers, call_happens, call_start, begun, run_calls, carried_at, seen_at, step}
+use Rattle.xns_world.specs.Settling.{most_steps, onward, steps, stepped_out}
 
 -- ---- each outcome that is there was listed
 
@@ -64,10 +66,10 @@ server_step : {S : Type 0} (p : Parties S) (w : CallWorld) (o : Option Item) →
 server_step p w (Some x) = server_send p w x (is_full (end_of w.world B))
 server_step p w None = server_feed p w (nat_lt 0 (waiting_count (end_of w.world B)))
 
-pub server_steps : {S : Type 0} (p : Parties S) (w : CallWorld) (n : ℕ) → LeavesCaller w (steps p B w n)
+pub server_steps : {S : Type 0} (p : Parties S) (w : CallWorld) (n : ℕ) → LeavesCaller w (steps (step p B) w n)
 server_steps p w zero = record { world = refl; made = refl; listed = refl }
 server_steps p w (suc n) =
-    let v = steps p B w n in
+    let v = steps (step p B) w n in
     let before = server_steps p w n in
     let now = server_step p v (next_out p v B) in
     record { world = now.world ∙ before.world; made = now.made ∙ before.made; listed = now.listed ∙ before.listed }
@@ -82,9 +84,9 @@ left_listed p w v l h =
 quiet_listed : {S : Type 0} (p : Parties S) (w : CallWorld) (v : World) → IsQuiet w.world v → AllListed p w → AllListed p (in_world w v)
 quiet_listed p w v q h = subst (λ (rs : List SeenModel). length rs ≤ w.listed) (sym (same_read p w v (q.handed A))) h
 
-stepped_listed : {S : Type 0} (p : Parties S) (side : Side) (w : CallWorld) → Given p → IsBetween p w → AllListed p (stepped_out p side w)
-stepped_listed p A w g b = step_none p (stepped_out p A w) (next_out p (stepped_out p A w) A) (settles_end p A w g b)
-stepped_listed p B w g b = left_listed p w (stepped_out p B w) (server_steps p w most_steps) b.listed
+stepped_listed : {S : Type 0} (p : Parties S) (side : Side) (w : CallWorld) → Given p → IsBetween p w → AllListed p (stepped_out (step p side) w)
+stepped_listed p A w g b = step_none p (stepped_out (step p A) w) (next_out p (stepped_out (step p A) w) A) (settles_end p A w g b)
+stepped_listed p B w g b = left_listed p w (stepped_out (step p B) w) (server_steps p w most_steps) b.listed
 
 -- ---- between events
 
@@ -93,13 +95,13 @@ quiet_between p w v b holds q = record { holds = quiet_holds p w v b.holds holds
 
 pub settles_between : {S : Type 0} (p : Parties S) (side : Side) (w : CallWorld) → Given p → IsBetween p w → IsBetween p (settles p side w)
 settles_between p side w g b =
-    let v = stepped_out p side w in
+    let v = stepped_out (step p side) w in
     let h = steps_hold p side w most_steps g b.holds in
-    quiet_between p v (flushes v.world side) (record { holds = h; listed = stepped_listed p side w g b }) (g.world.flush v.world side h.holds) (flush_quiet v.world side h.holds)
+    quiet_between p v (flushes v.world side) (record { holds = h; listed = stepped_listed p side w g b }) (g.world.flush v.world side h.holds) (flush_quiet g.answering.ends v.world side h.holds)
 
 arrived_between : {S : Type 0} (p : Parties S) (w : CallWorld) (k : ℕ) (o : Option (Side × World)) → landing w.world k ≡ o → Given p → IsBetween p w → IsBetween p (arrived p w o)
 arrived_between p w k None is g b = b
-arrived_between p w k (Some l) is g b = settles_between p l.0 (in_world w l.1) g (quiet_between p w l.1 b (g.world.land w.world k l b.holds.holds is) (land_quiet w.world k l b.holds.holds is))
+arrived_between p w k (Some l) is g b = settles_between p l.0 (in_world w l.1) g (quiet_between p w l.1 b (g.world.land w.world k l b.holds.holds is) (land_quiet g.answering.ends w.world k l b.holds.holds is))
 
 pub delivers_between : {S : Type 0} (p : Parties S) (w : CallWorld) (k : ℕ) → Given p → IsBetween p w → IsBetween p (delivers p w k)
 delivers_between p w k g b = arrived_between p w k (landing w.world k) refl g b
@@ -109,13 +111,13 @@ all_between p w [] g b = b
 all_between p w (k ∷ ks) g b = all_between p (delivers p w k) ks g (delivers_between p w k g b)
 
 pub tick_between : {S : Type 0} (p : Parties S) (w : CallWorld) (side : Side) → Given p → IsBetween p w → IsBetween p (in_world w (ticks w.world side))
-tick_between p w side g b = quiet_between p w (ticks w.world side) b (g.world.tick w.world side b.holds.holds) (tick_quiet w.world side b.holds.holds)
+tick_between p w side g b = quiet_between p w (ticks w.world side) b (g.world.tick w.world side b.holds.holds) (tick_quiet g.answering.ends w.world side b.holds.holds)
 
 pub happens_between : {S : Type 0} (p : Parties S) (w : CallWorld) (e : Event) → Given p → IsBetween p w → IsBetween p (call_happens p w e)
 happens_between p w (Deliver k) g b = delivers_between p w k g b
 happens_between p w Rest g b = all_between p w (undelivered 0 w.world.bag) g b
 happens_between p w (Tick side) g b = settles_between p side (in_world w (ticks w.world side)) g (tick_between p w side g b)
-happens_between p w (Foreign side bytes) g b = subst (λ (v : World). IsBetween p (in_world w v)) (sym (foreign_same w.world side bytes)) b
+happens_between p w (Foreign side bytes) g b = subst (λ (v : World). IsBetween p (in_world w v)) (sym (foreign_changes_nothing g.answering.ends w.world side bytes)) b
 happens_between p w (Send side x) g b = b
 happens_between p w (Take side) g b = b
 

@@ -2,7 +2,7 @@
 use Rattle.std.proofs.Common.{◌≤◌, length-append, refl, ◌<◌, length, arith, ◌≡◌, ℕ, zero, suc, List, [], ◌∷◌, ◌++◌, take, drop, map, Some, sym, ◌∙◌, ap, subst, append_assoc, append-nil, take-append-drop}
 use Rattle.std.specs.Prelude.{slice_get}
 use Rattle.std.proofs.lemmas.List.{map-append}
-use Rattle.xns_world.specs.Invariant.{Begins}
+use Rattle.xns_spp.specs.Growth.{Begins}
 
 pub begins_itself : {X : Type 0} (xs : List X) → Begins xs xs
 begins_itself xs = ([], append-nil xs)
@@ -35,3 +35,14 @@ pub element : {X : Type 0} (xs : List X) (k : ℕ) → k < length xs → (x : X)
 element [] k l = absurd (omega arith)
 element (y ∷ xs) zero l = (y, refl)
 element (y ∷ xs) (suc k) l = element xs k (omega arith)
+
+-- a front with one element more
+rest_more : {X : Type 0} (xs rest : List X) (x : X) → slice_get (xs ++ rest) (length xs) ≡ Some x → (r : List X) × ((xs ++ x ∷ []) ++ r ≡ xs ++ rest)
+rest_more [] [] x h = absurd (cc)
+rest_more [] (y ∷ rest) x h = (rest, cc)
+rest_more {X} (z ∷ xs) rest x h = let more = rest_more xs rest x h in (more.0, ap (λ (l : List X). z ∷ l) more.1)
+
+pub begins_more : {X : Type 0} (xs ys : List X) (x : X) → Begins xs ys → slice_get ys (length xs) ≡ Some x → Begins (xs ++ x ∷ []) ys
+begins_more {X} xs ys x b h =
+    let more = rest_more xs b.0 x (subst (λ (l : List X). slice_get l (length xs) ≡ Some x) (sym b.1) h) in
+    (more.0, more.1 ∙ b.1)

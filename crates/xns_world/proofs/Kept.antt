@@ -2,7 +2,7 @@
 use Rattle.std.proofs.Common.{append-nil, ◌≡◌, ℕ, ◌+◌, ◌-◌, ◌≤◌, true, List, [], ◌++◌, length, length-take, map, take, Option, Some, None, Ok, refl, sym, ◌∙◌, ap, subst, arith}
 use Rattle.xns_world.specs.World.{World, end_of, start, moment, emitted, moved, is_past, has_passed, flushes, receives, ticks, sends, takes, marked, sent_at, handed_at}
 use Rattle.xns_world.specs.Landing.{answered, landed, landing}
-use Rattle.xns_spp.specs.Growth.{Grows}
+use Rattle.xns_spp.specs.Growth.{Begins, Grows}
 use Rattle.xns_world.proofs.Sound.{IsProper, stays_sound}
 use Rattle.xns_world.proofs.Sides.{each_side, placed}
 use Rattle.xns_world.proofs.Moves.{Keeps, Goes, Moves, silent, flush_moves, tick_moves, take_goes, send_goes}
@@ -21,12 +21,12 @@ use Rattle.xns_spp.specs.State.{State, IsState}
 use Rattle.xns_spp.specs.declared.item.Item.{Item}
 use Rattle.xns_world.proofs.Alive.{read_as_meant}
 use Rattle.xns_world.proofs.Arrivals.{Sends, receive_sends}
-use Rattle.xns_world.proofs.EndLaws.{EndLaws}
+use Rattle.xns_world.specs.EndLaws.{EndLaws}
 use Rattle.xns_world.specs.declared.emitted.Emitted.{Emitted}
 use Rattle.xns_world.specs.declared.setup.Setup.{Setup}
 use Rattle.xns_world.specs.declared.side.Side.{Side}
 use Rattle.xns_world.specs.declared.side.Side.TheVariants.{A, B}
-use Rattle.xns_world.specs.Invariant.{Begins, as_meant, IsSoundSpelling, WentOut, Stands, Holds}
+use Rattle.xns_world.specs.Invariant.{as_meant, IsSound, IsSoundSpelling, WentOut, Stands, Holds}
 use Rattle.xns_world.specs.Setup.{IsSetup, IsGood}
 use Rattle.xns_world.specs.Side.{other}
 
@@ -55,33 +55,27 @@ peer_keeps s t peer g now k = record {
   reached = now.went_out;
 }
 
--- its own packets stay sound
-stays_spelled : (s t peer : State) (x : Emitted) → Grows s t → IsSoundSpelling s peer x → IsSoundSpelling t peer x
-stays_spelled s t peer x g i = record {
+-- a packet of the bag stays sound as both ends go on
+spelled_on : (s t p q : State) (x : Emitted) (i : IsSoundSpelling s p x) → IsSound t i.packet i.meant → length s.taken ≤ length t.taken → length p.taken ≤ length q.taken → IsSoundSpelling t q x
+spelled_on s t p q x i sound sender receiver = record {
   packet = i.packet;
   meant = i.meant;
   fits = i.fits;
   spells = i.spells;
   reduced = i.reduced;
   close = i.close;
-  sound = stays_sound s t i.packet i.meant g i.sound;
-  sender = omega (arith, i.sender, begins_length s.taken t.taken g.taken);
-  receiver = i.receiver;
+  sound = sound;
+  sender = omega (arith, i.sender, sender);
+  receiver = omega (arith, i.receiver, receiver);
 }
+
+-- its own packets stay sound
+stays_spelled : (s t peer : State) (x : Emitted) → Grows s t → IsSoundSpelling s peer x → IsSoundSpelling t peer x
+stays_spelled s t peer x g i = spelled_on s t peer peer x i (stays_sound s t i.packet i.meant g i.sound) (begins_length s.taken t.taken g.taken) (omega arith)
 
 -- and those of its peer
 peer_spelled : (s t peer : State) (x : Emitted) → Grows s t → IsSoundSpelling peer s x → IsSoundSpelling peer t x
-peer_spelled s t peer x g i = record {
-  packet = i.packet;
-  meant = i.meant;
-  fits = i.fits;
-  spells = i.spells;
-  reduced = i.reduced;
-  close = i.close;
-  sound = i.sound;
-  sender = i.sender;
-  receiver = omega (arith, i.receiver, begins_length s.taken t.taken g.taken);
-}
+peer_spelled s t peer x g i = spelled_on peer peer s t x i i.sound (omega arith) (begins_length s.taken t.taken g.taken)
 
 -- the packets that it sends
 abbrev IsNew : (t peer : State) (side : Side) → List ℕ → Type 0

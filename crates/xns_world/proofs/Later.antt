@@ -9,12 +9,12 @@ use Rattle.xns_spp.specs.Receiving.{receive_answer, after_receive}
 use Rattle.xns_spp.specs.Sending.{after_send, flush_answer, after_flush, tick_answer, after_tick, after_take}
 use Rattle.xns_spp.specs.State.{State}
 use Rattle.xns_spp.specs.declared.item.Item.{Item}
-use Rattle.xns_world.proofs.Continues.{flush_taken, tick_taken, receive_taken, send_taken, take_taken}
 use Rattle.xns_world.proofs.Foreign.{noise_changes_nothing}
-use Rattle.xns_world.proofs.Fronts.{begins_itself, begins_then, begins_same, begins_map, begins_get}
+use Rattle.xns_world.proofs.Fronts.{begins_itself, begins_then, begins_same, begins_map, begins_get, begins_length}
 use Rattle.xns_world.proofs.Sides.{each_end, same_marked}
+use Rattle.xns_world.specs.EndLaws.{EndLaws}
 use Rattle.xns_world.specs.Events.{Step, arrival, noise, sending, taking, flushing, ticking, stepped, all_stepped, steps_of, happens, run}
-use Rattle.xns_world.specs.Invariant.{Begins}
+use Rattle.xns_spp.specs.Growth.{Begins, HearsNothing}
 use Rattle.xns_world.specs.Landing.{answered, landed, landing, reached}
 use Rattle.xns_world.specs.Network.{is_settled}
 use Rattle.xns_world.specs.Side.{other}
@@ -63,53 +63,67 @@ marked_later w k x h = record {
 
 -- ---- each small step
 
-pub flushes_later : (w : World) (side : Side) → Later w (flushes w side)
-flushes_later w side = moved_later w side (after_flush (end_of w side)) (flush_answer (end_of w side)) (flush_taken (end_of w side))
+no_less : (s t : State) → HearsNothing s t → length s.taken ≤ length t.taken
+no_less s t h = omega (arith, ap length h.taken)
 
-pub ticks_later : (w : World) (side : Side) → Later w (ticks w side)
-ticks_later w side = moved_later w side (after_tick (end_of w side)) (tick_answer (end_of w side)) (tick_taken (end_of w side))
+pub flushes_later : EndLaws → (w : World) (side : Side) → Later w (flushes w side)
+flushes_later laws w side =
+    let s : State = end_of w side in
+    moved_later w side (after_flush s) (flush_answer s) (no_less s (after_flush s) (laws.flush_hears s))
 
-pub sends_later : (w : World) (side : Side) (x : Item) → Later w (sends w side x)
-sends_later w side x = moved_later w side (after_send (end_of w side) x) [] (send_taken (end_of w side) x)
+ticks_later : EndLaws → (w : World) (side : Side) → Later w (ticks w side)
+ticks_later laws w side =
+    let s : State = end_of w side in
+    moved_later w side (after_tick s) (tick_answer s) (no_less s (after_tick s) (laws.tick_hears s))
 
-pub takes_later : (w : World) (side : Side) → Later w (takes w side)
-takes_later w side = moved_later w side (after_take (end_of w side)) [] (take_taken (end_of w side))
+sends_later : EndLaws → (w : World) (side : Side) (x : Item) → Later w (sends w side x)
+sends_later laws w side x =
+    let s : State = end_of w side in
+    moved_later w side (after_send s x) [] (no_less s (after_send s x) (laws.send_hears s x))
 
-receives_later : (w : World) (side : Side) (bytes : List ℕ) → Later w (receives w side bytes)
-receives_later w side bytes = moved_later w side (after_receive (end_of w side) bytes) (option_to_list (receive_answer (end_of w side) bytes).reply) (receive_taken (end_of w side) bytes)
+takes_later : EndLaws → (w : World) (side : Side) → Later w (takes w side)
+takes_later laws w side =
+    let s : State = end_of w side in
+    moved_later w side (after_take s) [] (no_less s (after_take s) (laws.take_hears s))
 
-landed_later : (w : World) (k : ℕ) (o : Option Emitted) (l : Side × World) → slice_get w.bag k ≡ o → landed w k o ≡ Some l → Later w l.1
-landed_later w k None l is e = absurd (cc)
-landed_later w k (Some x) l is e =
+receives_later : EndLaws → (w : World) (side : Side) (bytes : List ℕ) → Later w (receives w side bytes)
+receives_later laws w side bytes =
+    let s : State = end_of w side in
+    let t : State = after_receive s bytes in
+    moved_later w side t (option_to_list (receive_answer s bytes).reply) (begins_length s.taken t.taken (laws.receive_grows s bytes).taken)
+
+landed_later : EndLaws → (w : World) (k : ℕ) (o : Option Emitted) (l : Side × World) → slice_get w.bag k ≡ o → landed w k o ≡ Some l → Later w l.1
+landed_later laws w k None l is e = absurd (cc)
+landed_later laws w k (Some x) l is e =
     elim (has_passed w x) as (λ b. (if b then None else Some (other x.side, answered w k x)) ≡ Some l → Later w l.1) [
       | true ↦ λ f. absurd (cc)
       | false ↦ λ f.
           let same : (other x.side, answered w k x) ≡ l = cc in
-          subst (λ (m : Side × World). Later w m.1) same (later_then w (marked w k x) (answered w k x) (marked_later w k x is) (receives_later (marked w k x) (other x.side) x.bytes))
+          subst (λ (m : Side × World). Later w m.1) same (later_then w (marked w k x) (answered w k x) (marked_later w k x is) (receives_later laws (marked w k x) (other x.side) x.bytes))
     ] e
 
-pub landing_later : (w : World) (k : ℕ) (l : Side × World) → landing w k ≡ Some l → Later w l.1
-landing_later w k l e = landed_later w k (slice_get w.bag k) l refl e
+pub landing_later : EndLaws → (w : World) (k : ℕ) (l : Side × World) → landing w k ≡ Some l → Later w l.1
+landing_later laws w k l e = landed_later laws w k (slice_get w.bag k) l refl e
 
-reached_later : (w : World) (k : ℕ) (o : Option (Side × World)) → landing w k ≡ o → Later w (reached w o)
-reached_later w k None e = later_itself w
-reached_later w k (Some l) e = landing_later w k l e
+reached_later : EndLaws → (w : World) (k : ℕ) (o : Option (Side × World)) → landing w k ≡ o → Later w (reached w o)
+reached_later laws w k None e = later_itself w
+reached_later laws w k (Some l) e = landing_later laws w k l e
 
-step_later : (w : World) (s : Step) → Later w (stepped w s)
-step_later w (arrival k) = reached_later w k (landing w k) refl
-step_later w (noise side bytes) = subst (λ (v : World). Later w v) (sym (noise_changes_nothing w side bytes)) (later_itself w)
-step_later w (sending side x) = sends_later w side x
-step_later w (taking side) = takes_later w side
-step_later w (flushing side) = flushes_later w side
-step_later w (ticking side) = ticks_later w side
+step_later : EndLaws → (w : World) (s : Step) → Later w (stepped w s)
+step_later laws w (arrival k) = reached_later laws w k (landing w k) refl
+step_later laws w (noise side bytes) = subst (λ (v : World). Later w v) (sym (noise_changes_nothing laws w side bytes)) (later_itself w)
+step_later laws w (sending side x) = sends_later laws w side x
+step_later laws w (taking side) = takes_later laws w side
+step_later laws w (flushing side) = flushes_later laws w side
+step_later laws w (ticking side) = ticks_later laws w side
 
-pub all_later : (w : World) (ss : List Step) → Later w (all_stepped w ss)
-all_later w [] = later_itself w
-all_later w (s ∷ ss) = later_then w (stepped w s) (all_stepped (stepped w s) ss) (step_later w s) (all_later (stepped w s) ss)
+pub all_later : EndLaws → (w : World) (ss : List Step) → Later w (all_stepped w ss)
+all_later laws w [] = later_itself w
+all_later laws w (s ∷ ss) = later_then w (stepped w s) (all_stepped (stepped w s) ss) (step_later laws w s) (all_later laws (stepped w s) ss)
 
-pub run_later : (w : World) (es : List Event) → Later w (run w es)
-run_later w [] = later_itself w
-run_later w (e ∷ es) = later_then w (happens w e) (run (happens w e) es) (all_later w (steps_of w e)) (run_later (happens w e) es)
+pub run_later : EndLaws → (w : World) (es : List Event) → Later w (run w es)
+run_later laws w [] = later_itself w
+run_later laws w (e ∷ es) = later_then w (happens w e) (run (happens w e) es) (all_later laws w (steps_of w e)) (run_later laws (happens w e) es)
 
 all_as_sent : (xs : List Emitted) → map sender_and_bytes (map as_sent xs) ≡ map sender_and_bytes xs
 all_as_sent [] = refl
@@ -118,10 +132,10 @@ all_as_sent (x ∷ xs) = ap (λ (l : List (Side × List ℕ)). sender_and_bytes 
 packets_as_sent : (w : World) → map sender_and_bytes (map as_sent w.bag) ≡ packets_of w
 packets_as_sent w = all_as_sent w.bag
 
-pub run_stays : (w : World) (es : List Event) → Begins (packets_of w) (packets_of (run w es))
-run_stays w es =
+pub run_stays : EndLaws → (w : World) (es : List Event) → Begins (packets_of w) (packets_of (run w es))
+run_stays laws w es =
     let v : World = run w es in
-    let b = begins_map sender_and_bytes (map as_sent w.bag) (map as_sent v.bag) (run_later w es).bag in
+    let b = begins_map sender_and_bytes (map as_sent w.bag) (map as_sent v.bag) (run_later laws w es).bag in
     subst (λ (l : List (Side × List ℕ)). Begins l (packets_of v)) (packets_as_sent w) (subst (λ (l : List (Side × List ℕ)). Begins (map sender_and_bytes (map as_sent w.bag)) l) (packets_as_sent v) b)
 
 -- ---- a packet that lives no longer

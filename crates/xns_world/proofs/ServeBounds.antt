@@ -9,20 +9,19 @@ use Rattle.courier_calls.specs.Conversation.{Phase, conversation, ending}
 use Rattle.courier_calls.specs.Server.{all_calls, server_ending}
 use Rattle.courier_calls.specs.declared.fault.SessionFault.{SessionFault}
 use Rattle.courier_calls.specs.declared.fault.SessionFault.TheVariants.{BadReply}
+use Rattle.xns_spp.specs.Growth.{Begins}
 use Rattle.xns_spp.specs.Item.{IsItem, IsShortItem}
 use Rattle.xns_spp.specs.Receiving.{after_receive}
 use Rattle.xns_spp.specs.Sending.{after_flush}
 use Rattle.xns_spp.specs.State.{State, IsState}
 use Rattle.xns_spp.specs.declared.item.Item.{Item}
-use Rattle.xns_world.proofs.ServeSettling.{Steps, Keeps, steps_keep}
+use Rattle.xns_world.proofs.ServeSettling.{Keeps, stepped_keeps}
 use Rattle.xns_world.specs.CallLaws.{Answering}
-use Rattle.xns_world.specs.Invariant.{Begins}
 use Rattle.xns_world.specs.Serve.{Served, serve_settles, serve_receives, serve_hears}
-use Rattle.xns_world.specs.Settling.{handed_by, most_steps, serve_stepped_out}
+use Rattle.xns_world.specs.Settling.{handed_by, serve_step, stepped_out}
 
 -- the laws of an end that are wanted here
 pub record BoundLaws : Type 0 where
-  pub steps : Steps
   pub flush : (v : State) → IsState v → IsState (after_flush v)
   pub receive : (v : State) (b : List ℕ) → IsState v → AreBytes b → IsState (after_receive v b)
 
@@ -34,8 +33,8 @@ handed_items v fits = let k = keeps_of v fits in All-take IsItem v.handed v.take
 
 pub settles_within : {S : Type 0} (serving : Serving S) (s : S) (w : Served) → Answering serving s → BoundLaws → IsState w.end → IsState (serve_settles serving s w).end
 settles_within serving s w a laws fits =
-    let k = steps_keep serving s w.end most_steps a laws.steps (keeps_of w.end fits) in
-    laws.flush (serve_stepped_out serving s w.end) k.fits
+    let k = stepped_keeps serving s w.end a (keeps_of w.end fits) in
+    laws.flush (stepped_out (serve_step serving s) w.end) k.fits
 
 hears_within : {S : Type 0} (serving : Serving S) (s : S) (w : Served) (b : List ℕ) → Answering serving s → BoundLaws → IsState w.end → AreBytes b → IsState (serve_hears serving s w b).end
 hears_within serving s w b a laws fits bytes = settles_within serving s (serve_receives w b) a laws (laws.receive w.end b fits bytes)

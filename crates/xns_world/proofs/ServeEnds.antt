@@ -17,17 +17,17 @@ use Rattle.xns_spp.specs.Sending.{is_full, waiting_count, after_send, take_answe
 use Rattle.xns_spp.specs.State.{State}
 use Rattle.xns_spp.specs.declared.item.Item.{Item}
 use Rattle.xns_world.proofs.CallCarries.{at_place}
-use Rattle.xns_world.proofs.CallEnds.{out_first, not_waiting, is_waiting, none_taken}
-use Rattle.xns_world.proofs.CallQuiet.{not_refused, accepted_one, taken_one, one_more}
-use Rattle.xns_world.proofs.CallSettling.{steps_are}
+use Rattle.xns_world.proofs.CallEnds.{out_first, not_waiting, is_waiting}
+use Rattle.xns_world.proofs.CallQuiet.{not_refused, one_more}
 use Rattle.xns_world.specs.CallLaws.{Answering, Faults}
 use Rattle.xns_world.specs.CallPlay.{IsServing}
-use Rattle.xns_world.specs.CallWorld.{Parties, CallWorld, or_caller, onward, steps, stepped_out}
+use Rattle.xns_world.specs.CallWorld.{Parties, CallWorld, or_caller, step}
 use Rattle.xns_world.specs.Serve.{first_fault, fault_in}
-use Rattle.xns_world.specs.ServeEnd.{next_of, IsHearing, IsServed, StepsOn, noted}
-use Rattle.xns_world.specs.Settling.{handed_by, end_step_with, serve_step, end_onward, serve_steps, most_steps, serve_stepped_out}
+use Rattle.xns_world.specs.ServeEnd.{next_of, IsHearing, IsServed, noted}
+use Rattle.xns_world.specs.Settling.{handed_by, end_step_with, serve_step, onward, most_steps, steps, stepped_out, Stepped}
 use Rattle.xns_world.specs.declared.serving.ServingEnd.{ServingEnd}
 use Rattle.xns_world.specs.declared.side.Side.TheVariants.{B}
+use Rattle.xns_world.specs.EndLaws.{EndLaws}
 
 -- ---- an end that accepts and hands up nothing
 
@@ -80,7 +80,7 @@ pub serving_sends : {S : Type 0} (serving : Serving S) (s : S) (e : ServingEnd S
     → StandsFor endpoint (after_send v x) → server.StandsFor serving new s (handed_by v) (v.accepted ++ x ∷ []) → IsServed serving s (record e { endpoint = endpoint; server = new }) (after_send v x)
 serving_sends {S = S} serving s e v x endpoint new a h is full stands session =
     let piece : IsSendableItem x = at_place (server_items serving s (handed_by v)) (length v.accepted) x is (a.pieces.server (handed_by v) h.items) in
-    let one = accepted_one v x (not_refused v x piece full) in
+    let one = a.ends.accepted v x (not_refused a.ends v x piece full) in
     let f : ServingEnd S = record e { endpoint = endpoint; server = new } in
     let here : IsServed serving s f (record v { accepted = v.accepted ++ x ∷ [] }) = record {
       stands = subst (λ (u : State). StandsFor endpoint u) one stands;
@@ -130,91 +130,59 @@ hears_badly serving s e f F P x WrongTransaction faults h fed carried n = refuse
 hears_badly serving s e f F P x BadReply faults h fed carried n = refused serving s e f F P x BadReply faults h carried (record { session = fed.0; ends = fed.1; fault = n })
 hears_badly serving s e f F P x (Stream kind) faults h fed carried n = refused serving s e f F P x (Stream kind) faults h carried (record { session = fed.0; ends = fed.1; fault = n })
 
-pub serving_none : {S : Type 0} (serving : Serving S) (s : S) (e : ServingEnd S) (v : State) (endpoint : Held) → IsServed serving s e v → None ≡ take_answer v → StandsFor endpoint (after_take v)
+pub serving_none : {S : Type 0} (serving : Serving S) (s : S) (e : ServingEnd S) (v : State) (endpoint : Held) → EndLaws → IsServed serving s e v → None ≡ take_answer v → StandsFor endpoint (after_take v)
     → (false ≡ nat_lt 0 (waiting_count v)) × IsServed serving s (record e { endpoint = endpoint }) v
-serving_none serving s e v endpoint h is stands =
-    (sym (not_waiting v is), served_on serving s e v v endpoint h (subst (λ (u : State). StandsFor endpoint u) (none_taken v is) stands) refl refl)
+serving_none serving s e v endpoint laws h is stands =
+    (sym (not_waiting laws v is), served_on serving s e v v endpoint h (subst (λ (u : State). StandsFor endpoint u) (laws.none v (sym is)) stands) refl refl)
 
-pub serving_feeds : {S : Type 0} (serving : Serving S) (s : S) (e f : ServingEnd S) (v : State) (x : Item) → IsServed serving s e v → Some x ≡ take_answer v → IsItem x → StandsFor f.endpoint (after_take v)
+pub serving_feeds : {S : Type 0} (serving : Serving S) (s : S) (e f : ServingEnd S) (v : State) (x : Item) → EndLaws → IsServed serving s e v → Some x ≡ take_answer v → IsItem x → StandsFor f.endpoint (after_take v)
     → IsHearing serving s f (handed_by v ++ x ∷ []) v.accepted → f.handed ≡ handed_by v ++ x ∷ []
     → (true ≡ nat_lt 0 (waiting_count v)) × IsServed serving s f (after_take v)
-serving_feeds serving s e f v x h is item stands hearing listed =
-    let one = taken_one v x (sym is) in
-    let up = one_more v.taken v.handed x (sym is) in
+serving_feeds serving s e f v x laws h is item stands hearing listed =
+    let one = laws.handed v x (sym is) in
+    let up = laws.more v x (sym is) in
     let here : IsServed serving s f (record v { handed = v.handed + 1 }) = record {
       stands = subst (λ (u : State). StandsFor f.endpoint u) one stands;
       hearing = subst (λ (l : List Item). IsHearing serving s f l v.accepted) (sym up) hearing;
       listed = listed ∙ sym up;
       items = subst (All IsItem) (sym up) (All-push IsItem (handed_by v) x h.items item);
     } in
-    (sym (is_waiting v x is), subst (λ (u : State). IsServed serving s f u) (sym one) here)
+    (sym (is_waiting laws v x is), subst (λ (u : State). IsServed serving s f u) (sym one) here)
 
 -- ---- one step
 
-fed_or_not : (v : State) (P : State → Type 0) (b : Bool) → P (if b then after_take v else v) → StepsOn b v (if b then Some (after_take v) else None) P
+fed_or_not : (v : State) (P : State → Type 0) (b : Bool) → P (if b then after_take v else v) → Stepped b v (if b then Some (after_take v) else None) P
 fed_or_not v P true h = h
 fed_or_not v P false h = h
 
-pub served_none : {S : Type 0} (serving : Serving S) (s : S) (v : State) (b : Bool) (P : State → Type 0) → next_of serving s v ≡ None → b ≡ nat_lt 0 (waiting_count v) → P (if b then after_take v else v) → StepsOn b v (serve_step serving s v) P
+pub served_none : {S : Type 0} (serving : Serving S) (s : S) (v : State) (b : Bool) (P : State → Type 0) → next_of serving s v ≡ None → b ≡ nat_lt 0 (waiting_count v) → P (if b then after_take v else v) → Stepped b v (serve_step serving s v) P
 served_none serving s v b P is waits h =
-    subst (λ (o : Option Item). StepsOn b v (end_step_with v o) P) (sym is)
-    (subst (λ (c : Bool). StepsOn b v (if c then Some (after_take v) else None) P) waits (fed_or_not v P b h))
+    subst (λ (o : Option Item). Stepped b v (end_step_with v o) P) (sym is)
+    (subst (λ (c : Bool). Stepped b v (if c then Some (after_take v) else None) P) waits (fed_or_not v P b h))
 
-pub served_full : {S : Type 0} (serving : Serving S) (s : S) (v : State) (x : Item) (P : State → Type 0) → next_of serving s v ≡ Some x → is_full v ≡ true → P v → StepsOn false v (serve_step serving s v) P
+pub served_full : {S : Type 0} (serving : Serving S) (s : S) (v : State) (x : Item) (P : State → Type 0) → next_of serving s v ≡ Some x → is_full v ≡ true → P v → Stepped false v (serve_step serving s v) P
 served_full serving s v x P is full h =
-    subst (λ (o : Option Item). StepsOn false v (end_step_with v o) P) (sym is)
-    (subst (λ (c : Bool). StepsOn false v (if c then None else Some (after_send v x)) P) (sym full) h)
+    subst (λ (o : Option Item). Stepped false v (end_step_with v o) P) (sym is)
+    (subst (λ (c : Bool). Stepped false v (if c then None else Some (after_send v x)) P) (sym full) h)
 
-pub served_send : {S : Type 0} (serving : Serving S) (s : S) (v : State) (x : Item) (P : State → Type 0) → next_of serving s v ≡ Some x → is_full v ≡ false → P (after_send v x) → StepsOn true v (serve_step serving s v) P
+pub served_send : {S : Type 0} (serving : Serving S) (s : S) (v : State) (x : Item) (P : State → Type 0) → next_of serving s v ≡ Some x → is_full v ≡ false → P (after_send v x) → Stepped true v (serve_step serving s v) P
 served_send serving s v x P is full h =
-    subst (λ (o : Option Item). StepsOn true v (end_step_with v o) P) (sym is)
-    (subst (λ (c : Bool). StepsOn true v (if c then None else Some (after_send v x)) P) (sym full) h)
-
--- ---- many steps
-
-pub served_onward : (v : State) (o : Option State) (P : State → Type 0) → StepsOn true v o P → P (end_onward v o)
-served_onward v None P h = absurd h
-served_onward v (Some u) P h = h
-
-pub record Stopped (v : State) (o : Option State) (P : State → Type 0) : Type 0 where
-  pub none : o ≡ None
-  pub here : P v
-
-pub served_not : (v : State) (o : Option State) (P : State → Type 0) → StepsOn false v o P → Stopped v o P
-served_not v None P h = record { none = refl; here = h }
-served_not v (Some u) P h = absurd h
-
--- where no step applies the end stays
-served_stays : {S : Type 0} (serving : Serving S) (s : S) (v : State) (n k m : ℕ) → m ≡ k + n → serve_step serving s (serve_steps serving s v n) ≡ None → serve_steps serving s v m ≡ serve_steps serving s v n
-served_stays serving s v n zero m is none = let e : m ≡ n = omega arith in ap (λ (i : ℕ). serve_steps serving s v i) e
-served_stays serving s v n (suc k) m is none =
-    let e : m ≡ suc (k + n) = omega arith in
-    let same = served_stays serving s v n k (k + n) refl none in
-    ap (λ (i : ℕ). serve_steps serving s v i) e
-    ∙ (ap (λ (u : State). end_onward u (serve_step serving s u)) same
-    ∙ ap (λ (o : Option State). end_onward (serve_steps serving s v n) o) none)
-
-pub served_all : {S : Type 0} (serving : Serving S) (s : S) (v : State) (n : ℕ) → n ≤ 257 → serve_step serving s (serve_steps serving s v n) ≡ None → serve_steps serving s v n ≡ serve_stepped_out serving s v
-served_all serving s v n h none =
-    let count : most_steps ≡ (257 - n) + n = omega (arith, steps_are) in
-    sym (served_stays serving s v n (257 - n) most_steps count none)
-
-pub served_end : {S : Type 0} (serving : Serving S) (s : S) (v : State) (n : ℕ) → n ≡ 257 → serve_steps serving s v n ≡ serve_stepped_out serving s v
-served_end serving s v n is = let e : n ≡ most_steps = omega (arith, steps_are) in ap (λ (k : ℕ). serve_steps serving s v k) e
+    subst (λ (o : Option Item). Stepped true v (end_step_with v o) P) (sym is)
+    (subst (λ (c : Bool). Stepped true v (if c then None else Some (after_send v x)) P) (sym full) h)
 
 -- ---- in a world of calls
 
-onward_end : {S : Type 0} (p : Parties S) (w : CallWorld) (o : Option State) → (onward w (or_caller p w B o)).world.b ≡ end_onward w.world.b o
+onward_end : {S : Type 0} (p : Parties S) (w : CallWorld) (o : Option State) → (onward w (or_caller p w B o)).world.b ≡ onward w.world.b o
 onward_end p w None = refl
 onward_end p w (Some v) = refl
 
 -- the server's side of a world takes the steps of a server's end
-pub server_side : {S : Type 0} (p : Parties S) (w : CallWorld) (n : ℕ) → (steps p B w n).world.b ≡ serve_steps p.serving p.service w.world.b n
+pub server_side : {S : Type 0} (p : Parties S) (w : CallWorld) (n : ℕ) → (steps (step p B) w n).world.b ≡ steps (serve_step p.serving p.service) w.world.b n
 server_side p w zero = refl
 server_side p w (suc n) =
-    let x = steps p B w n in
+    let x = steps (step p B) w n in
     onward_end p x (serve_step p.serving p.service x.world.b)
-    ∙ ap (λ (v : State). end_onward v (serve_step p.serving p.service v)) (server_side p w n)
+    ∙ ap (λ (v : State). onward v (serve_step p.serving p.service v)) (server_side p w n)
 
-pub stepped_world : {S : Type 0} (p : Parties S) (e : ServingEnd S) (w : CallWorld) → IsServed p.serving p.service e (serve_stepped_out p.serving p.service w.world.b) → IsServing p e (stepped_out p B w)
+pub stepped_world : {S : Type 0} (p : Parties S) (e : ServingEnd S) (w : CallWorld) → IsServed p.serving p.service e (stepped_out (serve_step p.serving p.service) w.world.b) → IsServing p e (stepped_out (step p B) w)
 stepped_world p e w h = subst (λ (v : State). IsServed p.serving p.service e v) (sym (server_side p w most_steps)) h

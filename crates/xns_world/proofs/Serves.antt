@@ -19,22 +19,23 @@ use Rattle.xns_world.specs.ServePlay.{IsServePlaying, IsWithin}
 use Rattle.xns_world.specs.declared.serve.ServePlay.{ServePlay}
 use Rattle.xns_world.specs.declared.serve_trace.ServeTrace.{ServeTrace}
 use Rattle.xns_world.specs.declared.serving.ServingEnd.{ServingEnd}
+use Rattle.xns_world.specs.EndLaws.{EndLaws}
 
-pub flushed : {S : Type 0} (serving : Serving S) (s : S) (play : ServePlay S) (w : Served) (v : State) (e : ServingEnd S) (endpoint : Held) (packets replies : Vec (List ℕ) Global) → IsServePlaying serving s play w → IsServed serving s e v
+pub flushed : {S : Type 0} → EndLaws → (serving : Serving S) (s : S) (play : ServePlay S) (w : Served) (v : State) (e : ServingEnd S) (endpoint : Held) (packets replies : Vec (List ℕ) Global) → IsServePlaying serving s play w → IsServed serving s e v
     → StandsFor endpoint (after_flush v) → packets.items ≡ flush_answer v → replies.items ≡ play.replies.items ++ packets.items
     → IsServePlaying serving s (record play { b = record e { endpoint = endpoint }; replies = replies }) (settles_from w v)
-flushed serving s play w v e endpoint packets replies h i stands sent more =
-    let on = flush_continues v in
+flushed laws serving s play w v e endpoint packets replies h i stands sent more =
+    let on = flush_continues laws v in
     record {
       b = served_on serving s e v (after_flush v) endpoint i stands on.accepted (handed_same v (after_flush v) on i.stands.fits.bounds.handed_taken);
       replies = more ∙ (ap (λ (l : List (List ℕ)). l ++ packets.items) h.replies ∙ ap (λ (l : List (List ℕ)). w.replies ++ l) sent);
     }
 
-pub heard : {S : Type 0} (serving : Serving S) (s : S) (play : ServePlay S) (w : Served) (b : List ℕ) (endpoint : Held) (reply : Option (List ℕ)) (replies : Vec (List ℕ) Global) → IsServePlaying serving s play w
+pub heard : {S : Type 0} → EndLaws → (serving : Serving S) (s : S) (play : ServePlay S) (w : Served) (b : List ℕ) (endpoint : Held) (reply : Option (List ℕ)) (replies : Vec (List ℕ) Global) → IsServePlaying serving s play w
     → StandsFor endpoint (after_receive w.end b) → reply ≡ (receive_answer w.end b).reply → replies.items ≡ play.replies.items ++ option_to_list reply
     → IsServePlaying serving s (record play { b = record (play.b) { endpoint = endpoint }; replies = replies }) (serve_receives w b)
-heard serving s play w b endpoint reply replies h stands answer more =
-    let on = receive_continues w.end b in
+heard laws serving s play w b endpoint reply replies h stands answer more =
+    let on = receive_continues laws w.end b in
     record {
       b = served_on serving s play.b w.end (after_receive w.end b) endpoint h.b stands on.accepted (handed_same w.end (after_receive w.end b) on h.b.stands.fits.bounds.handed_taken);
       replies = more ∙ (ap (λ (l : List (List ℕ)). l ++ option_to_list reply) h.replies ∙ ap (λ (o : Option (List ℕ)). w.replies ++ option_to_list o) answer);

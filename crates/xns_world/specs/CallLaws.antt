@@ -10,7 +10,9 @@ use Rattle.xns_spp.specs.Item.{IsItem}
 use Rattle.xns_spp.specs.declared.item.Item.{Item}
 use Rattle.xns_world.specs.declared.setup.Setup.{Setup}
 use Rattle.xns_world.specs.declared.side.Side.{Side}
-use Rattle.xns_world.specs.Invariant.{Begins, Holds}
+use Rattle.xns_spp.specs.Growth.{Begins}
+use Rattle.xns_world.specs.Invariant.{Holds}
+use Rattle.xns_world.specs.EndLaws.{EndLaws}
 use Rattle.xns_world.specs.Landing.{landing}
 use Rattle.xns_world.specs.Setup.{IsSetup, IsGood}
 use Rattle.xns_world.specs.Side.{other}
@@ -49,16 +51,16 @@ pub record Faults : Type 0 where
   pub stays : (F : List Item) (x : Item) (e : SessionFault) → server_ending F ≡ Err e → server_ending (F ++ x ∷ []) ≡ Err e
   pub no_call : (F : List Item) (x : Item) (e : SessionFault) → server_ending (F ++ x ∷ []) ≡ Err e → decided (F ++ x ∷ []) ≡ decided F
 
--- of a server's session that began in the state s
+-- of an end, and of a server's session that began in the state s
 pub record Answering {S : Type 0} (serving : Serving S) (s : S) : Type 0 where
+  pub ends : EndLaws
   pub pieces : Pieces serving s
   pub faults : Faults
 
--- of the network and of these parties' sessions
+-- of an end, of the network and of these parties' sessions
 pub record Given {S : Type 0} (p : Parties S) : Type 0 where
   pub world : WorldLaws
   pub heard : Heard p.serving
   pub agree : Agree p.serving p.service
-  pub pieces : Pieces p.serving p.service
-  pub faults : Faults
+  pub answering : Answering p.serving p.service
   pub fitting : All IsFitting p.calls

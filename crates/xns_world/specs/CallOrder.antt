@@ -6,9 +6,11 @@ use Rattle.courier_calls.specs.Laws.{IsFaultless}
 use Rattle.courier_calls.specs.Server.{server_ending}
 use Rattle.xns_world.specs.declared.side.Side.{Side}
 use Rattle.xns_world.specs.declared.side.Side.TheVariants.{A, B}
-use Rattle.xns_world.specs.Invariant.{Begins, Holds}
+use Rattle.xns_spp.specs.Growth.{Begins}
+use Rattle.xns_world.specs.Invariant.{Holds}
 use Rattle.xns_world.specs.World.{sent_at, handed_at}
-use Rattle.xns_world.specs.CallWorld.{Parties, CallWorld, calls_made, put_out, outcomes_read, carried_at, seen_at, service_at, step, stepped_out}
+use Rattle.xns_world.specs.CallWorld.{Parties, CallWorld, calls_made, put_out, outcomes_read, carried_at, seen_at, service_at, step}
+use Rattle.xns_world.specs.Settling.{stepped_out}
 
 -- each call is carried out at most once and in order, and the k-th outcome that the caller sees is the server's to its k-th call
 pub record AreOnceInOrder {S : Type 0} (p : Parties S) (w : CallWorld) : Type 0 where
@@ -40,4 +42,4 @@ pub record IsBetween {S : Type 0} (p : Parties S) (w : CallWorld) : Type 0 where
 
 -- a side that settles comes to where no step applies
 abbrev pub Settles : {S : Type 0} → Parties S → Side → CallWorld → Type 0
-Settles p side w = step p side (stepped_out p side w) ≡ None
+Settles p side w = step p side (stepped_out (step p side) w) ≡ None

@@ -7,7 +7,7 @@ use Rattle.courier_calls.specs.Server.{call_of}
 use Rattle.xns_spp.specs.Held.{StandsFor}
 use Rattle.xns_world.specs.CallLaws.{Given}
 use Rattle.xns_world.specs.CallOrder.{IsBetween}
-use Rattle.xns_world.specs.Invariant.{Begins}
+use Rattle.xns_spp.specs.Growth.{Begins}
 use Rattle.xns_world.specs.Network.{IsNetwork}
 use Rattle.xns_world.specs.ServeEnd.{IsServed}
 use Rattle.xns_world.specs.declared.call_play.CallPlay.{CallPlay}
@@ -28,12 +28,6 @@ pub record IsCalling {S : Type 0} (p : Parties S) (e : CallingEnd) (w : CallWorl
 -- the server's end, with its session and the calls that it decided
 abbrev pub IsServing : {S : Type 0} → Parties S → ServingEnd S → CallWorld → Type 0
 IsServing p e w = IsServed p.serving p.service e w.world.b
-
--- a step was taken and led to where P holds, or none applied and P holds here
-abbrev pub Stepped : Bool → CallWorld → Option CallWorld → (CallWorld → Type 0) → Type 0
-Stepped true w (Some v) P = P v
-Stepped false w None P = P w
-Stepped _ _ _ P = ⊥
 
 -- what the play hands over is what the world came to
 pub record IsCallTrace {S : Type 0} (p : Parties S) (t : CallTrace S) (w : CallWorld) : Type 0 where

@@ -12,7 +12,7 @@ use Rattle.xns_world.specs.declared.side.Side.{Side}
 use Rattle.xns_world.specs.declared.side.Side.TheVariants.{A, B}
 use Rattle.xns_world.specs.Events.{happens, undelivered}
 use Rattle.xns_world.specs.Landing.{landing}
-use Rattle.xns_world.specs.Settling.{end_step_with, most_steps}
+use Rattle.xns_world.specs.Settling.{end_step_with, stepped_out}
 use Rattle.xns_world.specs.World.{World, start, end_of, moved, flushes, ticks, sends, takes, sent_at, handed_at}
 
 -- the service with its table, the state that it begins in, and the calls that are to be made
@@ -91,22 +91,9 @@ step_with p w side o = or_caller p w side (end_step_with (end_of w.world side) o
 abbrev pub step : {S : Type 0} → Parties S → Side → CallWorld → Option CallWorld
 step p side w = step_with p w side (next_out p w side)
 
-abbrev pub onward : CallWorld → Option CallWorld → CallWorld
-onward w None = w
-onward w (Some v) = v
-
--- so many steps, or fewer where none applies any more
-abbrev pub steps : {S : Type 0} → Parties S → Side → CallWorld → ℕ → CallWorld
-steps p side w zero = w
-steps p side w (suc n) = onward (steps p side w n) (step p side (steps p side w n))
-
--- until none applies
-abbrev pub stepped_out : {S : Type 0} → Parties S → Side → CallWorld → CallWorld
-stepped_out p side w = steps p side w most_steps
-
 -- a side takes these steps until none applies, and then flushes
 abbrev pub settles : {S : Type 0} → Parties S → Side → CallWorld → CallWorld
-settles p side w = in_world (stepped_out p side w) (flushes (stepped_out p side w).world side)
+settles p side w = in_world (stepped_out (step p side) w) (flushes (stepped_out (step p side) w).world side)
 
 -- ---- what happens
 

@@ -9,7 +9,7 @@ use Rattle.xns_spp.specs.Receiving.{receive_answer, after_receive}
 use Rattle.xns_spp.specs.Sending.{flush_answer, after_flush}
 use Rattle.xns_spp.specs.State.{State, responder_state}
 use Rattle.xns_spp.specs.declared.item.Item.{Item}
-use Rattle.xns_world.specs.Settling.{handed_by, serve_stepped_out}
+use Rattle.xns_world.specs.Settling.{handed_by, stepped_out, serve_step}
 use Rattle.xns_world.specs.declared.serve_trace.ServeTrace.{ServeTrace}
 use Rattle.xns_world.specs.declared.setup.Setup.{Setup}
 
@@ -27,7 +27,7 @@ abbrev pub settles_from : Served → State → Served
 settles_from w v = answers_by w (after_flush v) (flush_answer v)
 
 abbrev pub serve_settles : {S : Type 0} → Serving S → S → Served → Served
-serve_settles serving s w = settles_from w (serve_stepped_out serving s w.end)
+serve_settles serving s w = settles_from w (stepped_out (serve_step serving s) w.end)
 
 -- a packet comes to the end, ours or not, which answers it
 abbrev pub serve_receives : Served → List ℕ → Served

@@ -30,12 +30,6 @@ pub record IsServed {S : Type 0} (serving : Serving S) (s : S) (e : ServingEnd S
   pub listed : e.handed ≡ handed_by v
   pub items : All IsItem (handed_by v)
 
--- a step was taken and led to where P holds, or none applied and P holds here
-abbrev pub StepsOn : Bool → State → Option State → (State → Type 0) → Type 0
-StepsOn true v (Some u) P = P u
-StepsOn false v None P = P v
-StepsOn _ _ _ P = ⊥
-
 -- how a fault that a session answers is noted
 abbrev pub noted : SessionFault → Option SessionFault → Option SessionFault → Type 0
 noted Failed before after = after ≡ before

@@ -6,7 +6,7 @@ ghost use Rattle.xns_world.specs.CallWorld.{Parties};
 ghost use Rattle.xns_world.specs.CallPromises.{AreParties, Promised};
 ghost use Rattle.xns_world.specs.CallLaws.{Given, Answering};
 
-use crate::laws::each_step_keeps_the_order;
+use crate::laws::{each_step_keeps_the_order, end_laws_are_given};
 use courier_calls::Service;
 use courier_calls::laws::{
     both_sides_agree, first_fault_stays, session_items_can_be_sent, what_is_heard_stays,
@@ -18,28 +18,24 @@ use courier_calls::laws::{
 pub fn calls_come_in_order<S: Service>()
     ensures { Promised S.serving S.IsServiceState }
 {
-    each_step_keeps_the_order();
-    what_is_heard_stays::<S>();
-    both_sides_agree::<S>();
-    session_items_can_be_sent::<S>();
-    first_fault_stays();
+    laws_are_given::<S>();
 }
 
-/// The laws of the network and of the sessions, as the play's proofs take them.
+/// The laws of an end, of the network and of the sessions, as the play's proofs take them.
 pub(crate) fn laws_are_given<S: Service>()
     ensures { (p : Parties S) → AreParties S.serving S.IsServiceState p → Given p }
 {
     each_step_keeps_the_order();
     what_is_heard_stays::<S>();
     both_sides_agree::<S>();
-    session_items_can_be_sent::<S>();
-    first_fault_stays();
+    server_laws_are_given::<S>();
 }
 
-/// The laws of a server's session.
+/// The laws of an end and of a server's session.
 pub(crate) fn server_laws_are_given<S: Service>()
     ensures { (s : S) → S.IsServiceState s → Answering S.serving s }
 {
+    end_laws_are_given();
     session_items_can_be_sent::<S>();
     first_fault_stays();
 }

@@ -6,8 +6,9 @@ ghost use Rattle.xns_spp.specs.declared.item.Item.{Item};
 ghost use Rattle.xns_world.specs.declared.side.Side.TheVariants.{A};
 ghost use Rattle.xns_world.specs.CallLaws.{Given};
 ghost use Rattle.xns_world.specs.CallOrder.{CallsHold};
-ghost use Rattle.xns_world.specs.CallPlay.{IsCalling, Stepped};
-ghost use Rattle.xns_world.specs.CallWorld.{Parties, CallWorld, next_out, sends_next, feeds, lists, makes, has_outcome, may_call, caller_step, step, stepped_out};
+ghost use Rattle.xns_world.specs.CallPlay.{IsCalling};
+ghost use Rattle.xns_world.specs.CallWorld.{Parties, CallWorld, next_out, sends_next, feeds, lists, makes, has_outcome, may_call, caller_step, step};
+ghost use Rattle.xns_world.specs.Settling.{stepped_out, Stepped};
 
 use courier_calls::{Call, Caller, Seen, Service};
 use std::alloc::{AllocError, Global};
@@ -122,7 +123,7 @@ impl<'a> CallingEnd<'a> {
     /// Takes steps until none applies.
     pub fn step_out<S: Service>(&mut self, alloc: Global, calls: &[Call]) -> Result<(), AllocError>
         ensures { OnOk result ((p : Parties S) (w : CallWorld) → Given p → CallsHold p w → p.calls ≡ map raw_call calls.now → IsCalling p self.old w →
-            IsCalling p self.new (stepped_out p A w)) }
+            IsCalling p self.new (stepped_out (step p A) w)) }
     {
         for _step in 0..MOST_STEPS {
             if !self.step::<S>(alloc, calls)? {

@@ -1,6 +1,7 @@
 //! What an endpoint of a play does with the network.
 
 ghost use Rattle.std.specs.Prelude.{◌≡◌, ◌<◌, ℕ, length, OnOk, Some};
+ghost use Rattle.xns_world.specs.EndLaws.{EndLaws};
 ghost use Rattle.xns_world.specs.Landing.{landing};
 ghost use Rattle.xns_world.specs.Network.{IsEnd};
 ghost use Rattle.xns_world.specs.World.{World, flushes, ticks};
@@ -17,7 +18,7 @@ pub fn flush_end(
     endpoint: &mut Endpoint,
     network: &mut Network,
 ) -> Result<(), AllocError>
-    ensures { OnOk result ((w : World) → IsEnd endpoint.old network.old w side → IsEnd endpoint.new network.new (flushes w side) side) }
+    ensures { OnOk result (EndLaws → (w : World) → IsEnd endpoint.old network.old w side → IsEnd endpoint.new network.new (flushes w side) side) }
 {
     let packets = endpoint.flush(alloc)?;
     network.emit(side, packets)
@@ -30,7 +31,7 @@ pub fn tick_end(
     endpoint: &mut Endpoint,
     network: &mut Network,
 ) -> Result<(), AllocError>
-    ensures { OnOk result ((w : World) → IsEnd endpoint.old network.old w side → IsEnd endpoint.new network.new (ticks w side) side) }
+    ensures { OnOk result (EndLaws → (w : World) → IsEnd endpoint.old network.old w side → IsEnd endpoint.new network.new (ticks w side) side) }
 {
     let packets = endpoint.tick(alloc)?;
     network.emit(side, packets)
@@ -45,7 +46,7 @@ pub fn land(
     number: usize,
 ) -> Result<(), AllocError>
     requires { number < length network.old.packets.items }
-    ensures { OnOk result ((w v : World) → IsEnd endpoint.old network.old w side → landing w number ≡ Some (side, v) → IsEnd endpoint.new network.new v side) }
+    ensures { OnOk result (EndLaws → (w v : World) → IsEnd endpoint.old network.old w side → landing w number ≡ Some (side, v) → IsEnd endpoint.new network.new v side) }
 {
     let received = endpoint.receive(alloc, network.bytes(number))?;
     network.deliver(side, number, received.took, received.reply)

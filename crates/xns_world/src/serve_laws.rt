@@ -6,7 +6,7 @@ ghost use Rattle.xns_spp.specs.Item.{IsItem};
 ghost use Rattle.xns_spp.specs.State.{State, IsState};
 ghost use Rattle.xns_world.specs.Serve.{serve};
 ghost use Rattle.xns_world.specs.ServeBounds.{IsServedWithin};
-ghost use Rattle.xns_world.specs.Settling.{serve_step, serve_stepped_out};
+ghost use Rattle.xns_world.specs.Settling.{serve_step, stepped_out};
 ghost use Rattle.xns_world.specs.Setup.{IsSetup, IsGood};
 ghost use Rattle.xns_world.specs.declared.setup.Setup.{Setup};
 
@@ -19,10 +19,9 @@ use xns_spp::laws::bounds_hold_after_each_step;
 
 /// However its peer behaves, a server's end that settles comes to where no step applies.
 pub fn served_ends_settle<S: Service>()
-    ensures { (s : S) (v : State) → S.IsServiceState s → IsState v → All IsItem v.taken → serve_step S.serving s (serve_stepped_out S.serving s v) ≡ None }
+    ensures { (s : S) (v : State) → S.IsServiceState s → IsState v → All IsItem v.taken → serve_step S.serving s (stepped_out (serve_step S.serving s) v) ≡ None }
 {
     server_laws_are_given::<S>();
-    bounds_hold_after_each_step();
 }
 
 /// Whatever packets have come, a server's end and what its session keeps are within their bounds.

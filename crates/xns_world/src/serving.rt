@@ -5,8 +5,8 @@ ghost use Rattle.xns_spp.specs.Item.{IsItem};
 ghost use Rattle.xns_spp.specs.State.{State};
 ghost use Rattle.xns_spp.specs.declared.item.Item.{Item};
 ghost use Rattle.xns_world.specs.CallLaws.{Answering};
-ghost use Rattle.xns_world.specs.ServeEnd.{IsServed, IsHearing, StepsOn, next_of, noted};
-ghost use Rattle.xns_world.specs.Settling.{handed_by, serve_step, serve_stepped_out};
+ghost use Rattle.xns_world.specs.ServeEnd.{IsServed, IsHearing, next_of, noted};
+ghost use Rattle.xns_world.specs.Settling.{handed_by, serve_step, stepped_out, Stepped};
 
 use crate::calling::MOST_STEPS;
 use crate::items::Items;
@@ -72,7 +72,7 @@ impl<'a, S: Service> ServingEnd<'a, S> {
     /// Takes the first step that applies; whether one did.
     fn step(&mut self, alloc: Global) -> Result<bool, AllocError>
         ensures { IfOk result (λ b. (s : S) (v : State) → Answering S.serving s → IsServed S.serving s self.old v →
-            StepsOn b v (serve_step S.serving s v) (IsServed S.serving s self.new)) }
+            Stepped b v (serve_step S.serving s v) (IsServed S.serving s self.new)) }
     {
         if !self.server.has_out() {
             return self.feed(alloc);
@@ -87,7 +87,7 @@ impl<'a, S: Service> ServingEnd<'a, S> {
     /// Takes steps until none applies.
     pub fn step_out(&mut self, alloc: Global) -> Result<(), AllocError>
         ensures { OnOk result ((s : S) (v : State) → Answering S.serving s → IsServed S.serving s self.old v →
-            IsServed S.serving s self.new (serve_stepped_out S.serving s v)) }
+            IsServed S.serving s self.new (stepped_out (serve_step S.serving s) v)) }
     {
         for _step in 0..MOST_STEPS {
             if !self.step(alloc)? {

@@ -7,13 +7,10 @@ returns g c p are =
     let steps = c.each_step_keeps_the_order.ensures in
     let world : WorldLaws = record { start = steps.start; flush = steps.flush; tick = steps.tick; send = steps.send; take = steps.take; land = steps.land; order = steps.order } in
     let first = c.what_is_heard_stays.ensures in
-    let out = c.session_items_can_be_sent.ensures in
-    let faults = c.first_fault_stays.ensures in
     let serving = g.S.Service.serving in
     let laws : SessionLaws serving g.S.Service.IsServiceState = record {
       heard = record { server = λ s xs ys b. first.server serving s xs ys b; caller = first.calls; reads = first.caller; one_more = first.single };
       agree = λ s can calls by_server by_caller fits f b. c.both_sides_agree.ensures s calls by_server by_caller can fits f b;
-      pieces = λ s can. record { caller = out.caller; server = λ f items. out.server s f can items };
-      faults = record { stays = faults.stays; no_call = faults.calls };
+      answering = c.server_laws_are_given.ensures;
     } in
     given serving g.S.Service.IsServiceState world laws p are

@@ -11,7 +11,7 @@ use Rattle.xns_world.specs.declared.emitted.Emitted.{Emitted}
 
 pub returns : goal.returns
 returns c =
-    ok_then c.deliver.result c.deliver.ensures (λ delivered w v h e.
+    ok_then c.deliver.result c.deliver.ensures (λ delivered laws w v h e.
     let side = c.args.side in
     let k = c.args.number in
     let s = end_of w side in
@@ -21,6 +21,6 @@ returns c =
     let bytes = c.bytes.ensures x there in
     let answer = c.in_ok-received.ensures.answer s h.stands ∙ ap (receive_answer s) bytes in
     let stands = subst (λ (b : List ℕ). StandsFor c.receive.new.self (after_receive s b)) bytes (c.in_ok-received.ensures.stands s h.stands) in
-    let took = ap (λ (r : Received). length s.taken + r.took) answer ∙ receive_took s x.bytes in
+    let took = ap (λ (r : Received). length s.taken + r.took) answer ∙ receive_took laws s x.bytes in
     end_reached_by w v k side l c.receive.new.self c.deliver.new.self c.in_ok-received.received.reply stands (ap (λ (r : Received). r.reply) answer)
     (delivered w x (after_receive s x.bytes) h.network l.is stands.fits.bounds.taken_most took))

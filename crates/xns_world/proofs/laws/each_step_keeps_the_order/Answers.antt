@@ -1,4 +1,3 @@
-use Rattle.xns_world.proofs.EndLaws.{EndLaws}
 use Rattle.xns_world.proofs.Kept.{start_kept, flush_kept, tick_kept, send_kept, take_kept, land_kept, read_kept, holds, kept, in_order}
 use Rattle.xns_world.proofs.Runs.{delivers_lands}
 use Rattle.xns_world.proofs.laws.each_step_keeps_the_order.Goals as goal
@@ -6,36 +5,7 @@ use Rattle.xns_world.specs.World.{start, flushes, ticks, sends, takes}
 
 pub returns : goal.returns
 returns c =
-    let bounds = c.bounds_hold_after_each_step.ensures in
-    let grows = c.an_end_only_grows.ensures in
-    let goes_out = c.accepted_items_go_out.ensures in
-    let comes_in = c.items_are_taken_from_the_next_number_on.ensures in
-    let packets = c.own_packets_are_packets.ensures in
-    let laws : EndLaws = record {
-      again = c.written_packet_is_read_again.ensures.again;
-      back = c.nearest_number_is_read_back.ensures.back;
-      initiator = bounds.initiator;
-      responder = bounds.responder;
-      send = bounds.send;
-      take = bounds.take;
-      flush = bounds.flush;
-      tick = bounds.tick;
-      packet = bounds.packet;
-      send_grows = grows.send;
-      take_grows = grows.take;
-      flush_grows = grows.flush;
-      tick_grows = grows.tick;
-      receive_grows = grows.receive;
-      flush_sends = goes_out.flush;
-      tick_sends = goes_out.tick;
-      replies = goes_out.reply;
-      data_fits = packets.data_packet;
-      system_fits = packets.system_packet;
-      carries = c.own_packet_is_read_again.ensures.item;
-      takes = comes_in.taken;
-      keeps = comes_in.early;
-      acknowledges = c.packets_acknowledge_what_they_say.ensures;
-    } in
+    let laws = c.end_laws_are_given.ensures in
     record {
       start = λ setup fits good. holds (start setup) (start_kept laws setup fits good);
       flush = λ w side h. holds (flushes w side) (flush_kept laws w side (kept w h));

@@ -8,7 +8,7 @@ pub returns : goal.returns
 returns g c s setup packets can fits good bytes =
     let serving = g.S.Service.serving in
     let bounds = c.bounds_hold_after_each_step.ensures in
-    let laws : BoundLaws = record { steps = record { send = bounds.send; take = bounds.take }; flush = bounds.flush; receive = bounds.receive } in
+    let laws : BoundLaws = record { flush = bounds.flush; receive = bounds.receive } in
     let answering = c.server_laws_are_given.ensures s can in
     let w = serve_start setup in
     let first = bounds.responder setup.b setup.a setup.b_id setup.a_id setup.window setup.backlog fits.b fits.a good.b_id fits.b_id good.a_id fits.a_id good.window_least good.window_most good.backlog_least good.backlog_most in

@@ -14,7 +14,7 @@ returns-in_ok-land-in-A g c =
     ok_then c.settle_a.result c.settle_a.ensures (λ goes p w ready h.
     let k = c.args.number in
     let came = some_landing (landing w.world k) A (ap (λ (t : Side). Some t) (sym c.in-A.is) ∙ c.in-Some.ensures.lands w.world h.network) in
-    let end = c.in_ok-land-in-A.ensures w.world came.0 (record { stands = h.a.stands; network = h.network }) came.1 in
+    let end = c.in_ok-land-in-A.ensures ready.given.answering.ends w.world came.0 (record { stands = h.a.stands; network = h.network }) came.1 in
     let m = landed_a g.S.Service.serving c.args.calls.now p c.args.self.now w k came.0 c.land.new.endpoint c.land.new.network ready h came.1 end in
     subst (λ (v : CallWorld). IsCallPlaying p c.settle_a.new.self v) (delivers_to p w k A came.0 came.1) (goes p (in_world w came.0) m.ready m.playing))
 
@@ -23,7 +23,7 @@ returns-in_ok-land-in-B g c =
     ok_then c.settle_b.result c.settle_b.ensures (λ goes p w ready h.
     let k = c.args.number in
     let came = some_landing (landing w.world k) B (ap (λ (t : Side). Some t) (sym c.in-B.is) ∙ c.in-Some.ensures.lands w.world h.network) in
-    let end = c.in_ok-land-in-B.ensures w.world came.0 (record { stands = h.b.stands; network = h.network }) came.1 in
+    let end = c.in_ok-land-in-B.ensures ready.given.answering.ends w.world came.0 (record { stands = h.b.stands; network = h.network }) came.1 in
     let m = landed_b g.S.Service.serving c.args.calls.now p c.args.self.now w k came.0 c.land-in-B.new.endpoint c.land-in-B.new.network ready h came.1 end in
     subst (λ (v : CallWorld). IsCallPlaying p c.settle_b.new.self v) (delivers_to p w k B came.0 came.1) (goes p (in_world w came.0) m.ready m.playing))
 

@@ -1,6 +1,6 @@
 use Rattle.std.proofs.Common.{sym, subst}
 use Rattle.xns_spp.specs.Sending.{after_take}
-use Rattle.xns_world.proofs.Continues.{ok_then, take_same}
+use Rattle.xns_world.proofs.Continues.{ok_then}
 use Rattle.xns_world.proofs.Plays.{acts_alone}
 use Rattle.xns_world.proofs.play.Play.take.Goals as goal
 use Rattle.xns_world.specs.declared.participant.Participant.{Participant}
@@ -9,8 +9,8 @@ use Rattle.xns_world.specs.World.{end_of}
 
 pub returns : goal.returns
 returns c =
-    ok_then c.take.result c.take.ensures (λ took w h.
+    ok_then c.take.result c.take.ensures (λ took laws w h.
     let side = c.args.side in
     let s = end_of w side in
     let here = subst (λ (p : Participant). IsParticipant p s) (sym c.at.ensures.value) (h.ends side) in
-    acts_alone c.args.self.now.ends c.args.self.now.network w side c.take.new.self (after_take s) h.ends (took s here) h.network (take_same s))
+    acts_alone c.args.self.now.ends c.args.self.now.network w side c.take.new.self (after_take s) h.ends (took laws s here) h.network (laws.take_hears s).taken)
