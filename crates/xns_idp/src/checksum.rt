@@ -26,14 +26,15 @@ pub fn cycle_sum(bytes: &[u8]) -> u16
     sum_on(sum, left) as u16
 }
 
-/// The checksum of words of which the first have the checksum `start`, and the others are those of the bytes.
+/// The checksum of words of which the first have the checksum `start`, and the others are those of the bytes. Fewer than two blocks
+/// are summed word by word: to weigh the lanes takes as long as a block.
 fn sum_on(start: u64, bytes: &[u8]) -> u64
     requires small { start < 65535 }
     requires short { length bytes.now ≤ 8160 }
     ensures below { result < 65535 }
     ensures sum { result ≡ sum_from start (words bytes.now) % 65535 }
 {
-    if bytes.len() < BLOCK {
+    if bytes.len() < 2 * BLOCK {
         return block_sum(start, bytes) % 65535;
     }
     let mut lanes = u16x32::splat(0);
