@@ -255,22 +255,22 @@ expect 'a directory as script' 3 'xns: read fault' "$work/nothing"
 
 : > "$work/in"
 run
-expect 'no subcommand' 2 "error: 'xns' requires a subcommand but one was not provided; the subcommands are dump and sim; try 'xns --help'" "$work/text"
+expect 'no subcommand' 2 "error: 'xns' requires a subcommand but one was not provided; the subcommands are dump and sim; try 'xns --help'" "$work/nothing"
 
 run play
-expect 'another subcommand' 2 "error: unrecognized subcommand 'play'; the subcommands are dump and sim; try 'xns --help'" "$work/text"
+expect 'another subcommand' 2 "error: unrecognized subcommand 'play'; the subcommands are dump and sim; try 'xns --help'" "$work/nothing"
 
 run dump file
-expect 'a word too many' 2 "error: unexpected argument 'file' found; try 'xns --help'" "$work/text"
+expect 'a word too many' 2 "error: unexpected argument 'file' found; try 'xns --help'" "$work/nothing"
 
 run dump --loud
-expect 'an option that is none' 2 "error: unexpected argument '--loud' found; try 'xns --help'" "$work/text"
+expect 'an option that is none' 2 "error: unexpected argument '--loud' found; try 'xns --help'" "$work/nothing"
 
 run "$(printf 'dump\377')"
-expect 'a word that is not UTF-8' 2 "error: a word of the command line is not UTF-8; try 'xns --help'" "$work/text"
+expect 'a word that is not UTF-8' 2 "error: a word of the command line is not UTF-8; try 'xns --help'" "$work/nothing"
 
 run sim file
-expect 'a word too many behind sim' 2 "error: unexpected argument 'file' found; try 'xns --help'" "$work/text"
+expect 'a word too many behind sim' 2 "error: unexpected argument 'file' found; try 'xns --help'" "$work/nothing"
 
 for words in --help -h 'dump --help' 'sim --help' 'help' 'help dump' 'help sim'; do
     # shellcheck disable=SC2086
