@@ -1,7 +1,9 @@
+use Rattle.std.proofs.Common.{Option, ap}
 use Rattle.courier_calls.specs.Server.{server_state}
+use Rattle.xns_spp.specs.declared.item.Item.{Item}
 use Rattle.xns_world.proofs.ServeBounds.{BoundLaws, handed_items, settles_within, hears_all_within, kept_ending}
 use Rattle.xns_world.specs.Serve.{serve, serve_start, serve_settles}
-use Rattle.xns_world.specs.Settling.{handed_by}
+use Rattle.xns_world.specs.Settling.{handed_by, end_step_with}
 use Rattle.xns_world.proofs.serve_laws.served_ends_stay_within_bounds.Goals as goal
 
 pub returns : goal.returns
@@ -18,4 +20,5 @@ returns g c s setup packets can fits good bytes =
       end = within;
       kept = λ p is. c.what_is_kept_is_bounded.ensures (handed_by v) p (kept_ending (handed_by v) p is);
       answer = λ transaction call words. c.answers_are_short.ensures (server_state serving s (handed_by v)) transaction call (c.service_stays_in_its_states.ensures.items s (handed_by v) can (handed_items v within)) words;
+      alone = λ x is. ap (λ (o : Option Item). end_step_with v o) is;
     }
