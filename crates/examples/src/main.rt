@@ -2,9 +2,11 @@
 #![tactic(auto)]
 
 mod asking;
+mod calls;
 mod connection;
 mod echo_server;
 mod hex_lines;
+mod network;
 mod packet;
 mod values;
 
@@ -13,5 +15,7 @@ fn main(rt: HostRuntime) -> Result<(), anyhow::Error> {
     echo_server::answer(&rt)?;
     asking::ask(&rt)?;
     connection::send_an_item(&rt)?;
-    values::show(&rt, rt.alloc())
+    values::show(&rt, rt.alloc())?;
+    calls::converse(&rt)?;
+    network::play(&rt)
 }

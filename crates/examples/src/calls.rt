@@ -1,0 +1,81 @@
+//! Courier's calls: a caller, a server of the tally, and what goes between them, item by item.
+
+use crate::hex_lines::print_hex;
+use courier_calls::{Arguments, Call, Caller, Seen, Server, Tally, tally_table};
+use courier_types::Value;
+use xns_spp::Item;
+
+/// Add of 5, as the table of the tally lists it.
+pub fn add_five() -> Call {
+    Call {
+        program: 7,
+        version: 2,
+        procedure: 1,
+        arguments: Arguments::Typed(Value::Cardinal(5)),
+    }
+}
+
+/// Both sides tell their versions; then a call goes to the server, and its answer to the caller.
+pub fn converse(rt: &HostRuntime) -> Result<(), anyhow::Error> {
+    let alloc = rt.alloc();
+    let table = tally_table(alloc)?;
+    let mut server = Server::new(alloc, &table, Tally::new())?;
+    let mut caller = Caller::new(alloc, &table)?;
+    let (to_server, to_caller) = (caller.next_out(), server.next_out());
+    feed_server(rt, &mut server, to_server)?;
+    feed_caller(rt, &mut caller, to_caller)?;
+    if let Err(fault) = caller.call(alloc, &add_five()) {
+        println!(rt; "not called: {fault:?}")?;
+    }
+    feed_server(rt, &mut server, caller.next_out())?;
+    feed_caller(rt, &mut caller, server.next_out())?;
+    if let Some(Seen::Returned(value)) = caller.outcome() {
+        println!(rt; "returned {value:?}")?;
+    }
+    println!(rt; "the total is {}", server.into_service().total())?;
+    Ok(())
+}
+
+/// Feeds the server an item, where there is one and the server has nothing out.
+#[tactic(auto, using(courier_calls::specs::Outs::nothing_out))]
+fn feed_server(
+    rt: &HostRuntime,
+    server: &mut Server<Tally>,
+    item: Option<Item>,
+) -> Result<(), anyhow::Error> {
+    let Some(item) = item else {
+        return Ok(());
+    };
+    print_hex(rt, item.body.as_slice())?;
+    if server.has_out() {
+        println!(rt; "the server has more out")?;
+        return Ok(());
+    }
+    match server.feed(rt.alloc(), item) {
+        Ok(Some(call)) => println!(rt; "procedure {} of program {}", call.procedure, call.program)?,
+        Ok(None) => {}
+        Err(fault) => println!(rt; "the server stops: {fault:?}")?,
+    }
+    Ok(())
+}
+
+/// Feeds the caller an item, where there is one and the caller has nothing out.
+#[tactic(auto, using(courier_calls::specs::Outs::nothing_out))]
+fn feed_caller(
+    rt: &HostRuntime,
+    caller: &mut Caller,
+    item: Option<Item>,
+) -> Result<(), anyhow::Error> {
+    let Some(item) = item else {
+        return Ok(());
+    };
+    print_hex(rt, item.body.as_slice())?;
+    if caller.has_out() {
+        println!(rt; "the caller has more out")?;
+        return Ok(());
+    }
+    if let Err(fault) = caller.feed(rt.alloc(), item) {
+        println!(rt; "the caller stops: {fault:?}")?;
+    }
+    Ok(())
+}

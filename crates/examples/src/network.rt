@@ -1,0 +1,58 @@
+//! A call over a network that delivers packets late, and more than once: it is carried out once.
+
+use crate::calls::add_five;
+use courier_calls::{Tally, call_fits, tally_table};
+use xns_idp::Address;
+use xns_world::{Event, Setup, Side, play_calls};
+
+/// The two ends: the caller is at A.
+const SETUP: Setup = Setup {
+    a: Address {
+        network: 1,
+        host: [0, 0, 0xaa, 0, 3, 4],
+        socket: 0x400,
+    },
+    b: Address {
+        network: 1,
+        host: [0, 0, 0xaa, 0, 1, 2],
+        socket: 5,
+    },
+    a_id: 0x1234,
+    b_id: 0x5678,
+    window: 4,
+    backlog: 16,
+};
+
+/// What happens: A opens the connection, and then packets arrive, the first two of them again and again.
+const EVENTS: [Event; 12] = [
+    Event::Tick(Side::A),
+    Event::Rest,
+    Event::Rest,
+    Event::Deliver(0),
+    Event::Deliver(1),
+    Event::Rest,
+    Event::Tick(Side::A),
+    Event::Rest,
+    Event::Deliver(1),
+    Event::Tick(Side::B),
+    Event::Rest,
+    Event::Rest,
+];
+
+/// Plays a call of Add of 5 over such a network.
+pub fn play(rt: &HostRuntime) -> Result<(), anyhow::Error> {
+    let alloc = rt.alloc();
+    let table = tally_table(alloc)?;
+    let call = add_five();
+    if !SETUP.is_good() || !call_fits(&table, &call) {
+        return Ok(());
+    }
+    let trace = play_calls(alloc, &SETUP, &table, Tally::new(), &[call], &EVENTS)?;
+    println!(rt;
+        "{} carried out, {} answered, the total is {}",
+        trace.carried.len(),
+        trace.seen.len(),
+        trace.service.total()
+    )?;
+    Ok(())
+}
