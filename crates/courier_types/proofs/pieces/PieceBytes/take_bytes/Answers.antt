@@ -1,4 +1,4 @@
-use Rattle.std.proofs.Common.{ap, subst, ◌≡◌, ◌∙◌, ◌≤◌, ◌+◌, ◌++◌, ◌-◌, List, ℕ, drop, length, take, vec_capacity, vec_len, arith}
+use Rattle.std.proofs.Common.{subst, ◌≡◌, ◌≤◌, ◌+◌, ◌++◌, ◌-◌, List, ℕ, drop, length, take, vec_capacity, vec_len, arith}
 use Rattle.courier_types.specs.Pieces.{joined}
 use Rattle.courier_types.proofs.Taken.{extended, pieces_next, take_step, drop_step, enough_step}
 use Rattle.courier_types.proofs.pieces.PieceBytes.take_bytes.Goals as goal
