@@ -1,9 +1,11 @@
 //! The lines of Courier messages, a function for each.
 ghost use Rattle.std.specs.Prelude.{◌≡◌, ◌++◌, OnOk};
+ghost use Rattle.std.specs.Fmt.{decimal};
 ghost use Rattle.xns.specs.Layers.Courier.{callee_text, courier_text, message_line, message_text};
+ghost use Rattle.xns.specs.Layers.Text.{words_text};
 
 use crate::layers::numbers::{append_decimal, append_long, append_word_list, append_words_line};
-use courier_calls::{Message, MessageRefusal, read_message};
+use courier_calls::{Message, MessageRefusal, Words, read_message};
 use std::alloc::{AllocError, Global};
 
 /// Appends the line of the data at the end of a message: that of the message that it reads as, or its words.
@@ -50,43 +52,49 @@ fn append_message(report: &mut Vec<u8>, message: &Message) -> Result<(), AllocEr
             procedure,
             words,
         } => {
-            report.extend_from_slice(b" call ")?;
-            append_decimal(report, usize::from(*transaction))?;
+            append_named(report, b" call ", *transaction)?;
             append_callee(report, *program, *version, *procedure)?;
-            report.extend_from_slice(b" args ")?;
-            append_word_list(report, words.as_slice())
+            append_words(report, b" args ", words)
         }
         Message::Reject {
             transaction,
             reason,
             words,
         } => {
-            report.extend_from_slice(b" reject ")?;
-            append_decimal(report, usize::from(*transaction))?;
-            report.extend_from_slice(b" reason ")?;
-            append_decimal(report, usize::from(*reason))?;
-            report.extend_from_slice(b" words ")?;
-            append_word_list(report, words.as_slice())
+            append_named(report, b" reject ", *transaction)?;
+            append_named(report, b" reason ", *reason)?;
+            append_words(report, b" words ", words)
         }
         Message::Return { transaction, words } => {
-            report.extend_from_slice(b" return ")?;
-            append_decimal(report, usize::from(*transaction))?;
-            report.extend_from_slice(b" results ")?;
-            append_word_list(report, words.as_slice())
+            append_named(report, b" return ", *transaction)?;
+            append_words(report, b" results ", words)
         }
         Message::Abort {
             transaction,
             error,
             words,
         } => {
-            report.extend_from_slice(b" abort ")?;
-            append_decimal(report, usize::from(*transaction))?;
-            report.extend_from_slice(b" error ")?;
-            append_decimal(report, usize::from(*error))?;
-            report.extend_from_slice(b" args ")?;
-            append_word_list(report, words.as_slice())
+            append_named(report, b" abort ", *transaction)?;
+            append_named(report, b" error ", *error)?;
+            append_words(report, b" args ", words)
         }
     }
+}
+
+/// Appends a name and a number.
+fn append_named(report: &mut Vec<u8>, name: &[u8], number: u16) -> Result<(), AllocError>
+    ensures { OnOk result (report.new.items ≡ report.old.items ++ (name.now ++ decimal number)) }
+{
+    report.extend_from_slice(name)?;
+    append_decimal(report, usize::from(number))
+}
+
+/// Appends a name and words.
+fn append_words(report: &mut Vec<u8>, name: &[u8], words: &Words) -> Result<(), AllocError>
+    ensures { OnOk result (report.new.items ≡ report.old.items ++ (name.now ++ words_text words.now)) }
+{
+    report.extend_from_slice(name)?;
+    append_word_list(report, words.as_slice())
 }
 
 /// Appends what is called.
