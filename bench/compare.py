@@ -7,13 +7,14 @@
                                           beside the same in Rattle
     python3 bench/compare.py exchange     65,535 items of 534 bytes each way at window 64, in order and with every second packet late, beside
                                           a peer that sums by the standard's loop and one that sums in lanes
-    python3 bench/compare.py calls        100,000 calls of Courier through a caller and a server in memory
+    python3 bench/compare.py calls        100,000 calls of Courier through a caller and a server in memory, and 200 calls of 60,000
+                                          cardinals each way, with the most memory that a run holds
     python3 bench/compare.py dump         `xns dump` of 65,536 packets in hex: of types that no layer reads, and sequenced ones of 1, 1,000 and 65,536 flows
 
 The proved program is built by `rt run` in its crate, the peer by `rustc -O`. Absolute times say little on a shared machine; the
 ratio is of processor time in one run.
 """
-import os, pathlib, statistics, subprocess, sys, tempfile
+import os, pathlib, statistics, subprocess, sys, tempfile, time
 
 BENCH = pathlib.Path(__file__).resolve().parent
 CRATES = BENCH.parent / "crates"
@@ -55,6 +56,17 @@ def seconds_of(words, given):
         _, _, used = os.wait4(started.pid, 0)
         output.seek(0)
         return used.ru_utime + used.ru_stime, output.read()
+
+
+def held_by(words, given):
+    """The most memory that one run holds, in KiB, as its process tells while it runs."""
+    most = 0
+    with open(given, "rb") as lines, subprocess.Popen(words, stdin=lines, stdout=subprocess.DEVNULL) as started:
+        while started.poll() is None:
+            status = pathlib.Path(f"/proc/{started.pid}/status").read_text()
+            most = max([most, *(int(line.split()[1]) for line in status.splitlines() if line.startswith("VmHWM"))])
+            time.sleep(0.005)
+    return most
 
 
 def compare(ours, peer, given):
@@ -127,7 +139,11 @@ def main():
                     compare([ours, order, "5"], [peer, order, "5"], given)
         elif which == "calls":
             given.touch()
-            compare([built_program("calls_bench"), "100000"], [built_peer("calls_peer", folder), "100000"], given)
+            ours, peer = built_program("calls_bench"), built_peer("calls_peer", folder)
+            for name, counts in (("adds", ["100000", "0"]), ("lists", ["0", "200"])):
+                print(f"{name}:", end=" ", flush=True)
+                compare([ours, *counts], [peer, *counts], given)
+                print(f"{name}: ours holds {held_by([ours, *counts], given)} KiB at most, the peer {held_by([peer, *counts], given)}")
         else:
             sys.exit(__doc__)
 
