@@ -1,11 +1,11 @@
 //! A plain Rust caller and server of Courier calls over a stream of items, as one would write them: a message's bytes are
-//! joined, turned into words and read. It makes as many calls Add of 5 to a tally as its first word says.
+//! joined, turned into words and read. It makes as many calls Add of 5 to a tally as its first word says, and then as many calls of
+//! 60,000 cardinals each way as the second says.
 
 use std::collections::VecDeque;
 use std::hint::black_box;
-use std::{env, process};
+use std::env;
 
-#[allow(dead_code)]
 enum Shape {
     Cardinal,
     LongCardinal,
@@ -13,7 +13,6 @@ enum Shape {
     Fields(Vec<Shape>),
 }
 
-#[derive(Clone, Debug, PartialEq)]
 enum Value {
     Cardinal(u16),
     LongCardinal(u32),
@@ -226,6 +225,17 @@ impl Service for Tally {
     }
 }
 
+/// A service that counts down.
+struct Lists {
+    count: u16,
+}
+
+impl Service for Lists {
+    fn carry_out(&mut self, _procedure: u16, _arguments: &Value) -> Value {
+        Value::Sequence((0..self.count).rev().map(Value::Cardinal).collect())
+    }
+}
+
 #[allow(dead_code)]
 struct Call {
     program: u32,
@@ -331,18 +341,14 @@ impl<'a> Caller<'a> {
     }
 }
 
-fn carry<S: Service>(caller: &mut Caller, server: &mut Server<S>) -> Result<u64, ()> {
-    let mut carried = 0;
+fn carry<S: Service>(caller: &mut Caller, server: &mut Server<S>) -> Result<(), ()> {
     while let Some(item) = caller.out.pop_front() {
-        if let Some(call) = server.feed(item)? {
-            black_box(call);
-            carried += 1;
-        }
+        black_box(server.feed(item)?);
     }
     while let Some(item) = server.out.pop_front() {
         caller.feed(item)?;
     }
-    Ok(carried)
+    Ok(())
 }
 
 fn greet<S: Service>(caller: &mut Caller, server: &mut Server<S>) -> Result<(), ()> {
@@ -352,41 +358,59 @@ fn greet<S: Service>(caller: &mut Caller, server: &mut Server<S>) -> Result<(), 
     caller.feed(to_caller)
 }
 
-fn add(count: u32) -> Result<(), ()> {
-    let empty = Shape::Fields(Vec::new());
-    let table = Table {
-        entries: vec![Entry {
-            program: 7,
-            low: 1,
-            high: 2,
-            procedures: vec![
-                Procedure { number: 1, arguments: Shape::Cardinal, results: Shape::LongCardinal },
-                Procedure { number: 2, arguments: empty, results: Shape::LongCardinal },
-            ],
-        }],
-    };
-    let mut caller = Caller::new(&table);
-    let mut server = Server::new(&table, Tally { total: 0 });
-    greet(&mut caller, &mut server)?;
-    let mut carried = 0;
-    let mut returned = 0;
+/// Makes the call so many times: the last value returned.
+fn repeat<S: Service>(caller: &mut Caller, server: &mut Server<S>, program: u32, version: u16, arguments: &Value, count: u32) -> Result<Value, ()> {
+    greet(caller, server)?;
+    let mut last = None;
     for _ in 0..count {
-        caller.call(7, 2, 1, &Value::Cardinal(5))?;
-        carried += carry(&mut caller, &mut server)?;
+        caller.call(program, version, 1, arguments)?;
+        carry(caller, server)?;
         match caller.outcome.take() {
-            Some(Seen::Returned(Value::LongCardinal(total))) => returned = total,
+            Some(Seen::Returned(value)) => last = Some(value),
             Some(Seen::Rejected(reason)) => println!("rejected {reason}"),
-            _ => return Err(()),
+            None => return Err(()),
         }
     }
-    println!("calls {carried}");
-    println!("last total {returned}");
-    Ok(())
+    last.ok_or(())
+}
+
+fn add(count: u32) -> Result<Value, ()> {
+    let empty = Shape::Fields(Vec::new());
+    let procedures = vec![
+        Procedure { number: 1, arguments: Shape::Cardinal, results: Shape::LongCardinal },
+        Procedure { number: 2, arguments: empty, results: Shape::LongCardinal },
+    ];
+    let table = Table { entries: vec![Entry { program: 7, low: 1, high: 2, procedures }] };
+    let mut caller = Caller::new(&table);
+    let mut server = Server::new(&table, Tally { total: 0 });
+    repeat(&mut caller, &mut server, 7, 2, &Value::Cardinal(5), count)
+}
+
+fn list(count: u32) -> Result<Value, ()> {
+    let shape = || Shape::Sequence(60_000, Box::new(Shape::Cardinal));
+    let procedures = vec![Procedure { number: 1, arguments: shape(), results: shape() }];
+    let table = Table { entries: vec![Entry { program: 8, low: 1, high: 1, procedures }] };
+    let mut caller = Caller::new(&table);
+    let mut server = Server::new(&table, Lists { count: 60_000 });
+    let numbers = (0..60_000).map(Value::Cardinal).collect();
+    repeat(&mut caller, &mut server, 8, 1, &Value::Sequence(numbers), count)
+}
+
+/// What the long cardinal, or the list of cardinals, that was returned adds up to; 0 of any other outcome, and of none.
+fn sum(outcome: &Result<Value, ()>) -> u64 {
+    match outcome {
+        Ok(Value::LongCardinal(number)) => u64::from(*number),
+        Ok(Value::Sequence(values)) => values.iter().map(|value| if let Value::Cardinal(number) = value { u64::from(*number) } else { 0 }).sum(),
+        _ => 0,
+    }
+}
+
+fn count(place: usize) -> u32 {
+    env::args().nth(place).and_then(|word| word.parse().ok()).unwrap_or(0)
 }
 
 fn main() {
-    let count = env::args().nth(1).and_then(|word| word.parse().ok()).unwrap_or(1000);
-    if add(count).is_err() {
-        process::exit(1);
-    }
+    let (adds, lists) = (count(1), count(2));
+    println!("{adds} calls, total {}", sum(&add(adds)));
+    println!("{lists} lists, sum {}", sum(&list(lists)));
 }

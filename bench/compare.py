@@ -7,7 +7,8 @@
                                           beside the same in Rattle
     python3 bench/compare.py exchange     65,535 items of 534 bytes each way at window 64, in order and with every second packet late, beside
                                           a peer that sums by the standard's loop and one that sums in lanes
-    python3 bench/compare.py calls        100,000 calls of Courier through a caller and a server in memory
+    python3 bench/compare.py calls        100,000 calls of Courier through a caller and a server in memory, and 200 calls of 60,000
+                                          cardinals each way, with the most memory that a run holds
     python3 bench/compare.py sim          `xns sim` of 2,500, 5,000 and 10,000 calls Add, and of 5,000 calls with 50,000 events, among them 30,000
                                           packets that come again; nearly as many lines as an input may have
     python3 bench/compare.py dump         `xns dump` of 65,536 packets in hex: of types that no layer reads, of types 2 to 4, and sequenced ones of 1, 1,000
@@ -16,7 +17,7 @@
 The proved program is built by `rt run` in its crate, the peer by `rustc -O`. Absolute times say little on a shared machine; the
 ratio is of processor time in one run.
 """
-import os, pathlib, statistics, subprocess, sys, tempfile
+import os, pathlib, statistics, subprocess, sys, tempfile, time
 
 BENCH = pathlib.Path(__file__).resolve().parent
 CRATES = BENCH.parent / "crates"
@@ -52,27 +53,37 @@ def built_c(name, folder, library):
 
 
 def run_once(words, given):
-    """Processor seconds and the largest resident memory, in kilobytes, of one run, and its output."""
+    """Processor seconds of one run, and its output."""
     with open(given, "rb") as lines, tempfile.TemporaryFile() as output:
         started = subprocess.Popen(words, stdin=lines, stdout=output)
         _, _, used = os.wait4(started.pid, 0)
         output.seek(0)
-        return used.ru_utime + used.ru_stime, used.ru_maxrss, output.read()
+        return used.ru_utime + used.ru_stime, output.read()
+
+
+def held_by(words, given):
+    """The most memory that one run holds, in KiB, as its process tells while it runs."""
+    most = 0
+    with open(given, "rb") as lines, subprocess.Popen(words, stdin=lines, stdout=subprocess.DEVNULL) as started:
+        while started.poll() is None:
+            status = pathlib.Path(f"/proc/{started.pid}/status").read_text()
+            most = max([most, *(int(line.split()[1]) for line in status.splitlines() if line.startswith("VmHWM"))])
+            time.sleep(0.005)
+    return most
 
 
 def compare(ours, peer, given):
     times = {"ours": [], "peer": []}
-    memory = {}
     outputs = {}
     for _ in range(RUNS):
         for name, words in (("ours", ours), ("peer", peer)):
-            seconds, memory[name], outputs[name] = run_once(words, given)
+            seconds, outputs[name] = run_once(words, given)
             times[name].append(seconds)
     if outputs["ours"] != outputs["peer"]:
         sys.exit("the two programs print different things")
     medians = {name: statistics.median(runs) for name, runs in times.items()}
     print(f"ours {medians['ours']:.3f} s, peer {medians['peer']:.3f} s: the peer takes {medians['peer'] / medians['ours']:.1f} times as long, ours {medians['ours'] / medians['peer']:.2f} of its time")
-    return medians, memory
+    return medians
 
 
 def nanoseconds_of(words):
@@ -112,8 +123,8 @@ def main():
             for which in (["data"], ["echo"], ["error"], ["exchange"], ["sequenced", "1"], ["sequenced", "1000"], ["sequenced", "65536"]):
                 given.write_bytes(subprocess.run([sys.executable, BENCH / "packets.py", *which], stdout=subprocess.PIPE, check=True).stdout)
                 print(" ".join(which) + ":", end=" ", flush=True)
-                _, memory = compare([ours, "dump"], [peer], given)
-                print(f"    resident memory: ours {memory['ours']} kB, peer {memory['peer']} kB")
+                compare([ours, "dump"], [peer], given)
+                print(f"    ours holds {held_by([ours, 'dump'], given)} KiB at most, the peer {held_by([peer], given)}")
         elif which == "sim":
             ours, peer = built_program("xns"), built_peer("sim_peer", folder)
             for words in (["2500"], ["5000"], ["10000"], ["5000", "6"]):
@@ -126,7 +137,7 @@ def main():
             given.touch()
             library = built_c("c_codec", folder, True)
             compare([library], [built_c("c_codec_peer", folder, False)], given)
-            medians, _ = compare([library], [built_program("codec_bench")], given)
+            medians = compare([library], [built_program("codec_bench")], given)
             print(f"through C each packet takes {(medians['ours'] - medians['peer']) * 1000:.0f} ns more than in Rattle, for its two calls")
         elif which == "exchange":
             given.touch()
@@ -138,7 +149,11 @@ def main():
                     compare([ours, order, "5"], [peer, order, "5"], given)
         elif which == "calls":
             given.touch()
-            compare([built_program("calls_bench"), "100000"], [built_peer("calls_peer", folder), "100000"], given)
+            ours, peer = built_program("calls_bench"), built_peer("calls_peer", folder)
+            for name, counts in (("adds", ["100000", "0"]), ("lists", ["0", "200"])):
+                print(f"{name}:", end=" ", flush=True)
+                compare([ours, *counts], [peer, *counts], given)
+                print(f"{name}: ours holds {held_by([ours, *counts], given)} KiB at most, the peer {held_by([peer, *counts], given)}")
         else:
             sys.exit(__doc__)
 

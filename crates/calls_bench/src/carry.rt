@@ -1,6 +1,6 @@
 //! What carries the items of a conversation, in memory.
 
-use courier_calls::{Caller, Server, Service, SessionFault};
+use courier_calls::{Call, Caller, Seen, Server, Service, SessionFault};
 use std::alloc::Global;
 use xns_spp::Item;
 
@@ -26,7 +26,7 @@ fn feed_caller(alloc: Global, caller: &mut Caller, item: Item) -> Result<(), Ses
 }
 
 /// Feeds each side the first item of the other, which has its versions.
-pub fn greet<S: Service>(
+fn greet<S: Service>(
     alloc: Global,
     caller: &mut Caller,
     server: &mut Server<S>,
@@ -46,7 +46,7 @@ pub fn greet<S: Service>(
 const MOST_ITEMS: usize = 246;
 
 /// Feeds the server what the caller has out, and then the caller what the server has.
-pub fn carry<S: Service>(
+fn carry<S: Service>(
     alloc: Global,
     caller: &mut Caller,
     server: &mut Server<S>,
@@ -64,4 +64,28 @@ pub fn carry<S: Service>(
         feed_caller(alloc, caller, item)?;
     }
     Ok(())
+}
+
+/// Makes the call so many times: the last outcome; `None` where a session stops, or a call is not made or not answered.
+pub fn repeat<S: Service>(
+    alloc: Global,
+    caller: &mut Caller,
+    server: &mut Server<S>,
+    call: &Call,
+    count: u32,
+) -> Option<Seen> {
+    if greet(alloc, caller, server).is_err() {
+        return None;
+    }
+    let mut last = None;
+    for _ in 0..count {
+        if caller.call(alloc, call).is_err() || carry(alloc, caller, server).is_err() {
+            return None;
+        }
+        last = caller.outcome();
+        if last.is_none() {
+            return None;
+        }
+    }
+    last
 }

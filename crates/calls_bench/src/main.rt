@@ -1,11 +1,14 @@
-//! Calls through a caller and a server in memory, to be timed: as many calls Add of 5 to a tally as the first word says, else 1,000.
-//! The stored run makes 100,000, so that its transactions pass 65,535 and begin again at 0. Each must be answered, and the total be
-//! five times as much.
+//! Calls through a caller and a server in memory, to be timed: as many calls Add of 5 to a tally as the first word says, and then
+//! as many calls of 60,000 cardinals each way as the second says.
+//! The stored run makes 100,000 of the first, so that its transactions pass 65,535 and begin again at 0. Each must be answered: the
+//! total is then five times as much, and the sum that of 0 to 59,999.
 #![tactic(auto)]
 
 mod carry;
+mod lists;
 
-use crate::carry::{carry, greet};
+use crate::carry::repeat;
+use crate::lists::{Lists, lists_table};
 use courier_calls::{Arguments, Call, Caller, Seen, Server, Tally, tally_table};
 use courier_types::Value;
 use std::alloc::{AllocError, Global};
@@ -13,17 +16,40 @@ use std::env;
 
 fn main(rt: HostRuntime) -> Result<(), anyhow::Error> {
     let alloc = rt.alloc();
-    let word = env::args(&rt)?.nth(1);
-    let count = word.map_or(1000, |text| text.parse::<u32>().unwrap_or(1000));
-    match add(alloc, count)? {
-        Some(total) => println!(rt; "calls {count}\nlast total {total}")?,
-        None => println!(rt; "another outcome")?,
-    }
+    let adds = count(&rt, 1)?;
+    let total = sum(&add(alloc, adds)?);
+    println!(rt; "{adds} calls, total {total}")?;
+    let lists = count(&rt, 2)?;
+    let all = sum(&list(alloc, lists)?);
+    println!(rt; "{lists} lists, sum {all}")?;
     Ok(())
 }
 
-/// So many calls Add of 5: the last total; `None` where one does not return a total.
-fn add(alloc: Global, count: u32) -> Result<Option<u32>, AllocError> {
+/// The number that a word of the command line is, else 0.
+fn count(rt: &HostRuntime, place: usize) -> Result<u32, anyhow::Error> {
+    let word = env::args(rt)?.nth(place);
+    Ok(word.map_or(0, |text| text.parse::<u32>().unwrap_or(0)))
+}
+
+/// What the long cardinal, or the list of cardinals, that was returned adds up to; 0 of any other outcome, and of none.
+fn sum(outcome: &Option<Seen>) -> u64 {
+    let mut all: u64 = 0;
+    match outcome {
+        Some(Seen::Returned(Value::LongCardinal(number))) => all = u64::from(*number),
+        Some(Seen::Returned(Value::Sequence(values))) => {
+            for value in values {
+                if let Value::Cardinal(number) = value {
+                    all = all.saturating_add(u64::from(*number));
+                }
+            }
+        }
+        _ => {}
+    }
+    all
+}
+
+/// So many calls Add of 5: the last outcome.
+fn add(alloc: Global, count: u32) -> Result<Option<Seen>, AllocError> {
     let table = tally_table(alloc)?;
     let mut server = Server::new(alloc, &table, Tally::new())?;
     let mut caller = Caller::new(alloc, &table)?;
@@ -33,18 +59,31 @@ fn add(alloc: Global, count: u32) -> Result<Option<u32>, AllocError> {
         procedure: 1,
         arguments: Arguments::Typed(Value::Cardinal(5)),
     };
-    let mut last = 0;
-    if greet(alloc, &mut caller, &mut server).is_err() {
+    Ok(repeat(alloc, &mut caller, &mut server, &call, count))
+}
+
+/// The numbers from 0 to 59,999.
+fn numbers(alloc: Global) -> Result<Value, AllocError> {
+    let mut numbers = Vec::with_capacity(alloc, 60_000)?;
+    for number in 0..60_000 {
+        numbers.push(Value::Cardinal(number))?;
+    }
+    Ok(Value::Sequence(numbers))
+}
+
+/// So many calls of 60,000 cardinals each way: the last outcome.
+fn list(alloc: Global, count: u32) -> Result<Option<Seen>, AllocError> {
+    let table = lists_table(alloc)?;
+    let Ok(()) = table.check() else {
         return Ok(None);
-    }
-    for _ in 0..count {
-        if caller.call(alloc, &call).is_err() || carry(alloc, &mut caller, &mut server).is_err() {
-            return Ok(None);
-        }
-        match caller.outcome() {
-            Some(Seen::Returned(Value::LongCardinal(total))) => last = total,
-            _ => return Ok(None),
-        }
-    }
-    Ok(Some(last))
+    };
+    let mut server = Server::new(alloc, &table, Lists::new())?;
+    let mut caller = Caller::new(alloc, &table)?;
+    let call = Call {
+        program: 8,
+        version: 1,
+        procedure: 1,
+        arguments: Arguments::Typed(numbers(alloc)?),
+    };
+    Ok(repeat(alloc, &mut caller, &mut server, &call, count))
 }
