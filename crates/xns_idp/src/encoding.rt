@@ -8,7 +8,7 @@ use crate::packet::{HEADER, HEADER_BYTES, NO_SUM, Packet};
 use std::alloc::{AllocError, Global};
 
 /// The byte that is written behind an odd number of bytes.
-const GARBAGE: u8 = 0;
+pub(crate) const GARBAGE: u8 = 0;
 
 /// Appends the bytes of a packet to `out`: its header, its body, and a garbage byte of 0 where the body's length is odd.
 /// The checksum is computed where the packet is summed.
@@ -38,7 +38,12 @@ pub fn encode(_alloc: Global, packet: &Packet<'_>, out: &mut Vec<u8>) -> Result<
 }
 
 /// The checksum field of the header's other parts and the body, with a garbage byte of 0.
-fn checksum_field(packet: &Packet<'_>, front: &[u8; 4], target: &[u8; 12], source: &[u8; 12]) -> u16
+pub(crate) fn checksum_field(
+    packet: &Packet<'_>,
+    front: &[u8; 4],
+    target: &[u8; 12],
+    source: &[u8; 12],
+) -> u16
     requires { length packet.now.body.now ≤ 546 }
     ensures { result ≡ (if packet.now.summed
         then cycle_checksum (words (front.now ++ target.now ++ source.now ++ packet.now.body.now ++ replicate (length packet.now.body.now % 2) 0))
