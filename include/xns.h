@@ -110,7 +110,7 @@ uint32_t xns_checksum(const uint8_t *bytes, size_t length, uint16_t *sum);
 uint32_t xns_decode(const uint8_t *bytes, size_t length, struct xns_packet *packet);
 
 /* Writes the packet with these data to the front of the buffer; of `packet` the fields from body_at on are not read. It has 30 bytes
- * and the data, made even. XNS_TOO_LONG over 546 bytes of data, XNS_SHORT_BUFFER, XNS_NO_MEMORY. */
+ * and the data, made even. XNS_TOO_LONG over 546 bytes of data, XNS_SHORT_BUFFER. */
 uint32_t xns_encode(const struct xns_packet *packet, const uint8_t *body, size_t body_length, uint8_t *buffer, size_t room, size_t *written);
 
 /* ---- Echo, Error, Packet Exchange */

@@ -6,17 +6,14 @@ ghost use Rattle.xns_idp.specs.Packet.{packet_spelling};
 ghost use Rattle.xns_idp.specs.Reading.{made_even, packet_of};
 ghost use Rattle.xns_idp.specs.declared.fault.IdpFault.{IdpFault};
 ghost use Rattle.xns_c.specs.Given.{IsPut};
-ghost use Rattle.xns_c.specs.Results.{ok, bad_argument, no_memory, short_buffer, too_long, idp_fault_number};
+ghost use Rattle.xns_c.specs.Results.{ok, bad_argument, short_buffer, too_long, idp_fault_number};
 ghost use Rattle.xns_c.specs.Views.{packet_in, packet_with};
 
 use crate::address::XnsAddress;
 use crate::flag::as_byte;
-use crate::front::put_front;
 use crate::packet::XnsPacket;
-use crate::results::{BAD_ARGUMENT, NO_MEMORY, OK, SHORT_BUFFER, TOO_LONG, idp_fault_number};
-use std::alloc::Global;
-use xns_idp::laws::written_packet_is_read_again;
-use xns_idp::{Packet, cycle_sum, decode, encode};
+use crate::results::{BAD_ARGUMENT, OK, SHORT_BUFFER, TOO_LONG, idp_fault_number};
+use xns_idp::{Packet, cycle_sum, decode, encode_into};
 
 /// The checksum of the words of the bytes, or `BAD_ARGUMENT` for an odd number of bytes
 /// (XSIS 028112, Internet Datagram Protocol, Checksum).
@@ -60,19 +57,18 @@ pub extern "C" fn xns_decode(bytes: &[u8], packet: &mut XnsPacket) -> u32
 
 /// Puts the bytes of a packet with these data to the front of the buffer. Of the packet the last three fields are not read.
 ///
-/// `TOO_LONG` for more than 546 bytes of data, else `SHORT_BUFFER`, else `NO_MEMORY` where memory is refused.
+/// `TOO_LONG` for more than 546 bytes of data, else `SHORT_BUFFER`. It takes no memory.
 #[unsafe(no_mangle)]
 pub extern "C" fn xns_encode(
-    alloc: Global,
     packet: &XnsPacket,
     body: &[u8],
     buffer: &mut [u8],
     written: &mut usize,
 ) -> u32
-    ensures written { result ≡ ok → IsPut (packet_spelling (packet_with packet.now body.now)) buffer.old buffer.new written.new }
+    ensures written { length body.now ≤ 546 → made_even (30 + length body.now) ≤ length buffer.old →
+        (result ≡ ok) × IsPut (packet_spelling (packet_with packet.now body.now)) buffer.old buffer.new written.new }
     ensures long { 546 < length body.now → result ≡ too_long }
     ensures short { length body.now ≤ 546 → length buffer.old < made_even (30 + length body.now) → result ≡ short_buffer }
-    ensures memory { length body.now ≤ 546 → made_even (30 + length body.now) ≤ length buffer.old → result ≢ ok → result ≡ no_memory }
     ensures unchanged { result ≢ ok → (buffer.new ≡ buffer.old) × (written.new ≡ written.old) }
 {
     let size = body.len();
@@ -90,11 +86,6 @@ pub extern "C" fn xns_encode(
         source: packet.source.address(),
         body,
     };
-    whole.known();
-    written_packet_is_read_again();
-    let mut bytes = Vec::new(alloc);
-    match encode(alloc, &whole, &mut bytes) {
-        Ok(()) => put_front(bytes.as_slice(), buffer, written),
-        Err(_) => NO_MEMORY,
-    }
+    *written = encode_into(&whole, buffer);
+    OK
 }

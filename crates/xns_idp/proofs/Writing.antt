@@ -1,6 +1,6 @@
 -- What is written, piece by piece, is the spelling of the packet.
-use Rattle.std.proofs.Common.{◌≡◌, ℕ, zero, suc, ◌+◌, ◌-◌, ◌%◌, ◌<◌, if◌then◌else◌, List, [], ◌∷◌, ◌++◌, length, take, drop, replicate, refl, sym, ap, ◌∙◌, append_assoc, length-append, arith}
-use Rattle.std.proofs.lemmas.List.{append-nil, drop_all, drop_at, take_at, take_all}
+use Rattle.std.proofs.Common.{◌≡◌, ℕ, zero, suc, ◌+◌, ◌-◌, ◌%◌, ◌<◌, if◌then◌else◌, List, [], ◌∷◌, ◌++◌, length, take, drop, replicate, refl, sym, ap, ◌∙◌, append_assoc, length-append, ◌≤◌, arith}
+use Rattle.std.proofs.lemmas.List.{append-nil, drop_all, drop_at, length-take-le, take-append-drop, take_at, take_all}
 use Rattle.std.specs.Int.{w16, to_be_bytes}
 use borrow.Rule.Slice.PartMut.{mid_of, post_of, put_mid, Post-is}
 use Rattle.xns_idp.specs.Checksum.{words, cycle_checksum}
@@ -62,3 +62,10 @@ pub no_byte_or_one : (n : ℕ) → n < 2 → take {A = ℕ} n (0 ∷ []) ≡ rep
 no_byte_or_one zero h = refl
 no_byte_or_one (suc zero) h = refl
 no_byte_or_one (suc (suc n)) h = absurd (omega (arith, h))
+
+-- what stands in the first n places, with the rest as it was
+pub in_place : (n : ℕ) (old new front : List ℕ) → take n new ≡ front → n ≤ length new → drop n new ≡ drop n old → (n ≡ length front) × (new ≡ front ++ drop (length front) old)
+in_place n old new front is within behind =
+    let counted : length (take n new) ≡ length front = ap (length {A = ℕ}) is in
+    let size : n ≡ length front = sym (length-take-le n new within) ∙ counted in
+    (size, sym (take-append-drop n new) ∙ ap (λ (xs : List ℕ). xs ++ drop n new) is ∙ ap (λ (xs : List ℕ). front ++ xs) behind ∙ ap (λ (k : ℕ). front ++ drop k old) size)

@@ -9,7 +9,7 @@ use crate::packet::{HEADER, HEADER_BYTES, NO_SUM, Packet};
 use std::alloc::{AllocError, Global};
 
 /// The byte that is written behind an odd number of bytes.
-const GARBAGE: u8 = 0;
+pub(crate) const GARBAGE: u8 = 0;
 
 /// Appends the bytes of a packet to `out`: its header, its body, and a garbage byte of 0 where the body's length is odd.
 /// The checksum is computed where the packet is summed.
@@ -57,7 +57,7 @@ pub fn encode_parts(
 
 /// Puts the checksum field into a packet, in the place of its first two bytes: the checksum of the words after them, or 65535
 /// where the packet isn't summed.
-fn put_checksum(packet: &mut [u8], summed: bool)
+pub(crate) fn put_checksum(packet: &mut [u8], summed: bool)
     requires even { length packet.now % 2 ≡ 0 }
     requires field { 2 ≤ length packet.now }
     ensures { packet.new ≡ to_be_bytes w16 (if summed then cycle_checksum (words (drop 2 packet.old)) else 65535) ++ drop 2 packet.old }

@@ -8,6 +8,7 @@ mod address;
 mod checksum;
 mod decoding;
 mod encoding;
+mod encoding_into;
 mod fault;
 pub mod known;
 pub mod laws;
@@ -19,6 +20,7 @@ pub use address::Address;
 pub use checksum::cycle_sum;
 pub use decoding::decode;
 pub use encoding::{encode, encode_parts};
+pub use encoding_into::encode_into;
 pub use fault::IdpFault;
 pub use packet::{HEADER_BYTES, Packet};
 

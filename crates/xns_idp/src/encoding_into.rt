@@ -1,0 +1,37 @@
+ghost use Rattle.std.specs.Prelude.{◌≡◌, ◌+◌, ◌≤◌, ◌++◌, ℕ, length, take, drop};
+ghost use Rattle.xns_idp.specs.Packet.{packet_model, packet_spelling};
+ghost use Rattle.xns_idp.specs.Reading.{made_even};
+
+use crate::encoding::{GARBAGE, put_checksum};
+use crate::packet::{HEADER, Packet};
+
+/// Puts bytes behind the first `at` of a slice, and says where they end.
+fn put(out: &mut [u8], at: usize, bytes: &[u8]) -> usize
+    requires { at + length bytes.now ≤ length out.old }
+    ensures end { result ≡ at + length bytes.now }
+    ensures put { take result out.new ≡ take at out.old ++ bytes.now }
+    ensures behind { (place : ℕ) → at + length bytes.now ≤ place → drop place out.new ≡ drop place out.old }
+    ensures length { length out.new ≡ length out.old }
+    ensures within { result ≤ length out.new }
+{
+    let end = at + bytes.len();
+    out[at..end].copy_from_slice(bytes);
+    end
+}
+
+/// Puts the bytes of a packet, as [`crate::encode`] writes them, to the front of `out`, and says how many there are. It takes no memory.
+/// What stands behind them is left.
+pub fn encode_into(packet: &Packet<'_>, out: &mut [u8]) -> usize
+    requires short { length packet.now.body.now ≤ 546 }
+    requires room { made_even (30 + length packet.now.body.now) ≤ length out.old }
+    ensures { (result ≡ length (packet_spelling (packet_model packet.now))) × (out.new ≡ packet_spelling (packet_model packet.now) ++ drop (length (packet_spelling (packet_model packet.now))) out.old) }
+{
+    let [high, low] = (HEADER + packet.body.len() as u16).to_be_bytes();
+    let end = put(out, 0, &[0, 0, high, low, packet.control, packet.kind]);
+    let end = put(out, end, &packet.target.to_bytes());
+    let end = put(out, end, &packet.source.to_bytes());
+    let end = put(out, end, packet.body);
+    let end = put(out, end, &[GARBAGE][..packet.body.len() % 2]);
+    put_checksum(&mut out[..end], packet.summed);
+    end
+}
