@@ -49,28 +49,34 @@ def built_c(name, folder, library):
     return program
 
 
-def run_once(words, given):
-    """Processor seconds and the largest resident memory, in kilobytes, of one run, and its output."""
+def seconds_of(words, given):
+    """Processor seconds of one run, and its output."""
     with open(given, "rb") as lines, tempfile.TemporaryFile() as output:
         started = subprocess.Popen(words, stdin=lines, stdout=output)
         _, _, used = os.wait4(started.pid, 0)
         output.seek(0)
-        return used.ru_utime + used.ru_stime, used.ru_maxrss, output.read()
+        return used.ru_utime + used.ru_stime, output.read()
+
+
+def kilobytes_of(words, given):
+    """The largest resident memory of one run, as GNU time says it: this program's own would be counted too."""
+    with open(given, "rb") as lines:
+        ended = subprocess.run(["/usr/bin/time", "-q", "-f", "%M", *words], stdin=lines, stdout=subprocess.DEVNULL, stderr=subprocess.PIPE, check=False)
+    return int(ended.stderr.split()[-1])
 
 
 def compare(ours, peer, given):
     times = {"ours": [], "peer": []}
-    memory = {}
     outputs = {}
     for _ in range(RUNS):
         for name, words in (("ours", ours), ("peer", peer)):
-            seconds, memory[name], outputs[name] = run_once(words, given)
+            seconds, outputs[name] = seconds_of(words, given)
             times[name].append(seconds)
     if outputs["ours"] != outputs["peer"]:
         sys.exit("the two programs print different things")
     medians = {name: statistics.median(runs) for name, runs in times.items()}
     print(f"ours {medians['ours']:.3f} s, peer {medians['peer']:.3f} s: the peer takes {medians['peer'] / medians['ours']:.1f} times as long, ours {medians['ours'] / medians['peer']:.2f} of its time")
-    return medians, memory
+    return medians
 
 
 def nanoseconds_of(words):
@@ -110,15 +116,15 @@ def main():
             for which in (["data"], ["echo"], ["error"], ["exchange"], ["sequenced", "1"], ["sequenced", "1000"], ["sequenced", "65536"]):
                 given.write_bytes(subprocess.run([sys.executable, BENCH / "packets.py", *which], stdout=subprocess.PIPE, check=True).stdout)
                 print(" ".join(which) + ":", end=" ", flush=True)
-                _, memory = compare([ours, "dump"], [peer], given)
-                print(f"    resident memory: ours {memory['ours']} kB, peer {memory['peer']} kB")
+                compare([ours, "dump"], [peer], given)
+                print(f"    resident memory: ours {kilobytes_of([ours, 'dump'], given)} kB, peer {kilobytes_of([peer], given)} kB")
         elif which == "values":
             compare_values([built_program("values_bench")], [built_peer("values_peer", folder)])
         elif which == "c":
             given.touch()
             library = built_c("c_codec", folder, True)
             compare([library], [built_c("c_codec_peer", folder, False)], given)
-            medians, _ = compare([library], [built_program("codec_bench")], given)
+            medians = compare([library], [built_program("codec_bench")], given)
             print(f"through C each packet takes {(medians['ours'] - medians['peer']) * 1000:.0f} ns more than in Rattle, for its two calls")
         elif which == "exchange":
             given.touch()
