@@ -52,7 +52,7 @@ def built_c(name, folder, library):
     return program
 
 
-def run_once(words, given):
+def seconds_of(words, given):
     """Processor seconds of one run, and its output."""
     with open(given, "rb") as lines, tempfile.TemporaryFile() as output:
         started = subprocess.Popen(words, stdin=lines, stdout=output)
@@ -77,7 +77,7 @@ def compare(ours, peer, given):
     outputs = {}
     for _ in range(RUNS):
         for name, words in (("ours", ours), ("peer", peer)):
-            seconds, outputs[name] = run_once(words, given)
+            seconds, outputs[name] = seconds_of(words, given)
             times[name].append(seconds)
     if outputs["ours"] != outputs["peer"]:
         sys.exit("the two programs print different things")

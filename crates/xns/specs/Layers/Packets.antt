@@ -16,7 +16,7 @@ use Rattle.xns.specs.Layers.Text.{address_text, data_line, hex_word}
 
 -- ---- the body
 
--- what the body of a packet says, by the packet type
+-- what the body of a packet says, by the packet type (XSIS 028112, Internet Datagram Protocol, Packet Type)
 unfoldable pub body_text : ℕ → (DataPacket → ℕ) → PacketModel → List ℕ
 body_text n number packet =
     if packet.kind == 2 then echo_text n packet.body
@@ -40,7 +40,7 @@ body_item packet = if packet.kind == 5 then sequenced_item packet else None
 
 -- ---- the header (XSIS 028112, Internet Datagram Protocol, Packet Format)
 
--- the checksum field of a packet, or that it has no checksum
+-- the checksum field of a packet, or that it has no checksum (XSIS 028112, Internet Datagram Protocol, Checksum)
 unfoldable pub sum_text : PacketModel → ℕ → List ℕ
 sum_text packet field = if packet.summed then hex_word field else codes "none"
 
@@ -52,7 +52,7 @@ size_text field packet = codes "length " ++ decimal (30 + length packet.body) ++
 unfoldable pub kind_text : PacketModel → List ℕ
 kind_text packet = codes " control " ++ decimal packet.control ++ codes " type " ++ decimal packet.kind
 
--- the destination and the source
+-- the destination and the source (XSIS 028112, Internet Datagram Protocol, Network Addresses)
 unfoldable pub route_text : PacketModel → List ℕ
 route_text packet = codes " to " ++ address_text packet.target ++ codes " from " ++ address_text packet.source
 

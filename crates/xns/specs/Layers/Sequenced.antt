@@ -18,7 +18,7 @@ unfoldable pub connection_text : Header → List ℕ
 connection_text f =
     encode_lower (f.control ∷ []) ++ codes " stream " ++ decimal f.stream ++ codes " source " ++ hex_word f.source_id ++ codes " target " ++ hex_word f.target_id
 
--- the sequence, acknowledge and allocation numbers
+-- the sequence, acknowledge and allocation numbers (XSIS 028112, Sequenced Packet Protocol, Sequence Number, Acknowledge Number and Allocation Number)
 unfoldable pub sequence_text : Header → List ℕ
 sequence_text f = codes " seq " ++ decimal f.sequence ++ codes " ack " ++ decimal f.acknowledge ++ codes " alloc " ++ decimal f.allocation
 
@@ -40,7 +40,7 @@ item_of packet f =
 unfoldable pub item_line : ℕ → ℕ → List ℕ
 item_line n number = decimal n ++ codes " item " ++ decimal number ++ codes "\n"
 
--- the number of its item
+-- the number of its item (XSIS 028112, Sequenced Packet Protocol, Sequence Number)
 abbrev pub item_text : ℕ → (DataPacket → ℕ) → Option DataPacket → List ℕ
 item_text n number None = []
 item_text n number (Some packet) = item_line n (number packet)

@@ -18,18 +18,18 @@ inner_fault_text (EchoOperation found) = codes "EchoOperation " ++ decimal found
 unfoldable pub inner_refusal : ℕ → SmallFault → List ℕ
 inner_refusal n fault = decimal n ++ codes " inner refused " ++ inner_fault_text fault ++ codes "\n"
 
--- a request or a reply, and its bytes
+-- a request or a reply, and its bytes (XSIS 028112, Echo Protocol)
 unfoldable pub echo_line : ℕ → EchoModel → List ℕ
 echo_line n echo = decimal n ++ (if echo.reply then codes " echo reply " else codes " echo request ") ++ bytes_or_dash echo.body ++ codes "\n"
 
--- the error number, the parameter, and what is quoted
+-- the error number, the parameter, and what is quoted (XSIS 028112, Error Protocol)
 unfoldable pub error_fields : ErrorReportModel → List ℕ
 error_fields report = decimal report.number ++ codes " parameter " ++ decimal report.parameter ++ codes " quoted " ++ bytes_or_dash report.quoted
 
 unfoldable pub error_line : ℕ → ErrorReportModel → List ℕ
 error_line n report = decimal n ++ codes " error " ++ error_fields report ++ codes "\n"
 
--- the identifier, the client type, and the bytes
+-- the identifier, the client type, and the bytes (XSIS 028112, Packet Exchange Protocol)
 unfoldable pub exchange_fields : ExchangeModel → List ℕ
 exchange_fields exchange =
     encode_lower (to_be_bytes w32 exchange.id) ++ codes " client " ++ decimal exchange.client ++ codes " body " ++ bytes_or_dash exchange.body
