@@ -1,4 +1,4 @@
-use Rattle.std.proofs.Common.{ap, subst, ◌∙◌, ◌++◌, ◌*◌, List, ℕ, drop, length, take, arith}
+use Rattle.std.proofs.Common.{ap, subst, ◌∙◌, ◌++◌, List, ℕ, drop, length, take, arith}
 use Rattle.std.proofs.lemmas.List.{length-drop}
 use Rattle.courier_types.specs.Pieces.{joined, words_of}
 use Rattle.courier_types.specs.Source.{bytes_of}
