@@ -1,10 +1,9 @@
 -- What the two ends of a play of calls stand for after each step.
-use Rattle.std.proofs.Common.{◌≡◌, ℕ, zero, suc, ◌+◌, ◌-◌, ◌<◌, ◌≤◌, Bool, true, false, List, [], ◌∷◌, ◌++◌, length, map, take, Option, Some, None, Result, Ok, Err, refl, sym, ◌∙◌, ap, subst, arith, length-append}
+use Rattle.std.proofs.Common.{◌≡◌, ℕ, zero, suc, ◌+◌, ◌<◌, ◌≤◌, Bool, true, false, List, [], ◌∷◌, ◌++◌, length, map, take, Option, Some, None, Result, Ok, Err, refl, sym, ◌∙◌, ap, subst, arith, length-append}
 use Rattle.std.specs.Prelude.{slice_get, nat_lt, ◌==◌, ◌&&◌, if◌then◌else◌, IfOk, is_some}
 use Rattle.std.specs.Option.{option_to_list}
 use Rattle.std.proofs.lemmas.Bool.{le-ltb, lt-ltb, ltb-true, ltb-false, eq-eqb, ne_eqb}
 use Rattle.std.proofs.lemmas.List.{take_all, take-append-le, length-take-le, map-append, length-map}
-use Rattle.std.proofs.lemmas.Option.{slice_get_within}
 use Rattle.courier_calls.specs.Calls.{RawCall, SeenModel, seen_model, raw_call}
 use Rattle.courier_calls.specs.Caller as caller
 use Rattle.courier_calls.specs.Caller.{caller_items, answers}
@@ -17,8 +16,6 @@ use Rattle.xns_spp.specs.State.{State}
 use Rattle.xns_spp.specs.declared.item.Item.{Item}
 use Rattle.xns_world.proofs.CallCarries.{next_piece, calls, read_more}
 use Rattle.xns_world.proofs.CallQuiet.{not_refused, one_more, send_accepts, take_hands_up}
-use Rattle.xns_world.proofs.Fronts.{element}
-use Rattle.xns_world.specs.declared.side.Side.{Side}
 use Rattle.xns_world.specs.declared.calling.CallingEnd.{CallingEnd}
 use Rattle.xns_world.specs.declared.side.Side.TheVariants.{A}
 use Rattle.xns_spp.specs.Growth.{Begins}
@@ -26,7 +23,7 @@ use Rattle.xns_world.specs.CallLaws.{Given}
 use Rattle.xns_world.specs.CallOrder.{CallsHold}
 use Rattle.xns_world.specs.CallPlay.{IsCalling}
 use Rattle.xns_world.specs.CallWorld.{Parties, CallWorld, or_caller, calls_made, next_out, outcomes_read, sends_next, feeds, lists, makes, has_outcome, may_call, caller_step, step_with, step, seen_at}
-use Rattle.xns_world.specs.Settling.{most_steps, Stepped}
+use Rattle.xns_world.specs.Settling.{Stepped}
 use Rattle.xns_world.specs.World.{World, sends, takes, sent_at, handed_at}
 use Rattle.xns_world.specs.EndLaws.{EndLaws}
 

@@ -1,8 +1,7 @@
 -- What each step of a world does to the items accepted and handed up.
-use Rattle.std.proofs.Common.{◌≡◌, ℕ, ◌+◌, ◌≤◌, Bool, true, false, List, [], ◌∷◌, ◌++◌, length, take, Option, Some, None, refl, sym, ◌∙◌, ap, subst}
+use Rattle.std.proofs.Common.{◌≡◌, ℕ, ◌+◌, ◌≤◌, true, false, List, [], ◌∷◌, ◌++◌, length, take, Some, refl, sym, ◌∙◌, ap, subst}
 use Rattle.std.specs.Option.{option_to_list}
-use Rattle.std.specs.Prelude.{slice_get, if◌then◌else◌, ◌||◌, ◌&&◌, not, ◌==◌, is_ok}
-use Rattle.std.proofs.lemmas.Bool.{le-ltb}
+use Rattle.std.specs.Prelude.{slice_get, is_ok}
 use Rattle.std.proofs.lemmas.List.{take_more}
 use Rattle.std.proofs.lemmas.Option.{slice_get_within, get_or_from_slice_get}
 use Rattle.courier_calls.specs.Laws.{IsSendableItem}
@@ -10,17 +9,12 @@ use Rattle.xns_spp.specs.Receiving.{receive_answer, after_receive}
 use Rattle.xns_spp.specs.Sending.{after_send, take_answer, after_take, flush_answer, after_flush, tick_answer, after_tick, is_full, send_answer}
 use Rattle.xns_spp.specs.State.{State}
 use Rattle.xns_spp.specs.declared.item.Item.{Item}
-use Rattle.xns_spp.specs.declared.send_fault.SendFault.{SendFault}
-use Rattle.xns_spp.specs.declared.send_fault.SendFault.TheVariants.{TooLong, AttentionSize, Exhausted, Full}
 use Rattle.xns_world.proofs.Continues.{Continues, flush_continues, tick_continues, receive_continues, handed_same}
-use Rattle.xns_world.proofs.Foreign.{foreign_changes_nothing}
 use Rattle.xns_world.proofs.Networks.{lands_as}
 use Rattle.xns_world.proofs.Sides.{same_end, same_other, same_marked, each_end}
 use Rattle.xns_world.specs.declared.emitted.Emitted.{Emitted}
-use Rattle.xns_world.specs.declared.event.Event.TheVariants.{Foreign}
 use Rattle.xns_world.specs.declared.side.Side.{Side}
 use Rattle.xns_world.specs.Invariant.{Holds}
-use Rattle.xns_world.specs.Events.{happens}
 use Rattle.xns_world.specs.Landing.{landing}
 use Rattle.xns_world.specs.Side.{other}
 use Rattle.xns_world.specs.World.{World, end_of, moved, flushes, ticks, sends, takes, marked, sent_at, handed_at}

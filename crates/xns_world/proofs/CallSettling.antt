@@ -1,7 +1,7 @@
 -- A side that settles comes to where no step applies.
-use Rattle.std.proofs.Common.{◌≡◌, ℕ, zero, suc, ◌+◌, ◌-◌, ◌*◌, ◌^◌, ◌<◌, ◌≤◌, Bool, true, false, List, [], ◌∷◌, length, Option, Some, None, refl, sym, ◌∙◌, ap, subst, arith, length-append}
-use Rattle.std.specs.Prelude.{nat_lt, ◌==◌, ◌||◌, if◌then◌else◌, is_ok, is_some}
-use Rattle.std.proofs.lemmas.Bool.{ltb-true, eqb-true, eqb-false, ne_eqb, and_parts}
+use Rattle.std.proofs.Common.{◌≡◌, ℕ, ◌+◌, ◌-◌, ◌*◌, ◌<◌, ◌≤◌, Bool, true, false, List, [], ◌∷◌, length, Option, Some, None, refl, sym, ◌∙◌, ap, subst, arith, length-append}
+use Rattle.std.specs.Prelude.{nat_lt, ◌==◌, if◌then◌else◌, is_ok, is_some}
+use Rattle.std.proofs.lemmas.Bool.{ltb-true, eqb-true, ne_eqb, and_parts}
 use Rattle.courier_calls.specs.Calls.{SeenModel}
 use Rattle.courier_calls.specs.Caller.{answers}
 use Rattle.xns_spp.specs.Sending.{is_full, waiting_count, after_send, take_answer, after_take, send_answer}
@@ -13,11 +13,10 @@ use Rattle.xns_world.specs.World.{World, end_of, sends, handed_at}
 use Rattle.xns_world.proofs.CallCarries.{same_read, next_piece, sends_hold, feeds_hold, lists_hold, calls, makes_hold}
 use Rattle.xns_world.specs.CallLaws.{Given}
 use Rattle.xns_world.proofs.CallQuiet.{not_refused, send_accepts, take_hands_up}
-use Rattle.xns_world.proofs.Fronts.{element}
 use Rattle.xns_world.proofs.Sides.{same_end}
 use Rattle.xns_world.specs.CallOrder.{CallsHold, AllListed, IsBetween, Settles}
 use Rattle.xns_world.specs.CallWorld.{Parties, CallWorld, or_caller, calls_made, next_out, outcomes_read, in_world, sends_next, feeds, lists, makes, has_outcome, may_call, caller_step, step_with, step}
-use Rattle.xns_world.specs.Settling.{most_steps, steps}
+use Rattle.xns_world.specs.Settling.{steps}
 use Rattle.xns_world.proofs.Stepping.{GoesOn, IfGoesOn, steps_keep, steps_end}
 use Rattle.xns_world.specs.EndLaws.{EndLaws}
 

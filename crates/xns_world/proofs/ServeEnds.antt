@@ -1,5 +1,5 @@
 -- What a server's end stands for after each step.
-use Rattle.std.proofs.Common.{◌≡◌, ℕ, zero, suc, ◌+◌, ◌-◌, ◌≤◌, Bool, true, false, List, [], ◌∷◌, ◌++◌, length, map, Option, Some, None, Result, Ok, Err, refl, sym, ◌∙◌, ap, subst, arith}
+use Rattle.std.proofs.Common.{◌≡◌, ℕ, zero, suc, ◌+◌, Bool, true, false, List, [], ◌∷◌, ◌++◌, length, map, Option, Some, None, Result, Ok, Err, refl, sym, ◌∙◌, ap, subst}
 use Rattle.std.specs.Prelude.{All, slice_get, nat_lt, if◌then◌else◌}
 use Rattle.std.specs.Option.{option_to_list}
 use Rattle.std.proofs.lemmas.List.Elements.{All-nil, All-push}
@@ -18,7 +18,7 @@ use Rattle.xns_spp.specs.State.{State}
 use Rattle.xns_spp.specs.declared.item.Item.{Item}
 use Rattle.xns_world.proofs.CallCarries.{at_place}
 use Rattle.xns_world.proofs.CallEnds.{out_first, not_waiting, is_waiting}
-use Rattle.xns_world.proofs.CallQuiet.{not_refused, one_more}
+use Rattle.xns_world.proofs.CallQuiet.{not_refused}
 use Rattle.xns_world.specs.CallLaws.{Answering, Faults}
 use Rattle.xns_world.specs.CallPlay.{IsServing}
 use Rattle.xns_world.specs.CallWorld.{Parties, CallWorld, or_caller, step}

@@ -1,7 +1,6 @@
 -- A server's end that settles comes to where no step applies.
-use Rattle.std.proofs.Common.{◌≡◌, ℕ, zero, suc, ◌+◌, ◌<◌, ◌≤◌, Bool, true, false, length, Option, Some, None, refl, sym, subst, arith}
+use Rattle.std.proofs.Common.{◌≡◌, ℕ, ◌+◌, ◌≤◌, Bool, true, false, length, Option, Some, None, refl, sym, subst, arith}
 use Rattle.std.specs.Prelude.{All, nat_lt, if◌then◌else◌}
-use Rattle.std.proofs.lemmas.Bool.{ltb-true}
 use Rattle.std.proofs.lemmas.List.Elements.{All-take}
 use Rattle.courier_calls.specs.Calls.{Serving}
 use Rattle.courier_calls.specs.Laws.{IsSendableItem}
@@ -12,11 +11,10 @@ use Rattle.xns_spp.specs.State.{State, IsState}
 use Rattle.xns_spp.specs.declared.item.Item.{Item}
 use Rattle.xns_world.proofs.CallCarries.{at_place}
 use Rattle.xns_world.proofs.CallQuiet.{not_refused}
-use Rattle.xns_world.proofs.Fronts.{element}
 use Rattle.xns_world.proofs.CallSettling.{room_of, room_most, send_room, take_waiting, waiting_item}
 use Rattle.xns_world.specs.CallLaws.{Answering}
 use Rattle.xns_world.specs.ServeEnd.{next_of}
-use Rattle.xns_world.specs.Settling.{handed_by, end_step_with, serve_step, onward, most_steps, stepped_out}
+use Rattle.xns_world.specs.Settling.{handed_by, end_step_with, most_steps, serve_step, stepped_out}
 use Rattle.xns_world.proofs.Stepping.{GoesOn, IfGoesOn, steps_keep, steps_end}
 
 pub record Keeps (v : State) : Type 0 where

@@ -1,5 +1,5 @@
 -- What the program's play of calls stands for.
-use Rattle.std.specs.Prelude.{◌≡◌, ◌≤◌, Bool, true, false, List, map, length, Option, Some, None}
+use Rattle.std.specs.Prelude.{◌≡◌, ◌≤◌, List, map, length}
 use Rattle.courier_calls.specs.Calls.{Serving, last_state, outcomes, seen_model, raw_call}
 use Rattle.courier_calls.specs.declared.call.Call.{Call}
 use Rattle.courier_calls.specs.Caller as caller

@@ -1,5 +1,5 @@
 -- A connection whose two ends carry calls: the caller at A, the server at B.
-use Rattle.std.specs.Prelude.{ℕ, zero, suc, ◌+◌, Bool, ◌==◌, ◌&&◌, nat_lt, if◌then◌else◌, List, [], length, take, fold, slice_get, Option, Some, None}
+use Rattle.std.specs.Prelude.{ℕ, ◌+◌, Bool, ◌==◌, ◌&&◌, nat_lt, if◌then◌else◌, List, [], length, take, fold, slice_get, Option, Some, None}
 use Rattle.courier_calls.specs.Calls.{RawCall, SeenModel, Serving}
 use Rattle.courier_calls.specs.Caller.{caller_items, answers}
 use Rattle.courier_calls.specs.Server.{server_items, server_state, decided}

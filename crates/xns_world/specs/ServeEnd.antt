@@ -1,5 +1,5 @@
 -- What a server's end in the program stands for.
-use Rattle.std.specs.Prelude.{◌≡◌, Bool, true, false, List, length, map, slice_get, Option, Some, None, All}
+use Rattle.std.specs.Prelude.{◌≡◌, List, length, map, slice_get, Option, Some, All}
 use Rattle.courier_calls.specs.Calls.{Serving}
 use Rattle.courier_calls.specs.Server as server
 use Rattle.courier_calls.specs.Server.{decided, server_ending, server_items, call_of}
