@@ -1,6 +1,6 @@
 -- What is written, piece by piece, is the spelling of the packet.
 use Rattle.std.proofs.Common.{◌≡◌, ℕ, zero, suc, ◌+◌, ◌-◌, ◌%◌, ◌<◌, if◌then◌else◌, List, [], ◌∷◌, ◌++◌, length, take, drop, replicate, refl, sym, ap, ◌∙◌, append_assoc, length-append, ◌≤◌, arith}
-use Rattle.std.proofs.lemmas.List.{append-nil, drop_all, drop_at, length-take-le, take-append-drop, take_at, take_all}
+use Rattle.std.proofs.lemmas.List.{append-nil, drop_all, drop_at, length-take-le, take_at, take_all}
 use Rattle.std.specs.Int.{w16, to_be_bytes}
 use borrow.Rule.Slice.PartMut.{mid_of, post_of, put_mid, Post-is}
 use Rattle.xns_idp.specs.Checksum.{words, cycle_checksum}
@@ -63,9 +63,23 @@ no_byte_or_one zero h = refl
 no_byte_or_one (suc zero) h = refl
 no_byte_or_one (suc (suc n)) h = absurd (omega (arith, h))
 
--- what stands in the first n places, with the rest as it was
-pub in_place : (n : ℕ) (old new front : List ℕ) → take n new ≡ front → n ≤ length new → drop n new ≡ drop n old → (n ≡ length front) × (new ≡ front ++ drop (length front) old)
-in_place n old new front is within behind =
-    let counted : length (take n new) ≡ length front = ap (length {A = ℕ}) is in
-    let size : n ≡ length front = sym (length-take-le n new within) ∙ counted in
-    (size, sym (take-append-drop n new) ∙ ap (λ (xs : List ℕ). xs ++ drop n new) is ∙ ap (λ (xs : List ℕ). front ++ xs) behind ∙ ap (λ (k : ℕ). front ++ drop k old) size)
+-- the pieces of a packet that begins with two bytes of 0
+pub pieces_of : (p : PacketModel) (o1 o2 o3 o4 f t s g : List ℕ)
+    → f ≡ 0 ∷ 0 ∷ to_be_bytes w16 (30 + length p.body) ++ (p.control ∷ p.kind ∷ []) → t ≡ address_bytes p.target → s ≡ address_bytes p.source → g ≡ padding p
+    → o1 ≡ f → o2 ≡ o1 ++ t → o3 ≡ o2 ++ s → o4 ≡ o3 ++ p.body → o4 ++ g ≡ 0 ∷ 0 ∷ after_checksum p (padding p)
+unfolding after_checksum
+pieces_of p o1 o2 o3 o4 f t s g ef et es eg e1 e2 e3 e4 =
+    let front = 0 ∷ 0 ∷ to_be_bytes w16 (30 + length p.body) ++ (p.control ∷ p.kind ∷ []) in
+    let all : o4 ++ g ≡ front ++ address_bytes p.target ++ address_bytes p.source ++ p.body ++ padding p = cc in
+    all
+
+-- the packet of which t stands before its checksum is put into it, with what stood behind it
+pub placed : (p : PacketModel) (n : ℕ) (old last new t : List ℕ) → t ≡ take n last → t ≡ 0 ∷ 0 ∷ after_checksum p (padding p) → n ≤ length last → drop n last ≡ drop n old
+    → new ≡ to_be_bytes w16 (if p.summed then cycle_checksum (words (drop 2 t)) else 65535) ++ drop 2 t
+    → (n ≡ length (packet_spelling p)) × (new ++ drop n last ≡ packet_spelling p ++ drop (length (packet_spelling p)) old)
+unfolding packet_spelling packet_bytes
+placed p n old last new t et is within behind enew =
+    let rest : drop 2 t ≡ after_checksum p (padding p) = ap (λ (xs : List ℕ). drop 2 xs) is in
+    let new_is : new ≡ packet_spelling p = enew ∙ ap (λ (xs : List ℕ). to_be_bytes w16 (if p.summed then cycle_checksum (words xs) else 65535) ++ xs) rest in
+    let size : n ≡ length (packet_spelling p) = sym (length-take-le n last within) ∙ ap (λ (xs : List ℕ). length xs) (sym et ∙ is) in
+    (size, ap (λ (xs : List ℕ). xs ++ drop n last) new_is ∙ ap (λ (xs : List ℕ). packet_spelling p ++ xs) behind ∙ ap (λ (k : ℕ). packet_spelling p ++ drop k old) size)
