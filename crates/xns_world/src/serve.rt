@@ -2,10 +2,10 @@ ghost use Rattle.std.specs.Prelude.{◌≡◌, ◌<◌, ◌≤◌, ◌++◌, ℕ
 ghost use Rattle.std.specs.Option.{option_to_list};
 ghost use Rattle.xns_idp.specs.Packet.{AreBytes};
 ghost use Rattle.courier_calls.specs.Table.{table_model, IsCheckedTable};
+ghost use Rattle.xns_spp.specs.Growth.{Begins};
 ghost use Rattle.xns_spp.specs.State.{IsState};
 ghost use Rattle.xns_world.specs.CallLaws.{Answering};
 ghost use Rattle.xns_world.specs.Serve.{Served, serve, serve_start, serve_settles, serve_receives, serve_hears, IsServeTrace, IsHeard};
-ghost use Rattle.xns_world.specs.Invariant.{Begins};
 ghost use Rattle.xns_world.specs.ServeBounds.{IsServedWithin};
 ghost use Rattle.xns_world.specs.ServePlay.{IsServePlaying, GoesOn, IsWithin};
 ghost use Rattle.xns_world.specs.Setup.{IsGood};
