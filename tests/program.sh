@@ -186,10 +186,9 @@ done
 
 # ---- faults, with 3
 
-{ head -n 1 $crate/stdin && repeat 4097 ' '; } > "$work/in"
-head -n 2 $crate/stdout > "$work/text"
+{ cat "$work/packet" && repeat 4097 ' '; } > "$work/in"
 run dump
-expect 'a line of 4,097 bytes after an echo request' 3 'xns: line too long' "$work/text"
+expect 'a line of 4,097 bytes after an echo request' 3 'xns: line too long' "$work/packet.text"
 
 { echo 48 && repeat 4097 ' '; } > "$work/in"
 echo '1 idp refused Short 1' > "$work/text"
