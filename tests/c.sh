@@ -113,7 +113,7 @@ expect 'says hello' cmp "$work/out" "$work/text"
 expect 'the packets of two endpoints' "$work/endpoints" 40 packets
 cp "$work/out" "$work/packets"
 expect 'are read' sh -c "'$work/fields' < '$work/packets'"
-if (cd crates/xns && rt run -- dump < stdin) > "$work/err" 2>&1 && [ -x crates/xns/out/xns ]; then
+if (cd crates/xns && rt run -- sim < stdin) > "$work/err" 2>&1 && [ -x crates/xns/out/xns ]; then
     expect 'and by xns dump' sh -c "crates/xns/out/xns dump < '$work/packets'"
     expect 'without a complaint' sh -c "[ -s '$work/out' ] && ! grep -q refused '$work/out'"
 else fail 'xns is not built'; fi
