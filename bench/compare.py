@@ -11,6 +11,8 @@
                                           cardinals each way, with the most memory that a run holds
     python3 bench/compare.py sim          `xns sim` of 2,500, 5,000 and 10,000 calls Add, and of 5,000 calls with 50,000 events, among them 30,000
                                           packets that come again; nearly as many lines as an input may have
+    python3 bench/compare.py plays        a play of 1,000 calls and 100,000 events, most of them packets that come again, beside the same peer; and plays of
+                                          1,000, 10,000 and 65,535 items each way, to see that their time grows with the packets
     python3 bench/compare.py dump         `xns dump` of 65,536 packets in hex: of types that no layer reads, of types 2 to 4, and sequenced ones of 1, 1,000
                                           and 65,536 flows; and the largest resident memory of each
 
@@ -131,6 +133,16 @@ def main():
                 given.write_bytes(subprocess.run([sys.executable, BENCH / "script.py", *words], stdout=subprocess.PIPE, check=True).stdout)
                 print(f"{words[0]} calls{' with repeats' if len(words) > 1 else ''}:", end=" ", flush=True)
                 compare([ours, "sim"], [peer], given)
+        elif which == "plays":
+            ours, peer = built_program("play_bench"), built_peer("sim_peer", folder)
+            given.write_bytes(subprocess.run([sys.executable, BENCH / "script.py", "1000", "96"], stdout=subprocess.PIPE, check=True).stdout)
+            print(f"{sum(not line.startswith(b'call') for line in given.read_bytes().splitlines())} events:", end=" ", flush=True)
+            compare([ours, "calls"], [peer], given)
+            for count in ("1000", "10000", "65535"):
+                seconds = [seconds_of([ours, count], given) for _ in range(RUNS)]
+                packets = int(seconds[0][1].split()[-1])
+                median = statistics.median(spent for spent, _ in seconds)
+                print(f"{count} items each way: {median:.3f} s for {packets} packets, {median / packets * 1e9:.0f} ns each")
         elif which == "values":
             compare_values([built_program("values_bench")], [built_peer("values_peer", folder)])
         elif which == "c":

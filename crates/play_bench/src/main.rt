@@ -1,11 +1,13 @@
-//! Plays items each way through a network that loses nothing, to be timed: as many as the first word says, else 1,000.
+//! Plays that are timed: items each way through a network that loses nothing, as many as the first word says, else 1,000; or, where
+//! that word is `calls`, the calls and events of the script on standard input, of however many lines.
 #![tactic(auto)]
 
-use std::alloc::{AllocError, Global};
+mod calls;
+mod items;
+
 use std::env;
 use xns_idp::Address;
-use xns_spp::{Bytes, Item};
-use xns_world::{Event, Setup, Side, play_items};
+use xns_world::Setup;
 
 const SETUP: Setup = Setup {
     a: Address {
@@ -24,73 +26,12 @@ const SETUP: Setup = Setup {
     backlog: 64,
 };
 
-/// So many items go out each way before packets are delivered.
-const ROUND: u32 = 16;
-
 fn main(rt: HostRuntime) -> Result<(), anyhow::Error> {
-    let alloc = rt.alloc();
-    let word = env::args(&rt)?.nth(1);
-    let count = word.map_or(1000, |text| text.parse::<u32>().unwrap_or(1000));
-    let setup = SETUP;
-    if !setup.is_good() {
-        return Ok(());
+    match env::args(&rt)?.nth(1) {
+        Some(word) if word.as_str() == "calls" => calls::play(&rt),
+        word => items::play(
+            &rt,
+            word.map_or(1000, |text| text.parse::<u32>().unwrap_or(1000)),
+        ),
     }
-    let events = events(alloc, count)?;
-    let trace = play_items(alloc, &setup, &events)?;
-    println!(rt;
-        "sent {} and {}",
-        trace.a_sent.as_slice().len(),
-        trace.b_sent.as_slice().len()
-    )?;
-    println!(rt;
-        "handed up {} and {}",
-        trace.b_handed.as_slice().len(),
-        trace.a_handed.as_slice().len()
-    )?;
-    println!(rt; "packets {}", trace.bag.as_slice().len())?;
-    Ok(())
-}
-
-/// The connection is opened, and then each side sends this many items.
-fn events(alloc: Global, count: u32) -> Result<Vec<Event>, AllocError> {
-    let mut events = Vec::new(alloc);
-    events.push(Event::Tick(Side::A))?;
-    push_rest(&mut events)?;
-    for number in 0..count {
-        events.push(send(alloc, Side::A, number)?)?;
-        events.push(send(alloc, Side::B, number)?)?;
-        if number % ROUND == ROUND - 1 {
-            push_rest(&mut events)?;
-            push_takes(&mut events)?;
-        }
-    }
-    push_rest(&mut events)?;
-    push_takes(&mut events)?;
-    Ok(events)
-}
-
-fn send(alloc: Global, side: Side, number: u32) -> Result<Event, AllocError> {
-    let item = Item {
-        stream: 0,
-        attention: false,
-        last: true,
-        body: Bytes::new(Vec::from_slice(alloc, &number.to_be_bytes())?),
-    };
-    Ok(Event::Send(side, item))
-}
-
-/// All packets arrive, and the replies to them.
-fn push_rest(events: &mut Vec<Event>) -> Result<(), AllocError> {
-    events.push(Event::Rest)?;
-    events.push(Event::Rest)?;
-    Ok(())
-}
-
-/// Both sides hand up what a round brought.
-fn push_takes(events: &mut Vec<Event>) -> Result<(), AllocError> {
-    for _ in 0..ROUND {
-        events.push(Event::Take(Side::A))?;
-        events.push(Event::Take(Side::B))?;
-    }
-    Ok(())
 }

@@ -1,0 +1,75 @@
+//! Items each way.
+use crate::SETUP;
+use std::alloc::{AllocError, Global};
+use xns_spp::{Bytes, Item};
+use xns_world::{Event, Side, play_items};
+
+/// So many items go out each way before packets are delivered.
+const ROUND: u32 = 16;
+
+/// Plays so many items each way, and prints how many came through.
+pub fn play(rt: &HostRuntime, count: u32) -> Result<(), anyhow::Error> {
+    let alloc = rt.alloc();
+    let setup = SETUP;
+    if !setup.is_good() {
+        return Ok(());
+    }
+    let events = events(alloc, count)?;
+    let trace = play_items(alloc, &setup, &events)?;
+    println!(rt;
+        "sent {} and {}",
+        trace.a_sent.as_slice().len(),
+        trace.b_sent.as_slice().len()
+    )?;
+    println!(rt;
+        "handed up {} and {}",
+        trace.b_handed.as_slice().len(),
+        trace.a_handed.as_slice().len()
+    )?;
+    println!(rt; "packets {}", trace.bag.as_slice().len())?;
+    Ok(())
+}
+
+/// The connection is opened, and then each side sends this many items.
+fn events(alloc: Global, count: u32) -> Result<Vec<Event>, AllocError> {
+    let mut events = Vec::new(alloc);
+    events.push(Event::Tick(Side::A))?;
+    push_rest(&mut events)?;
+    for number in 0..count {
+        events.push(send(alloc, Side::A, number)?)?;
+        events.push(send(alloc, Side::B, number)?)?;
+        if number % ROUND == ROUND - 1 {
+            push_rest(&mut events)?;
+            push_takes(&mut events)?;
+        }
+    }
+    push_rest(&mut events)?;
+    push_takes(&mut events)?;
+    Ok(events)
+}
+
+fn send(alloc: Global, side: Side, number: u32) -> Result<Event, AllocError> {
+    let item = Item {
+        stream: 0,
+        attention: false,
+        last: true,
+        body: Bytes::new(Vec::from_slice(alloc, &number.to_be_bytes())?),
+    };
+    Ok(Event::Send(side, item))
+}
+
+/// All packets arrive, and the replies to them.
+fn push_rest(events: &mut Vec<Event>) -> Result<(), AllocError> {
+    events.push(Event::Rest)?;
+    events.push(Event::Rest)?;
+    Ok(())
+}
+
+/// Both sides hand up what a round brought.
+fn push_takes(events: &mut Vec<Event>) -> Result<(), AllocError> {
+    for _ in 0..ROUND {
+        events.push(Event::Take(Side::A))?;
+        events.push(Event::Take(Side::B))?;
+    }
+    Ok(())
+}
