@@ -1,8 +1,8 @@
 #!/bin/sh
 # Compares what the program `plays` prints with a second account of it, tests/plays.py, which was written from the documents; and
 # refuses each growth of it in turn, while items are played, while calls are, and while a server is given packets. Each run must end by
-# itself, and tell want of memory and nothing else, or the whole text. Its last line is 'N passed, M failed', and it ends with 1 where
-# one failed. It builds the program first.
+# itself, and tell want of memory and nothing else, or the whole text; the same play that comes next must then be played whole. Its last
+# line is 'N passed, M failed', and it ends with 1 where one failed. It builds the program first.
 set -u
 cd "$(dirname "$0")/.."
 crate=crates/plays
@@ -42,24 +42,34 @@ if cmp "$work/out" $crate/stdout; then pass; else fail 'the program prints anoth
 
 # ---- each growth refused in turn
 
-# What the line prints where nothing is refused is looked at first, and then each growth is refused.
+# The line stands twice. What it prints where nothing is refused is looked at first, and then each growth is refused until it is one of
+# the second's: a play that wanted memory is played whole the next time.
 refuse_each() {
     name=$1
     printf '%s\n' "$2" > "$work/in"
     timeout 20 "$program" < "$work/in" > "$work/whole" || fail "$name, nothing refused"
     python3 tests/plays.py < "$work/in" | cmp - "$work/whole" || fail "$name, another text"
+    printf '%s\n' "$2" >> "$work/in"
+    cat "$work/whole" "$work/whole" > "$work/twice"
+    cat "$work/none" "$work/whole" > "$work/again"
+    cat "$work/whole" "$work/none" > "$work/second"
     growth=1
     wanted=0
-    while [ $growth -le 5000 ]; do
+    is_first=yes
+    while [ $is_first = yes ] && [ $growth -le 5000 ]; do
         rm -f "$work/refused"
         timeout 20 env REFUSE_AT=$growth REFUSED="$work/refused" LD_PRELOAD="$work/refuse_growth.so" "$program" < "$work/in" > "$work/out" 2> /dev/null
         ended=$?
         [ -e "$work/refused" ] || break
-        if [ $ended -eq 0 ] && cmp -s "$work/out" "$work/whole"; then
+        if [ $ended -eq 0 ] && cmp -s "$work/out" "$work/twice"; then
             pass
-        elif [ $ended -eq 0 ] && cmp -s "$work/out" "$work/none"; then
+        elif [ $ended -eq 0 ] && cmp -s "$work/out" "$work/again"; then
             wanted=$((wanted + 1))
             pass
+        elif [ $ended -eq 0 ] && cmp -s "$work/out" "$work/second"; then
+            is_first=no
+        elif [ $ended -eq 1 ] && cmp -s "$work/out" "$work/whole"; then
+            is_first=no
         elif [ $ended -eq 1 ] && [ ! -s "$work/out" ]; then
             pass
         else
@@ -68,8 +78,8 @@ refuse_each() {
         fi
         growth=$((growth + 1))
     done
-    echo "$name: $((growth - 1)) growths, of which $wanted were told as want of memory"
-    if [ $growth -gt 1 ] && [ $growth -le 5000 ] && [ $wanted -gt 0 ]; then pass; else fail "$name, growths"; fi
+    echo "$name: $((growth - 2)) growths, of which $wanted were told as want of memory and then played"
+    if [ $is_first = no ] && [ $wanted -gt 0 ]; then pass; else fail "$name, growths"; fi
 }
 
 versions='5000 1234 5678 0000 0000 0064 00030003'
