@@ -15,11 +15,11 @@ returns-clause-caller g c = λ calls fit. All-from_recursion IsSendableItem (cal
 pub returns-clause-server : goal.returns-clause-server
 returns-clause-server g c = λ s f can bytes.
     All-from_recursion IsSendableItem (server_items g.S.Service.serving s f)
-    (server_sent (record { found = c.value_of_is_spelled.ensures.found; only = c.value_of_is_spelled.ensures.only; fits = c.spelled_value_fits.ensures }) c.fitting_value_is_spelled.ensures.words g.S.Service.serving g.S.Service.IsServiceState g.met.S.Service.lawful s can (calls_of (conversation f))
+    (server_sent (record { found = c.value_of_is_spelled.ensures.found; only = c.value_of_is_spelled.ensures.only; fits = c.spelled_value_fits.ensures.fits }) c.fitting_value_is_spelled.ensures.words g.S.Service.serving g.S.Service.IsServiceState g.met.S.Service.lawful s can (calls_of (conversation f))
     (heard_numbers f (recursion_from_All IsItem f bytes)))
 
 pub returns-clause-answering : goal.returns-clause-answering
 returns-clause-answering g c = λ s calls f can fit p.
     All-from_recursion IsSendableItem (server_items g.S.Service.serving s f)
-    (server_sent (record { found = c.value_of_is_spelled.ensures.found; only = c.value_of_is_spelled.ensures.only; fits = c.spelled_value_fits.ensures }) c.fitting_value_is_spelled.ensures.words g.S.Service.serving g.S.Service.IsServiceState g.met.S.Service.lawful s can (calls_of (conversation f))
+    (server_sent (record { found = c.value_of_is_spelled.ensures.found; only = c.value_of_is_spelled.ensures.only; fits = c.spelled_value_fits.ensures.fits }) c.fitting_value_is_spelled.ensures.words g.S.Service.serving g.S.Service.IsServiceState g.met.S.Service.lawful s can (calls_of (conversation f))
     (heard_numbers f (front_bytes calls f (recursion_from_All IsFitting calls fit) p)))
