@@ -22,7 +22,7 @@ pub record Keeps (v : State) : Type 0 where
   pub items : All IsItem v.taken
 
 -- how many steps are left at most
-left_of : State → ℕ
+pub left_of : State → ℕ
 left_of v = room_of v + waiting_count v
 
 sends_go : {S : Type 0} (serving : Serving S) (s : S) (v : State) (x : Item) → Answering serving s → Keeps v → next_of serving s v ≡ Some x → is_full v ≡ false → GoesOn Keeps left_of v (after_send v x)
@@ -60,7 +60,7 @@ stepping : {S : Type 0} (serving : Serving S) (s : S) (v : State) → Answering 
 stepping serving s v a k (Some x) is = sending serving s v x a k is (is_full v) refl
 stepping serving s v a k None is = taking serving s v a k (nat_lt 0 (waiting_count v)) refl
 
-step_goes : {S : Type 0} (serving : Serving S) (s : S) (v : State) → Answering serving s → Keeps v → IfGoesOn Keeps left_of v (serve_step serving s v)
+pub step_goes : {S : Type 0} (serving : Serving S) (s : S) (v : State) → Answering serving s → Keeps v → IfGoesOn Keeps left_of v (serve_step serving s v)
 step_goes serving s v a k = stepping serving s v a k (next_of serving s v) refl
 
 pub stepped_keeps : {S : Type 0} (serving : Serving S) (s : S) (v : State) → Answering serving s → Keeps v → Keeps (stepped_out (serve_step serving s) v)

@@ -1,16 +1,24 @@
 -- What bounds a server's end and its session, whatever packets come.
-use Rattle.std.specs.Prelude.{◌≡◌, ℕ, Ok, Some, None, if◌then◌else◌}
+use Rattle.std.specs.Prelude.{◌≡◌, ◌≤◌, ℕ, List, length, drop, Ok, Some, None, if◌then◌else◌}
 use Rattle.courier_calls.specs.Calls.{RawCall, Serving, decision, HasWords}
 use Rattle.courier_calls.specs.Conversation.{Phase}
 use Rattle.courier_calls.specs.Cutting.{answer_message}
-use Rattle.courier_calls.specs.Laws.{IsBounded, IsShort}
-use Rattle.courier_calls.specs.Server.{server_ending, server_state}
+use Rattle.courier_calls.specs.Laws.{IsBounded, IsShort, bytes_in}
+use Rattle.courier_calls.specs.Server.{server_ending, server_items, server_state}
 use Rattle.xns_spp.specs.Sending.{is_full, after_send}
-use Rattle.xns_spp.specs.State.{IsState}
+use Rattle.xns_spp.specs.State.{State, IsState}
 use Rattle.xns_spp.specs.declared.item.Item.{Item}
 use Rattle.xns_world.specs.Serve.{Served}
 use Rattle.xns_world.specs.ServeEnd.{next_of}
 use Rattle.xns_world.specs.Settling.{handed_by, serve_step}
+
+-- the items that the session has put out and its end has not accepted yet
+abbrev pub items_out : {S : Type 0} → Serving S → S → State → List Item
+items_out serving s v = drop (length v.accepted) (server_items serving s (handed_by v))
+
+-- their bodies have at most 131,072 bytes, all together
+abbrev pub IsOutShort : {S : Type 0} → Serving S → S → State → Type 0
+IsOutShort serving s v = length (bytes_in (items_out serving s v)) ≤ 131072
 
 pub record IsServedWithin {S : Type 0} (serving : Serving S) (s : S) (w : Served) : Type 0 where
   -- at most window items wait or are early, and at most backlog are unacknowledged
@@ -21,3 +29,5 @@ pub record IsServedWithin {S : Type 0} (serving : Serving S) (s : S) (w : Served
   pub answer : (transaction : ℕ) (call : RawCall) → HasWords call → IsShort (answer_message transaction (decision serving (server_state serving s (handed_by w.end)) call))
   -- while an item is out no other is handed up to the session, so no call is decided
   pub alone : (x : Item) → next_of serving s w.end ≡ Some x → serve_step serving s w.end ≡ (if is_full w.end then None else Some (after_send w.end x))
+  -- all that is out has at most 131,072 bytes
+  pub out : IsOutShort serving s w.end

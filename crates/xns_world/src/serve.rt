@@ -132,8 +132,8 @@ fn known_packets(packets: &[Bytes])
 /// What a server makes of these packets, which may be anything.
 ///
 /// Whatever the peer sends, the calls carried are those that the items handed up spell, in order and before the first fault, and each
-/// is carried out once; and after each packet the windows, what the session keeps of an incoming message and the next answer are within
-/// their bounds. An `Err` says that memory was refused, and gives no trace.
+/// is carried out once; and after each packet the windows, what the session keeps of an incoming message, the next answer and all that
+/// is out are within their bounds. An `Err` says that memory was refused, and gives no trace.
 pub fn serve_bytes<S: Service>(
     alloc: Global,
     setup: &Setup,

@@ -38,4 +38,4 @@ returns-clause-within g c =
 pub returns-clause-always : goal.returns-clause-always
 returns-clause-always g c come begins =
     let s = c.args.service in
-    c.served_ends_stay_within_bounds.ensures s c.args.setup.now come c.requires.state c.known.ensures c.requires.good (begun_bytes come c.args.packets.now begins c.known_packets.ensures)
+    c.served_ends_stay_within_bounds.ensures.ends s c.args.setup.now come c.requires.state c.known.ensures c.requires.good (begun_bytes come c.args.packets.now begins c.known_packets.ensures)
