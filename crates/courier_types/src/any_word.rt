@@ -1,14 +1,16 @@
 //! Shapes whose values are spelled by any one word.
 
-ghost use Rattle.std.specs.Prelude.{◌≡◌, IfSome};
+ghost use Rattle.std.specs.Prelude.{◌≡◌, IfSome, IsTrue};
 ghost use Rattle.courier_types.specs.Shape.{shape_model};
 ghost use Rattle.courier_types.specs.Value.{value_model};
+ghost use Rattle.courier_types.specs.Fits.{has_shape, IsValue};
 ghost use Rattle.courier_types.specs.AnyWord.{shape_of, word_value};
 
+use crate::known::known_value;
 use crate::shape::Shape;
 use crate::value::Value;
 
-/// A shape whose values are spelled by any one word: readers of many such values match the shape once.
+/// A shape whose values are spelled by any one word: who goes over many such values matches the shape once.
 #[derive(Clone, Copy, Debug)]
 pub enum AnyWord {
     Cardinal,
@@ -38,6 +40,21 @@ impl AnyWord {
             AnyWord::Cardinal => Value::Cardinal(word),
             AnyWord::Integer => Value::Integer(word.cast_signed()),
             AnyWord::Unspecified => Value::Unspecified(word),
+        }
+    }
+    /// Whether the value is one of the shape.
+    #[inline(always)]
+    #[tactic(auto, unfolding(crate::specs::Fits::has_shape))]
+    pub fn has(self, value: &Value) -> bool
+        ensures decides { result ≡ has_shape (shape_of self) (value_model value.now) }
+        ensures numbers { IsTrue result → IsValue (value_model value.now) }
+    {
+        known_value(value);
+        match (self, value) {
+            (AnyWord::Cardinal, Value::Cardinal(_))
+            | (AnyWord::Integer, Value::Integer(_))
+            | (AnyWord::Unspecified, Value::Unspecified(_)) => true,
+            _ => false,
         }
     }
 }
