@@ -1,5 +1,5 @@
 //! Lines of Courier messages whose text is known from outside.
-use crate::dump::dump;
+use xns_dump::dump;
 
 /// A line and its text.
 const LINES: [(&[u8], &[u8]); 9] = [

@@ -1,5 +1,5 @@
 //! Lines whose items have numbers by the lines before them.
-use crate::dump::dump;
+use xns_dump::dump;
 
 /// Lines and their text.
 const INPUTS: [(&[u8], &[u8]); 4] = [

@@ -1,7 +1,7 @@
 //! `sim` over readers and writers that fail.
 use super::streams::{FailingReader, FailingWriter};
-use crate::fault::RunFault;
-use crate::sim::sim;
+use xns_lines::RunFault;
+use xns_sim::sim;
 
 /// The answer comes before the server's versions.
 const INPUT: &[u8] =

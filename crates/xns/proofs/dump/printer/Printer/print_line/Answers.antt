@@ -1,9 +1,0 @@
-use Rattle.xns.specs.Dump.Line.{item_of_line}
-use Rattle.xns.specs.Flows.Numbers.{numbering}
-use Rattle.xns.proofs.Numbered.{numbering_is}
-use Rattle.xns.proofs.dump.printer.Printer.print_line.Goals as goal
-
-pub returns-clause-noted : goal.returns-clause-noted
-returns-clause-noted c = λ earlier h few.
-    c.in-Ok.ensures.after (numbering c.args.self.now.numbers.last) (item_of_line c.args.line.now) earlier c.in_ok-reported.ensures.2
-    (numbering_is c.args.self.now.numbers.last earlier h few) h

@@ -1,5 +1,0 @@
-use Rattle.xns.proofs.Refused.{line_is}
-use Rattle.xns.proofs.laws.refused_lines_say_so.Goals as goal
-
-pub returns : goal.returns
-returns c = line_is

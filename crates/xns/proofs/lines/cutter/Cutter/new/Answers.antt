@@ -1,6 +1,0 @@
-use Rattle.std.proofs.Common.{refl}
-use Rattle.xns.proofs.Cutting.{cut_nothing}
-use Rattle.xns.proofs.lines.cutter.Cutter.new.Goals as goal
-
-pub returns-in-Ok-clause-ok : goal.returns-in-Ok-clause-ok
-returns-in-Ok-clause-ok c = cut_nothing _ c.in-Ok.ensures.items refl

@@ -1,0 +1,317 @@
+-- A line's text has the word `refused` exactly where the line is refused.
+use Rattle.std.proofs.Common.{◌≡◌, ◌∙◌, ap, sym, refl, arith, ℕ, zero, suc, ◌+◌, ◌*◌, ◌/◌, ◌%◌, ◌<◌, ◌==◌, ◌||◌, ◌&&◌, Bool, true, false, cond, List, [], ◌∷◌, ◌++◌, codes, length, append_assoc, append-nil, Option, Some, None, Result, Ok, Err}
+use Rattle.std.specs.Prelude.{nat_lt, slice_index}
+use Rattle.std.specs.List.{flat_map}
+use Rattle.std.specs.Fmt.{decimal, digit_glyph, digits, digits_onto}
+use Rattle.std.specs.Int.{w16, w32, to_be_bytes}
+use Rattle.std.proofs.lemmas.Bool.Decides.{nat_tests}
+use Rattle.hex.specs.Hex.{decode_of, encode_lower, encode_with, lower_digits}
+use Rattle.hex.specs.declared.error.FromHexError.{FromHexError}
+use Rattle.hex.specs.declared.error.FromHexError.TheVariants as hex_error
+use Rattle.courier_calls.specs.Message.{message_of}
+use Rattle.courier_calls.specs.declared.fault.MessageFault.{MessageFault}
+use Rattle.courier_calls.specs.declared.message.Message.{Message}
+use Rattle.courier_calls.specs.declared.message.Message.TheVariants.{Call, Reject, Return, Abort}
+use Rattle.xns_idp.specs.Packet.{PacketModel}
+use Rattle.xns_idp.specs.Reading.{packet_of, word_at}
+use Rattle.xns_idp.specs.declared.address.Address.{Address}
+use Rattle.xns_idp.specs.declared.fault.IdpFault.{IdpFault}
+use Rattle.xns_small.specs.Echo.{EchoModel, echo_of}
+use Rattle.xns_small.specs.ErrorReport.{ErrorReportModel, error_of}
+use Rattle.xns_small.specs.Exchange.{ExchangeModel, exchange_of}
+use Rattle.xns_small.specs.declared.fault.SmallFault.{SmallFault}
+use Rattle.xns_spp.specs.Header.{brings_item, has_bit, header_of, is_system}
+use Rattle.xns_spp.specs.declared.header.Header.{Header}
+use Rattle.xns_spp.specs.declared.spp_fault.SppFault.{SppFault}
+use Rattle.xns_spp.specs.declared.spp_fault.SppFault.TheVariants as spp
+use Rattle.xns_dump.specs.Dump.Line.{are_digits_refused, digits_of, digits_text, has_word, hex_refusal, is_refusal, is_refused, report_bytes, text_of_line}
+use Rattle.xns_dump.specs.Flows.{DataPacket}
+use Rattle.xns_dump.specs.Layers.Courier.{callee_text, courier_text, message_line, message_text, report_message}
+use Rattle.xns_dump.specs.Layers.Packets.{body_text, fault_text, idp_line, idp_refusal, is_body_refused, is_fault, is_packet_refused, kind_text, packet_text, report_packet, route_text, size_text, sum_text}
+use Rattle.xns_dump.specs.Layers.Sequenced.{connection_text, content_text, header_line, header_refusal, is_header_fault, item_line, item_of, item_text, report_sequenced, sequence_text, sequenced_text}
+use Rattle.xns_dump.specs.Layers.Small.{echo_line, echo_text, error_fields, error_line, error_text, exchange_fields, exchange_line, exchange_text, inner_fault_text, inner_refusal, is_inner_fault, line_or_refusal}
+use Rattle.xns_dump.specs.Layers.Text.{address_text, data_line, words_line}
+use Rattle.xns_lines.specs.Text.{bytes_or_dash, hex_word, words_in_hex, words_or_dash, words_text}
+
+abbrev refused : List ℕ → Bool
+refused text = has_word (codes "refused") text
+
+-- the word does not begin in these bytes, whatever follows them
+record IsQuiet (xs : List ℕ) : Type 0 where
+  skips : (ys : List ℕ) → refused (xs ++ ys) ≡ refused ys
+
+both : (xs ys : List ℕ) → IsQuiet xs → IsQuiet ys → IsQuiet (xs ++ ys)
+both xs ys h k = record { skips = λ zs. ap refused (append_assoc xs ys zs) ∙ h.skips (ys ++ zs) ∙ k.skips zs }
+
+either : (p : Bool) (xs ys : List ℕ) → IsQuiet xs → IsQuiet ys → IsQuiet (cond p xs ys)
+either true xs ys h k = h
+either false xs ys h k = k
+
+-- quiet bytes in front change nothing
+before : (xs ys : List ℕ) (b : Bool) → IsQuiet xs → refused ys ≡ b → refused (xs ++ ys) ≡ b
+before xs ys b h k = h.skips ys ∙ k
+
+alone : (xs : List ℕ) → IsQuiet xs → refused xs ≡ false
+alone xs h = ap refused (sym (append-nil xs)) ∙ h.skips []
+
+-- the word stands in these bytes, whatever follows them
+record IsLoud (xs : List ℕ) : Type 0 where
+  says : (ys : List ℕ) → refused (xs ++ ys) ≡ true
+
+loud : (xs ys : List ℕ) → IsQuiet xs → IsLoud ys → IsLoud (xs ++ ys)
+loud xs ys h k = record { says = λ zs. ap refused (append_assoc xs ys zs) ∙ h.skips (ys ++ zs) ∙ k.says zs }
+
+longer : (xs ys : List ℕ) → IsLoud xs → IsLoud (xs ++ ys)
+longer xs ys h = record { says = λ zs. ap refused (append_assoc xs ys zs) ∙ h.says (ys ++ zs) }
+
+said : (xs : List ℕ) → IsLoud xs → refused xs ≡ true
+said xs h = ap refused (sym (append-nil xs)) ∙ h.says []
+
+-- ---- bytes
+
+-- the word begins with letter 114
+first : (b : ℕ) (xs : List ℕ) → (114 == b) ≡ false → IsQuiet xs → IsQuiet (b ∷ xs)
+first b xs other h = record { skips = λ ys. rw other (h.skips ys) }
+
+glyph : (d : ℕ) → d < 10 → (114 == digit_glyph false d) ≡ false
+glyph d lt = let test : nat_lt d 10 ≡ true = grind (arith, nat_tests) in rw test (grind (arith, nat_tests))
+
+onto : (k n : ℕ) (xs : List ℕ) → IsQuiet xs → IsQuiet (digits_onto k 10 false n xs)
+onto zero n xs h = h
+onto (suc k) n xs h =
+    let digit : (114 == digit_glyph false (n % 10)) ≡ false = glyph (n % 10) (omega arith) in
+    let more : IsQuiet (digit_glyph false (n % 10) ∷ xs) = first (digit_glyph false (n % 10)) xs digit h in
+    either (n / 10 == 0) (digit_glyph false (n % 10) ∷ xs) (digits_onto k 10 false (n / 10) (digit_glyph false (n % 10) ∷ xs)) more (onto k (n / 10) (digit_glyph false (n % 10) ∷ xs) more)
+
+number : (n : ℕ) → IsQuiet (decimal n)
+unfolding digits
+number n = onto 64 n [] (record { skips = λ ys. refl })
+
+are_others : List ℕ → Bool
+are_others [] = true
+are_others (x ∷ xs) = cond (114 == x) false (are_others xs)
+
+other_head : (p : Bool) (q : Bool) → cond p false q ≡ true → (p ≡ false) × (q ≡ true)
+other_head true q e = (cc)
+other_head false q e = (refl, e)
+
+other_index : (xs : List ℕ) (i : ℕ) → are_others xs ≡ true → (114 == slice_index xs i) ≡ false
+unfolding are_others
+other_index [] i e = refl
+other_index (x ∷ xs) zero e = (other_head (114 == x) (are_others xs) e).0
+other_index (x ∷ xs) (suc i) e = other_index xs i (other_head (114 == x) (are_others xs) e).1
+
+hex_digit : (i : ℕ) → (114 == slice_index lower_digits i) ≡ false
+unfolding are_others
+hex_digit i = other_index lower_digits i refl
+
+hex : (bytes : List ℕ) → IsQuiet (encode_lower bytes)
+unfolding encode_with
+hex [] = record { skips = λ ys. refl }
+hex (b ∷ bytes) = first (slice_index lower_digits (b / 16)) (slice_index lower_digits (b % 16) ∷ encode_lower bytes) (hex_digit (b / 16))
+    (first (slice_index lower_digits (b % 16)) (encode_lower bytes) (hex_digit (b % 16)) (hex bytes))
+
+-- ---- texts
+
+word : (w : ℕ) → IsQuiet (hex_word w)
+word w = hex (to_be_bytes w16 w)
+
+bytes : (xs : List ℕ) → IsQuiet (bytes_or_dash xs)
+bytes [] = record { skips = λ ys. refl }
+bytes (x ∷ xs) = hex (x ∷ xs)
+
+spaced : (xs : List ℕ) → IsQuiet (words_in_hex xs)
+unfolding encode_with
+spaced [] = hex []
+spaced (a ∷ []) = hex (a ∷ [])
+spaced (a ∷ b ∷ []) = hex (a ∷ b ∷ [])
+spaced (a ∷ b ∷ c ∷ xs) = both (encode_lower (a ∷ b ∷ []) ++ codes " ") (words_in_hex (c ∷ xs)) (both (encode_lower (a ∷ b ∷ [])) (codes " ") (hex (a ∷ b ∷ [])) (record { skips = λ ys. refl })) (spaced (c ∷ xs))
+
+words : (xs : List ℕ) → IsQuiet (words_or_dash xs)
+words [] = record { skips = λ ys. refl }
+words (x ∷ xs) = spaced (x ∷ xs)
+
+more_words : (xs : List ℕ) → IsQuiet (flat_map (λ next. codes " " ++ hex_word next) xs)
+more_words [] = record { skips = λ ys. refl }
+more_words (x ∷ xs) = both (codes " " ++ hex_word x) (flat_map (λ next. codes " " ++ hex_word next) xs) (both (codes " ") (hex_word x) (record { skips = λ ys. refl }) (word x)) (more_words xs)
+
+word_list : (xs : List ℕ) → IsQuiet (words_text xs)
+word_list [] = record { skips = λ ys. refl }
+word_list (x ∷ xs) = both (hex_word x) (flat_map (λ next. codes " " ++ hex_word next) xs) (word x) (more_words xs)
+
+address : (a : Address) → IsQuiet (address_text a)
+unfolding address_text
+address a = both _ _ (both _ _ (both _ _ (both _ _ (hex (to_be_bytes w32 a.network)) (record { skips = λ ys. refl })) (hex a.host)) (record { skips = λ ys. refl })) (word a.socket)
+
+data_is : (n : ℕ) (xs : List ℕ) → IsQuiet (data_line n xs)
+unfolding data_line
+data_is n xs = both _ _ (both _ _ (both _ _ (number n) (record { skips = λ ys. refl })) (bytes xs)) (record { skips = λ ys. refl })
+
+words_is : (n : ℕ) (xs : List ℕ) → IsQuiet (words_line n xs)
+unfolding words_line
+words_is n xs = both _ _ (both _ _ (both _ _ (number n) (record { skips = λ ys. refl })) (words xs)) (record { skips = λ ys. refl })
+
+-- ---- the internet packet
+
+sum : (p : PacketModel) (field : ℕ) → IsQuiet (sum_text p field)
+unfolding sum_text
+sum p field = either p.summed _ (codes "none") (word field) (record { skips = λ ys. refl })
+
+size : (field : ℕ) (p : PacketModel) → IsQuiet (size_text field p)
+unfolding size_text
+size field p = both _ _ (both _ _ (both (codes "length ") _ (record { skips = λ ys. refl }) (number (30 + length p.body))) (record { skips = λ ys. refl })) (sum p field)
+
+kind : (p : PacketModel) → IsQuiet (kind_text p)
+unfolding kind_text
+kind p = both _ _ (both _ _ (both (codes " control ") _ (record { skips = λ ys. refl }) (number p.control)) (record { skips = λ ys. refl })) (number p.kind)
+
+route : (p : PacketModel) → IsQuiet (route_text p)
+unfolding route_text
+route p = both _ _ (both _ _ (both (codes " to ") _ (record { skips = λ ys. refl }) (address p.target)) (record { skips = λ ys. refl })) (address p.source)
+
+idp : (n field : ℕ) (p : PacketModel) → IsQuiet (idp_line n field p)
+unfolding idp_line
+idp n field p = both _ _ (both _ _ (both _ _ (both _ _ (both _ _ (number n) (record { skips = λ ys. refl })) (size field p)) (kind p)) (route p)) (record { skips = λ ys. refl })
+
+no_packet : (n : ℕ) (fault : IdpFault) → refused (idp_refusal n fault) ≡ true
+unfolding idp_refusal
+no_packet n fault = said _ (longer _ _ (longer _ _ (loud _ _ (number n) (record { says = λ ys. refl }))))
+
+-- ---- Echo, Error and Packet Exchange
+
+inner : (n : ℕ) (fault : SmallFault) → refused (inner_refusal n fault) ≡ true
+unfolding inner_refusal
+inner n fault = said _ (longer _ _ (longer _ _ (loud _ _ (number n) (record { says = λ ys. refl }))))
+
+echo : (n : ℕ) (v : EchoModel) → IsQuiet (echo_line n v)
+unfolding echo_line
+echo n v = both _ _ (both _ _ (both _ _ (number n) (either v.reply (codes " echo reply ") (codes " echo request ") (record { skips = λ ys. refl }) (record { skips = λ ys. refl }))) (bytes v.body)) (record { skips = λ ys. refl })
+
+error_numbers : (v : ErrorReportModel) → IsQuiet (error_fields v)
+unfolding error_fields
+error_numbers v = both _ _ (both _ _ (both _ _ (both _ _ (number v.number) (record { skips = λ ys. refl })) (number v.parameter)) (record { skips = λ ys. refl })) (bytes v.quoted)
+
+error : (n : ℕ) (v : ErrorReportModel) → IsQuiet (error_line n v)
+unfolding error_line
+error n v = both _ _ (both _ _ (both _ _ (number n) (record { skips = λ ys. refl })) (error_numbers v)) (record { skips = λ ys. refl })
+
+exchange_numbers : (v : ExchangeModel) → IsQuiet (exchange_fields v)
+unfolding exchange_fields
+exchange_numbers v = both _ _ (both _ _ (both _ _ (both _ _ (hex (to_be_bytes w32 v.id)) (record { skips = λ ys. refl })) (number v.client)) (record { skips = λ ys. refl })) (bytes v.body)
+
+exchange : (n : ℕ) (v : ExchangeModel) → IsQuiet (exchange_line n v)
+unfolding exchange_line
+exchange n v = both _ _ (both _ _ (both _ _ (number n) (record { skips = λ ys. refl })) (exchange_numbers v)) (record { skips = λ ys. refl })
+
+line_or : {View : Type 0} (line : ℕ → View → List ℕ) (n : ℕ) (r : Result View SmallFault) → ((v : View) → IsQuiet (line n v)) → refused (line_or_refusal line n r) ≡ is_inner_fault r
+line_or line n (Ok v) h = alone (line n v) (h v)
+line_or line n (Err fault) h = inner n fault
+
+echo_is : (n : ℕ) (body : List ℕ) → refused (echo_text n body) ≡ is_inner_fault (echo_of body)
+unfolding echo_text
+echo_is n body = line_or echo_line n (echo_of body) (echo n)
+
+error_is : (n : ℕ) (body : List ℕ) → refused (error_text n body) ≡ is_inner_fault (error_of body)
+unfolding error_text
+error_is n body = line_or error_line n (error_of body) (error n)
+
+exchange_is : (n : ℕ) (body : List ℕ) → refused (exchange_text n body) ≡ is_inner_fault (exchange_of body)
+unfolding exchange_text
+exchange_is n body = line_or exchange_line n (exchange_of body) (exchange n)
+
+-- ---- Courier
+
+callee : (program version procedure : ℕ) → IsQuiet (callee_text program version procedure)
+unfolding callee_text
+callee program version procedure = both _ _ (both _ _ (both _ _ (both _ _ (both (codes " program ") _ (record { skips = λ ys. refl }) (number program)) (record { skips = λ ys. refl })) (number version)) (record { skips = λ ys. refl })) (number procedure)
+
+message : (m : Message) → IsQuiet (message_text m)
+unfolding message_text
+message (Call transaction program version procedure ws) = both _ _ (both _ _ (both _ _ (both (codes " call ") _ (record { skips = λ ys. refl }) (number transaction)) (callee program version procedure)) (record { skips = λ ys. refl })) (word_list ws)
+message (Reject transaction reason ws) = both _ _ (both _ _ (both _ _ (both _ _ (both (codes " reject ") _ (record { skips = λ ys. refl }) (number transaction)) (record { skips = λ ys. refl })) (number reason)) (record { skips = λ ys. refl })) (word_list ws)
+message (Return transaction ws) = both _ _ (both _ _ (both (codes " return ") _ (record { skips = λ ys. refl }) (number transaction)) (record { skips = λ ys. refl })) (word_list ws)
+message (Abort transaction error ws) = both _ _ (both _ _ (both _ _ (both _ _ (both (codes " abort ") _ (record { skips = λ ys. refl }) (number transaction)) (record { skips = λ ys. refl })) (number error)) (record { skips = λ ys. refl })) (word_list ws)
+
+message_is : (n : ℕ) (m : Message) → IsQuiet (message_line n m)
+unfolding message_line
+message_is n m = both _ _ (both _ _ (number n) (message m)) (record { skips = λ ys. refl })
+
+report : (n : ℕ) (content : List ℕ) (r : Result Message MessageFault) → IsQuiet (report_message n content r)
+report n content (Ok m) = message_is n m
+report n content (Err fault) = words_is n content
+
+courier : (n : ℕ) (content : List ℕ) → IsQuiet (courier_text n content)
+unfolding courier_text
+courier n content = report n content (message_of content)
+
+-- ---- the sequenced packet
+
+connection : (f : Header) → IsQuiet (connection_text f)
+unfolding connection_text
+connection f = both _ _ (both _ _ (both _ _ (both _ _ (both _ _ (both _ _ (hex (f.control ∷ [])) (record { skips = λ ys. refl })) (number f.stream)) (record { skips = λ ys. refl })) (word f.source_id)) (record { skips = λ ys. refl })) (word f.target_id)
+
+sequence : (f : Header) → IsQuiet (sequence_text f)
+unfolding sequence_text
+sequence f = both _ _ (both _ _ (both _ _ (both _ _ (both (codes " seq ") _ (record { skips = λ ys. refl }) (number f.sequence)) (record { skips = λ ys. refl })) (number f.acknowledge)) (record { skips = λ ys. refl })) (number f.allocation)
+
+header : (n : ℕ) (f : Header) → IsQuiet (header_line n f)
+unfolding header_line
+header n f = both _ _ (both _ _ (both _ _ (both _ _ (number n) (record { skips = λ ys. refl })) (connection f)) (sequence f)) (record { skips = λ ys. refl })
+
+item_number_is : (n v : ℕ) → IsQuiet (item_line n v)
+unfolding item_line
+item_number_is n v = both _ _ (both _ _ (both _ _ (number n) (record { skips = λ ys. refl })) (number v)) (record { skips = λ ys. refl })
+
+item : (n : ℕ) (numbers : DataPacket → ℕ) (o : Option DataPacket) → IsQuiet (item_text n numbers o)
+item n numbers None = record { skips = λ ys. refl }
+item n numbers (Some packet) = item_number_is n (numbers packet)
+
+content : (n : ℕ) (f : Header) (xs : List ℕ) → IsQuiet (content_text n f xs)
+unfolding content_text
+content n f xs = either (is_system f) [] _ (record { skips = λ ys. refl }) (either _ _ _ (data_is n xs) (either _ _ _ (courier n xs) (words_is n xs)))
+
+no_header : (n : ℕ) (fault : SppFault) → refused (header_refusal n fault) ≡ true
+no_header n (spp.Short have) = inner n _
+
+sequenced_with : (n : ℕ) (numbers : DataPacket → ℕ) (p : PacketModel) (r : Result (Header × List ℕ) SppFault) → refused (report_sequenced n numbers p r) ≡ is_header_fault r
+sequenced_with n numbers p (Ok found) = alone _ (both _ _ (both _ _ (header n found.0) (item n numbers (item_of p found.0))) (content n found.0 found.1))
+sequenced_with n numbers p (Err fault) = no_header n fault
+
+sequenced_is : (n : ℕ) (numbers : DataPacket → ℕ) (p : PacketModel) → refused (sequenced_text n numbers p) ≡ is_header_fault (header_of p.body)
+unfolding sequenced_text
+sequenced_is n numbers p = sequenced_with n numbers p (header_of p.body)
+
+-- ---- a line
+
+choose : (p : Bool) (xs ys : List ℕ) (b c : Bool) → refused xs ≡ b → refused ys ≡ c → refused (cond p xs ys) ≡ cond p b c
+choose true xs ys b c h k = h
+choose false xs ys b c h k = k
+
+body_is : (n : ℕ) (numbers : DataPacket → ℕ) (p : PacketModel) → refused (body_text n numbers p) ≡ is_body_refused p
+unfolding body_text is_body_refused
+body_is n numbers p =
+    choose (p.kind == 2) _ _ _ _ (echo_is n p.body) (choose (p.kind == 3) _ _ _ _ (error_is n p.body) (choose (p.kind == 4) _ _ _ _ (exchange_is n p.body)
+    (choose (p.kind == 5) _ _ _ _ (sequenced_is n numbers p) (alone _ (data_is n p.body)))))
+
+packet_with : (n : ℕ) (numbers : DataPacket → ℕ) (xs : List ℕ) (r : Result (PacketModel × ℕ) IdpFault) → refused (report_packet n numbers xs r) ≡ is_fault r
+packet_with n numbers xs (Ok found) = before (idp_line n (word_at xs 0) found.0) _ (is_body_refused found.0) (idp n (word_at xs 0) found.0) (body_is n numbers found.0)
+packet_with n numbers xs (Err fault) = no_packet n fault
+
+packet_is : (n : ℕ) (numbers : DataPacket → ℕ) (xs : List ℕ) → refused (packet_text n numbers xs) ≡ is_packet_refused xs
+unfolding packet_text is_packet_refused
+packet_is n numbers xs = packet_with n numbers xs (packet_of xs)
+
+no_bytes : (n : ℕ) (error : FromHexError) → refused (hex_refusal n error) ≡ true
+unfolding hex_refusal
+no_bytes n (hex_error.InvalidHexCharacter digit place) = said _ (longer _ _ (longer _ _ (loud _ _ (number n) (record { says = λ ys. refl }))))
+no_bytes n hex_error.OddLength = said _ (loud _ _ (number n) (record { says = λ ys. refl }))
+no_bytes n hex_error.InvalidStringLength = said _ (loud _ _ (number n) (record { says = λ ys. refl }))
+no_bytes n hex_error.OutOfMemory = said _ (loud _ _ (number n) (record { says = λ ys. refl }))
+
+digits_with : (n : ℕ) (numbers : DataPacket → ℕ) (r : Result (List ℕ) FromHexError) → refused (report_bytes n numbers r) ≡ is_refusal r
+digits_with n numbers (Ok xs) = packet_is n numbers xs
+digits_with n numbers (Err error) = no_bytes n error
+
+pub line_is : (n : ℕ) (numbers : DataPacket → ℕ) (line : List ℕ) → refused (text_of_line n numbers line) ≡ is_refused line
+unfolding text_of_line is_refused digits_text are_digits_refused
+line_is n numbers line = digits_with n numbers (decode_of (digits_of line))

@@ -1,0 +1,35 @@
+-- The map that keeps a number for each flow.
+use Rattle.std.specs.Prelude.{◌≡◌, ℕ, ◌^◌, ◌<◌, nat_lt, List, [], ◌∷◌, Option, Some, None, if◌then◌else◌}
+use Rattle.std.specs.BTreeMap.{BTreeMap, get}
+use Rattle.std.specs.declared.cmp.Ordering.{Ordering}
+use Rattle.xns_dump.specs.Flows.{DataPacket, fields_of, last_number, number_after}
+use Rattle.xns_dump.specs.declared.flows.flow.Flow.{Flow}
+use Rattle.xns_dump.specs.declared.flows.numbered.Numbered.{Numbered}
+use Rattle.xns_dump.specs.contracts.flows.flow.FlowOrd.TheImpl as flow_ord
+
+-- how the map orders flows
+abbrev pub flow_cmp : Flow → Flow → Ordering
+flow_cmp = (flow_ord.ghosts).cmp
+
+-- the number near one that is kept, which is never over 2^48
+abbrev pub number_near : Option ℕ → ℕ → ℕ
+number_near None field = field
+number_near (Some last) field = if nat_lt (2 ^ 48) last then field else number_after (Some last) field
+
+-- the numbers of the next items, by what is kept
+abbrev pub numbering : BTreeMap Flow ℕ → DataPacket → ℕ
+numbering last packet = number_near (get flow_cmp last packet.0) packet.1
+
+-- a data packet, if there is one, with its number
+abbrev pub numbered : (DataPacket → ℕ) → Option DataPacket → Option Numbered
+numbered number None = None
+numbered number (Some packet) = Some (record { flow = packet.0; sequence = packet.1; item = number packet })
+
+abbrev pub AreWords : List DataPacket → Type 0
+AreWords [] = Unit {0}
+AreWords (packet ∷ packets) = (packet.1 < 65536) × AreWords packets
+
+-- the map has the number of the last item of each flow of these packets
+pub record StandsFor (last : BTreeMap Flow ℕ) (packets : List DataPacket) : Type 0 where
+  pub numbers : (flow : Flow) → get flow_cmp last flow ≡ last_number (fields_of flow packets)
+  pub words : AreWords packets

@@ -1,0 +1,80 @@
+-- The lines of sequenced packets.
+use Rattle.std.specs.Prelude.{ℕ, ◌==◌, not, Bool, true, false, if◌then◌else◌, List, [], ◌∷◌, ◌++◌, codes, Option, Some, None, Result, Ok, Err}
+use Rattle.std.specs.Fmt.{decimal}
+use Rattle.hex.specs.Hex.{encode_lower}
+use Rattle.xns_idp.specs.Packet.{PacketModel}
+use Rattle.xns_spp.specs.Header.{brings_item, has_bit, header_of, is_system}
+use Rattle.xns_spp.specs.declared.header.Header.{Header}
+use Rattle.xns_spp.specs.declared.spp_fault.SppFault.{SppFault}
+use Rattle.xns_spp.specs.declared.spp_fault.SppFault.TheVariants.{Short}
+use Rattle.xns_small.specs.declared.fault.SmallFault.TheVariants as small
+use Rattle.xns_dump.specs.Flows.{DataPacket}
+use Rattle.xns_dump.specs.Layers.Courier.{courier_text}
+use Rattle.xns_dump.specs.Layers.Small.{inner_refusal}
+use Rattle.xns_dump.specs.Layers.Text.{data_line, words_line}
+use Rattle.xns_lines.specs.Text.{hex_word}
+
+-- the connection control, the datastream type, and the two connection identifiers
+unfoldable pub connection_text : Header → List ℕ
+connection_text f =
+    encode_lower (f.control ∷ []) ++ codes " stream " ++ decimal f.stream ++ codes " source " ++ hex_word f.source_id ++ codes " target " ++ hex_word f.target_id
+
+-- the sequence, acknowledge and allocation numbers (XSIS 028112, Sequenced Packet Protocol, Sequence Number, Acknowledge Number and Allocation Number)
+unfoldable pub sequence_text : Header → List ℕ
+sequence_text f = codes " seq " ++ decimal f.sequence ++ codes " ack " ++ decimal f.acknowledge ++ codes " alloc " ++ decimal f.allocation
+
+-- the fields of a header (XSIS 028112, Sequenced Packet Protocol)
+unfoldable pub header_line : ℕ → Header → List ℕ
+header_line n f = decimal n ++ codes " spp control " ++ connection_text f ++ sequence_text f ++ codes "\n"
+
+-- the data packet that brings an item, if it is one: no system packet is, and none to an identifier that isn't known
+unfoldable pub item_of : PacketModel → Header → Option DataPacket
+item_of packet f =
+    if brings_item f then Some (
+      record {
+        source = record { host = packet.source.host; socket = packet.source.socket; identifier = f.source_id };
+        target = record { host = packet.target.host; socket = packet.target.socket; identifier = f.target_id };
+      },
+      f.sequence,
+    ) else None
+
+unfoldable pub item_line : ℕ → ℕ → List ℕ
+item_line n number = decimal n ++ codes " item " ++ decimal number ++ codes "\n"
+
+-- the number of its item (XSIS 028112, Sequenced Packet Protocol, Sequence Number)
+abbrev pub item_text : ℕ → (DataPacket → ℕ) → Option DataPacket → List ℕ
+item_text n number None = []
+item_text n number (Some packet) = item_line n (number packet)
+
+-- what comes after the header: nothing of a system packet, else the data, which is Courier's where the datastream type is 0
+-- (XSIS 038112, Courier, Block stream)
+unfoldable pub content_text : ℕ → Header → List ℕ → List ℕ
+content_text n f content =
+    if is_system f then []
+    else if not (f.stream == 0) then data_line n content
+    else if has_bit f.control 16 then courier_text n content
+    else words_line n content
+
+-- the body is shorter than a header
+abbrev pub header_refusal : ℕ → SppFault → List ℕ
+header_refusal n (Short have) = inner_refusal n (small.Short have)
+
+abbrev pub report_sequenced : ℕ → (DataPacket → ℕ) → PacketModel → Result (Header × List ℕ) SppFault → List ℕ
+report_sequenced n number packet (Ok found) = header_line n found.0 ++ item_text n number (item_of packet found.0) ++ content_text n found.0 found.1
+report_sequenced n number packet (Err fault) = header_refusal n fault
+
+-- the lines of a sequenced packet, where `number` gives the numbers of items
+unfoldable pub sequenced_text : ℕ → (DataPacket → ℕ) → PacketModel → List ℕ
+sequenced_text n number packet = report_sequenced n number packet (header_of packet.body)
+
+abbrev pub item_found : PacketModel → Result (Header × List ℕ) SppFault → Option DataPacket
+item_found packet (Ok found) = item_of packet found.0
+item_found packet (Err fault) = None
+
+-- the data packet that a sequenced packet is, if it is one
+unfoldable pub sequenced_item : PacketModel → Option DataPacket
+sequenced_item packet = item_found packet (header_of packet.body)
+
+abbrev pub is_header_fault : Result (Header × List ℕ) SppFault → Bool
+is_header_fault (Ok found) = false
+is_header_fault (Err fault) = true

@@ -1,0 +1,56 @@
+-- The lines of Echo, Error and Packet Exchange.
+use Rattle.std.specs.Prelude.{ℕ, Bool, true, false, if◌then◌else◌, List, ◌++◌, codes, Result, Ok, Err}
+use Rattle.std.specs.Int.{w32, to_be_bytes}
+use Rattle.std.specs.Fmt.{decimal}
+use Rattle.hex.specs.Hex.{encode_lower}
+use Rattle.xns_small.specs.Echo.{EchoModel, echo_of}
+use Rattle.xns_small.specs.ErrorReport.{ErrorReportModel, error_of}
+use Rattle.xns_small.specs.Exchange.{ExchangeModel, exchange_of}
+use Rattle.xns_small.specs.declared.fault.SmallFault.{SmallFault}
+use Rattle.xns_small.specs.declared.fault.SmallFault.TheVariants.{Short, EchoOperation}
+use Rattle.xns_lines.specs.Text.{bytes_or_dash}
+
+-- why a body is not what its packet type says
+unfoldable pub inner_fault_text : SmallFault → List ℕ
+inner_fault_text (Short have) = codes "Short " ++ decimal have
+inner_fault_text (EchoOperation found) = codes "EchoOperation " ++ decimal found
+
+unfoldable pub inner_refusal : ℕ → SmallFault → List ℕ
+inner_refusal n fault = decimal n ++ codes " inner refused " ++ inner_fault_text fault ++ codes "\n"
+
+-- a request or a reply, and its bytes (XSIS 028112, Echo Protocol)
+unfoldable pub echo_line : ℕ → EchoModel → List ℕ
+echo_line n echo = decimal n ++ (if echo.reply then codes " echo reply " else codes " echo request ") ++ bytes_or_dash echo.body ++ codes "\n"
+
+-- the error number, the parameter, and what is quoted (XSIS 028112, Error Protocol)
+unfoldable pub error_fields : ErrorReportModel → List ℕ
+error_fields report = decimal report.number ++ codes " parameter " ++ decimal report.parameter ++ codes " quoted " ++ bytes_or_dash report.quoted
+
+unfoldable pub error_line : ℕ → ErrorReportModel → List ℕ
+error_line n report = decimal n ++ codes " error " ++ error_fields report ++ codes "\n"
+
+-- the identifier, the client type, and the bytes (XSIS 028112, Packet Exchange Protocol)
+unfoldable pub exchange_fields : ExchangeModel → List ℕ
+exchange_fields exchange =
+    encode_lower (to_be_bytes w32 exchange.id) ++ codes " client " ++ decimal exchange.client ++ codes " body " ++ bytes_or_dash exchange.body
+
+unfoldable pub exchange_line : ℕ → ExchangeModel → List ℕ
+exchange_line n exchange = decimal n ++ codes " exchange id " ++ exchange_fields exchange ++ codes "\n"
+
+-- the line of what was read, or of its fault
+abbrev pub line_or_refusal : {View : Type 0} → (ℕ → View → List ℕ) → ℕ → Result View SmallFault → List ℕ
+line_or_refusal line n (Ok view) = line n view
+line_or_refusal line n (Err fault) = inner_refusal n fault
+
+abbrev pub is_inner_fault : {View : Type 0} → Result View SmallFault → Bool
+is_inner_fault (Ok view) = false
+is_inner_fault (Err fault) = true
+
+unfoldable pub echo_text : ℕ → List ℕ → List ℕ
+echo_text n body = line_or_refusal echo_line n (echo_of body)
+
+unfoldable pub error_text : ℕ → List ℕ → List ℕ
+error_text n body = line_or_refusal error_line n (error_of body)
+
+unfoldable pub exchange_text : ℕ → List ℕ → List ℕ
+exchange_text n body = line_or_refusal exchange_line n (exchange_of body)

@@ -1,0 +1,55 @@
+//! `dump`: what each line of hex says, line by line.
+ghost use Rattle.std.specs.Prelude.{◌≡◌, IfErr, IfOk, IfSome, OnOk};
+ghost use Rattle.std.specs.Io.KnownBytes.{Appends};
+ghost use Rattle.xns_dump.specs.Dump.{StopsIn, dump_text, has_refused_line};
+ghost use Rattle.xns_lines.specs.Lines.{IsWithinLimits};
+
+use crate::printer::Printer;
+use std::alloc::Global;
+use std::io::{Read, Write};
+use xns_lines::{RunFault, take_lines};
+
+/// Reads lines of hex and prints what each says. The answer is whether a line was refused.
+///
+/// Byte 10 ends a line, and so does the end of the input after a byte; lines count from 1. One byte 13 at a line's end,
+/// and each space and tab, are dropped; the rest are hex digits of either case. They spell an internet packet
+/// (XSIS 028112, Internet Datagram Protocol, Packet Format), or they are refused in one line that says why. Bytes behind
+/// the packet are left unread.
+///
+/// A packet prints two to four lines: its header's fields, then what its packet type makes of its body. That is one line
+/// for Echo, Error, Packet Exchange, a body that is refused, and the data of any other type; for a sequenced packet its
+/// header, the number of its item where it brings one to a known destination, and its words, message or data if it has
+/// any.
+///
+/// # Errors
+/// `Read` where a read fails, for whatever reason; `Write` where a write fails or takes no byte; `LineTooLong` where a
+/// line has over 4,096 bytes, its byte 13 among them and its byte 10 not; `TooManyLines` where there are over 65,536
+/// lines; `NoMemory` where a growth is refused. Of the limits' faults the one that comes first in the input is
+/// answered. The text of all lines before the fault is written first, but for a write that fails.
+///
+/// It holds one piece of 65,536 bytes of the input, one line of at most 4,096 bytes, its digits without blanks, their
+/// values and the bytes that they spell, the text of that line, the words of a message, some 65,536 bytes of text that
+/// isn't written yet, and the number of the last item of each flow. A line begins at most one flow.
+pub fn dump<R: Read, W: Write>(
+    alloc: Global,
+    reader: &mut R,
+    writer: &mut W,
+) -> Result<bool, RunFault>
+    // Without a fault the text of the whole input is written, which is within the limits.
+    ensures text { IfOk result (λ refused. IfSome (R.remaining reader.old) (λ input.
+        Appends (W.contents writer.old) (W.contents writer.new) (dump_text input))) }
+    ensures refused { IfOk result (λ refused. IfSome (R.remaining reader.old) (λ input. refused ≡ has_refused_line input)) }
+    ensures limits { OnOk result (IfSome (R.remaining reader.old) IsWithinLimits) }
+
+    // After a fault the text of the lines before it is written, and what was read shows a limit that was passed.
+    ensures fault { IfErr result (λ fault. IfSome (R.remaining reader.old) (λ input.
+        StopsIn input (R.remaining reader.new) (W.contents writer.old) (W.contents writer.new) fault)) }
+{
+    let mut printer = Printer::new(alloc);
+    let taken = take_lines(alloc, reader, &mut printer, writer);
+    printer.flush(writer)?;
+    match taken {
+        Ok(()) => Ok(printer.refused),
+        Err(fault) => Err(fault),
+    }
+}

@@ -1,0 +1,75 @@
+//! The number of the last item of each flow.
+ghost use Rattle.std.specs.Prelude.{◌≡◌, ◌++◌, [], ◌∷◌, ℕ, List, Option, option_copied, OnErr, OnOk};
+ghost use Rattle.std.specs.Option.{option_to_list};
+ghost use Rattle.std.specs.BTreeMap.{IsUnchanged};
+ghost use Rattle.xns_dump.specs.Flows.{DataPacket, item_number};
+ghost use Rattle.xns_dump.specs.Flows.Numbers.{StandsFor, number_near, numbered, numbering};
+
+use crate::flows::flow::Flow;
+use crate::flows::numbered::Numbered;
+use std::alloc::{AllocError, Global};
+use std::collections::BTreeMap;
+use xns_spp::nearest;
+
+/// No item has a larger number, by the limit on an input's lines.
+const MOST: u64 = 1 << 48;
+
+/// The number of the last item of each flow, in an ordered map, for which nobody can choose flows that make it slow.
+#[derive(Drop)]
+pub(crate) struct FlowNumbers {
+    last: BTreeMap<Flow, u64>,
+}
+
+impl FlowNumbers {
+    /// No flow yet.
+    pub(crate) fn new(alloc: Global) -> Self
+        ensures { StandsFor result.last [] }
+    {
+        FlowNumbers {
+            last: BTreeMap::new(alloc),
+        }
+    }
+
+    /// The number of the next item of a flow.
+    pub(crate) fn next_number(&self, flow: &Flow, sequence: u16) -> u64
+        ensures { result ≡ numbering self.now.last (flow.now, sequence) }
+    {
+        number_near_last(self.last.get(flow), sequence)
+    }
+
+    /// Keeps the number of the next item of a flow. Where memory is refused, nothing has changed.
+    pub(crate) fn note(&mut self, flow: Flow, sequence: u16, item: u64) -> Result<(), AllocError>
+        ensures after { OnOk result ((earlier : List DataPacket) → StandsFor self.old.last earlier → item ≡ item_number earlier (flow, sequence)
+            → StandsFor self.new.last (earlier ++ (flow, sequence) ∷ [])) }
+        ensures unchanged { OnErr result (IsUnchanged self.old.last self.new.last) }
+    {
+        // The definition names the field, and the code needs the number alone.
+        let _field = sequence;
+        match self.last.insert(flow, item) {
+            Ok(_) => Ok(()),
+            Err(_) => Err(AllocError),
+        }
+    }
+
+    /// Keeps the number of a data packet's item, if there is one. Where memory is refused, nothing has changed.
+    pub(crate) fn note_item(&mut self, item: Option<Numbered>) -> Result<(), AllocError>
+        ensures after { OnOk result ((number : DataPacket → ℕ) (packet : Option DataPacket) (earlier : List DataPacket) → item ≡ numbered number packet → number ≡ item_number earlier
+            → StandsFor self.old.last earlier → StandsFor self.new.last (earlier ++ option_to_list packet)) }
+        ensures unchanged { OnErr result (IsUnchanged self.old.last self.new.last) }
+    {
+        match item {
+            Some(item) => self.note(item.flow, item.sequence, item.item),
+            None => Ok(()),
+        }
+    }
+}
+
+/// The number of an item behind the last one of its flow.
+fn number_near_last(last: Option<&u64>, sequence: u16) -> u64
+    ensures { result ≡ number_near (option_copied last.entry) sequence }
+{
+    match last {
+        Some(last) if *last <= MOST => nearest(*last, sequence).unwrap_or(u64::from(sequence)),
+        _ => u64::from(sequence),
+    }
+}

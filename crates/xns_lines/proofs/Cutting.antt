@@ -1,0 +1,302 @@
+-- What a cutter has cut, as it takes more, and where it stops.
+use Rattle.std.proofs.Common.{◌≡◌, ◌∙◌, ap, sym, refl, arith, ℕ, ◌+◌, ◌<◌, ◌≤◌, ◌||◌, false, List, [], ◌∷◌, ◌++◌, length, length-append, append_assoc, append-nil, subst, Option, Some, None}
+use Rattle.std.specs.List.{list_any}
+use Rattle.std.specs.Prelude.{IfSome}
+use Rattle.std.specs.Io.KnownBytes.{Consumes, IsAtEnd}
+use Rattle.std.proofs.lemmas.List.Folds.{list_any-append}
+use Rattle.xns_lines.specs.Lines.Cutter.{HasCut, HasNoNewline, HasTaken, IsCutShort, IsJustifiedAt, StandsAfter, StandsAfterLine, IsOwn, Says, StopsShort}
+use Rattle.xns_lines.specs.Faults.{IsJustified}
+use Rattle.xns_lines.specs.Lines.{AreWithinLimits, IsWithinLimits, closed_lines, is_long, line_if_any, lines_of, open_line}
+use Rattle.xns_lines.specs.declared.cutter.Cutter.{Cutter}
+use Rattle.xns_lines.specs.declared.fault.RunFault.{RunFault}
+use Rattle.xns_lines.specs.declared.fault.RunFault.TheVariants as fault
+use Rattle.xns_lines.proofs.Cuts.{all_within, closed-newline, closed-nothing, closed-run, few_closed, few_more, line_count-parts, lines_of-append, long_stays, more_line, no_line, not_long, one_line, open-newline, open-nothing, open-run, or_false}
+
+pub cut_nothing : (c : Cutter) → c.line.items ≡ [] → c.count ≡ 0 → HasCut c []
+cut_nothing c line count =
+    let closed = closed-nothing in
+    let rest = open-nothing in
+    record {
+      line = line ∙ sym rest;
+      count = count ∙ sym (ap length closed);
+      closed_short = ap (list_any is_long) closed;
+      open_short = rw rest (omega arith);
+      few = rw (line_count-parts [], closed, rest) (omega arith);
+    }
+
+short_newline : (taken : List ℕ) → list_any is_long (closed_lines taken) ≡ false → length (open_line taken) ≤ 4096 → list_any is_long (closed_lines taken ++ open_line taken ∷ []) ≡ false
+short_newline taken closed rest =
+    list_any-append is_long (closed_lines taken) (open_line taken ∷ [])
+    ∙ ap (λ r. r || (is_long (open_line taken) || false)) closed
+    ∙ or_false (is_long (open_line taken)) ∙ not_long (length (open_line taken)) rest
+
+pub cut_newline : (c c' : Cutter) (taken : List ℕ) → c.count < 65536 → c'.line.items ≡ [] → c'.count ≡ c.count + 1 → HasCut c taken → HasCut c' (taken ++ 10 ∷ [])
+cut_newline c c' taken small line count h =
+    let closed = closed-newline taken in
+    let rest = open-newline taken in
+    let size : length (closed_lines taken ++ open_line taken ∷ []) ≡ length (closed_lines taken) + 1 = length-append (closed_lines taken) (open_line taken ∷ []) in
+    record {
+      line = line ∙ sym rest;
+      count = count ∙ ap (λ n. n + 1) h.count ∙ sym size ∙ sym (ap length closed);
+      closed_short = ap (list_any is_long) closed ∙ short_newline taken h.closed_short h.open_short;
+      open_short = rw rest (omega arith);
+      few = rw (line_count-parts (taken ++ 10 ∷ []), closed, rest, size) (omega (arith, h.count));
+    }
+
+pub cut_run : (c c' : Cutter) (taken run : List ℕ) → HasNoNewline run
+    → c.count < 65536 → length c.line.items + length run ≤ 4096 → c'.line.items ≡ c.line.items ++ run → c'.count ≡ c.count → HasCut c taken → HasCut c' (taken ++ run)
+cut_run c c' taken run plain small short line count h =
+    let closed = closed-run taken run plain in
+    let rest = open-run taken run plain in
+    record {
+      line = line ∙ ap (λ l. l ++ run) h.line ∙ sym rest;
+      count = count ∙ h.count ∙ sym (ap length closed);
+      closed_short = ap (list_any is_long) closed ∙ h.closed_short;
+      open_short = rw rest (omega (arith, length-append (open_line taken) run, ap length h.line, short));
+      few = few_more taken (taken ++ run) (omega (arith, h.count, small)) closed;
+    }
+
+pub run_cut : (c' : Cutter) (taken run : List ℕ) → HasNoNewline run → HasCut c' (taken ++ run) → HasCut c' (taken ++ run) × (closed_lines (taken ++ run) ≡ closed_lines taken)
+run_cut c' taken run plain h = (h, closed-run taken run plain)
+
+pub takes_run : (c c' : Cutter) (stands : Says) (taken run : List ℕ) → (HasCut c taken → HasCut c' (taken ++ run) × (closed_lines (taken ++ run) ≡ closed_lines taken))
+    → HasTaken c stands taken → HasTaken c' stands (taken ++ run)
+takes_run c c' stands taken run cut h = let new = cut h.0 in (new.0, subst stands (sym new.1) h.1)
+
+pub cut_as : (c : Cutter) (xs ys : List ℕ) → xs ≡ ys → HasCut c xs → HasCut c ys
+cut_as c xs ys e h = subst (λ (zs : List ℕ). HasCut c zs) e h
+
+pub takes_as : (c : Cutter) (stands : Says) (xs ys : List ℕ) → xs ≡ ys → HasTaken c stands xs → HasTaken c stands ys
+takes_as c stands xs ys e h = subst (λ (zs : List ℕ). HasTaken c stands zs) e h
+
+pub few_lines : (c : Cutter) (taken : List ℕ) → HasCut c taken → 0 < length c.line.items → c.count < 65536
+few_lines c taken h some =
+    let lt : 0 < length (open_line taken) = omega (arith, ap length h.line) in
+    let one : length (line_if_any (open_line taken)) ≡ 1 = ap length (one_line (open_line taken) lt) in
+    omega (arith, h.few, h.count, line_count-parts taken, one)
+
+-- ---- where it stops
+
+closed_within : (c : Cutter) (taken : List ℕ) → HasCut c taken → AreWithinLimits (closed_lines taken)
+closed_within c taken h = record { short = h.closed_short; few = few_closed taken h.few }
+
+-- the lines at which the cutter itself stops are those that were over
+abbrev pub IsStill : RunFault → List ℕ → Says
+IsStill f taken lines = IsOwn f × (lines ≡ closed_lines taken)
+
+pub short_long : (c : Cutter) (taken run : List ℕ) → HasNoNewline run → c.count < 65536 → 4096 < length c.line.items + length run → HasCut c taken
+    → IsCutShort fault.LineTooLong (taken ++ run) (IsStill fault.LineTooLong taken)
+short_long c taken run plain small long h =
+    let closed = closed-run taken run plain in record {
+      front = taken ++ run;
+      more = [];
+      parts = append-nil (taken ++ run);
+      within = subst AreWithinLimits (sym closed) (closed_within c taken h);
+      found = (omega (arith, ap length closed, h.count), omega (arith, ap length (open-run taken run plain), length-append (open_line taken) run, ap length h.line, long));
+      is_left = (tt, closed);
+    }
+
+pub short_many : (c : Cutter) (taken run : List ℕ) → 65536 ≤ c.count → 0 < length run → HasCut c taken → IsCutShort fault.TooManyLines (taken ++ run) (IsStill fault.TooManyLines taken)
+short_many c taken run many some h = record {
+  front = taken;
+  more = run;
+  parts = refl;
+  within = closed_within c taken h;
+  found = (omega (arith, h.count, few_closed taken h.few), some);
+  is_left = (tt, refl);
+}
+
+pub short_memory : (c : Cutter) (taken run : List ℕ) → HasCut c taken → IsCutShort fault.NoMemory (taken ++ run) (IsStill fault.NoMemory taken)
+short_memory c taken run h = record {
+  front = taken;
+  more = run;
+  parts = refl;
+  within = closed_within c taken h;
+  found = tt;
+  is_left = (tt, refl);
+}
+
+own_left : (f : RunFault) (stands fails : Says) (lines : List (List ℕ)) → IsOwn f → stands lines → StandsAfter f stands fails lines
+own_left fault.Read stands fails lines own h = absurd own
+own_left fault.Write stands fails lines own h = absurd own
+own_left fault.LineTooLong stands fails lines own h = h
+own_left fault.TooManyLines stands fails lines own h = h
+own_left fault.NoMemory stands fails lines own h = h
+
+-- the taker is as it was
+pub short_own : (f : RunFault) (stands fails : Says) (taken xs : List ℕ) → stands (closed_lines taken) → IsCutShort f xs (IsStill f taken) → IsCutShort f xs (StandsAfter f stands fails)
+short_own f stands fails taken xs said h = record {
+  front = h.front;
+  more = h.more;
+  parts = h.parts;
+  within = h.within;
+  found = h.found;
+  is_left = own_left f stands fails (closed_lines h.front) h.is_left.0 (subst stands (sym h.is_left.1) said);
+}
+
+-- the taker stopped at the line that a byte 10 ends
+pub short_at : (c : Cutter) (f : RunFault) (stands fails : Says) (taken : List ℕ) → c.count < 65536 → HasCut c taken → StandsAfterLine f stands fails (closed_lines taken) (open_line taken)
+    → IsCutShort f (taken ++ 10 ∷ []) (StandsAfter f stands fails)
+short_at c fault.Read stands fails taken small h at = absurd at
+short_at c fault.LineTooLong stands fails taken small h at = absurd at
+short_at c fault.TooManyLines stands fails taken small h at = absurd at
+short_at c fault.NoMemory stands fails taken small h at = record {
+  front = taken;
+  more = 10 ∷ [];
+  parts = refl;
+  within = closed_within c taken h;
+  found = tt;
+  is_left = at;
+}
+short_at c fault.Write stands fails taken small h at =
+    let closed = closed-newline taken in
+    let size : length (closed_lines taken ++ open_line taken ∷ []) ≡ length (closed_lines taken) + 1 = length-append (closed_lines taken) (open_line taken ∷ []) in
+    record {
+      front = taken ++ 10 ∷ [];
+      more = [];
+      parts = append-nil (taken ++ 10 ∷ []);
+      within = subst AreWithinLimits (sym closed) (record { short = short_newline taken h.closed_short h.open_short; few = omega (arith, size, h.count, small) });
+      found = tt;
+      is_left = subst fails (sym closed) at;
+    }
+
+still_found : (f : RunFault) (front more later : List ℕ) → IsJustifiedAt f front more → IsJustifiedAt f front (more ++ later)
+still_found fault.Read front more later found = found
+still_found fault.Write front more later found = tt
+still_found fault.LineTooLong front more later found = found
+still_found fault.TooManyLines front more later found = (found.0, omega (arith, found.1, length-append more later))
+still_found fault.NoMemory front more later found = tt
+
+pub short_later : (xs more ys : List ℕ) (f : RunFault) (left : Says) → xs ++ more ≡ ys → IsCutShort f xs left → IsCutShort f ys left
+short_later xs more ys f left e h = record {
+  front = h.front;
+  more = h.more ++ more;
+  parts = sym (append_assoc h.front h.more more) ∙ ap (λ t. t ++ more) h.parts ∙ e;
+  within = h.within;
+  found = still_found f h.front h.more more h.found;
+  is_left = h.is_left;
+}
+
+-- ---- what stands after the fault
+
+shows : (f : RunFault) (front more read : List ℕ) → front ++ more ≡ read → IsJustifiedAt f front more → IsJustified f read (closed_lines front) (lines_of (open_line front ++ more))
+shows fault.Read front more read parts found = absurd found
+shows fault.Write front more read parts found = tt
+shows fault.LineTooLong front more read parts found = (found.0, long_stays front more found.1)
+shows fault.TooManyLines front more read parts found = (found.0, more_line (open_line front) more found.1)
+shows fault.NoMemory front more read parts found = tt
+
+pub stops_short : (read : List ℕ) (f : RunFault) (left : Says) → IsCutShort f read left → StopsShort f read left
+stops_short read f left h = record {
+  good = closed_lines h.front;
+  next = lines_of (open_line h.front ++ h.more);
+  lines = ap lines_of (sym h.parts) ∙ lines_of-append h.front h.more;
+  within = h.within;
+  shown = shows f h.front h.more read h.parts h.found;
+  is_left = h.is_left;
+}
+
+-- a write failed between two reads
+pub stops_pausing : (c : Cutter) (read : List ℕ) (f : RunFault) (stands fails : Says) → f ≡ fault.Write → HasCut c read → fails (closed_lines read) → StopsShort f read (StandsAfter f stands fails)
+stops_pausing c read f stands fails which h failed = rw which (record {
+  good = closed_lines read;
+  next = line_if_any (open_line read);
+  lines = refl;
+  within = closed_within c read h;
+  shown = tt;
+  is_left = failed;
+})
+
+-- a read failed
+pub stops_reading : (c : Cutter) (read : List ℕ) (stands fails : Says) → HasTaken c stands read → StopsShort fault.Read read (StandsAfter fault.Read stands fails)
+stops_reading c read stands fails h = record {
+  good = closed_lines read;
+  next = line_if_any (open_line read);
+  lines = refl;
+  within = closed_within c read h.0;
+  shown = refl;
+  is_left = h.1;
+}
+
+-- the taker stopped at the line that the end of the input ends
+pub stops_finishing : (c : Cutter) (read : List ℕ) (f : RunFault) (stands fails : Says) → 0 < length c.line.items → HasCut c read → StandsAfterLine f stands fails (closed_lines read) (open_line read)
+    → StopsShort f read (StandsAfter f stands fails)
+stops_finishing c read fault.Read stands fails some h at = absurd at
+stops_finishing c read fault.LineTooLong stands fails some h at = absurd at
+stops_finishing c read fault.TooManyLines stands fails some h at = absurd at
+stops_finishing c read fault.NoMemory stands fails some h at = record {
+  good = closed_lines read;
+  next = line_if_any (open_line read);
+  lines = refl;
+  within = closed_within c read h;
+  shown = tt;
+  is_left = at;
+}
+stops_finishing c read fault.Write stands fails some h at =
+    let lt : 0 < length (open_line read) = omega (arith, ap length h.line) in
+    record {
+      good = lines_of read;
+      next = [];
+      lines = sym (append-nil (lines_of read));
+      within = all_within read h.closed_short h.open_short h.few;
+      shown = tt;
+      is_left = subst fails (ap (λ l. closed_lines read ++ l) (sym (one_line (open_line read) lt))) at;
+    }
+
+-- nothing was read
+pub stops_at_once : (f : RunFault) (stands fails : Says) → f ≡ fault.NoMemory → stands [] → StopsShort f [] (StandsAfter f stands fails)
+stops_at_once f stands fails which said = rw which (record {
+  good = [];
+  next = [];
+  lines = ap (λ l. l ++ line_if_any (open_line [])) closed-nothing ∙ ap line_if_any open-nothing;
+  within = record { short = refl; few = omega arith };
+  shown = tt;
+  is_left = said;
+})
+
+-- ---- the end of the input
+
+pub cut_within : (c : Cutter) (taken : List ℕ) → HasCut c taken → IsWithinLimits taken
+cut_within c taken h = all_within taken h.closed_short h.open_short h.few
+
+pub finished_open : (c : Cutter) (said : Says) (taken line : List ℕ) → 0 < length c.line.items → line ≡ c.line.items → HasCut c taken → said (closed_lines taken ++ line ∷ []) → said (lines_of taken)
+finished_open c said taken line some e h at =
+    let lt : 0 < length (open_line taken) = omega (arith, ap length h.line) in
+    subst said (ap (λ l. closed_lines taken ++ l) (ap (λ l. l ∷ []) (e ∙ h.line) ∙ sym (one_line (open_line taken) lt))) at
+
+pub finished_closed : (c : Cutter) (said : Says) (taken : List ℕ) → length c.line.items ≡ 0 → HasTaken c said taken → said (lines_of taken)
+finished_closed c said taken none h =
+    let rest : open_line taken ≡ [] = sym h.0.line ∙ no_line c.line.items none in
+    subst said (sym (ap (λ r. closed_lines taken ++ line_if_any r) rest ∙ append-nil (closed_lines taken))) h.1
+
+pub takes_newline : (c c' : Cutter) (said : Says) (taken line : List ℕ) → c.count < 65536 → c'.line.items ≡ [] → c'.count ≡ c.count + 1 → line ≡ c.line.items → HasCut c taken
+    → said (closed_lines taken ++ line ∷ []) → HasTaken c' said (taken ++ 10 ∷ [])
+takes_newline c c' said taken line small none count e h at =
+    (cut_newline c c' taken small none count h, subst said (ap (λ l. closed_lines taken ++ l ∷ []) (e ∙ h.line) ∙ sym (closed-newline taken)) at)
+
+pub left_as : (c : Cutter) (f : RunFault) (stands fails : Says) (taken line : List ℕ) → line ≡ c.line.items → HasCut c taken → StandsAfterLine f stands fails (closed_lines taken) line → StandsAfterLine f stands fails (closed_lines taken) (open_line taken)
+left_as c f stands fails taken line e h at = subst (λ (l : List ℕ). StandsAfterLine f stands fails (closed_lines taken) l) (e ∙ h.line) at
+
+-- ---- what was read of the input
+
+pub stopped_in : (start left : Option (List ℕ)) (first : Option (List ℕ) → Type 0) (stands fails : Option (List ℕ) → Says) (f : RunFault) (read : List ℕ) → Consumes start left read
+    → ((before : Option (List ℕ)) → first before → StopsShort f read (StandsAfter f (stands before) (fails before)))
+    → IfSome start (λ input. (read : List ℕ) × Consumes (Some input) left read × ((before : Option (List ℕ)) → first before → StopsShort f read (StandsAfter f (stands before) (fails before))))
+stopped_in None left first stands fails f read x h = tt
+stopped_in (Some input) left first stands fails f read x h = (read, x, h)
+
+whole_read : (input left' read bs : List ℕ) (left : List ℕ) → input ≡ read ++ left → left ≡ bs ++ left' → bs ≡ [] → left' ≡ [] → input ≡ read
+whole_read input left' read bs left x y e at_end = x ∙ ap (λ t. read ++ t) (y ∙ ap (λ t. t ++ left') e ∙ at_end) ∙ append-nil read
+
+pub taken_in : (start left left' : Option (List ℕ)) (first : Option (List ℕ) → Type 0) (stands : Option (List ℕ) → Says) (read bs : List ℕ) → Consumes start left read → Consumes left left' bs → bs ≡ [] → IsAtEnd left'
+    → IsWithinLimits read → ((before : Option (List ℕ)) → first before → stands before (lines_of read))
+    → IfSome start (λ input. Consumes (Some input) left' input × IsWithinLimits input × ((before : Option (List ℕ)) → first before → stands before (lines_of input)))
+taken_in None left left' first stands read bs x y e at_end within h = tt
+taken_in (Some input) None left' first stands read bs x y e at_end within h = absurd x
+taken_in (Some input) (Some l) None first stands read bs x y e at_end within h = absurd y
+taken_in (Some input) (Some l) (Some m) first stands read bs x y e at_end within h =
+    let same : input ≡ read = whole_read input m read bs l x y e at_end in (
+      sym (append-nil input) ∙ ap (λ t. input ++ t) (sym at_end),
+      subst IsWithinLimits (sym same) within,
+      (λ before said. subst (λ (xs : List ℕ). stands before (lines_of xs)) (sym same) (h before said)),
+    )

@@ -1,0 +1,5 @@
+pub mod Cuts
+pub mod Cutting
+pub mod Joined
+pub mod WordsInHex
+pub mod Writes

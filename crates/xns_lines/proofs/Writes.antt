@@ -1,0 +1,48 @@
+-- What is written and read.
+use Rattle.std.proofs.Common.{◌≡◌, ◌∙◌, ap, sym, refl, ℕ, ◌-◌, List, [], ◌++◌, length, append_assoc, append-nil, take, drop, subst, Option, Some, None, Result, Ok, Err}
+use Rattle.std.specs.Prelude.{IfErr, OnOk}
+use Rattle.std.specs.Io.KnownBytes.{Appends, Consumes, Keeps}
+use Rattle.std.proofs.lemmas.List.{take-append-drop, take_rest}
+
+pub appends_trans : (a b c : Option (List ℕ)) (x y : List ℕ) → Appends a b x → Appends b c y → Appends a c (x ++ y)
+appends_trans None b c x y h k = tt
+appends_trans (Some u) None c x y h k = absurd h
+appends_trans (Some u) (Some v) None x y h k = absurd k
+appends_trans (Some u) (Some v) (Some w) x y h k = k ∙ ap (λ t. t ++ y) h ∙ append_assoc u x y
+
+pub consumes_nothing : (known : Option (List ℕ)) → Consumes known known []
+consumes_nothing None = tt
+consumes_nothing (Some xs) = refl
+
+pub consumes_trans : (a b c : Option (List ℕ)) (x y : List ℕ) → Consumes a b x → Consumes b c y → Consumes a c (x ++ y)
+consumes_trans None b c x y h k = tt
+consumes_trans (Some u) None c x y h k = absurd h
+consumes_trans (Some u) (Some v) None x y h k = absurd k
+consumes_trans (Some u) (Some v) (Some w) x y h k = h ∙ ap (λ t. x ++ t) k ∙ sym (append_assoc x y w)
+
+pub consumes_kept : (a b c : Option (List ℕ)) (x : List ℕ) → Consumes a b x → Keeps b c → Consumes a c x
+consumes_kept None b c x h k = tt
+consumes_kept (Some u) None c x h k = absurd h
+consumes_kept (Some u) (Some v) None x h k = absurd k
+consumes_kept (Some u) (Some v) (Some w) x h k = h ∙ ap (λ t. x ++ t) (sym k)
+
+pub rest_written : (front rest text : List ℕ) (n : ℕ) → front ++ rest ≡ text → (front ++ take n rest) ++ take (length rest - n) (drop n rest) ≡ text
+rest_written front rest text n e =
+    append_assoc front (take n rest) (take (length rest - n) (drop n rest))
+    ∙ ap (λ t. front ++ (take n rest ++ t)) (take_rest rest n)
+    ∙ ap (λ t. front ++ t) (take-append-drop n rest) ∙ e
+
+pub on_ok_1 : {T E : Type 0} (A X : Type 0) (r : Result T E) → OnOk r A → (A → X) → OnOk r X
+on_ok_1 A X (Ok x) a f = f a
+on_ok_1 A X (Err e) a f = tt
+
+pub on_ok_2 : {T E : Type 0} (A B X : Type 0) (r : Result T E) → OnOk r A → OnOk r B → (A → B → X) → OnOk r X
+on_ok_2 A B X (Ok x) a b f = f a b
+on_ok_2 A B X (Err e) a b f = tt
+
+pub if_err_1 : {T E : Type 0} (P X : E → Type 0) (r : Result T E) → IfErr r P → ((e : E) → P e → X e) → IfErr r X
+if_err_1 P X (Ok x) p f = tt
+if_err_1 P X (Err e) p f = f e p
+
+pub consumes_none : (a b c : Option (List ℕ)) (x y : List ℕ) → y ≡ [] → Consumes a b x → Consumes b c y → Consumes a c x
+consumes_none a b c x y e h k = subst (Consumes a c) (ap (λ t. x ++ t) e ∙ append-nil x) (consumes_trans a b c x y h k)

@@ -1,0 +1,26 @@
+-- What stands after a fault: what was written, and what justifies the fault.
+use Rattle.std.specs.Prelude.{◌≡◌, ℕ, ◌<◌, List, ◌++◌, length, Option}
+use Rattle.std.specs.Io.KnownBytes.{Appends}
+use Rattle.xns_lines.specs.Lines.{BeginsLong, closed_lines}
+use Rattle.xns_lines.specs.declared.fault.RunFault.{RunFault}
+use Rattle.xns_lines.specs.declared.fault.RunFault.TheVariants as fault
+
+abbrev pub Begins : List ℕ → List ℕ → Type 0
+Begins front text = (rest : List ℕ) × (front ++ rest ≡ text)
+
+-- a writer with `before` has now `after`: a front of the text was written
+abbrev pub AppendsFront : Option (List ℕ) → Option (List ℕ) → List ℕ → Type 0
+AppendsFront before after text = (front : List ℕ) × Appends before after front × Begins front text
+
+-- what justifies the fault: of the lines of what was read these are good, and those come next
+abbrev pub IsJustified : RunFault → List ℕ → List (List ℕ) → List (List ℕ) → Type 0
+IsJustified fault.Read read good next = good ≡ closed_lines read
+IsJustified fault.Write read good next = Unit {0}
+IsJustified fault.LineTooLong read good next = (length good < 65536) × BeginsLong next
+IsJustified fault.TooManyLines read good next = (length good ≡ 65536) × (0 < length next)
+IsJustified fault.NoMemory read good next = Unit {0}
+
+-- the text is written, and after a failed write a front of it
+abbrev pub HasWritten : RunFault → Option (List ℕ) → Option (List ℕ) → List ℕ → Type 0
+HasWritten fault.Write before after text = AppendsFront before after text
+HasWritten _ before after text = Appends before after text

@@ -1,0 +1,76 @@
+-- A cutter between two bytes of its input, and what takes its lines.
+use Rattle.std.specs.Prelude.{◌≡◌, ℕ, ◌≤◌, ◌<◌, ◌+◌, ◌-◌, ◌*◌, ◌++◌, ◌∷◌, [], List, length, false}
+use Rattle.std.specs.List.{list_any}
+use Rattle.memchr.specs.Find.{Nowhere, Passes, is_byte}
+use Rattle.xns_lines.specs.Faults.{IsJustified}
+use Rattle.xns_lines.specs.Lines.{AreWithinLimits, closed_lines, is_long, lines_of, open_line}
+use Rattle.xns_lines.specs.declared.cutter.Cutter.{Cutter}
+use Rattle.xns_lines.specs.declared.fault.RunFault.{RunFault}
+use Rattle.xns_lines.specs.declared.fault.RunFault.TheVariants as fault
+
+-- what a taker stands for, as a function of the lines taken
+abbrev pub Says : Type 1
+Says = List (List ℕ) → Type 0
+
+-- the cutter has taken these bytes
+pub record HasCut (cutter : Cutter) (taken : List ℕ) : Type 0 where
+  pub line : cutter.line.items ≡ open_line taken
+  pub count : cutter.count ≡ length (closed_lines taken)
+  pub closed_short : list_any is_long (closed_lines taken) ≡ false
+  pub open_short : length (open_line taken) ≤ 4096
+  pub few : length (lines_of taken) ≤ 65536
+
+-- and the taker stands for the lines that are over
+abbrev pub HasTaken : Cutter → Says → List ℕ → Type 0
+HasTaken cutter stands taken = HasCut cutter taken × stands (closed_lines taken)
+
+-- the bytes at which a fault of limits is found, and those behind them
+abbrev pub IsJustifiedAt : RunFault → List ℕ → List ℕ → Type 0
+IsJustifiedAt fault.Read front more = ⊥
+IsJustifiedAt fault.Write front more = Unit {0}
+IsJustifiedAt fault.LineTooLong front more = (length (closed_lines front) < 65536) × (4096 < length (open_line front))
+IsJustifiedAt fault.TooManyLines front more = (length (closed_lines front) ≡ 65536) × (0 < length more)
+IsJustifiedAt fault.NoMemory front more = Unit {0}
+
+-- the cutter's own faults, at which the taker is as it was
+abbrev pub IsOwn : RunFault → Type 0
+IsOwn fault.Read = ⊥
+IsOwn fault.Write = ⊥
+IsOwn _ = Unit {0}
+
+-- what is left of the taker after a fault: after a failed write what `fails` says, else it stands for the lines
+abbrev pub StandsAfter : RunFault → Says → Says → List (List ℕ) → Type 0
+StandsAfter fault.Write stands fails lines = fails lines
+StandsAfter _ stands fails lines = stands lines
+
+-- a taker's fault at a line: without memory it stands for the lines before it, and after a failed write the line is taken
+abbrev pub StandsAfterLine : RunFault → Says → Says → List (List ℕ) → List ℕ → Type 0
+StandsAfterLine fault.NoMemory stands fails lines line = stands lines
+StandsAfterLine fault.Write stands fails lines line = fails (lines ++ line ∷ [])
+StandsAfterLine _ stands fails lines line = ⊥
+
+-- it stopped within these bytes, and of the lines that are over at that place this is so
+pub record IsCutShort (f : RunFault) (taken : List ℕ) (left : Says) : Type 0 where
+  pub front : List ℕ
+  pub more : List ℕ
+  pub parts : front ++ more ≡ taken
+  pub within : AreWithinLimits (closed_lines front)
+  pub found : IsJustifiedAt f front more
+  pub is_left : left (closed_lines front)
+
+-- after a fault: of the lines of what was read these are good, of which this is so, and those come next
+pub record StopsShort (f : RunFault) (read : List ℕ) (left : Says) : Type 0 where
+  pub good : List (List ℕ)
+  pub next : List (List ℕ)
+  pub lines : lines_of read ≡ good ++ next
+  pub within : AreWithinLimits good
+  pub shown : IsJustified f read good next
+  pub is_left : left good
+
+-- how many bytes the limits still allow, at most
+abbrev pub room_of : Cutter → ℕ
+room_of cutter = (65536 - cutter.count) * 4097 + (4096 - length cutter.line.items)
+
+-- no byte of the run is 10
+abbrev pub HasNoNewline : List ℕ → Type 0
+HasNoNewline run = Nowhere (Passes (is_byte 10) run) 0 (length run)

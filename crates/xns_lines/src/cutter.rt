@@ -1,0 +1,127 @@
+//! Cuts an input into lines, and finds the faults of limits.
+ghost use Rattle.std.specs.Prelude.{◌≡◌, ◌<◌, ◌≤◌, ◌+◌, ◌++◌, ℕ, List, [], ◌∷◌, Option, IfErr, IfOk, OnOk, length};
+ghost use Rattle.xns_lines.specs.Lines.{IsWithinLimits, closed_lines, lines_of};
+
+use crate::fault::RunFault;
+use crate::taker::LineTaker;
+use memchr::memchr;
+use std::alloc::Global;
+use std::io::Write;
+
+/// A line has at most so many bytes, without its byte 10.
+const MOST_BYTES: usize = 4096;
+
+/// The input has at most so many lines.
+const MOST_LINES: usize = 65536;
+
+/// What is kept between two pieces of the input.
+#[derive(Drop)]
+pub(crate) struct Cutter {
+    /// The bytes of the line that isn't over.
+    line: Vec<u8>,
+    /// How many lines are over.
+    count: usize,
+    ghost short: { length line.items ≤ 4096 },
+}
+
+impl Cutter {
+    ghost use Rattle.xns_lines.specs.Lines.Cutter.{HasCut, HasNoNewline, HasTaken, IsCutShort, StandsAfter, IsOwn, StopsShort, room_of};
+
+    /// A cutter that has cut nothing.
+    pub(crate) fn new(alloc: Global) -> Result<Self, RunFault>
+        ensures ok { IfOk result (λ cutter. HasCut cutter []) }
+        ensures err { IfErr result (λ fault. fault ≡ RunFault.NoMemory) }
+    {
+        match Vec::with_capacity(alloc, MOST_BYTES) {
+            Ok(line) => Ok(Cutter { line, count: 0 }),
+            Err(_) => Err(RunFault::NoMemory),
+        }
+    }
+
+    /// Cuts the next piece of the input, and hands on the lines that are over by then.
+    pub(crate) fn take_piece<T: LineTaker, W: Write>(
+        &mut self,
+        piece: &[u8],
+        taker: &mut T,
+        writer: &mut W,
+    ) -> Result<(), RunFault>
+        ensures cut { OnOk result ((taken : List ℕ) → HasCut self.old taken → HasCut self.new (taken ++ piece.now)) }
+        ensures ok { OnOk result ((taken : List ℕ) (before : Option (List ℕ)) → HasTaken self.old (T.stands taker.old before (W.contents writer.old)) taken
+            → HasTaken self.new (T.stands taker.new before (W.contents writer.new)) (taken ++ piece.now)) }
+        ensures err { IfErr result (λ fault. (taken : List ℕ) (before : Option (List ℕ)) → HasTaken self.old (T.stands taker.old before (W.contents writer.old)) taken
+            → IsCutShort fault (taken ++ piece.now) (StandsAfter fault (T.stands taker.new before (W.contents writer.new)) (T.fails taker.new before (W.contents writer.new)))) }
+        ensures room { OnOk result (room_of self.new + length piece.now ≤ room_of self.old) }
+    {
+        let mut rest = piece;
+        while let Some(end) = memchr(b'\n', rest) {
+            self.take_run(&rest[..end])?;
+            self.take_newline(taker, writer)?;
+            rest = &rest[end + 1..];
+        }
+        self.take_run(rest)
+    }
+
+    /// Takes bytes among which is no byte 10.
+    fn take_run(&mut self, run: &[u8]) -> Result<(), RunFault>
+        requires { HasNoNewline run.now }
+        ensures ok { OnOk result ((taken : List ℕ) → HasCut self.old taken → HasCut self.new (taken ++ run.now) × (closed_lines (taken ++ run.now) ≡ closed_lines taken)) }
+        ensures err { IfErr result (λ fault. (taken : List ℕ) → HasCut self.old taken
+            → IsCutShort fault (taken ++ run.now) (λ lines. IsOwn fault × (lines ≡ closed_lines taken))) }
+        ensures room { OnOk result (room_of self.new + length run.now ≤ room_of self.old) }
+    {
+        if run.is_empty() {
+            return Ok(());
+        }
+        if self.count >= MOST_LINES {
+            return Err(RunFault::TooManyLines);
+        }
+        if self.line.len() + run.len() > MOST_BYTES {
+            return Err(RunFault::LineTooLong);
+        }
+        match self.line.extend_from_slice(run) {
+            Ok(()) => Ok(()),
+            Err(_) => Err(RunFault::NoMemory),
+        }
+    }
+
+    /// Takes a byte 10.
+    fn take_newline<T: LineTaker, W: Write>(
+        &mut self,
+        taker: &mut T,
+        writer: &mut W,
+    ) -> Result<(), RunFault>
+        ensures cut { OnOk result ((taken : List ℕ) → HasCut self.old taken → HasCut self.new (taken ++ 10 ∷ [])) }
+        ensures ok { OnOk result ((taken : List ℕ) (before : Option (List ℕ)) → HasTaken self.old (T.stands taker.old before (W.contents writer.old)) taken
+            → HasTaken self.new (T.stands taker.new before (W.contents writer.new)) (taken ++ 10 ∷ [])) }
+        ensures err { IfErr result (λ fault. (taken : List ℕ) (before : Option (List ℕ)) → HasTaken self.old (T.stands taker.old before (W.contents writer.old)) taken
+            → IsCutShort fault (taken ++ 10 ∷ []) (StandsAfter fault (T.stands taker.new before (W.contents writer.new)) (T.fails taker.new before (W.contents writer.new)))) }
+        ensures room { OnOk result (room_of self.new < room_of self.old) }
+    {
+        if self.count >= MOST_LINES {
+            return Err(RunFault::TooManyLines);
+        }
+        taker.take_line(self.count + 1, self.line.as_slice(), writer)?;
+        self.count += 1;
+        self.line.clear();
+        Ok(())
+    }
+
+    /// Hands on the line that isn't over at the end of the input.
+    pub(crate) fn finish<T: LineTaker, W: Write>(
+        self,
+        taker: &mut T,
+        writer: &mut W,
+    ) -> Result<(), RunFault>
+        requires few { 0 < length self.line.items → self.count < 65536 }
+        ensures limits { OnOk result ((taken : List ℕ) → HasCut self taken → IsWithinLimits taken) }
+        ensures ok { OnOk result ((taken : List ℕ) (before : Option (List ℕ)) → HasTaken self (T.stands taker.old before (W.contents writer.old)) taken
+            → T.stands taker.new before (W.contents writer.new) (lines_of taken)) }
+        ensures err { IfErr result (λ fault. (taken : List ℕ) (before : Option (List ℕ)) → HasTaken self (T.stands taker.old before (W.contents writer.old)) taken
+            → StopsShort fault taken (StandsAfter fault (T.stands taker.new before (W.contents writer.new)) (T.fails taker.new before (W.contents writer.new)))) }
+    {
+        if self.line.is_empty() {
+            return Ok(());
+        }
+        taker.take_line(self.count + 1, self.line.as_slice(), writer)
+    }
+}

@@ -1,0 +1,22 @@
+//! How a run ends without an answer.
+use thiserror::Error;
+
+/// Why a run stopped before the end of its input.
+#[derive(Clone, Copy, Debug, PartialEq, Eq, Error)]
+pub enum RunFault {
+    /// A read failed.
+    #[error("read fault")]
+    Read,
+    /// A write failed, or took no byte.
+    #[error("write fault")]
+    Write,
+    /// A line has over 4,096 bytes, without its byte 10 and with its byte 13.
+    #[error("line too long")]
+    LineTooLong,
+    /// There are over 65,536 lines.
+    #[error("too many lines")]
+    TooManyLines,
+    /// A growth was refused.
+    #[error("no memory")]
+    NoMemory,
+}

@@ -1,0 +1,108 @@
+//! Numbers, words and bytes as text, appended to a report. The only error of each function is want of memory, after
+//! which the report may have a part of the text.
+ghost use Rattle.std.specs.Prelude.{◌≡◌, ◌++◌, OnOk, codes};
+ghost use Rattle.std.specs.List.{flat_map};
+ghost use Rattle.std.specs.Fmt.{decimal};
+ghost use Rattle.hex.specs.Hex.{encode_lower};
+ghost use Rattle.xns_lines.specs.Text.{bytes_or_dash as bytes_or_dash_of, hex_word, words_in_hex, words_or_dash, words_text};
+
+use crate::digits::{word_and_space, write_digits};
+use itoa::Buffer;
+use std::alloc::AllocError;
+
+/// Appends a number in decimal.
+pub fn append_decimal(report: &mut Vec<u8>, number: usize) -> Result<(), AllocError>
+    ensures { OnOk result (report.new.items ≡ report.old.items ++ decimal number) }
+{
+    let mut buffer = Buffer::new();
+    report.extend_from_slice(buffer.format(number).as_bytes())
+}
+
+/// Appends a number of more bits in decimal.
+pub fn append_long(report: &mut Vec<u8>, number: u64) -> Result<(), AllocError>
+    ensures { OnOk result (report.new.items ≡ report.old.items ++ decimal number) }
+{
+    let mut buffer = Buffer::new();
+    report.extend_from_slice(buffer.format(number).as_bytes())
+}
+
+/// Appends bytes as hex digits in lower case, two a byte.
+pub fn append_hex(report: &mut Vec<u8>, bytes: &[u8]) -> Result<(), AllocError>
+    ensures { OnOk result (report.new.items ≡ report.old.items ++ encode_lower bytes.now) }
+{
+    let start = report.len();
+    let Some(end) = start.checked_add(2 * bytes.len()) else {
+        return Err(AllocError);
+    };
+    report.resize(end, 0)?;
+    write_digits(bytes, &mut report.as_mut_slice()[start..]);
+    Ok(())
+}
+
+/// Appends a word as four hex digits in lower case.
+pub fn append_word(report: &mut Vec<u8>, word: u16) -> Result<(), AllocError>
+    ensures { OnOk result (report.new.items ≡ report.old.items ++ hex_word word) }
+{
+    append_hex(report, &word.to_be_bytes())
+}
+
+/// Appends bytes as hex digits in lower case, or a dash where there are none.
+pub fn append_bytes_or_dash(report: &mut Vec<u8>, bytes: &[u8]) -> Result<(), AllocError>
+    ensures { OnOk result (report.new.items ≡ report.old.items ++ bytes_or_dash_of bytes.now) }
+{
+    if bytes.is_empty() {
+        report.extend_from_slice(b"-")
+    } else {
+        append_hex(report, bytes)
+    }
+}
+
+/// Appends bytes as words of four digits with one space between, or a dash where there are none. An odd last byte has two
+/// digits.
+pub fn append_words_or_dash(report: &mut Vec<u8>, bytes: &[u8]) -> Result<(), AllocError>
+    ensures { OnOk result (report.new.items ≡ report.old.items ++ words_or_dash bytes.now) }
+{
+    if bytes.is_empty() {
+        report.extend_from_slice(b"-")
+    } else {
+        append_words(report, bytes)
+    }
+}
+
+/// Appends words of four digits.
+#[tactic(auto, using(crate::proofs::WordsInHex::words_in_hex_last))]
+fn append_words(report: &mut Vec<u8>, bytes: &[u8]) -> Result<(), AllocError>
+    ensures { OnOk result (report.new.items ≡ report.old.items ++ words_in_hex bytes.now) }
+{
+    let mut left = bytes;
+    while let [high, low, _, ..] = left {
+        report.extend_from_slice(&word_and_space(*high, *low))?;
+        left = &left[2..];
+    }
+    append_hex(report, left)
+}
+
+/// Appends words of four digits with one space between, or a dash where there are none.
+#[tactic(auto, unfolding(crate::specs::Text::words_text))]
+pub fn append_word_list(report: &mut Vec<u8>, words: &[u16]) -> Result<(), AllocError>
+    ensures { OnOk result (report.new.items ≡ report.old.items ++ words_text words.now) }
+{
+    match words {
+        [] => report.extend_from_slice(b"-"),
+        [first, rest @ ..] => {
+            append_word(report, *first)?;
+            append_more_words(report, rest)
+        }
+    }
+}
+
+/// Appends words, each behind a space.
+fn append_more_words(report: &mut Vec<u8>, words: &[u16]) -> Result<(), AllocError>
+    ensures { OnOk result (report.new.items ≡ report.old.items ++ flat_map (λ word. codes " " ++ hex_word word) words.now) }
+{
+    for word in words {
+        report.extend_from_slice(b" ")?;
+        append_word(report, *word)?;
+    }
+    Ok(())
+}

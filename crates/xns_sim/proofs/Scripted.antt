@@ -1,0 +1,100 @@
+-- What stands once a script has read an input, after a fault and without one.
+use Rattle.std.proofs.Common.{◌≡◌, ◌∙◌, ap, sym, refl, subst, ℕ, Bool, List, [], append-nil, Option, Some, None}
+use Rattle.std.specs.Prelude.{IfSome, is_some}
+use Rattle.std.specs.Io.KnownBytes.{Appends, Consumes}
+use Rattle.xns_script.specs.Reading.{HasRead}
+use Rattle.xns_script.specs.declared.script.Script.{Script}
+use Rattle.xns_sim.specs.declared.script_taker.ScriptTaker.{ScriptTaker}
+use Rattle.xns_lines.specs.Faults.{AppendsFront}
+use Rattle.xns_lines.specs.Lines.{IsWithinLimits, lines_of}
+use Rattle.xns_lines.specs.Lines.Cutter.{StandsAfter, StopsShort}
+use Rattle.xns_sim.specs.Sim.{HasLeft, StopsIn, is_script_refused, script_lines, script_text, sim_text}
+use Rattle.xns_sim.specs.Sim.Script.{HasReadAll, never, stands_for}
+use Rattle.xns_lines.specs.declared.fault.RunFault.{RunFault}
+use Rattle.xns_lines.specs.declared.fault.RunFault.TheVariants as fault
+
+pub if_some : (P X : List ℕ → Type 0) (o : Option (List ℕ)) → IfSome o P → ((input : List ℕ) → P input → X input) → IfSome o X
+if_some P X None p f = tt
+if_some P X (Some input) p f = f input p
+
+-- ---- reading
+
+-- the lines were taken to the end
+abbrev pub TakesAll : Option (List ℕ) → Option (List ℕ) → Option (List ℕ) → ScriptTaker → ScriptTaker → List ℕ → Type 0
+TakesAll left first mid t0 t input = Consumes (Some input) left input × IsWithinLimits input × ((before : Option (List ℕ)) → stands_for t0 before first [] → stands_for t before mid (lines_of input))
+
+-- or up to a fault
+abbrev pub TakesSome : Option (List ℕ) → Option (List ℕ) → Option (List ℕ) → ScriptTaker → ScriptTaker → RunFault → List ℕ → Type 0
+TakesSome left first mid t0 t f input = (read : List ℕ) × Consumes (Some input) left read
+    × ((before : Option (List ℕ)) → stands_for t0 before first [] → StopsShort f read (StandsAfter f (stands_for t before mid) (never t before mid)))
+
+pub all_read : (start left first mid : Option (List ℕ)) (t0 t : ScriptTaker) → HasRead t0.script [] → IfSome start (TakesAll left first mid t0 t) → IfSome start (λ input. HasReadAll t.script input left first mid)
+all_read start left first mid t0 t new all = if_some _ _ start all (λ input h.
+    let said = h.2 first (new, refl) in
+    record { consumed = h.0; within = h.1; read = said.0; unwritten = said.1 })
+
+nothing_left : (f : RunFault) (t : ScriptTaker) (input : List ℕ) (first mid : Option (List ℕ)) (lines : List (List ℕ)) → StandsAfter f (stands_for t first mid) (never t first mid) lines → HasLeft f input first mid
+nothing_left fault.Read t input first mid lines h = h.1
+nothing_left fault.Write t input first mid lines h = absurd h
+nothing_left fault.LineTooLong t input first mid lines h = h.1
+nothing_left fault.TooManyLines t input first mid lines h = h.1
+nothing_left fault.NoMemory t input first mid lines h = h.1
+
+pub some_read : (start left first mid : Option (List ℕ)) (t0 t : ScriptTaker) (f : RunFault) → HasRead t0.script [] → IfSome start (TakesSome left first mid t0 t f) → IfSome start (λ input. StopsIn input left first mid f)
+some_read start left first mid t0 t f new some = if_some _ _ start some (λ input h.
+    let said = h.2 first (new, refl) in
+    record {
+      read = h.0;
+      consumed = h.1;
+      good = said.good;
+      next = said.next;
+      lines = said.lines;
+      within = said.within;
+      shown = said.shown;
+      written = nothing_left f t input first mid said.good said.is_left;
+    })
+
+-- ---- writing
+
+-- the text that is made of a script
+abbrev pub Makes : Script → List ℕ → Type 0
+Makes s text = (lines : List (List ℕ)) → HasRead s lines → text ≡ script_text lines
+
+-- memory was refused once the whole input was read
+pub unmade : (start left first mid : Option (List ℕ)) (s : Script) → IfSome start (λ input. HasReadAll s input left first mid) → IfSome start (λ input. StopsIn input left first mid fault.NoMemory)
+unmade start left first mid s all = if_some _ _ start all (λ input h. record {
+  read = input;
+  consumed = h.consumed;
+  good = lines_of input;
+  next = [];
+  lines = sym (append-nil (lines_of input));
+  within = h.within;
+  shown = tt;
+  written = h.unwritten;
+})
+
+-- a write failed
+pub unwritten : (start left first mid after : Option (List ℕ)) (s : Script) (text : List ℕ) (f : RunFault) → f ≡ fault.Write → Makes s text → AppendsFront mid after text
+    → IfSome start (λ input. HasReadAll s input left first mid) → IfSome start (λ input. StopsIn input left first after f)
+unwritten start left first mid after s text f which made front all = if_some _ _ start all (λ input h. rw which (record {
+  read = input;
+  consumed = h.consumed;
+  good = lines_of input;
+  next = [];
+  lines = sym (append-nil (lines_of input));
+  within = h.within;
+  shown = tt;
+  written = subst (λ (t : List ℕ). AppendsFront first after t) (made (script_lines input) h.read) (subst (λ (m : Option (List ℕ)). AppendsFront m after text) h.unwritten front);
+}))
+
+pub written : (start left first mid after : Option (List ℕ)) (s : Script) (text : List ℕ) → Makes s text → Appends mid after text
+    → IfSome start (λ input. HasReadAll s input left first mid) → IfSome start (λ input. Appends first after (sim_text input))
+written start left first mid after s text made whole all = if_some _ _ start all (λ input h.
+    subst (λ (t : List ℕ). Appends first after t) (made (script_lines input) h.read) (subst (λ (m : Option (List ℕ)). Appends m after text) h.unwritten whole))
+
+pub refused : (start left first mid : Option (List ℕ)) (s : Script) (b : Bool) → b ≡ is_some s.refused
+    → IfSome start (λ input. HasReadAll s input left first mid) → IfSome start (λ input. b ≡ is_script_refused input)
+refused start left first mid s b is all = if_some _ _ start all (λ input h. is ∙ ap is_some h.read.refused)
+
+pub limits : (start left first mid : Option (List ℕ)) (s : Script) → IfSome start (λ input. HasReadAll s input left first mid) → IfSome start IsWithinLimits
+limits start left first mid s all = if_some _ _ start all (λ input h. h.within)

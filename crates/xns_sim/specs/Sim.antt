@@ -1,0 +1,53 @@
+-- What `sim` prints, as a function of the bytes read, and what stands after a fault.
+pub mod Play
+pub mod Script
+pub mod Trace
+use Rattle.std.specs.Prelude.{◌≡◌, ℕ, Bool, List, ◌++◌, codes, is_some, map, Option, Some, None}
+use Rattle.std.specs.Fmt.{decimal}
+use Rattle.std.specs.Io.KnownBytes.{Consumes}
+use Rattle.courier_calls.specs.Calls.{CallModel}
+use Rattle.xns_script.specs.Script.{calls_in, events_in, first_refused}
+use Rattle.xns_world.specs.declared.event.Event.{Event}
+use Rattle.xns_lines.specs.Faults.{AppendsFront, IsJustified}
+use Rattle.xns_lines.specs.Lines.{AreWithinLimits, lines_of, without_return}
+use Rattle.xns_sim.specs.Sim.Play.{play_text}
+use Rattle.xns_lines.specs.declared.fault.RunFault.{RunFault}
+use Rattle.xns_lines.specs.declared.fault.RunFault.TheVariants as fault
+
+-- the first line that is refused, alone, or else the play
+abbrev pub refusal_or_play : Option ℕ → List CallModel → List Event → List ℕ
+refusal_or_play (Some n) calls events = decimal n ++ codes " refused\n"
+refusal_or_play None calls events = play_text calls events
+
+unfoldable pub script_text : List (List ℕ) → List ℕ
+script_text lines = refusal_or_play (first_refused lines) (calls_in lines) (events_in lines)
+
+-- the lines of a script, each without one carriage return at its end
+abbrev pub script_lines : List ℕ → List (List ℕ)
+script_lines input = map without_return (lines_of input)
+
+-- what is printed for an input
+abbrev pub sim_text : List ℕ → List ℕ
+sim_text input = script_text (script_lines input)
+
+-- whether a line of the input is refused
+abbrev pub is_script_refused : List ℕ → Bool
+is_script_refused input = is_some (first_refused (script_lines input))
+
+-- ---- after a fault
+
+-- after a failed write a front of the whole input's text is written, and after any other fault nothing
+abbrev pub HasLeft : RunFault → List ℕ → Option (List ℕ) → Option (List ℕ) → Type 0
+HasLeft fault.Write input before after = AppendsFront before after (sim_text input)
+HasLeft _ input before after = after ≡ before
+
+-- what was read is the front of the input that is no longer left; of its lines these are good and those come next, which shows the fault
+pub record StopsIn (input : List ℕ) (left before after : Option (List ℕ)) (f : RunFault) : Type 0 where
+  pub read : List ℕ
+  pub consumed : Consumes (Some input) left read
+  pub good : List (List ℕ)
+  pub next : List (List ℕ)
+  pub lines : lines_of read ≡ good ++ next
+  pub within : AreWithinLimits good
+  pub shown : IsJustified f read good next
+  pub written : HasLeft f input before after

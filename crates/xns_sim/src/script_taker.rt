@@ -1,0 +1,50 @@
+//! What `sim` makes of the lines of its input.
+ghost use Rattle.std.specs.Prelude.{[]};
+ghost use Rattle.xns_script.specs.Reading.{HasRead};
+
+use std::alloc::Global;
+use std::io::Write;
+use xns_lines::{LineTaker, RunFault, without_return};
+use xns_script::Script;
+
+/// Reads the lines of a script.
+#[derive(Drop)]
+pub(crate) struct ScriptTaker {
+    /// What was read so far.
+    pub(crate) script: Script,
+}
+
+impl ScriptTaker {
+    /// A taker that has read nothing.
+    pub(crate) fn new(alloc: Global) -> Self
+        ensures { HasRead result.script [] }
+    {
+        ScriptTaker {
+            script: Script::new(alloc),
+        }
+    }
+}
+
+impl LineTaker for ScriptTaker {
+    ghost use Rattle.xns_sim.specs.Sim.Script.{stands_for, never};
+
+    ghost stands = { stands_for };
+
+    ghost fails = { never };
+
+    fn take_line<W: Write>(
+        &mut self,
+        number: usize,
+        line: &[u8],
+        _writer: &mut W,
+    ) -> Result<(), RunFault> {
+        match self.script.read_line(number, without_return(line)) {
+            Ok(()) => Ok(()),
+            Err(_) => Err(RunFault::NoMemory),
+        }
+    }
+
+    fn pause<W: Write>(&mut self, _writer: &mut W) -> Result<(), RunFault> {
+        Ok(())
+    }
+}

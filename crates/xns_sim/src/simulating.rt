@@ -1,0 +1,66 @@
+//! `sim`: plays calls through a network that the lines of a script describe.
+ghost use Rattle.std.specs.Prelude.{◌≡◌, IfErr, IfOk, IfSome, OnOk};
+ghost use Rattle.std.specs.Io.KnownBytes.{Appends};
+ghost use Rattle.xns_lines.specs.Lines.{IsWithinLimits};
+ghost use Rattle.xns_sim.specs.Sim.{StopsIn, is_script_refused, sim_text};
+ghost use Rattle.xns_sim.specs.Sim.Script.{HasReadAll};
+
+use crate::playing::play_script;
+use crate::script_taker::ScriptTaker;
+use std::alloc::Global;
+use std::io::{Read, Write};
+use xns_lines::{RunFault, take_lines, write_whole};
+use xns_script::Script;
+
+/// Reads the lines of a script, plays its calls through its events, and prints what came of them. The answer is
+/// whether a line was refused.
+///
+/// Byte 10 ends a line, and so does the end of the input after a byte; lines count from 1. One byte 13 at a line's end
+/// is dropped. `xns_script` says what a line can be. The calls are made in order, wherever their lines stand, by a
+/// caller whose network and server are those of `xns_world::play_calls`; the server's service is a new tally. Where a
+/// line is refused, the first of them is said alone and nothing is played.
+///
+/// # Errors
+/// `Read` where a read fails, for whatever reason; `Write` where a write fails or takes no byte; `LineTooLong` where a
+/// line has over 4,096 bytes, its byte 13 among them and its byte 10 not; `TooManyLines` where there are over 65,536
+/// lines; `NoMemory` where a growth is refused. Of the limits' faults the one that comes first in the input is
+/// answered. Nothing is written before the whole input is read and the whole text made, so only a failed write leaves
+/// a front of the text.
+pub fn sim<R: Read, W: Write>(
+    alloc: Global,
+    reader: &mut R,
+    writer: &mut W,
+) -> Result<bool, RunFault>
+    // Without a fault the text of the whole input is written, which is within the limits.
+    ensures text { IfOk result (λ refused. IfSome (R.remaining reader.old) (λ input.
+        Appends (W.contents writer.old) (W.contents writer.new) (sim_text input))) }
+    ensures refused { IfOk result (λ refused. IfSome (R.remaining reader.old) (λ input. refused ≡ is_script_refused input)) }
+    ensures limits { OnOk result (IfSome (R.remaining reader.old) IsWithinLimits) }
+
+    // After a failed write a front of that text is written, and after any other fault nothing; what was read shows a limit that was passed.
+    ensures fault { IfErr result (λ fault. IfSome (R.remaining reader.old) (λ input.
+        StopsIn input (R.remaining reader.new) (W.contents writer.old) (W.contents writer.new) fault)) }
+{
+    let script = read_script(alloc, reader, writer)?;
+    let Ok(text) = play_script(alloc, &script) else {
+        return Err(RunFault::NoMemory);
+    };
+    write_whole(writer, text.as_slice())?;
+    Ok(script.refused().is_some())
+}
+
+/// Reads the whole input. Nothing is written.
+fn read_script<R: Read, W: Write>(
+    alloc: Global,
+    reader: &mut R,
+    writer: &mut W,
+) -> Result<Script, RunFault>
+    ensures ok { IfOk result (λ script. IfSome (R.remaining reader.old) (λ input.
+        HasReadAll script input (R.remaining reader.new) (W.contents writer.old) (W.contents writer.new))) }
+    ensures err { IfErr result (λ fault. IfSome (R.remaining reader.old) (λ input.
+        StopsIn input (R.remaining reader.new) (W.contents writer.old) (W.contents writer.new) fault)) }
+{
+    let mut taker = ScriptTaker::new(alloc);
+    take_lines(alloc, reader, &mut taker, writer)?;
+    Ok(taker.script)
+}
