@@ -5,7 +5,8 @@ use Rattle.std.proofs.lemmas.Simd.{Each1-zip2, Each2-of, Each1-weaker, chunk-fit
 use Rattle.std.proofs.Math.Nat.{pow-suc, le-mul_of_pos_right, mul-le-mul_right}
 use Rattle.std.proofs.lemmas.Nat.{pow_pos}
 use Rattle.xns_idp.specs.Checksum.{words, sum_from}
-use Rattle.xns_idp.proofs.Sums.{sum_from-cons, sum_from-append, sum_from-mod, words-append}
+use Rattle.xns_idp.proofs.Sums.{sum_from-cons, sum_from-append, sum_from-mod, words-append, goes_on}
+use Rattle.std.proofs.lemmas.List.{take-append-drop, length-take, drop_all}
 use Rattle.xns_idp.proofs.Blocks.{from_nothing}
 
 -- the sum of sums is that of the lanes' sums
@@ -73,6 +74,19 @@ no_sum = refl
 pub no_block : (start : ℕ) (bytes : List ℕ) → sum_from (sum_from start (0 ∷ 0 ∷ 0 ∷ 0 ∷ 0 ∷ 0 ∷ 0 ∷ 0 ∷ 0 ∷ 0 ∷ 0 ∷ 0 ∷ 0 ∷ 0 ∷ 0 ∷ 0 ∷ [])) (words bytes) % 65535 ≡ sum_from start (words bytes) % 65535
 unfolding zeros
 no_block start bytes = sum_from-mod (sum_from start zeros) start (words bytes) (omega (arith, come_round start zeros refl, no_sum))
+
+-- the words that fill no block come first
+pub head_first : (start sum at : ℕ) (bytes : List ℕ) → at % 2 ≡ 0 → at ≤ length bytes → sum ≡ sum_from start (words (take at bytes)) % 65535
+    → sum_from sum (words (drop at bytes)) % 65535 ≡ sum_from start (words bytes) % 65535
+head_first start sum at bytes even within e =
+    let two : length (take at bytes) % 2 ≡ 0 = omega (arith, length-take at bytes, even, within) in
+    ap (λ (n : ℕ). sum_from n (words (drop at bytes)) % 65535) e
+    ∙ goes_on start (take at bytes) (drop at bytes) two
+    ∙ ap (λ (xs : List ℕ). sum_from start (words xs) % 65535) (take-append-drop at bytes)
+
+pub none_left : (sum at : ℕ) (bytes : List ℕ) → length bytes ≤ at → sum_from sum (words (drop at bytes)) % 65535 ≡ sum % 65535
+none_left sum at bytes past =
+    ap (λ (xs : List ℕ). sum_from sum (words xs) % 65535) (drop_all at bytes past) ∙ ap (λ (n : ℕ). n % 65535) (from_nothing sum)
 
 -- ---- bounds
 

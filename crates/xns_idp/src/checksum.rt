@@ -27,9 +27,11 @@ pub fn cycle_sum(bytes: &[u8]) -> u16
 }
 
 /// The checksum of words of which the first have the checksum `start`, and the others are those of the bytes. Fewer than two blocks
-/// are summed word by word: to weigh the lanes takes as long as a block.
+/// are summed word by word: to weigh the lanes takes as long as a block. Before more blocks, the words that fill none come first, so
+/// that their sum needn't wait for that of the lanes.
 fn sum_on(start: u64, bytes: &[u8]) -> u64
     requires small { start < 65535 }
+    requires even { length bytes.now % 2 ≡ 0 }
     requires short { length bytes.now ≤ 8160 }
     ensures below { result < 65535 }
     ensures sum { result ≡ sum_from start (words bytes.now) % 65535 }
@@ -37,14 +39,14 @@ fn sum_on(start: u64, bytes: &[u8]) -> u64
     if bytes.len() < 2 * BLOCK {
         return block_sum(start, bytes) % 65535;
     }
+    let mut at = bytes.len() % BLOCK;
+    let sum = block_sum(start, &bytes[..at]) % 65535;
     let mut lanes = u16x32::splat(0);
-    let mut at = 0;
     while at + BLOCK <= bytes.len() {
         lanes = lanes.strict_add(u8x32::from_slice(&bytes[at..]).cast::<u16>());
         at += BLOCK;
     }
-    let sum = lane_sum(start, &lanes.to_array()) % 65535;
-    block_sum(sum, &bytes[at..]) % 65535
+    lane_sum(sum, &lanes.to_array()) % 65535
 }
 
 /// What is summed over 16 words in lanes, the first of a pair being the high part.

@@ -1,5 +1,5 @@
 use Rattle.std.proofs.Common.{◌≡◌, ◌<◌, ◌%◌, ℕ, List, take, drop, length, sym, ap, ◌∙◌, arith}
-use Rattle.std.proofs.lemmas.List.{take-append-drop, length-take}
+use Rattle.std.proofs.lemmas.List.{take-append-drop, length-take, length-drop}
 use Rattle.xns_idp.specs.Checksum.{words, sum_from}
 use Rattle.xns_idp.proofs.Sums.{goes_on, cycle_checksum-is}
 use Rattle.xns_idp.proofs.checksum.cycle_sum.Goals as goal
@@ -17,6 +17,7 @@ step sum total next left chunk rest long ec er en so_far =
 pub loop-left-preserved : goal.loop-left-preserved
 loop-left-preserved c = record {
   small = omega (arith, c.sum_on-sum.ensures.below);
+  even = omega (arith, c.loop-left.invariant.even, c.loop-left-test.true, ap (λ (xs : List ℕ). length xs) c.split_at.ensures.back, length-drop 8160 c.loop-left.left.now);
   same = step c.loop-left.sum _ c.sum_on-sum.result c.loop-left.left.now c.split_at.result.0.now c.split_at.result.1.now c.loop-left-test.true c.split_at.ensures.front c.split_at.ensures.back c.sum_on-sum.ensures.sum c.loop-left.invariant.same;
 }
 
