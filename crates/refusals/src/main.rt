@@ -9,6 +9,7 @@
 #![tactic(auto)]
 
 mod courier;
+mod inputs;
 mod internet;
 mod outcome;
 mod sequenced;
@@ -46,7 +47,9 @@ fn main(rt: HostRuntime) -> Result<(), anyhow::Error> {
     tell(&rt, "write_message", courier::writes_a_message(alloc))?;
     tell(&rt, "tally_table", courier::makes_a_table(alloc))?;
     tell(&rt, "Server::new", courier::makes_a_server(alloc))?;
-    tell(&rt, "Caller::new", courier::makes_a_caller(alloc))
+    tell(&rt, "Caller::new", courier::makes_a_caller(alloc))?;
+    tell(&rt, "dump", inputs::dumps(alloc))?;
+    tell(&rt, "sim", inputs::plays(alloc))
 }
 
 /// Prints what came of a call.
