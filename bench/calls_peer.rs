@@ -1,23 +1,41 @@
 //! A plain Rust caller and server of Courier calls over a stream of items, as one would write them: a message's bytes are
-//! joined, turned into words and read. It makes as many calls Add of 5 to a tally as its first word says, and then as many calls of
+//! joined, turned into words and read. It knows all of Courier's data types, and promises what the proved one does: room is made for no
+//! more elements than there are words, a server puts out only results that fit what is listed, and no message is longer than may be. It makes as many calls Add of 5 to a tally as its first word says, and then as many calls of
 //! 60,000 cardinals each way as the second says.
 
 use std::collections::VecDeque;
 use std::hint::black_box;
 use std::env;
 
+#[allow(dead_code)]
 enum Shape {
+    Boolean,
     Cardinal,
     LongCardinal,
+    Integer,
+    LongInteger,
+    Unspecified,
+    Text,
+    Enumeration(Vec<u16>),
+    Array(u16, Box<Shape>),
     Sequence(u16, Box<Shape>),
     Fields(Vec<Shape>),
+    Choice(Vec<(u16, Shape)>),
 }
 
 enum Value {
+    Boolean(bool),
     Cardinal(u16),
     LongCardinal(u32),
+    Integer(i16),
+    LongInteger(i32),
+    Unspecified(u16),
+    Text(Vec<u8>),
+    Enumeration(u16),
+    Array(Vec<Value>),
     Sequence(Vec<Value>),
     Fields(Vec<Value>),
+    Choice(u16, Box<Value>),
 }
 
 struct Words<'a> {
@@ -32,31 +50,59 @@ impl Words<'_> {
         Some(word)
     }
 
+    fn long(&mut self) -> Option<u32> {
+        let high = self.word()?;
+        let low = self.word()?;
+        Some(u32::from(high) << 16 | u32::from(low))
+    }
+
+    fn text(&mut self) -> Option<Vec<u8>> {
+        let count = usize::from(self.word()?);
+        let words = self.words.get(self.at..self.at + count.div_ceil(2))?;
+        self.at += words.len();
+        let mut bytes: Vec<u8> = words.iter().flat_map(|word| word.to_be_bytes()).collect();
+        bytes.truncate(count);
+        Some(bytes)
+    }
+
+    fn values(&mut self, count: u16, element: &Shape) -> Option<Vec<Value>> {
+        let mut values = Vec::with_capacity(usize::from(count).min(self.words.len() - self.at));
+        for _ in 0..count {
+            values.push(self.value(element)?);
+        }
+        Some(values)
+    }
+
     fn value(&mut self, shape: &Shape) -> Option<Value> {
         Some(match shape {
+            Shape::Boolean => match self.word()? {
+                0 => Value::Boolean(false),
+                1 => Value::Boolean(true),
+                _ => return None,
+            },
             Shape::Cardinal => Value::Cardinal(self.word()?),
-            Shape::LongCardinal => {
-                let high = self.word()?;
-                let low = self.word()?;
-                Value::LongCardinal(u32::from(high) << 16 | u32::from(low))
-            }
+            Shape::LongCardinal => Value::LongCardinal(self.long()?),
+            Shape::Integer => Value::Integer(self.word()? as i16),
+            Shape::LongInteger => Value::LongInteger(self.long()? as i32),
+            Shape::Unspecified => Value::Unspecified(self.word()?),
+            Shape::Text => Value::Text(self.text()?),
+            Shape::Enumeration(listed) => Value::Enumeration(self.word().filter(|word| listed.contains(word))?),
+            Shape::Array(count, element) => Value::Array(self.values(*count, element)?),
             Shape::Sequence(most, element) => {
-                let count = self.word()?;
-                if count > *most {
-                    return None;
-                }
-                let mut values = Vec::new();
-                for _ in 0..count {
-                    values.push(self.value(element)?);
-                }
-                Value::Sequence(values)
+                let count = self.word().filter(|count| count <= most)?;
+                Value::Sequence(self.values(count, element)?)
             }
             Shape::Fields(parts) => {
-                let mut values = Vec::new();
+                let mut values = Vec::with_capacity(parts.len());
                 for part in parts {
                     values.push(self.value(part)?);
                 }
                 Value::Fields(values)
+            }
+            Shape::Choice(members) => {
+                let designator = self.word()?;
+                let member = members.iter().find(|member| member.0 == designator)?;
+                Value::Choice(designator, Box::new(self.value(&member.1)?))
             }
         })
     }
@@ -71,31 +117,53 @@ fn read_whole(shape: &Shape, words: &[u16]) -> Option<Value> {
 
 fn fits(shape: &Shape, value: &Value) -> bool {
     match (shape, value) {
-        (Shape::Cardinal, Value::Cardinal(_)) | (Shape::LongCardinal, Value::LongCardinal(_)) => true,
+        (Shape::Boolean, Value::Boolean(_))
+        | (Shape::Cardinal, Value::Cardinal(_))
+        | (Shape::LongCardinal, Value::LongCardinal(_))
+        | (Shape::Integer, Value::Integer(_))
+        | (Shape::LongInteger, Value::LongInteger(_))
+        | (Shape::Unspecified, Value::Unspecified(_)) => true,
+        (Shape::Text, Value::Text(bytes)) => bytes.len() < 65_536,
+        (Shape::Enumeration(listed), Value::Enumeration(word)) => listed.contains(word),
+        (Shape::Array(count, element), Value::Array(values)) => {
+            values.len() == usize::from(*count) && values.iter().all(|value| fits(element, value))
+        }
         (Shape::Sequence(most, element), Value::Sequence(values)) => {
             values.len() <= usize::from(*most) && values.iter().all(|value| fits(element, value))
         }
         (Shape::Fields(parts), Value::Fields(values)) => {
             parts.len() == values.len() && parts.iter().zip(values).all(|(part, value)| fits(part, value))
         }
+        (Shape::Choice(members), Value::Choice(designator, value)) => {
+            members.iter().find(|member| member.0 == *designator).is_some_and(|member| fits(&member.1, value))
+        }
         _ => false,
     }
 }
 
+fn put_long(long: u32, out: &mut Vec<u16>) {
+    out.extend([(long >> 16) as u16, long as u16]);
+}
+
 fn write(value: &Value, out: &mut Vec<u16>) {
     match value {
-        Value::Cardinal(word) => out.push(*word),
-        Value::LongCardinal(long) => out.extend([(long >> 16) as u16, *long as u16]),
+        Value::Boolean(bit) => out.push(u16::from(*bit)),
+        Value::Cardinal(word) | Value::Unspecified(word) | Value::Enumeration(word) => out.push(*word),
+        Value::Integer(number) => out.push(*number as u16),
+        Value::LongCardinal(long) => put_long(*long, out),
+        Value::LongInteger(long) => put_long(*long as u32, out),
+        Value::Text(bytes) => {
+            out.push(bytes.len() as u16);
+            out.extend(bytes.chunks(2).map(|pair| u16::from(pair[0]) << 8 | u16::from(*pair.get(1).unwrap_or(&0))));
+        }
+        Value::Array(values) | Value::Fields(values) => values.iter().for_each(|value| write(value, out)),
         Value::Sequence(values) => {
             out.push(values.len() as u16);
-            for value in values {
-                write(value, out);
-            }
+            values.iter().for_each(|value| write(value, out));
         }
-        Value::Fields(values) => {
-            for value in values {
-                write(value, out);
-            }
+        Value::Choice(designator, value) => {
+            out.push(*designator);
+            write(value, out);
         }
     }
 }
@@ -276,8 +344,15 @@ impl<'a, S: Service> Server<'a, S> {
             Ok(listed) => match read_whole(&listed.arguments, &words) {
                 None => answer.extend([1, transaction, 3]),
                 Some(value) => {
+                    let results = self.service.carry_out(procedure, &value);
+                    if !fits(&listed.results, &results) {
+                        return Err(());
+                    }
                     answer.extend([2, transaction]);
-                    write(&self.service.carry_out(procedure, &value), &mut answer);
+                    write(&results, &mut answer);
+                    if answer.len() > 65_536 {
+                        return Err(());
+                    }
                 }
             },
         }

@@ -1,7 +1,7 @@
 #!/bin/sh
 # Refuses each growth of the program `refusals` in turn. Each of its lines is a call that can take memory: every one is refused at least
-# once, stands then as before, and answers when it is called again. Its last line is 'N passed, M failed', and it ends with 1 where one
-# failed. It builds the program first.
+# once, stands then as before, and answers when it is called again. One line is a call that must take none, and answers in every run. The
+# script's last line is 'N passed, M failed', and it ends with 1 where one failed. It builds the program first.
 set -u
 cd "$(dirname "$0")/.."
 crate=crates/refusals
@@ -45,9 +45,17 @@ else
     echo "FAILED with nothing refused:"
     cat "$work/out"
 fi
+takes_none='read: a count with no bytes'
 sed 's/: done$//' $crate/stdout > "$work/names"
 while read -r name; do
-    if grep -qxF "$name: refused, then done" "$work/all"; then
+    if [ "$name" = "$takes_none" ]; then
+        if [ "$(grep -cxF "$name: done" "$work/all")" -eq $((growth - 1)) ]; then
+            passed=$((passed + 1))
+        else
+            failed=$((failed + 1))
+            echo "FAILED $name: it took memory"
+        fi
+    elif grep -qxF "$name: refused, then done" "$work/all"; then
         passed=$((passed + 1))
     else
         failed=$((failed + 1))

@@ -2,7 +2,8 @@
 use Rattle.std.proofs.Common.{◌≡◌, ◌∙◌, refl, ℕ, ◌*◌, List, [], ◌∷◌, ◌++◌, length, append_assoc}
 use Rattle.courier_calls.specs.declared.head.Head.{Head}
 use Rattle.courier_calls.specs.declared.head.Head.TheVariants as heads
-use Rattle.courier_calls.specs.Message.{bytes_of, message_bytes}
+use Rattle.courier_types.specs.Source.{bytes_of}
+use Rattle.courier_calls.specs.Message.{message_bytes}
 use Rattle.courier_calls.specs.Head.{with_words, head_words, head_size}
 
 pub word_put : (old : List ℕ) (high low : ℕ) (more : List ℕ) → ((old ++ high ∷ []) ++ low ∷ []) ++ more ≡ old ++ (high ∷ low ∷ more)

@@ -2,7 +2,7 @@
 ghost use Rattle.std.specs.Prelude.{◌≡◌, ◌+◌, ◌++◌, length, vec_len, vec_capacity};
 ghost use Rattle.courier_types.specs.Writing.{HasRoom};
 ghost use Rattle.courier_calls.specs.Head.{with_words, words_in, head_size, head_words};
-ghost use Rattle.courier_calls.specs.Message.{bytes_of};
+ghost use Rattle.courier_types.specs.Source.{bytes_of};
 
 use crate::message::Message;
 use crate::words::Words;

@@ -41,6 +41,11 @@ fn main(rt: HostRuntime) -> Result<(), anyhow::Error> {
     tell(&rt, "receive: an early item", sequenced::keeps(alloc))?;
     tell(&rt, "receive: a reply", sequenced::replies(alloc))?;
     tell(&rt, "read", values::reads(alloc))?;
+    tell(
+        &rt,
+        "read: a count with no bytes",
+        values::reads_a_count_alone(alloc),
+    )?;
     tell(&rt, "read_pieces", values::reads_pieces(alloc))?;
     tell(&rt, "write", values::writes(alloc))?;
     tell(&rt, "read_message", courier::reads_a_message(alloc))?;

@@ -1,7 +1,7 @@
 //! Courier's values.
 
 use crate::outcome::{Outcome, done, refused};
-use courier_types::{Shape, Value, fits, read, read_pieces, write};
+use courier_types::{ReadFault, ReadRefusal, Reason, Shape, Value, fits, read, read_pieces, write};
 use std::alloc::{AllocError, Global};
 
 /// Two long cardinals in a sequence, as words.
@@ -22,6 +22,21 @@ pub fn reads(alloc: Global) -> Result<Outcome, AllocError> {
     match read(alloc, &shape, &WORDS) {
         Ok((_, taken)) => Ok(refused(true, taken == 5)),
         Err(_) => Ok(Outcome::Broken),
+    }
+}
+
+/// A text whose count is 65,535, and no word behind it: no room is made ahead of the words, so there is nothing to refuse.
+pub fn reads_a_count_alone(alloc: Global) -> Result<Outcome, AllocError> {
+    let shape = Shape::Text;
+    if shape.check().is_err() {
+        return Ok(Outcome::Broken);
+    }
+    match read(alloc, &shape, &[65535]) {
+        Err(ReadRefusal::Fault(ReadFault {
+            place: 1,
+            reason: Reason::Truncated,
+        })) => Ok(Outcome::Done),
+        _ => Ok(Outcome::Broken),
     }
 }
 

@@ -1,5 +1,5 @@
 use Rattle.std.proofs.Common.{◌≡◌, ◌+◌, ◌++◌, drop, length, vec_len, vec_capacity}
-use Rattle.courier_calls.specs.Message.{bytes_of}
+use Rattle.courier_types.specs.Source.{bytes_of}
 use Rattle.courier_calls.proofs.writing.put_words.Given as goal
 
 abbrev pub invariant-loop-word : goal.invariant-loop-word
