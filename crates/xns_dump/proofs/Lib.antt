@@ -2,6 +2,7 @@ pub mod Blanks
 pub mod Headers
 pub mod Numbered
 pub mod Pairs
+pub mod Places
 pub mod Printing
 pub mod Refused
 pub mod Texts

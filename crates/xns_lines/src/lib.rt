@@ -12,6 +12,7 @@ mod taker;
 mod taking;
 mod writing;
 
+pub use digits::write_digits;
 pub use fault::RunFault;
 pub use line_end::without_return;
 pub use taker::LineTaker;

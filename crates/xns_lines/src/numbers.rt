@@ -43,7 +43,9 @@ pub fn append_hex(report: &mut Vec<u8>, bytes: &[u8]) -> Result<(), AllocError>
 pub fn append_word(report: &mut Vec<u8>, word: u16) -> Result<(), AllocError>
     ensures { OnOk result (report.new.items ≡ report.old.items ++ hex_word word) }
 {
-    append_hex(report, &word.to_be_bytes())
+    let mut digits = [0; 4];
+    write_digits(&word.to_be_bytes(), &mut digits);
+    report.extend_from_slice(&digits)
 }
 
 /// Appends bytes as hex digits in lower case, or a dash where there are none.

@@ -5,8 +5,9 @@ ghost use Rattle.xns_dump.specs.Layers.Text.{address_text, data_line, words_line
 use std::alloc::AllocError;
 use xns_idp::Address;
 use xns_lines::numbers::{
-    append_bytes_or_dash, append_decimal, append_hex, append_word, append_words_or_dash,
+    append_bytes_or_dash, append_decimal, append_word, append_words_or_dash,
 };
+use xns_lines::write_digits;
 
 /// Appends the line of words.
 #[tactic(auto, unfolding(crate::specs::Layers::Text::words_line))]
@@ -43,9 +44,13 @@ pub(crate) fn append_data_line(
 pub(crate) fn append_address(report: &mut Vec<u8>, address: &Address) -> Result<(), AllocError>
     ensures { OnOk result (report.new.items ≡ report.old.items ++ address_text address.now) }
 {
-    append_hex(report, &address.network.to_be_bytes())?;
+    let mut network = [0; 8];
+    write_digits(&address.network.to_be_bytes(), &mut network);
+    let mut host = [0; 12];
+    write_digits(&address.host, &mut host);
+    report.extend_from_slice(&network)?;
     report.extend_from_slice(b".")?;
-    append_hex(report, &address.host)?;
+    report.extend_from_slice(&host)?;
     report.extend_from_slice(b".")?;
     append_word(report, address.socket)
 }
