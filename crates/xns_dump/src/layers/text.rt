@@ -4,9 +4,7 @@ ghost use Rattle.xns_dump.specs.Layers.Text.{address_text, data_line, words_line
 
 use std::alloc::AllocError;
 use xns_idp::Address;
-use xns_lines::numbers::{
-    append_bytes_or_dash, append_decimal, append_word, append_words_or_dash,
-};
+use xns_lines::numbers::{append_bytes_or_dash, append_decimal, append_word, append_words_or_dash};
 use xns_lines::write_digits;
 
 /// Appends the line of words.
