@@ -1,8 +1,8 @@
 -- Pairs of hex digits.
-use Rattle.std.proofs.Common.{◌≡◌, ℕ, zero, suc, ◌+◌, ◌*◌, ◌/◌, ◌%◌, ◌<◌, ◌≤◌, List, [], ◌∷◌, length, get_or, slice_index, slice_set, take, drop, ◌++◌, codes, Some, Ok, refl, ap, ◌∙◌, arith}
+use Rattle.std.proofs.Common.{◌≡◌, ℕ, zero, suc, ◌+◌, ◌*◌, ◌/◌, ◌%◌, ◌<◌, ◌≤◌, List, [], ◌∷◌, length, get_or, slice_index, slice_set, take, drop, Some, Ok, refl, ap, ◌∙◌, arith}
 use Rattle.std.specs.Int.{from_le_bytes, w16}
 use Rattle.std.specs.Simd.{first_chunks}
-use Rattle.hex.specs.Hex.{decode_pairs, encode_lower, encode_with, hex_digit_value, lower_digits, pair_value}
+use Rattle.hex.specs.Hex.{decode_pairs, hex_digit_value, pair_value}
 use Rattle.hex.proofs.Pairs.{decode_step, prepend}
 use Rattle.xns_dump.specs.Dump.Digits.{HasValues}
 

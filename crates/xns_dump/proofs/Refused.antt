@@ -1,5 +1,5 @@
 -- A line's text has the word `refused` exactly where the line is refused.
-use Rattle.std.proofs.Common.{◌≡◌, ◌∙◌, ap, sym, refl, arith, ℕ, zero, suc, ◌+◌, ◌*◌, ◌/◌, ◌%◌, ◌<◌, ◌==◌, ◌||◌, ◌&&◌, Bool, true, false, cond, List, [], ◌∷◌, ◌++◌, codes, length, append_assoc, append-nil, Option, Some, None, Result, Ok, Err}
+use Rattle.std.proofs.Common.{◌≡◌, ◌∙◌, ap, sym, refl, arith, ℕ, zero, suc, ◌+◌, ◌/◌, ◌%◌, ◌<◌, ◌==◌, Bool, true, false, cond, List, [], ◌∷◌, ◌++◌, codes, length, append_assoc, append-nil, Option, Some, None, Result, Ok, Err}
 use Rattle.std.specs.Prelude.{nat_lt, slice_index}
 use Rattle.std.specs.List.{flat_map}
 use Rattle.std.specs.Fmt.{decimal, digit_glyph, digits, digits_onto}
@@ -20,16 +20,16 @@ use Rattle.xns_small.specs.Echo.{EchoModel, echo_of}
 use Rattle.xns_small.specs.ErrorReport.{ErrorReportModel, error_of}
 use Rattle.xns_small.specs.Exchange.{ExchangeModel, exchange_of}
 use Rattle.xns_small.specs.declared.fault.SmallFault.{SmallFault}
-use Rattle.xns_spp.specs.Header.{brings_item, has_bit, header_of, is_system}
+use Rattle.xns_spp.specs.Header.{header_of, is_system}
 use Rattle.xns_spp.specs.declared.header.Header.{Header}
 use Rattle.xns_spp.specs.declared.spp_fault.SppFault.{SppFault}
 use Rattle.xns_spp.specs.declared.spp_fault.SppFault.TheVariants as spp
 use Rattle.xns_dump.specs.Dump.Line.{are_digits_refused, digits_of, digits_text, has_word, hex_refusal, is_refusal, is_refused, report_bytes, text_of_line}
 use Rattle.xns_dump.specs.Flows.{DataPacket}
 use Rattle.xns_dump.specs.Layers.Courier.{callee_text, courier_text, message_line, message_text, report_message}
-use Rattle.xns_dump.specs.Layers.Packets.{body_text, fault_text, idp_line, idp_refusal, is_body_refused, is_fault, is_packet_refused, kind_text, packet_text, report_packet, route_text, size_text, sum_text}
+use Rattle.xns_dump.specs.Layers.Packets.{body_text, idp_line, idp_refusal, is_body_refused, is_fault, is_packet_refused, kind_text, packet_text, report_packet, route_text, size_text, sum_text}
 use Rattle.xns_dump.specs.Layers.Sequenced.{connection_text, content_text, header_line, header_refusal, is_header_fault, item_line, item_of, item_text, report_sequenced, sequence_text, sequenced_text}
-use Rattle.xns_dump.specs.Layers.Small.{echo_line, echo_text, error_fields, error_line, error_text, exchange_fields, exchange_line, exchange_text, inner_fault_text, inner_refusal, is_inner_fault, line_or_refusal}
+use Rattle.xns_dump.specs.Layers.Small.{echo_line, echo_text, error_fields, error_line, error_text, exchange_fields, exchange_line, exchange_text, inner_refusal, is_inner_fault, line_or_refusal}
 use Rattle.xns_dump.specs.Layers.Text.{address_text, data_line, words_line}
 use Rattle.xns_lines.specs.Text.{bytes_or_dash, hex_word, words_in_hex, words_or_dash, words_text}
 

@@ -1,5 +1,5 @@
 use Rattle.std.proofs.Common.{◌++◌, ◌∷◌, []}
-use Rattle.xns_dump.proofs.Printing.{flushed, printed, unflushed, unprinted}
+use Rattle.xns_dump.proofs.Printing.{flushed, printed, unflushed}
 use Rattle.xns_dump.proofs.Writes.{if_err_1, on_ok_1}
 use Rattle.xns_dump.proofs.printer.PrinterLineTaker.take_line.Goals as goal
 
