@@ -3,6 +3,5 @@ pub mod Owned
 pub mod Places
 pub mod Kept
 pub mod Sizes
-pub mod CallerOwned
 pub mod Told
 pub mod Done

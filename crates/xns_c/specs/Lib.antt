@@ -6,6 +6,4 @@ pub mod Handle
 pub mod Given
 pub mod Courier
 pub mod Talk
-pub mod CallerOwned
-pub mod CallerHandle
 pub mod Talks

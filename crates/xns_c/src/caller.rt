@@ -4,7 +4,7 @@ ghost use Rattle.std.specs.Prelude.{◌≡◌, ◌≢◌, ◌<◌, ◌≤◌, �
 ghost use Rattle.xns_spp.specs.declared.item.Item.{Item};
 ghost use Rattle.courier_calls.specs.declared.message.Message.{Message};
 ghost use Rattle.courier_calls.specs.Calls.{words_call};
-ghost use Rattle.xns_c.specs.CallerHandle.{talk_of};
+ghost use Rattle.xns_c.specs.Handle.{talk_of};
 ghost use Rattle.xns_c.specs.Courier.{message_given, words_in};
 ghost use Rattle.xns_c.specs.Given.{GivesItem, IsPut};
 ghost use Rattle.xns_c.specs.Results.{ok, nothing, no_memory, no_caller, short_buffer, stopped};

@@ -1,8 +1,18 @@
-use crate::caller_owner::CallerOwner;
+ghost use Rattle.std.specs.Prelude.{Option};
+ghost use Rattle.std.specs.Coded.{coded_option};
+ghost use Rattle.xns_c.specs.Owned.{owned_if};
+ghost use Rattle.xns_c.specs.Talk.{Talk};
+ghost use Rattle.xns_c.specs.contracts.session.Session.{the_row};
+
+use std::marker::Model;
 
 /// The calling side of a conversation, or none, as C keeps it: one word. A null pointer is none.
 #[repr(C)]
-#[derive(Drop)]
 pub struct XnsCaller {
-    pub(crate) owner: CallerOwner,
+    pub(crate) at: *mut u8,
+    pub ghost talk: { Option Talk } by { coded_option the_row.coded },
+}
+
+impl Model for XnsCaller {
+    ghost also_owns = { λ h. owned_if the_row h.at h.talk };
 }

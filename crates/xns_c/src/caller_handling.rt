@@ -1,33 +1,22 @@
 ghost use Rattle.std.specs.Prelude.{◌≡◌, Some, None, MatchOption};
-ghost use Rattle.xns_c.specs.CallerHandle.{talk_of};
+ghost use Rattle.xns_c.specs.Handle.{talk_of};
 
 use crate::caller_handle::XnsCaller;
-use crate::caller_owner::CallerOwner;
+use crate::owner::Owner;
 use crate::session::Session;
 use std::alloc::Global;
-use std::mem::replace;
 
 impl XnsCaller {
-    fn empty() -> XnsCaller
-        ensures { talk_of result ≡ None }
+    /// Exchanges what the handle has.
+    fn exchange(&mut self, owner: Owner<Session>) -> Owner<Session>
+        ensures { (talk_of self.new ≡ owner.value) × (result.value ≡ talk_of self.old) }
     {
-        XnsCaller {
-            owner: CallerOwner::none(),
+        let Owner { at } = owner;
+        let found = self.at;
+        self.at = at as *mut u8;
+        Owner {
+            at: found as *mut Session,
         }
-    }
-
-    fn of(session: Box<Session>) -> XnsCaller
-        ensures { talk_of result ≡ Some session.value }
-    {
-        XnsCaller {
-            owner: CallerOwner::of(session),
-        }
-    }
-
-    fn into_box(self, alloc: Global) -> Option<Box<Session>>
-        ensures { MatchOption result (talk_of self ≡ None) (λ b. talk_of self ≡ Some b.value) }
-    {
-        self.owner.into_box(alloc)
     }
 
     /// Takes the session out of the handle, which then has none.
@@ -35,7 +24,7 @@ impl XnsCaller {
         ensures answer { MatchOption result (talk_of self.old ≡ None) (λ b. talk_of self.old ≡ Some b.value) }
         ensures empty { talk_of self.new ≡ None }
     {
-        replace(self, XnsCaller::empty()).into_box(alloc)
+        self.exchange(Owner::none()).into_box(alloc)
     }
 
     /// Puts a session into a handle that has none.
@@ -43,6 +32,6 @@ impl XnsCaller {
         requires { talk_of self.old ≡ None }
         ensures { talk_of self.new ≡ Some session.value }
     {
-        *self = XnsCaller::of(session);
+        let _none = self.exchange(Owner::of(session));
     }
 }

@@ -9,7 +9,6 @@ mod address;
 mod caller;
 mod caller_handle;
 mod caller_handling;
-mod caller_owner;
 mod connection;
 mod courier;
 mod endpoint;

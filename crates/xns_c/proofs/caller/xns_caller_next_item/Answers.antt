@@ -1,4 +1,4 @@
-use Rattle.xns_c.specs.CallerHandle.{talk_of}
+use Rattle.xns_c.specs.Handle.{talk_of}
 use Rattle.xns_c.proofs.Kept.{next_out}
 use Rattle.xns_c.proofs.caller.xns_caller_next_item.Goals as goal
 
