@@ -4,7 +4,7 @@ use std::collections::VecDeque;
 
 const ROUND: usize = 51;
 const ROUNDS: usize = 1285;
-const WINDOW: u64 = 64;
+const WINDOW: usize = 64;
 const BACKLOG: usize = 64;
 const MOST_ITEMS: u64 = 1 << 48;
 
@@ -74,12 +74,39 @@ fn nearest(reference: u64, field: u16) -> Option<u64> {
     (least + u64::from(field.wrapping_sub(least as u16))).checked_sub(65536)
 }
 
+/// Why a packet's item was neither taken nor kept.
+enum Dropped {
+    NotIdp,
+    NotSpp,
+    NotOurs,
+    AheadOfUs,
+    OutOfOrder,
+    NoRoom,
+    Repeat,
+}
+
+/// What became of a packet: how many items were taken, the packet to send back, and why its item was not taken or kept.
+#[allow(dead_code)]
+struct Received {
+    took: usize,
+    reply: Option<Vec<u8>>,
+    dropped: Option<Dropped>,
+}
+
+impl Received {
+    fn dropped(dropped: Dropped) -> Received {
+        Received { took: 0, reply: None, dropped: Some(dropped) }
+    }
+}
+
 struct End {
     is_initiator: bool,
     own: Address,
     id: u16,
     peer: Address,
     peer_id: u16,
+    window: usize,
+    backlog: usize,
     unacknowledged: VecDeque<Item>,
     slots: VecDeque<Option<Item>>,
     accepted: u64,
@@ -91,15 +118,17 @@ struct End {
 }
 
 impl End {
-    fn new(is_initiator: bool, own: Address, id: u16, peer: Address, peer_id: u16) -> End {
+    fn new(is_initiator: bool, own: Address, id: u16, peer: Address, peer_id: u16, window: usize, backlog: usize) -> End {
         End {
             is_initiator,
             own,
             id,
             peer,
             peer_id,
-            unacknowledged: VecDeque::with_capacity(BACKLOG),
-            slots: (0..WINDOW).map(|_| None).collect(),
+            window,
+            backlog,
+            unacknowledged: VecDeque::with_capacity(backlog),
+            slots: (0..window).map(|_| None).collect(),
             accepted: 0,
             acknowledged: 0,
             sent: 0,
@@ -110,7 +139,7 @@ impl End {
     }
 
     fn top(&self) -> u64 {
-        (self.handed + WINDOW - 1).min(MOST_ITEMS - 1)
+        (self.handed + self.window as u64 - 1).min(MOST_ITEMS - 1)
     }
 
     fn write(&self, control: u8, stream: u8, sequence: u64, body: &[u8]) -> Vec<u8> {
@@ -137,7 +166,7 @@ impl End {
 
     fn send(&mut self, item: Item) -> Result<(), Item> {
         let size = item.body.len();
-        if size > 534 || item.attention && size != 1 || self.accepted == MOST_ITEMS || self.unacknowledged.len() == BACKLOG {
+        if size > 534 || item.attention && size != 1 || self.accepted == MOST_ITEMS || self.unacknowledged.len() == self.backlog {
             return Err(item);
         }
         self.unacknowledged.push_back(item);
@@ -174,30 +203,33 @@ impl End {
             }
     }
 
-    /// Takes in a packet, and gives the reply where one is wanted.
-    fn receive(&mut self, bytes: &[u8]) -> Option<Vec<u8>> {
+    /// Takes in a packet, and says what became of it.
+    fn receive(&mut self, bytes: &[u8]) -> Received {
         if bytes.len() < 30 {
-            return None;
+            return Received::dropped(Dropped::NotIdp);
         }
         let length = usize::from(word(bytes, 2));
         let even = length + length % 2;
         if length < 30 || length > 576 || bytes.len() < even {
-            return None;
+            return Received::dropped(Dropped::NotIdp);
         }
         let found = word(bytes, 0);
-        if found != 65535 && found != sum(&bytes[2..even]) || bytes[5] != 5 || length < 42 {
-            return None;
+        if found != 65535 && found != sum(&bytes[2..even]) {
+            return Received::dropped(Dropped::NotIdp);
+        }
+        if bytes[5] != 5 || length < 42 {
+            return Received::dropped(Dropped::NotSpp);
         }
         let (target, source) = (read_address(&bytes[6..18]), read_address(&bytes[18..30]));
         let header = &bytes[30..42];
         if !self.is_ours(&target, &source, header) {
-            return None;
+            return Received::dropped(Dropped::NotOurs);
         }
         let sequence = nearest(self.taken, word(header, 6));
         let acknowledge = nearest(self.sent, word(header, 8));
         let allocation = nearest(self.sent, word(header, 10));
         if acknowledge.is_some_and(|number| number > self.sent) {
-            return None;
+            return Received::dropped(Dropped::AheadOfUs);
         }
         if self.peer_id == 0 {
             self.peer = source;
@@ -211,35 +243,42 @@ impl End {
             self.allowed = self.allowed.max(number + 1);
         }
         let target_id = word(header, 4);
+        let (mut took, mut dropped) = (0, None);
         if header[0] & 128 == 0 && target_id != 0 {
-            self.keep(sequence, header, &bytes[42..length]);
+            match self.keep(sequence, header, &bytes[42..length]) {
+                Ok(count) => took = count,
+                Err(reason) => dropped = Some(reason),
+            }
         }
-        if header[0] & 64 != 0 || target_id == 0 {
-            Some(self.write(128, 0, self.sent, &[]))
-        } else {
-            None
-        }
+        let wants_reply = header[0] & 64 != 0 || target_id == 0;
+        Received { took, reply: wants_reply.then(|| self.write(128, 0, self.sent, &[])), dropped }
     }
 
-    /// Keeps an item for which there is room, and takes those whose turn has come.
-    fn keep(&mut self, sequence: Option<u64>, header: &[u8], body: &[u8]) {
+    /// Keeps an item for which there is room, and takes those whose turn has come: how many, or why the item is not kept.
+    fn keep(&mut self, sequence: Option<u64>, header: &[u8], body: &[u8]) -> Result<usize, Dropped> {
         let top = self.top();
         let number = match sequence {
-            Some(number) if self.taken <= number && number <= top => number,
-            _ => return,
+            Some(number) if self.taken <= number => number,
+            _ => return Err(Dropped::Repeat),
         };
-        let slot = &mut self.slots[(number - self.handed) as usize];
-        if slot.is_none() {
-            *slot = Some(Item {
-                stream: header[1],
-                attention: header[0] & 32 != 0,
-                last: header[0] & 16 != 0,
-                body: body.to_vec(),
-            });
+        if number > top {
+            return Err(if number == self.taken { Dropped::NoRoom } else { Dropped::OutOfOrder });
         }
+        let slot = &mut self.slots[(number - self.handed) as usize];
+        if slot.is_some() {
+            return Err(Dropped::Repeat);
+        }
+        *slot = Some(Item {
+            stream: header[1],
+            attention: header[0] & 32 != 0,
+            last: header[0] & 16 != 0,
+            body: body.to_vec(),
+        });
+        let before = self.taken;
         while self.taken <= top && self.slots[(self.taken - self.handed) as usize].is_some() {
             self.taken += 1;
         }
+        Ok((self.taken - before) as usize)
     }
 
     fn take(&mut self) -> Option<Item> {
@@ -254,7 +293,7 @@ impl End {
 }
 
 fn deliver(packet: &[u8], from: &mut End, to: &mut End) {
-    if let Some(reply) = to.receive(packet) {
+    if let Some(reply) = to.receive(packet).reply {
         from.receive(&reply);
     }
 }
@@ -281,8 +320,8 @@ fn exchange(from: &mut End, to: &mut End, is_late: bool) -> usize {
 fn connection(is_late: bool) -> (usize, usize) {
     let here = Address { network: 1, host: [0, 0, 0xaa, 0, 3, 4], socket: 0x400 };
     let there = Address { network: 1, host: [0, 0, 0xaa, 0, 1, 2], socket: 5 };
-    let mut caller = End::new(true, here, 0x1234, there, 0);
-    let mut server = End::new(false, there, 0x5678, here, 0x1234);
+    let mut caller = End::new(true, here, 0x1234, there, 0, WINDOW, BACKLOG);
+    let mut server = End::new(false, there, 0x5678, here, 0x1234, WINDOW, BACKLOG);
     let opening = caller.write(192, 0, 0, &[]);
     deliver(&opening, &mut caller, &mut server);
     let (mut handed, mut packets) = (0, 0);

@@ -1,4 +1,4 @@
-ghost use Rattle.std.specs.Prelude.{◌≡◌, ◌+◌, ◌<◌, ◌≤◌, ◌++◌, ◌%◌, if◌then◌else◌, length, drop, OnOk, OnErr, vec_len, vec_capacity};
+ghost use Rattle.std.specs.Prelude.{◌≡◌, ◌+◌, ◌<◌, ◌≤◌, ◌++◌, ◌%◌, if◌then◌else◌, length, drop, replicate, IsOk, OnOk, OnErr, vec_len, vec_capacity};
 ghost use Rattle.std.specs.Int.{w16, to_be_bytes};
 ghost use Rattle.xns_idp.specs.Checksum.{words, cycle_checksum};
 ghost use Rattle.xns_idp.specs.Packet.{packet_model, packet_spelling, with_data_behind};
@@ -41,17 +41,30 @@ pub fn encode_parts(
     // It is refused memory only where `out` has no room for the packet's bytes.
     ensures memory { OnErr result (vec_capacity out.old < vec_len out.old + made_even (30 + (length packet.now.body.now + length rest.now))) }
 {
+    let (target, source) = (packet.target.to_bytes(), packet.source.to_bytes());
     let size = packet.body.len() + rest.len();
     let start = out.len();
     out.reserve(HEADER_BYTES + size + size % 2)?;
     let [high, low] = (HEADER + size as u16).to_be_bytes();
     out.extend_from_slice(&[0, 0, high, low, packet.control, packet.kind])?;
-    out.extend_from_slice(&packet.target.to_bytes())?;
-    out.extend_from_slice(&packet.source.to_bytes())?;
+    out.extend_from_slice(&target)?;
+    out.extend_from_slice(&source)?;
     out.extend_from_slice(packet.body)?;
     out.extend_from_slice(rest)?;
-    out.extend_from_slice(&[GARBAGE][..size % 2])?;
+    pad(size, out)?;
     put_checksum(&mut out.as_mut_slice()[start..], packet.summed);
+    Ok(())
+}
+
+/// Appends a garbage byte where the size is odd.
+fn pad(size: usize, out: &mut Vec<u8>) -> Result<(), AllocError>
+    requires { vec_len out.old + size % 2 ≤ vec_capacity out.old }
+    ensures ok { IsOk result }
+    ensures items { out.new.items ≡ out.old.items ++ replicate (size % 2) 0 }
+{
+    if size % 2 == 1 {
+        out.push(GARBAGE)?;
+    }
     Ok(())
 }
 
