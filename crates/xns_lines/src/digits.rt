@@ -2,9 +2,6 @@
 ghost use Rattle.std.specs.Prelude.{◌≡◌, ◌*◌, ◌<◌, ◌++◌, [], ◌∷◌, codes, length, slice_index};
 ghost use Rattle.hex.specs.Hex.{encode_lower, lower_digits};
 
-/// The sixteen digits.
-const DIGITS: &[u8; 16] = b"0123456789abcdef";
-
 /// Writes the two digits of each byte, in lower case.
 pub fn write_digits(bytes: &[u8], digits: &mut [u8])
     requires { length digits.old ≡ 2 * length bytes.now }
@@ -21,27 +18,22 @@ pub(crate) fn word_and_space(high: u8, low: u8) -> [u8; 5]
     ensures { result ≡ encode_lower (high ∷ low ∷ []) ++ codes " " }
 {
     [
-        digit_at(high / 16),
-        digit_at(high % 16),
-        digit_at(low / 16),
-        digit_at(low % 16),
+        digit_of(high / 16),
+        digit_of(high % 16),
+        digit_of(low / 16),
+        digit_of(low % 16),
         b' ',
     ]
 }
 
-/// The digit of a value, in lower case, without a table: so the compiler makes vectors of a loop.
+/// The digit of a value, in lower case.
 fn digit_of(value: u8) -> u8
     requires { value < 16 }
     ensures { result ≡ slice_index lower_digits value }
 {
-    let behind = if value > 9 { b'a' - b'0' - 10 } else { 0 };
-    value + b'0' + behind
-}
-
-/// The digit of a value, in lower case, from a table: the faster way where there are few.
-fn digit_at(value: u8) -> u8
-    requires { value < 16 }
-    ensures { result ≡ slice_index lower_digits value }
-{
-    DIGITS[usize::from(value)]
+    if value < 10 {
+        value + b'0'
+    } else {
+        value - 10 + b'a'
+    }
 }
