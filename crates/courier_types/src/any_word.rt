@@ -1,6 +1,7 @@
 //! Shapes whose values are spelled by any one word.
 
-ghost use Rattle.std.specs.Prelude.{◌≡◌, IfSome, IsTrue};
+ghost use Rattle.std.specs.Prelude.{◌≡◌, ◌≢◌, IfSome, IfNone, IsTrue};
+ghost use Rattle.courier_types.specs.declared.any_word.AnyWord.{AnyWord};
 ghost use Rattle.courier_types.specs.Shape.{shape_model};
 ghost use Rattle.courier_types.specs.Value.{value_model};
 ghost use Rattle.courier_types.specs.Fits.{has_shape, IsValue};
@@ -21,7 +22,8 @@ pub enum AnyWord {
 impl AnyWord {
     /// The shape, if it is one of these.
     pub fn of(shape: &Shape) -> Option<AnyWord>
-        ensures { IfSome result (λ kind. shape_model shape.now ≡ shape_of kind) }
+        ensures some { IfSome result (λ kind. shape_model shape.now ≡ shape_of kind) }
+        ensures none { IfNone result ((kind : AnyWord) → shape_model shape.now ≢ shape_of kind) }
     {
         match shape {
             Shape::Cardinal => Some(AnyWord::Cardinal),
