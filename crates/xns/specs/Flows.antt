@@ -1,5 +1,6 @@
 -- The flows of an input, and the number of each item in its flow.
 pub mod Numbers
+pub mod Places
 use Rattle.std.specs.Prelude.{ℕ, ◌==◌, ◌&&◌, Bool, List, [], ◌∷◌, Option, Some, None, if◌then◌else◌}
 use Rattle.std.specs.Str.{bytes_eq}
 use Rattle.std.specs.Option.{unwrap_or}
