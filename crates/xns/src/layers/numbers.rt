@@ -43,7 +43,9 @@ pub(crate) fn append_hex(report: &mut Vec<u8>, bytes: &[u8]) -> Result<(), Alloc
 pub(crate) fn append_word(report: &mut Vec<u8>, word: u16) -> Result<(), AllocError>
     ensures { OnOk result (report.new.items ≡ report.old.items ++ hex_word word) }
 {
-    append_hex(report, &word.to_be_bytes())
+    let mut digits = [0; 4];
+    write_digits(&word.to_be_bytes(), &mut digits);
+    report.extend_from_slice(&digits)
 }
 
 /// Appends bytes as digits, or a dash where there are none.
@@ -142,9 +144,13 @@ pub(crate) fn append_data_line(
 pub(crate) fn append_address(report: &mut Vec<u8>, address: &Address) -> Result<(), AllocError>
     ensures { OnOk result (report.new.items ≡ report.old.items ++ address_text address.now) }
 {
-    append_hex(report, &address.network.to_be_bytes())?;
+    let mut network = [0; 8];
+    write_digits(&address.network.to_be_bytes(), &mut network);
+    let mut host = [0; 12];
+    write_digits(&address.host, &mut host);
+    report.extend_from_slice(&network)?;
     report.extend_from_slice(b".")?;
-    append_hex(report, &address.host)?;
+    report.extend_from_slice(&host)?;
     report.extend_from_slice(b".")?;
     append_word(report, address.socket)
 }
