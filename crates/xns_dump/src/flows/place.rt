@@ -3,7 +3,7 @@ ghost use Rattle.std.specs.Prelude.{◌≡◌, ◌<◌, All, length};
 ghost use Rattle.std.proofs.Common.{rules};
 ghost use Rattle.std.specs.Cmp.{partial_order_from_own_ties};
 ghost use Rattle.std.specs.Cmp.Rules.{comparing};
-ghost use Rattle.std.specs.Ordering.{as_partial_cmp};
+ghost use Rattle.std.specs.Ordering.{as_partial_cmp, nat_cmp, ordering_then};
 ghost use Rattle.xns_dump.specs.Flows.Places.{host_and_socket as host_and_socket_of, place_cmp};
 
 use std::cmp::Ordering;
@@ -20,13 +20,15 @@ pub(crate) struct Place {
 }
 
 impl Place {
-    /// How it stands to another place. Host and socket are compared as one number.
-    fn order(self, other: Place) -> Ordering
-        ensures { result ≡ place_cmp self other }
+    /// The order of hosts and sockets, or else that of the identifiers.
+    fn or_identifiers(&self, other: &Place, order: Ordering) -> Ordering
+        ensures { result ≡ ordering_then order (nat_cmp self.now.identifier other.now.identifier) }
     {
-        self.host_and_socket()
-            .cmp(&other.host_and_socket())
-            .then(self.identifier.cmp(&other.identifier))
+        match order {
+            Ordering::Less => Ordering::Less,
+            Ordering::Equal => self.identifier.cmp(&other.identifier),
+            Ordering::Greater => Ordering::Greater,
+        }
     }
 
     /// Host and socket as one number.
@@ -53,7 +55,8 @@ impl Ord for Place {
     ghost matches_eq = { Prim.search (comparing, rules) };
 
     fn cmp(&self, other: &Place) -> Ordering {
-        self.order(*other)
+        let order = self.host_and_socket().cmp(&other.host_and_socket());
+        self.or_identifiers(other, order)
     }
 }
 
