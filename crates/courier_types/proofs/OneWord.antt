@@ -1,5 +1,5 @@
 -- Values that are spelled by any one word have as many words as they are.
-use Rattle.std.proofs.Common.{◌≡◌, ◌∙◌, ℕ, true, List, length, length-append, refl, arith}
+use Rattle.std.proofs.Common.{◌≡◌, ◌∙◌, true, List, length, length-append, refl, arith}
 use Rattle.std.proofs.lemmas.Bool.{and_parts}
 use Rattle.courier_types.specs.declared.any_word.AnyWord.{AnyWord}
 use Rattle.courier_types.specs.declared.any_word.AnyWord.TheVariants.{Cardinal, Integer, Unspecified}

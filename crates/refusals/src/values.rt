@@ -32,10 +32,14 @@ pub fn reads_a_count_alone(alloc: Global) -> Result<Outcome, AllocError> {
         return Ok(Outcome::Broken);
     }
     match read(alloc, &shape, &[65535]) {
-        Err(ReadRefusal::Fault(ReadFault {
-            place: 1,
-            reason: Reason::Truncated,
-        })) => Ok(Outcome::Done),
+        Err(
+            ReadRefusal::Fault(
+                ReadFault {
+                    place: 1,
+                    reason: Reason::Truncated,
+                },
+            ),
+        ) => Ok(Outcome::Done),
         _ => Ok(Outcome::Broken),
     }
 }
