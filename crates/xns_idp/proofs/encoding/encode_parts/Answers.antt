@@ -1,7 +1,7 @@
 use Rattle.std.proofs.Common.{◌≡◌, ◌+◌, ◌%◌, ◌<◌, ◌++◌, List, ℕ, [], ◌∷◌, get_or, length, replicate, refl, sym, ap, ◌∙◌, arith, length-append}
 use Rattle.std.specs.Int.{w16, to_be_bytes}
 use Rattle.xns_idp.specs.Packet.{packet_model, with_data_behind}
-use Rattle.xns_idp.proofs.Writing.{no_byte_or_one, pieces, written}
+use Rattle.xns_idp.proofs.Writing.{pieces, written}
 use Rattle.xns_idp.proofs.encoding.encode_parts.Goals as goal
 
 pub returns-clause-ok : goal.returns-clause-ok
