@@ -2,10 +2,13 @@
 #![tactic(auto)]
 
 use std::io;
-use xns_idp::{Address, Packet, decode, encode};
+use xns_idp::{Address, Packet, decode, encode_into};
 
 /// So many bytes of data has a packet.
 const DATA: usize = 546;
+
+/// So many bytes has a packet.
+const SIZE: usize = 576;
 
 /// So many packets are written and read.
 const PACKETS: usize = 1_000_000;
@@ -33,8 +36,8 @@ fn mark(bytes: &[u8], index: usize) -> u64 {
 }
 
 fn main(rt: HostRuntime) -> io::Result<()> {
-    let alloc = rt.alloc();
     let mut body = [0u8; DATA];
+    let mut bytes = [0u8; SIZE];
     let mut total = 0u64;
     for i in 0..PACKETS {
         body[i % DATA] = (i % 251) as u8;
@@ -46,10 +49,8 @@ fn main(rt: HostRuntime) -> io::Result<()> {
             source: SOURCE,
             body: &body,
         };
-        let mut bytes = Vec::new(alloc);
-        if encode(alloc, &packet, &mut bytes).is_ok() {
-            total = total.wrapping_add(mark(bytes.as_slice(), i % DATA));
-        }
+        let written = encode_into(&packet, &mut bytes);
+        total = total.wrapping_add(mark(&bytes[..written], i % DATA));
     }
     println!(&rt; "{PACKETS} packets, total {total}")
 }
