@@ -1,18 +1,97 @@
--- Words in hex, from the left.
-use Rattle.std.proofs.Common.{◌≡◌, ℕ, ◌≤◌, ◌/◌, ◌%◌, List, [], ◌∷◌, ◌++◌, codes, length, slice_index, refl, arith}
-use Rattle.hex.specs.Hex.{encode_lower, encode_with, lower_digits}
-use Rattle.xns_lines.specs.Text.{words_in_hex}
+-- Words in hex: their digits, spread.
+use Rattle.std.proofs.Common.{◌≡◌, ◌∙◌, ap, sym, ℕ, zero, suc, ◌+◌, ◌-◌, ◌*◌, ◌/◌, ◌≤◌, ◌<◌, List, [], ◌∷◌, ◌++◌, length, slice_set, take, drop, refl, arith}
+use Rattle.std.proofs.lemmas.List.{append_assoc, append-nil, drop-drop, length-append, length-drop, length-take-le, take-append-le, take-take, take_all, take_more_set, take_rest}
+use Rattle.std.proofs.Math.Seq.{take-append-add, take-append_seam}
+use Rattle.std.proofs.lemmas.Slice.{take-put_mid}
+use borrow.Rule.Slice.PartMut.{post_of, put_mid}
+use Rattle.hex.specs.Hex.{encode_lower, encode_with}
+use Rattle.xns_lines.specs.Text.{spaced, words_in_hex}
 
 -- a word or less has nothing behind it
-pub words_in_hex_last : (bytes : List ℕ) → length bytes ≤ 2 → words_in_hex bytes ≡ encode_lower bytes
+words_in_hex_last : (bytes : List ℕ) → length bytes ≤ 2 → words_in_hex bytes ≡ encode_lower bytes
 words_in_hex_last [] h = refl
 words_in_hex_last (a ∷ []) h = refl
 words_in_hex_last (a ∷ b ∷ []) h = refl
 words_in_hex_last (a ∷ b ∷ c ∷ bytes) h = absurd (omega (arith, h))
 
--- four digits and a space
-pub word_digits : (a b w x y z : ℕ) → w ≡ slice_index lower_digits (a / 16) → x ≡ slice_index lower_digits (a % 16)
-    → y ≡ slice_index lower_digits (b / 16) → z ≡ slice_index lower_digits (b % 16)
-    → w ∷ x ∷ y ∷ z ∷ 32 ∷ [] ≡ encode_lower (a ∷ b ∷ []) ++ codes " "
+-- words that have a byte behind them are spread
+words_in_hex_front : (words : ℕ) (bytes : List ℕ) → 2 * words ≤ length bytes - 1
+    → words_in_hex bytes ≡ spaced (encode_lower (take (2 * words) bytes)) ++ words_in_hex (drop (2 * words) bytes)
 unfolding encode_with
-word_digits a b w x y z hw hx hy hz = rw (hw, hx, hy, hz) refl
+words_in_hex_front zero bytes le = refl
+words_in_hex_front (suc k) [] le = absurd (omega (arith, le))
+words_in_hex_front (suc k) (a ∷ []) le = absurd (omega (arith, le))
+words_in_hex_front (suc k) (a ∷ b ∷ []) le = absurd (omega (arith, le))
+words_in_hex_front (suc k) (a ∷ b ∷ c ∷ bytes) le =
+    let two : 2 * suc k ≡ suc (suc (2 * k)) = omega arith in
+    let rest = words_in_hex_front k (c ∷ bytes) (omega (arith, le)) in
+    rw (two, rest) refl
+
+-- all words but the last are spread, and the last comes behind them
+pub words_appended : (before between after bytes : List ℕ) (words : ℕ) → words ≡ (length bytes - 1) / 2
+    → between ≡ before ++ spaced (encode_lower (take (2 * words) bytes))
+    → after ≡ between ++ encode_lower (take (length bytes - 2 * words) (drop (2 * words) bytes))
+    → after ≡ before ++ words_in_hex bytes
+words_appended before between after bytes words count first last =
+    let left : List ℕ = drop (2 * words) bytes in
+    let few : length left ≤ 2 = omega (arith, count, length-drop (2 * words) bytes) in
+    let same : take (length bytes - 2 * words) left ≡ left = take_rest bytes (2 * words) in
+    let front = words_in_hex_front words bytes (omega (arith, count)) in
+    rw (last, first, append_assoc, same, front, words_in_hex_last left few) refl
+
+-- four digits and a space come first
+spaced_four : (digits : List ℕ) → 4 ≤ length digits → spaced digits ≡ take 4 digits ++ 32 ∷ spaced (drop 4 digits)
+spaced_four [] h = absurd (omega (arith, h))
+spaced_four (a ∷ []) h = absurd (omega (arith, h))
+spaced_four (a ∷ b ∷ []) h = absurd (omega (arith, h))
+spaced_four (a ∷ b ∷ c ∷ []) h = absurd (omega (arith, h))
+spaced_four (a ∷ b ∷ c ∷ d ∷ digits) h = refl
+
+spaced_few : (digits : List ℕ) → length digits < 4 → spaced digits ≡ []
+spaced_few [] h = refl
+spaced_few (a ∷ []) h = refl
+spaced_few (a ∷ b ∷ []) h = refl
+spaced_few (a ∷ b ∷ c ∷ []) h = refl
+spaced_few (a ∷ b ∷ c ∷ d ∷ digits) h = absurd (omega (arith, h))
+
+-- four digits more are spread
+pub spread_step : (digits text four : List ℕ) (i j k : ℕ) → 4 * i + 4 ≤ length digits → 5 * i + 5 ≤ length text → j ≡ 4 → k ≡ 4
+    → four ≡ take j (drop (4 * i) digits)
+    → take (5 * i) text ++ spaced (drop (4 * i) digits) ≡ spaced digits
+    → take (5 * (i + 1)) (slice_set (put_mid (5 * i) k text four) (5 * i + 4) 32) ++ spaced (drop (4 * (i + 1)) digits) ≡ spaced digits
+spread_step digits text four i j k in_digits in_text ej ek e so_far =
+    let left : List ℕ = drop (4 * i) digits in
+    let enough : 4 ≤ length left = omega (arith, length-drop (4 * i) digits) in
+    let e4 : four ≡ take 4 left = rw ej at e in
+    let len : length four ≡ 4 = rw e4 (length-take-le 4 left enough) in
+    let held : List ℕ = put_mid (5 * i) k text four in
+    let front : take (5 * i + 4) held ≡ take (5 * i) text ++ four = take-put_mid (5 * i) k text four (5 * i + 4) (omega (arith, len)) (omega arith) in
+    let room : length held ≡ length text = omega (arith, len, length-append (take (5 * i) text) (four ++ post_of (5 * i) k text), length-append four (post_of (5 * i) k text), length-take-le (5 * i) text (omega arith), length-drop k (drop (5 * i) text), length-drop (5 * i) text) in
+    let space : take (5 * i + 4 + 1) (slice_set held (5 * i + 4) 32) ≡ take (5 * i + 4) held ++ 32 ∷ [] = take_more_set held (5 * i + 4) 32 (omega (arith, room)) in
+    let next : 5 * (i + 1) ≡ 5 * i + 4 + 1 = omega arith in
+    let after : drop (4 * (i + 1)) digits ≡ drop 4 left = ap (λ (n : ℕ). drop n digits) (omega arith) ∙ sym (drop-drop 4 (4 * i) digits) in
+    rw (next, space, front, after, append_assoc, append_assoc, e4, ← spaced_four left enough) so_far
+
+-- all digits are spread
+pub spread_done : (digits text : List ℕ) (i : ℕ) → length digits / 4 ≤ i → 4 * length text ≡ 5 * length digits
+    → take (5 * i) text ++ spaced (drop (4 * i) digits) ≡ spaced digits
+    → text ≡ spaced digits
+spread_done digits text i h len so_far =
+    let few = spaced_few (drop (4 * i) digits) (omega (arith, length-drop (4 * i) digits)) in
+    let all = take_all (5 * i) text (omega arith) in
+    rw (few, all, append-nil) at so_far
+
+-- what stays of a list that grew by some room, when the room is cut
+pub room_cut : (before now after extra room post more : List ℕ) (start end held size : ℕ) → start ≡ length before → start ≤ end → now ≡ take end before ++ extra
+    → size ≤ length room → start + size ≤ held
+    → after ≡ take (start + size) (take held ((take start now ++ (room ++ post)) ++ more))
+    → after ≡ before ++ take size room
+room_cut before now after extra room post more start end held size es le grown fits in_held cut =
+    let whole : take end before ≡ before = take_all end before (omega (arith, es, le)) in
+    let front : take start now ≡ before = rw (grown, whole, es) (take-append_seam before extra) in
+    cut ∙ take-take (start + size) held ((take start now ++ (room ++ post)) ++ more) in_held
+    ∙ ap (λ l. take (start + size) ((l ++ (room ++ post)) ++ more)) front
+    ∙ ap (λ l. take (start + size) l) (append_assoc before (room ++ post) more ∙ ap (λ l. before ++ l) (append_assoc room post more))
+    ∙ ap (λ (n : ℕ). take (n + size) (before ++ (room ++ (post ++ more)))) es
+    ∙ take-append-add before (room ++ (post ++ more)) size
+    ∙ ap (λ l. before ++ l) (take-append-le size room (post ++ more) fits)

@@ -13,6 +13,11 @@ abbrev pub bytes_or_dash : List ℕ → List ℕ
 bytes_or_dash [] = codes "-"
 bytes_or_dash (byte ∷ bytes) = encode_lower (byte ∷ bytes)
 
+-- digits by fours, with a space behind each four
+abbrev pub spaced : List ℕ → List ℕ
+spaced (a ∷ b ∷ c ∷ d ∷ digits) = a ∷ b ∷ c ∷ d ∷ codes " " ++ spaced digits
+spaced few = []
+
 -- bytes as words of four hex digits with one space between; an odd last byte has two digits
 abbrev pub words_in_hex : List ℕ → List ℕ
 words_in_hex (high ∷ low ∷ next ∷ bytes) = encode_lower (high ∷ low ∷ []) ++ codes " " ++ words_in_hex (next ∷ bytes)

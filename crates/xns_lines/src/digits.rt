@@ -1,6 +1,7 @@
 //! Hex digits of bytes, with no branch for each byte.
-ghost use Rattle.std.specs.Prelude.{◌≡◌, ◌*◌, ◌<◌, ◌++◌, [], ◌∷◌, codes, length, slice_index};
+ghost use Rattle.std.specs.Prelude.{◌≡◌, ◌*◌, ◌/◌, ◌%◌, ◌<◌, length, slice_index, take};
 ghost use Rattle.hex.specs.Hex.{encode_lower, lower_digits};
+ghost use Rattle.xns_lines.specs.Text.{spaced};
 
 /// Writes the two digits of each byte, in lower case.
 pub fn write_digits(bytes: &[u8], digits: &mut [u8])
@@ -13,17 +14,26 @@ pub fn write_digits(bytes: &[u8], digits: &mut [u8])
     }
 }
 
-/// The digits of two bytes, and a space.
-pub(crate) fn word_and_space(high: u8, low: u8) -> [u8; 5]
-    ensures { result ≡ encode_lower (high ∷ low ∷ []) ++ codes " " }
+/// Writes words of four digits at the front of some room, each before a space. Their digits alone are left behind them.
+pub(crate) fn write_spaced(bytes: &[u8], room: &mut [u8])
+    requires whole { length bytes.now % 2 ≡ 0 }
+    requires fits { length room.old ≡ 9 * (length bytes.now / 2) }
+    ensures { take (5 * (length bytes.now / 2)) room.new ≡ spaced (encode_lower bytes.now) }
 {
-    [
-        digit_of(high / 16),
-        digit_of(high % 16),
-        digit_of(low / 16),
-        digit_of(low % 16),
-        b' ',
-    ]
+    let (text, digits) = room.split_at_mut(5 * (bytes.len() / 2));
+    write_digits(bytes, digits);
+    spread(digits, text);
+}
+
+/// Writes digits four at a time, and a space behind each four.
+fn spread(digits: &[u8], text: &mut [u8])
+    requires { 4 * length text.old ≡ 5 * length digits.now }
+    ensures { text.new ≡ spaced digits.now }
+{
+    for i in 0..digits.len() / 4 {
+        text[5 * i..5 * i + 4].copy_from_slice(&digits[4 * i..4 * i + 4]);
+        text[5 * i + 4] = b' ';
+    }
 }
 
 /// The digit of a value, in lower case.

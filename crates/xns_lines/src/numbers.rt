@@ -1,12 +1,12 @@
 //! Numbers, words and bytes as text, appended to a report. The only error of each function is want of memory, after
 //! which the report may have a part of the text.
-ghost use Rattle.std.specs.Prelude.{◌≡◌, ◌++◌, OnOk, codes};
+ghost use Rattle.std.specs.Prelude.{◌≡◌, ◌++◌, ◌%◌, OnOk, codes, length};
 ghost use Rattle.std.specs.List.{flat_map};
 ghost use Rattle.std.specs.Fmt.{decimal};
 ghost use Rattle.hex.specs.Hex.{encode_lower};
-ghost use Rattle.xns_lines.specs.Text.{bytes_or_dash as bytes_or_dash_of, hex_word, words_in_hex, words_or_dash, words_text};
+ghost use Rattle.xns_lines.specs.Text.{bytes_or_dash as bytes_or_dash_of, hex_word, spaced, words_in_hex, words_or_dash, words_text};
 
-use crate::digits::{word_and_space, write_digits};
+use crate::digits::{write_digits, write_spaced};
 use itoa::Buffer;
 use std::alloc::AllocError;
 
@@ -71,17 +71,32 @@ pub fn append_words_or_dash(report: &mut Vec<u8>, bytes: &[u8]) -> Result<(), Al
     }
 }
 
-/// Appends words of four digits.
-#[tactic(auto, using(crate::proofs::WordsInHex::words_in_hex_last))]
+/// Appends words of four digits with one space between.
 fn append_words(report: &mut Vec<u8>, bytes: &[u8]) -> Result<(), AllocError>
     ensures { OnOk result (report.new.items ≡ report.old.items ++ words_in_hex bytes.now) }
 {
-    let mut left = bytes;
-    while let [high, low, _, ..] = left {
-        report.extend_from_slice(&word_and_space(*high, *low))?;
-        left = &left[2..];
-    }
-    append_hex(report, left)
+    let words = bytes.len().saturating_sub(1) / 2;
+    append_spaced(report, &bytes[..2 * words])?;
+    append_hex(report, &bytes[2 * words..])
+}
+
+/// Appends words of four digits, each before a space.
+fn append_spaced(report: &mut Vec<u8>, bytes: &[u8]) -> Result<(), AllocError>
+    requires { length bytes.now % 2 ≡ 0 }
+    ensures { OnOk result (report.new.items ≡ report.old.items ++ spaced (encode_lower bytes.now)) }
+{
+    let start = report.len();
+    let words = bytes.len() / 2;
+    let Some(size) = words.checked_mul(9) else {
+        return Err(AllocError);
+    };
+    let Some(end) = start.checked_add(size) else {
+        return Err(AllocError);
+    };
+    report.resize(end, 0)?;
+    write_spaced(bytes, &mut report.as_mut_slice()[start..]);
+    report.truncate(start + 5 * words);
+    Ok(())
 }
 
 /// Appends words of four digits with one space between, or a dash where there are none.
