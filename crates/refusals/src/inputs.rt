@@ -7,9 +7,11 @@ use xns_lines::RunFault;
 use xns_sim::sim;
 
 /// A packet that brings a call, with a blank behind its checksum.
-const PACKET: &[u8] = b"ffff 00380005000000010000aa0001020005000000010000aa00030404005000123456780001000000030000000100000007000200010005";
+const PACKET: &[u8] =
+    b"ffff 00380005000000010000aa0001020005000000010000aa00030404005000123456780001000000030000000100000007000200010005";
 
-const REPORT: &[u8] = b"1 idp length 56 sum none control 0 type 5 to 00000001.0000aa000102.0005 from 00000001.0000aa000304.0400
+const REPORT: &[u8] =
+    b"1 idp length 56 sum none control 0 type 5 to 00000001.0000aa000102.0005 from 00000001.0000aa000304.0400
 1 spp control 50 stream 0 source 1234 target 5678 seq 1 ack 0 alloc 3
 1 item 1
 1 call 1 program 7 version 2 procedure 1 args 0005
@@ -32,10 +34,7 @@ pub fn dumps(alloc: Global) -> Result<Outcome, AllocError> {
     text.clear();
     let mut input = PACKET;
     let again = dump(alloc, &mut input, &mut text);
-    Ok(refused(
-        stood,
-        again == Ok(false) && text.as_slice() == REPORT,
-    ))
+    Ok(refused(stood, again == Ok(false) && text.as_slice() == REPORT))
 }
 
 pub fn plays(alloc: Global) -> Result<Outcome, AllocError> {
@@ -48,8 +47,5 @@ pub fn plays(alloc: Global) -> Result<Outcome, AllocError> {
     let stood = answer == Err(RunFault::NoMemory) && text.is_empty();
     let mut input = SCRIPT;
     let again = sim(alloc, &mut input, &mut text);
-    Ok(refused(
-        stood,
-        again == Ok(false) && text.as_slice() == PLAY,
-    ))
+    Ok(refused(stood, again == Ok(false) && text.as_slice() == PLAY))
 }
