@@ -44,6 +44,7 @@ impl AnyWord {
             AnyWord::Unspecified => Value::Unspecified(word),
         }
     }
+
     /// Whether the value is one of the shape.
     #[inline(always)]
     #[tactic(auto, unfolding(crate::specs::Fits::has_shape))]

@@ -14,11 +14,10 @@ use std::alloc::AllocError;
 pub fn append_decimal(report: &mut Vec<u8>, number: usize) -> Result<(), AllocError>
     ensures { OnOk result (report.new.items ≡ report.old.items ++ decimal number) }
 {
-    let mut buffer = Buffer::new();
-    report.extend_from_slice(buffer.format(number).as_bytes())
+    append_long(report, number as u64)
 }
 
-/// Appends a number of more bits in decimal.
+/// Appends a number of 64 bits in decimal.
 pub fn append_long(report: &mut Vec<u8>, number: u64) -> Result<(), AllocError>
     ensures { OnOk result (report.new.items ≡ report.old.items ++ decimal number) }
 {
