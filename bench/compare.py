@@ -17,7 +17,8 @@
                                           and 65,536 flows; and the largest resident memory of each
 
 The proved program is built by `rt run` in its crate, the peer by `rustc -O`. Absolute times say little on a shared machine; the
-ratio is of processor time in one run.
+ratio is of processor time in one run. What is printed is thrown away, once it is known that both print the same; that of `xns dump` goes
+into a file too, which costs both the same time of the system's.
 """
 import os, pathlib, statistics, subprocess, sys, tempfile, time
 
@@ -54,13 +55,17 @@ def built_c(name, folder, library):
     return program
 
 
-def seconds_of(words, given):
-    """Processor seconds of one run, and its output."""
-    with open(given, "rb") as lines, tempfile.TemporaryFile() as output:
+def output_of(words, given):
+    with open(given, "rb") as lines:
+        return subprocess.run(words, stdin=lines, stdout=subprocess.PIPE, check=False).stdout
+
+
+def seconds_of(words, given, to=os.devnull):
+    """Processor seconds of one run, whose output goes to a file."""
+    with open(given, "rb") as lines, open(to, "wb") as output:
         started = subprocess.Popen(words, stdin=lines, stdout=output)
         _, _, used = os.wait4(started.pid, 0)
-        output.seek(0)
-        return used.ru_utime + used.ru_stime, output.read()
+        return used.ru_utime + used.ru_stime
 
 
 def held_by(words, given):
@@ -74,15 +79,13 @@ def held_by(words, given):
     return most
 
 
-def compare(ours, peer, given):
+def compare(ours, peer, given, to=os.devnull):
+    if output_of(ours, given) != output_of(peer, given):
+        sys.exit("the two programs print different things")
     times = {"ours": [], "peer": []}
-    outputs = {}
     for _ in range(RUNS):
         for name, words in (("ours", ours), ("peer", peer)):
-            seconds, outputs[name] = seconds_of(words, given)
-            times[name].append(seconds)
-    if outputs["ours"] != outputs["peer"]:
-        sys.exit("the two programs print different things")
+            times[name].append(seconds_of(words, given, to))
     medians = {name: statistics.median(runs) for name, runs in times.items()}
     print(f"ours {medians['ours']:.3f} s, peer {medians['peer']:.3f} s: the peer takes {medians['peer'] / medians['ours']:.1f} times as long, ours {medians['ours'] / medians['peer']:.2f} of its time")
     return medians
@@ -126,6 +129,8 @@ def main():
                 given.write_bytes(subprocess.run([sys.executable, BENCH / "packets.py", *which], stdout=subprocess.PIPE, check=True).stdout)
                 print(" ".join(which) + ":", end=" ", flush=True)
                 compare([ours, "dump"], [peer], given)
+                print("    into a file:", end=" ", flush=True)
+                compare([ours, "dump"], [peer], given, pathlib.Path(folder) / "output")
                 print(f"    ours holds {held_by([ours, 'dump'], given)} KiB at most, the peer {held_by([peer], given)}")
         elif which == "sim":
             ours, peer = built_program("xns"), built_peer("sim_peer", folder)
@@ -139,9 +144,8 @@ def main():
             print(f"{sum(not line.startswith(b'call') for line in given.read_bytes().splitlines())} events:", end=" ", flush=True)
             compare([ours, "calls"], [peer], given)
             for count in ("1000", "10000", "65535"):
-                seconds = [seconds_of([ours, count], given) for _ in range(RUNS)]
-                packets = int(seconds[0][1].split()[-1])
-                median = statistics.median(spent for spent, _ in seconds)
+                packets = int(output_of([ours, count], given).split()[-1])
+                median = statistics.median(seconds_of([ours, count], given) for _ in range(RUNS))
                 print(f"{count} items each way: {median:.3f} s for {packets} packets, {median / packets * 1e9:.0f} ns each")
         elif which == "values":
             compare_values([built_program("values_bench")], [built_peer("values_peer", folder)])
