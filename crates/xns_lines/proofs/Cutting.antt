@@ -24,24 +24,36 @@ cut_nothing c line count =
       few = rw (line_count-parts [], closed, rest) (omega arith);
     }
 
-short_newline : (taken : List ℕ) → list_any is_long (closed_lines taken) ≡ false → length (open_line taken) ≤ 4096 → list_any is_long (closed_lines taken ++ open_line taken ∷ []) ≡ false
-short_newline taken closed rest =
-    list_any-append is_long (closed_lines taken) (open_line taken ∷ [])
-    ∙ ap (λ r. r || (is_long (open_line taken) || false)) closed
-    ∙ or_false (is_long (open_line taken)) ∙ not_long (length (open_line taken)) rest
+-- so many lines are over, and neither they nor the open line are too long
+record IsShort (count : ℕ) (taken : List ℕ) : Type 0 where
+  count_is : count ≡ length (closed_lines taken)
+  closed_short : list_any is_long (closed_lines taken) ≡ false
+  open_short : length (open_line taken) ≤ 4096
 
-pub cut_newline : (c c' : Cutter) (taken : List ℕ) → c.count < 65536 → c'.line.items ≡ [] → c'.count ≡ c.count + 1 → HasCut c taken → HasCut c' (taken ++ 10 ∷ [])
-cut_newline c c' taken small line count h =
+short_cut : (c : Cutter) (taken : List ℕ) → HasCut c taken → IsShort c.count taken
+short_cut c taken h = record { count_is = h.count; closed_short = h.closed_short; open_short = h.open_short }
+
+short_newline : (n : ℕ) (taken : List ℕ) → IsShort n taken → list_any is_long (closed_lines taken ++ open_line taken ∷ []) ≡ false
+short_newline n taken h =
+    list_any-append is_long (closed_lines taken) (open_line taken ∷ [])
+    ∙ ap (λ r. r || (is_long (open_line taken) || false)) h.closed_short
+    ∙ or_false (is_long (open_line taken)) ∙ not_long (length (open_line taken)) h.open_short
+
+cut_end : (c' : Cutter) (n : ℕ) (taken : List ℕ) → n < 65536 → c'.line.items ≡ [] → c'.count ≡ n + 1 → IsShort n taken → HasCut c' (taken ++ 10 ∷ [])
+cut_end c' n taken small line count h =
     let closed = closed-newline taken in
     let rest = open-newline taken in
     let size : length (closed_lines taken ++ open_line taken ∷ []) ≡ length (closed_lines taken) + 1 = length-append (closed_lines taken) (open_line taken ∷ []) in
     record {
       line = line ∙ sym rest;
-      count = count ∙ ap (λ n. n + 1) h.count ∙ sym size ∙ sym (ap length closed);
-      closed_short = ap (list_any is_long) closed ∙ short_newline taken h.closed_short h.open_short;
+      count = count ∙ ap (λ n. n + 1) h.count_is ∙ sym size ∙ sym (ap length closed);
+      closed_short = ap (list_any is_long) closed ∙ short_newline n taken h;
       open_short = rw rest (omega arith);
-      few = rw (line_count-parts (taken ++ 10 ∷ []), closed, rest, size) (omega (arith, h.count));
+      few = rw (line_count-parts (taken ++ 10 ∷ []), closed, rest, size) (omega (arith, small, h.count_is));
     }
+
+pub cut_newline : (c c' : Cutter) (taken : List ℕ) → c.count < 65536 → c'.line.items ≡ [] → c'.count ≡ c.count + 1 → HasCut c taken → HasCut c' (taken ++ 10 ∷ [])
+cut_newline c c' taken small line count h = cut_end c' c.count taken small line count (short_cut c taken h)
 
 pub cut_run : (c c' : Cutter) (taken run : List ℕ) → HasNoNewline run
     → c.count < 65536 → length c.line.items + length run ≤ 4096 → c'.line.items ≡ c.line.items ++ run → c'.count ≡ c.count → HasCut c taken → HasCut c' (taken ++ run)
@@ -55,6 +67,23 @@ cut_run c c' taken run plain small short line count h =
       open_short = rw rest (omega (arith, length-append (open_line taken) run, ap length h.line, short));
       few = few_more taken (taken ++ run) (omega (arith, h.count, small)) closed;
     }
+
+-- where nothing was taken of the line, the run is what is taken of it
+open_whole : (c : Cutter) (taken run : List ℕ) → HasNoNewline run → length c.line.items ≡ 0 → HasCut c taken → open_line (taken ++ run) ≡ run
+open_whole c taken run plain none h = open-run taken run plain ∙ ap (λ l. l ++ run) (sym h.line ∙ no_line c.line.items none)
+
+short_whole : (c : Cutter) (taken run : List ℕ) → HasNoNewline run → length c.line.items ≡ 0 → length run ≤ 4096 → HasCut c taken → IsShort c.count (taken ++ run)
+short_whole c taken run plain none short h =
+    let closed = closed-run taken run plain in
+    record {
+      count_is = h.count ∙ sym (ap length closed);
+      closed_short = ap (list_any is_long) closed ∙ h.closed_short;
+      open_short = rw (open_whole c taken run plain none h) short;
+    }
+
+pub cut_whole : (c c' : Cutter) (taken run : List ℕ) → HasNoNewline run → c.count < 65536 → length c.line.items ≡ 0 → length run ≤ 4096
+    → c'.line.items ≡ c.line.items → c'.count ≡ c.count + 1 → HasCut c taken → HasCut c' ((taken ++ run) ++ 10 ∷ [])
+cut_whole c c' taken run plain small none short line count h = cut_end c' c.count (taken ++ run) small (line ∙ no_line c.line.items none) count (short_whole c taken run plain none short h)
 
 pub run_cut : (c' : Cutter) (taken run : List ℕ) → HasNoNewline run → HasCut c' (taken ++ run) → HasCut c' (taken ++ run) × (closed_lines (taken ++ run) ≡ closed_lines taken)
 run_cut c' taken run plain h = (h, closed-run taken run plain)
@@ -134,31 +163,45 @@ short_own f stands fails taken xs said h = record {
   is_left = own_left f stands fails (closed_lines h.front) h.is_left.0 (subst stands (sym h.is_left.1) said);
 }
 
+end_within : (n : ℕ) (taken : List ℕ) → n < 65536 → IsShort n taken → AreWithinLimits (closed_lines taken)
+end_within n taken small h = record { short = h.closed_short; few = omega (arith, small, h.count_is) }
+
 -- the taker stopped at the line that a byte 10 ends
-pub short_at : (c : Cutter) (f : RunFault) (stands fails : Says) (taken : List ℕ) → c.count < 65536 → HasCut c taken → StandsAfterLine f stands fails (closed_lines taken) (open_line taken)
+short_end : (f : RunFault) (stands fails : Says) (n : ℕ) (taken : List ℕ) → n < 65536 → IsShort n taken → StandsAfterLine f stands fails (closed_lines taken) (open_line taken)
     → IsCutShort f (taken ++ 10 ∷ []) (StandsAfter f stands fails)
-short_at c fault.Read stands fails taken small h at = absurd at
-short_at c fault.LineTooLong stands fails taken small h at = absurd at
-short_at c fault.TooManyLines stands fails taken small h at = absurd at
-short_at c fault.NoMemory stands fails taken small h at = record {
+short_end fault.Read stands fails n taken small h at = absurd at
+short_end fault.LineTooLong stands fails n taken small h at = absurd at
+short_end fault.TooManyLines stands fails n taken small h at = absurd at
+short_end fault.NoMemory stands fails n taken small h at = record {
   front = taken;
   more = 10 ∷ [];
   parts = refl;
-  within = closed_within c taken h;
+  within = end_within n taken small h;
   found = tt;
   is_left = at;
 }
-short_at c fault.Write stands fails taken small h at =
+short_end fault.Write stands fails n taken small h at =
     let closed = closed-newline taken in
     let size : length (closed_lines taken ++ open_line taken ∷ []) ≡ length (closed_lines taken) + 1 = length-append (closed_lines taken) (open_line taken ∷ []) in
     record {
       front = taken ++ 10 ∷ [];
       more = [];
       parts = append-nil (taken ++ 10 ∷ []);
-      within = subst AreWithinLimits (sym closed) (record { short = short_newline taken h.closed_short h.open_short; few = omega (arith, size, h.count, small) });
+      within = subst AreWithinLimits (sym closed) (record { short = short_newline n taken h; few = omega (arith, size, h.count_is, small) });
       found = tt;
       is_left = subst fails (sym closed) at;
     }
+
+pub short_at : (c : Cutter) (f : RunFault) (stands fails : Says) (taken : List ℕ) → c.count < 65536 → HasCut c taken → StandsAfterLine f stands fails (closed_lines taken) (open_line taken)
+    → IsCutShort f (taken ++ 10 ∷ []) (StandsAfter f stands fails)
+short_at c f stands fails taken small h at = short_end f stands fails c.count taken small (short_cut c taken h) at
+
+pub short_at_whole : (c : Cutter) (f : RunFault) (stands fails : Says) (taken run : List ℕ) → HasNoNewline run → c.count < 65536 → length c.line.items ≡ 0 → length run ≤ 4096 → HasCut c taken
+    → StandsAfterLine f stands fails (closed_lines taken) run → IsCutShort f ((taken ++ run) ++ 10 ∷ []) (StandsAfter f stands fails)
+short_at_whole c f stands fails taken run plain small none short h at =
+    short_end f stands fails c.count (taken ++ run) small (short_whole c taken run plain none short h)
+    (subst (λ lines. StandsAfterLine f stands fails lines (open_line (taken ++ run))) (sym (closed-run taken run plain))
+    (subst (λ (l : List ℕ). StandsAfterLine f stands fails (closed_lines taken) l) (sym (open_whole c taken run plain none h)) at))
 
 still_found : (f : RunFault) (front more later : List ℕ) → IsJustifiedAt f front more → IsJustifiedAt f front (more ++ later)
 still_found fault.Read front more later found = found
@@ -273,6 +316,16 @@ pub takes_newline : (c c' : Cutter) (said : Says) (taken line : List ℕ) → c.
     → said (closed_lines taken ++ line ∷ []) → HasTaken c' said (taken ++ 10 ∷ [])
 takes_newline c c' said taken line small none count e h at =
     (cut_newline c c' taken small none count h, subst said (ap (λ l. closed_lines taken ++ l ∷ []) (e ∙ h.line) ∙ sym (closed-newline taken)) at)
+
+pub takes_whole : (c c' : Cutter) (said : Says) (taken run : List ℕ) → HasNoNewline run → c.count < 65536 → length c.line.items ≡ 0 → length run ≤ 4096
+    → c'.line.items ≡ c.line.items → c'.count ≡ c.count + 1 → HasCut c taken → said (closed_lines taken ++ run ∷ []) → HasTaken c' said ((taken ++ run) ++ 10 ∷ [])
+takes_whole c c' said taken run plain small none short line count h at = (
+  cut_whole c c' taken run plain small none short line count h,
+  subst said
+      (ap (λ lines. lines ++ run ∷ []) (sym (closed-run taken run plain)) ∙ ap (λ l. closed_lines (taken ++ run) ++ l ∷ []) (sym (open_whole c taken run plain none h))
+      ∙ sym (closed-newline (taken ++ run)))
+      at,
+)
 
 pub left_as : (c : Cutter) (f : RunFault) (stands fails : Says) (taken line : List ℕ) → line ≡ c.line.items → HasCut c taken → StandsAfterLine f stands fails (closed_lines taken) line → StandsAfterLine f stands fails (closed_lines taken) (open_line taken)
 left_as c f stands fails taken line e h at = subst (λ (l : List ℕ). StandsAfterLine f stands fails (closed_lines taken) l) (e ∙ h.line) at

@@ -54,11 +54,60 @@ impl Cutter {
     {
         let mut rest = piece;
         while let Some(end) = memchr(b'\n', rest) {
-            self.take_run(&rest[..end])?;
-            self.take_newline(taker, writer)?;
+            self.take_end(&rest[..end], taker, writer)?;
             rest = &rest[end + 1..];
         }
         self.take_run(rest)
+    }
+
+    /// Takes the last bytes of a line, among which is no byte 10, and its byte 10.
+    fn take_end<T: LineTaker, W: Write>(
+        &mut self,
+        run: &[u8],
+        taker: &mut T,
+        writer: &mut W,
+    ) -> Result<(), RunFault>
+        requires { HasNoNewline run.now }
+        ensures cut { OnOk result ((taken : List ℕ) → HasCut self.old taken → HasCut self.new ((taken ++ run.now) ++ 10 ∷ [])) }
+        ensures ok { OnOk result ((taken : List ℕ) (before : Option (List ℕ)) → HasTaken self.old (T.stands taker.old before (W.contents writer.old)) taken
+            → HasTaken self.new (T.stands taker.new before (W.contents writer.new)) ((taken ++ run.now) ++ 10 ∷ [])) }
+        ensures err { IfErr result (λ fault. (taken : List ℕ) (before : Option (List ℕ)) → HasTaken self.old (T.stands taker.old before (W.contents writer.old)) taken
+            → IsCutShort fault ((taken ++ run.now) ++ 10 ∷ []) (StandsAfter fault (T.stands taker.new before (W.contents writer.new)) (T.fails taker.new before (W.contents writer.new)))) }
+        ensures room { OnOk result (room_of self.new + length run.now < room_of self.old) }
+    {
+        if !self.line.is_empty() {
+            self.take_run(run)?;
+            return self.take_newline(taker, writer);
+        }
+        self.take_whole(run, taker, writer)
+    }
+
+    /// Takes a line of which nothing was taken yet, among whose bytes is no byte 10, and its byte 10. It is handed on as
+    /// it lies in the piece.
+    fn take_whole<T: LineTaker, W: Write>(
+        &mut self,
+        line: &[u8],
+        taker: &mut T,
+        writer: &mut W,
+    ) -> Result<(), RunFault>
+        requires first { length self.old.line.items ≡ 0 }
+        requires plain { HasNoNewline line.now }
+        ensures cut { OnOk result ((taken : List ℕ) → HasCut self.old taken → HasCut self.new ((taken ++ line.now) ++ 10 ∷ [])) }
+        ensures ok { OnOk result ((taken : List ℕ) (before : Option (List ℕ)) → HasTaken self.old (T.stands taker.old before (W.contents writer.old)) taken
+            → HasTaken self.new (T.stands taker.new before (W.contents writer.new)) ((taken ++ line.now) ++ 10 ∷ [])) }
+        ensures err { IfErr result (λ fault. (taken : List ℕ) (before : Option (List ℕ)) → HasTaken self.old (T.stands taker.old before (W.contents writer.old)) taken
+            → IsCutShort fault ((taken ++ line.now) ++ 10 ∷ []) (StandsAfter fault (T.stands taker.new before (W.contents writer.new)) (T.fails taker.new before (W.contents writer.new)))) }
+        ensures room { OnOk result (room_of self.new + length line.now < room_of self.old) }
+    {
+        if self.count >= MOST_LINES {
+            return Err(RunFault::TooManyLines);
+        }
+        if line.len() > MOST_BYTES {
+            return Err(RunFault::LineTooLong);
+        }
+        taker.take_line(self.count + 1, line, writer)?;
+        self.count += 1;
+        Ok(())
     }
 
     /// Takes bytes among which is no byte 10.

@@ -1,13 +1,12 @@
 -- Calls that a line can make may be made of the tally.
-use Rattle.std.proofs.Common.{◌≡◌, ◌∙◌, ap, sym, refl, subst, rules, arith, ℕ, ◌<◌, ◌≤◌, ◌==◌, Bool, true, false, cond, List, [], ◌∷◌, get_or, length}
+use Rattle.std.proofs.Common.{◌≡◌, sym, refl, subst, rules, arith, ℕ, ◌<◌, ◌≤◌, ◌==◌, Bool, true, false, cond, List, get_or, length}
 use Rattle.std.specs.Prelude.{◌&&◌, nat_le, nat_lt}
 use Rattle.std.specs.List.{All}
 use Rattle.std.proofs.lemmas.Bool.{eqb-true}
 use Rattle.std.proofs.lemmas.Bool.Decides.{nat_tests}
 use Rattle.std.proofs.lemmas.List.Sums.{AllPass-from_list_all}
-use Rattle.courier_types.specs.Fits.{Fits, has_shape}
-use Rattle.courier_types.specs.Shape.{ShapeModel, no_shapes}
-use Rattle.courier_types.specs.Value.{ValueModel, no_values, value_and}
+use Rattle.courier_types.specs.Fits.{has_shape}
+use Rattle.courier_types.specs.Value.{ValueModel, no_values}
 use Rattle.courier_calls.specs.Calls.{ArgumentsModel, CallFits, CallModel, found, raw_words, typed}
 use Rattle.courier_calls.specs.Tally.{tally}
 use Rattle.xns_script.specs.Saying.{are_said, is_cardinal, is_no_fields, is_said}

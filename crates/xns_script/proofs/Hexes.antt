@@ -1,12 +1,11 @@
 -- Hex digits.
-use Rattle.std.proofs.Common.{◌≡◌, ◌∙◌, ◌⊎◌, inl, inr, ap, sym, refl, subst, arith, ℕ, ◌+◌, ◌*◌, ◌==◌, Bool, true, false, cond, List, [], ◌∷◌, length, get_or, Option, Some, None, codes, option_map}
+use Rattle.std.proofs.Common.{◌≡◌, ◌∙◌, ◌⊎◌, inl, inr, ap, sym, refl, subst, arith, ℕ, ◌==◌, Bool, true, false, cond, List, [], ◌∷◌, length, get_or, Option, Some, None, option_map}
 use Rattle.std.specs.Int.{from_be_bytes, w16}
 use Rattle.std.specs.Prelude.{Result, Ok, Err, MatchResult}
 use Rattle.hex.specs.declared.error.FromHexError.{FromHexError}
 use Rattle.hex.specs.declared.error.FromHexError.TheVariants.{OutOfMemory}
 use Rattle.std.specs.Borrow.{Bor}
-use Rattle.std.specs.Str.{bytes_eq}
-use Rattle.xns_script.specs.Word.{all_hex_words, and_more, bytes_in, hex_word_of, is_dash, put_byte, raw_words_of, word_in, words_after, words_of_line}
+use Rattle.xns_script.specs.Word.{all_hex_words, bytes_in, is_dash, put_byte, raw_words_of, word_in, words_after, words_of_line}
 
 -- two bytes make a word
 pub two_bytes : (bytes : List ℕ) → length bytes ≡ 2 → Some (from_be_bytes w16 (get_or bytes 0 0 ∷ get_or bytes 1 0 ∷ [])) ≡ word_in (Ok bytes)

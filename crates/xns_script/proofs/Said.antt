@@ -1,18 +1,17 @@
 -- Calls that a line can make.
-use Rattle.std.proofs.Common.{◌≡◌, ◌∙◌, ap, sym, refl, subst, rules, arith, ℕ, suc, ◌+◌, ◌<◌, ◌≤◌, ◌==◌, Bool, true, false, cond, List, [], ◌∷◌, ◌++◌, length, map, Option, Some, None, codes}
-use Rattle.std.specs.Prelude.{◌&&◌, nat_le, nat_lt, IfSome, All, option_map}
-use Rattle.std.specs.List.{list_all}
+use Rattle.std.proofs.Common.{◌≡◌, ◌∙◌, ap, refl, arith, ℕ, suc, ◌<◌, ◌≤◌, ◌==◌, Bool, true, false, cond, List, [], ◌∷◌, ◌++◌, length, map, Option, Some, None, codes}
+use Rattle.std.specs.Prelude.{◌&&◌, nat_le, nat_lt, IfSome, option_map}
 use Rattle.std.specs.Str.{bytes_eq}
 use Rattle.std.proofs.lemmas.Bool.Decides.{nat_tests}
 use Rattle.std.proofs.lemmas.List.Folds.{list_all-append}
 use Rattle.std.proofs.lemmas.List.{map-append}
 use Rattle.courier_calls.specs.declared.call.Call.{Call}
-use Rattle.courier_calls.specs.Calls.{CallModel, call_model, raw_words}
+use Rattle.courier_calls.specs.Calls.{call_model}
 use Rattle.xns_world.specs.declared.event.Event.{Event}
 use Rattle.xns_world.specs.declared.side.Side.{Side}
-use Rattle.xns_script.specs.Command.{CommandModel, add_call, calls, command_in, command_of, foreign_of, happens, more_words, one_word, raw_call_of, skips, three_words, total_call, two_words}
+use Rattle.xns_script.specs.Command.{CommandModel, add_call, calls, command_in, command_of, foreign_of, happens, raw_call_of, skips}
 use Rattle.xns_script.specs.Saying.{are_said, is_said}
-use Rattle.xns_script.specs.Word.{all_hex_words, and_more, at_most, digits_from, hex_word_of, is_dash, number_of, put_byte, raw_words_of, words_of_line}
+use Rattle.xns_script.specs.Word.{all_hex_words, and_more, digits_from, hex_word_of, is_dash, number_of, put_byte, raw_words_of, words_of_line}
 
 abbrev pub is_said_command : Option CommandModel → Bool
 is_said_command (Some (calls c)) = is_said c

@@ -1,5 +1,5 @@
 -- Calls that a line can make may be made of the tally.
-use Rattle.std.specs.Prelude.{ℕ, ◌==◌, ◌&&◌, Bool, true, false, if◌then◌else◌, nat_le, nat_lt, List, length}
+use Rattle.std.specs.Prelude.{◌==◌, ◌&&◌, Bool, true, false, if◌then◌else◌, nat_le, nat_lt, List, length}
 use Rattle.std.specs.List.{list_all}
 use Rattle.courier_types.specs.Value.{ValueModel, no_values}
 use Rattle.courier_calls.specs.Calls.{ArgumentsModel, CallModel, raw_words, typed}

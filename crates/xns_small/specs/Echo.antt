@@ -1,5 +1,5 @@
 -- The Echo protocol (XSIS 028112, Echo Protocol).
-use Rattle.std.specs.Prelude.{◌≡◌, ℕ, ◌==◌, nat_lt, Bool, true, false, if◌then◌else◌, List, [], ◌∷◌, ◌++◌, length, drop, Result, Ok, Err, ◌⊎◌}
+use Rattle.std.specs.Prelude.{◌≡◌, ℕ, ◌==◌, nat_lt, Bool, true, false, if◌then◌else◌, List, ◌++◌, length, drop, Result, Ok, Err, ◌⊎◌}
 use Rattle.std.specs.Int.{w16, to_be_bytes}
 use Rattle.xns_idp.specs.Packet.{PacketModel, broadcast}
 use Rattle.xns_idp.specs.Reading.{word_at}

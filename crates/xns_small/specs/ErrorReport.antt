@@ -1,5 +1,5 @@
 -- The Error protocol (XSIS 028112, Error Protocol).
-use Rattle.std.specs.Prelude.{◌≡◌, ◌≢◌, ℕ, ◌<◌, ◌≤◌, ◌^◌, nat_lt, if◌then◌else◌, List, ◌++◌, length, drop, take, slice_index, slice_range, Result, Ok, Err}
+use Rattle.std.specs.Prelude.{◌≡◌, ◌≢◌, ℕ, ◌<◌, ◌≤◌, ◌^◌, nat_lt, if◌then◌else◌, List, ◌++◌, length, drop, take, slice_index, Result, Ok, Err}
 use Rattle.std.specs.Int.{w16, to_be_bytes}
 use Rattle.xns_idp.specs.Packet.{broadcast}
 use Rattle.xns_idp.specs.Reading.{word_at, address_at}

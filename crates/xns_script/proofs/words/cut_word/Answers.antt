@@ -1,4 +1,4 @@
-use Rattle.std.proofs.Common.{◌≡◌, arith, add-one, eq-eqb}
+use Rattle.std.proofs.Common.{arith, add-one, eq-eqb}
 use Rattle.std.proofs.lemmas.Bool.{eqb-true}
 use Rattle.std.proofs.lemmas.List.{take_rest}
 use Rattle.xns_script.proofs.WordCuts.{whole_word, word_cut}

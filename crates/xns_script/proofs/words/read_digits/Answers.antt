@@ -1,5 +1,5 @@
-use Rattle.std.proofs.Common.{◌≡◌, ◌∙◌, arith}
-use Rattle.xns_script.proofs.Numbers.{all_read, one_more, small, value_more}
+use Rattle.std.proofs.Common.{◌∙◌, arith}
+use Rattle.xns_script.proofs.Numbers.{one_more, small, value_more}
 use Rattle.xns_script.proofs.words.read_digits.Goals as goal
 
 pub overflow_mul-number : goal.overflow_mul-number

@@ -1,4 +1,4 @@
-use Rattle.std.proofs.Common.{◌≡◌, ◌∙◌, ap, sym, arith, Some, length, eq-eqb}
+use Rattle.std.proofs.Common.{◌≡◌, ◌∙◌, ap, sym, arith, Some, eq-eqb}
 use Rattle.std.proofs.lemmas.Bool.{eqb-true}
 use Rattle.xns_script.specs.Word.{bytes_in, hex_bytes_of}
 use Rattle.xns_script.proofs.Hexes.{err_bytes, no_bytes, some_bytes}

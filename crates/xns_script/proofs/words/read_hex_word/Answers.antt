@@ -1,4 +1,4 @@
-use Rattle.std.proofs.Common.{arith, length}
+use Rattle.std.proofs.Common.{arith}
 use Rattle.hex.specs.Hex.{decode_sized}
 use Rattle.xns_script.specs.Word.{hex_word_of}
 use Rattle.xns_script.proofs.Hexes.{word_err, word_ok}

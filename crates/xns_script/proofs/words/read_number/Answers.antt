@@ -1,4 +1,4 @@
-use Rattle.std.proofs.Common.{◌≡◌, arith, refl}
+use Rattle.std.proofs.Common.{arith, refl}
 use Rattle.xns_script.proofs.Numbers.{accepted, refused}
 use Rattle.xns_script.proofs.words.read_number.Goals as goal
 

@@ -1,55 +1,34 @@
 use Rattle.std.proofs.Common.{arith, ◌∙◌, ◌++◌, ◌+◌, take, drop, [], ◌∷◌, length-append}
 use Rattle.std.proofs.lemmas.List.{take_rest, length-take, append-nil}
 use Rattle.std.proofs.lemmas.Result.{err_from_is_err_and}
-use Rattle.xns_lines.proofs.Cuts.{longer_front, newline_front, newline_split, run_split, whole_split}
+use Rattle.xns_lines.proofs.Cuts.{longer_front, newline_front, newline_split, whole_split}
 use Rattle.xns_lines.proofs.Cutting.{cut_as, short_later, short_own, takes_as, takes_run}
 use Rattle.xns_lines.proofs.Writes.{if_err_1, on_ok_1}
 use Rattle.xns_lines.proofs.cutter.Cutter.take_piece.Goals as goal
 
-pub returns-in_err-take_run-clause-err : goal.returns-in_err-take_run-clause-err
-returns-in_err-take_run-clause-err g c =
-    let stands = g.T.LineTaker.stands c.loop-end.taker in
-    let fails = g.T.LineTaker.fails c.loop-end.taker in
-    let contents = g.W.Write.contents c.loop-end.writer in
-    let so_far = c.loop-end.invariant in
-    let p = err_from_is_err_and c.from_residual.result c.from_residual.ensures.1 in
-    rw (p.1, p.2) (λ taken before h.
-    let t = so_far.2 taken before h in
-    short_later _ (drop c.in-Some.end c.loop-end.rest.now) _ _ _
-    (run_split taken so_far.0 c.loop-end.rest.now c.args.piece.now c.in-Some.end so_far.1)
-    (short_own _ (stands before contents) (fails before contents) (taken ++ so_far.0) _ t.1 (c.in_err-take_run.ensures.err (taken ++ so_far.0) t.0)))
-
-pub returns-in_err-take_newline-clause-err : goal.returns-in_err-take_newline-clause-err
-returns-in_err-take_newline-clause-err g c =
-    let stands = g.T.LineTaker.stands c.loop-end.taker in
-    let contents = g.W.Write.contents c.loop-end.writer in
+pub returns-in_err-take_end-clause-err : goal.returns-in_err-take_end-clause-err
+returns-in_err-take_end-clause-err g c =
     let so_far = c.loop-end.invariant in
     let found = c.in-Some.ensures in
-    let p = err_from_is_err_and c.from_residual-in_err-take_newline.result c.from_residual-in_err-take_newline.ensures.1 in
+    let p = err_from_is_err_and c.from_residual.result c.from_residual.ensures.1 in
     rw (p.1, p.2) (λ taken before h.
     short_later _ (drop (c.in-Some.end + 1) c.loop-end.rest.now) _ _ _
     (newline_split taken so_far.0 c.loop-end.rest.now c.args.piece.now c.in-Some.end so_far.1 found.0.high found.1)
-    (c.in_err-take_newline.ensures.err ((taken ++ so_far.0) ++ take c.in-Some.end c.loop-end.rest.now) before
-    (takes_run _ _ (stands before contents) (taken ++ so_far.0) _ (c.in_ok-take_run.ensures.ok (taken ++ so_far.0)) (so_far.2 taken before h))))
+    (c.in_err-take_end.ensures.err (taken ++ so_far.0) before (so_far.2 taken before h)))
 
 pub loop-end-preserved : goal.loop-end-preserved
 loop-end-preserved g c =
-    let stands = g.T.LineTaker.stands c.loop-end.taker in
-    let contents = g.W.Write.contents c.loop-end.writer in
     let so_far = c.loop-end.invariant in
     let found = c.in-Some.ensures in (
       (so_far.0 ++ take c.in-Some.end c.loop-end.rest.now) ++ 10 ∷ [],
       newline_front so_far.0 c.loop-end.rest.now c.args.piece.now _ c.in-Some.end so_far.1 found.0.high found.1 (take_rest c.loop-end.rest.now (c.in-Some.end + 1)),
-      (λ taken before h. takes_as _ (g.T.LineTaker.stands c.take_newline.new.taker before (g.W.Write.contents c.take_newline.new.writer)) _ _ (longer_front taken so_far.0 (take c.in-Some.end c.loop-end.rest.now) (10 ∷ []))
-          (c.in_ok-take_newline.ensures.ok ((taken ++ so_far.0) ++ take c.in-Some.end c.loop-end.rest.now) before
-          (takes_run _ _ (stands before contents) (taken ++ so_far.0) _ (c.in_ok-take_run.ensures.ok (taken ++ so_far.0)) (so_far.2 taken before h)))),
+      (λ taken before h. takes_as _ (g.T.LineTaker.stands c.take_end.new.taker before (g.W.Write.contents c.take_end.new.writer)) _ _ (longer_front taken so_far.0 (take c.in-Some.end c.loop-end.rest.now) (10 ∷ []))
+          (c.in_ok-take_end.ensures.ok (taken ++ so_far.0) before (so_far.2 taken before h))),
       (λ taken h. cut_as _ _ _ (longer_front taken so_far.0 (take c.in-Some.end c.loop-end.rest.now) (10 ∷ []))
-          (c.in_ok-take_newline.ensures.cut ((taken ++ so_far.0) ++ take c.in-Some.end c.loop-end.rest.now)
-          (c.in_ok-take_run.ensures.ok (taken ++ so_far.0) (so_far.3 taken h)).0)),
+          (c.in_ok-take_end.ensures.cut (taken ++ so_far.0) (so_far.3 taken h))),
       omega (
         arith,
-        c.in_ok-take_newline.ensures.room,
-        c.in_ok-take_run.ensures.room,
+        c.in_ok-take_end.ensures.room,
         so_far.4,
         found.0.high,
         length-append (so_far.0 ++ take c.in-Some.end c.loop-end.rest.now) (10 ∷ []),
@@ -61,7 +40,7 @@ loop-end-preserved g c =
 pub returns-clause-cut : goal.returns-clause-cut
 returns-clause-cut g c =
     let so_far = c.loop-end.invariant in
-    on_ok_1 _ _ c.take_run-2.result c.take_run-2.ensures.ok
+    on_ok_1 _ _ c.take_run.result c.take_run.ensures.ok
     (λ ok. λ taken h. cut_as _ _ _ (whole_split taken so_far.0 c.loop-end.rest.now c.args.piece.now so_far.1) (ok (taken ++ so_far.0) (so_far.3 taken h)).0)
 
 pub returns-clause-ok : goal.returns-clause-ok
@@ -69,7 +48,7 @@ returns-clause-ok g c =
     let stands = g.T.LineTaker.stands c.loop-end.taker in
     let contents = g.W.Write.contents c.loop-end.writer in
     let so_far = c.loop-end.invariant in
-    on_ok_1 _ _ c.take_run-2.result c.take_run-2.ensures.ok
+    on_ok_1 _ _ c.take_run.result c.take_run.ensures.ok
     (λ ok. λ taken before h. takes_as _ (stands before contents) _ _ (whole_split taken so_far.0 c.loop-end.rest.now c.args.piece.now so_far.1)
     (takes_run _ _ (stands before contents) (taken ++ so_far.0) _ (ok (taken ++ so_far.0)) (so_far.2 taken before h)))
 
@@ -79,7 +58,7 @@ returns-clause-err g c =
     let fails = g.T.LineTaker.fails c.loop-end.taker in
     let contents = g.W.Write.contents c.loop-end.writer in
     let so_far = c.loop-end.invariant in
-    if_err_1 _ _ c.take_run-2.result c.take_run-2.ensures.err
+    if_err_1 _ _ c.take_run.result c.take_run.ensures.err
     (λ fault err. λ taken before h.
     let t = so_far.2 taken before h in
     short_later ((taken ++ so_far.0) ++ c.loop-end.rest.now) [] _ _ _

@@ -1,9 +1,8 @@
-use Rattle.std.proofs.Common.{◌≡◌, ◌∙◌, ap, sym, subst, map, Option, Some, ◌∷◌, []}
+use Rattle.std.proofs.Common.{◌∙◌, ap, sym, map, Some, ◌∷◌, []}
 use Rattle.std.specs.Prelude.{option_map}
 use Rattle.std.proofs.lemmas.List.{map-append}
 use Rattle.courier_calls.specs.Calls.{call_model}
-use Rattle.xns_script.specs.Command.{CommandModel, calls, command_model, command_of, happens, skips}
-use Rattle.xns_script.specs.Reading.{HasRead}
+use Rattle.xns_script.specs.Command.{command_model}
 use Rattle.xns_script.proofs.Said.{is_said_command, line_said, pushed_said}
 use Rattle.xns_script.proofs.Scripts.{calls_line, happens_line, refuses, skips_line, stays}
 use Rattle.xns_script.proofs.script.Script.read_line.Goals as goal
