@@ -1,6 +1,7 @@
 -- What the program's server, with what it sent, stands for.
-use Rattle.std.specs.Prelude.{◌≡◌, ◌≤◌, ◌^◌, length}
+use Rattle.std.specs.Prelude.{◌≡◌, ◌≤◌, length}
 use Rattle.courier_calls.specs.Calls.{Serving}
+use Rattle.xns_spp.specs.Numbers.{most_items}
 use Rattle.xns_spp.specs.State.{IsState}
 use Rattle.xns_world.specs.CallLaws.{Answering}
 use Rattle.xns_world.specs.Serve.{Served}
@@ -20,4 +21,4 @@ GoesOn {S} serving before after f = (s : S) (w : Served) → Answering serving s
 -- the end's numbers keep within their bounds: at most window items wait, and at most backlog are unacknowledged
 pub record IsWithin {S : Type 0} (t : ServeTrace S) (w : Served) : Type 0 where
   pub end : IsState w.end
-  pub handed : length t.handed ≤ 2 ^ 48
+  pub handed : length t.handed ≤ most_items

@@ -9,12 +9,12 @@ ghost use Rattle.xns_world.specs.CallPlay.{IsCallPlaying, Goes, IsCallTrace, IsO
 ghost use Rattle.xns_world.specs.CallWorld.{Parties, CallWorld, call_happens, call_start, begun, run_calls, delivers, settles, in_world};
 ghost use Rattle.xns_world.specs.Setup.{IsGood};
 
-use crate::call_laws::laws_are_given;
 use crate::call_trace::CallTrace;
 use crate::calling::CallingEnd;
 use crate::ends::{flush_end, land, tick_end};
 use crate::event::Event;
 use crate::items::Items;
+use crate::laws::calls::laws_are_given;
 use crate::network::Network;
 use crate::serving::ServingEnd;
 use crate::setup::Setup;

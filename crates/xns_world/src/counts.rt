@@ -1,4 +1,5 @@
-ghost use Rattle.std.specs.Prelude.{◌≡◌, ◌≤◌, ◌+◌, ◌^◌, ℕ};
+ghost use Rattle.std.specs.Prelude.{◌≡◌, ◌≤◌, ◌+◌, ℕ};
+ghost use Rattle.xns_spp.specs.Numbers.{most_items};
 ghost use Rattle.xns_world.specs.Network.{count_of, moment_of, with_count};
 
 use crate::moment::Moment;
@@ -34,7 +35,7 @@ impl Counts {
 
     /// An end has taken so many items more.
     pub fn add(&mut self, side: Side, more: usize)
-        ensures { (n : ℕ) → n ≤ 2 ^ 48 → count_of self.old side + more ≡ n → self.new ≡ with_count self.old side n }
+        ensures { (n : ℕ) → n ≤ most_items → count_of self.old side + more ≡ n → self.new ≡ with_count self.old side n }
     {
         let count = self.of(side).saturating_add(more as u64);
         match side {

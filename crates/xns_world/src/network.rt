@@ -1,5 +1,6 @@
 ghost use Rattle.std.specs.Prelude.{◌≡◌, ◌≤◌, ◌<◌, ◌+◌, ◌^◌, ◌∷◌, ◌++◌, if◌then◌else◌, ℕ, [], map, length, Some, OnOk, IfOk, IfSome, slice_get};
 ghost use Rattle.std.specs.Option.{option_to_list};
+ghost use Rattle.xns_spp.specs.Numbers.{most_items};
 ghost use Rattle.xns_spp.specs.State.{State};
 ghost use Rattle.xns_world.specs.declared.emitted.Emitted.{Emitted};
 ghost use Rattle.xns_world.specs.Landing.{landing, end_reached};
@@ -81,7 +82,7 @@ impl Network {
         reply: Option<Bytes>,
     ) -> Result<(), AllocError>
         requires { number < length self.old.packets.items }
-        ensures { OnOk result ((w : World) (x : Emitted) (s : State) → IsNetwork self.old w → slice_get w.bag number ≡ Some x → length s.taken ≤ 2 ^ 48 → length (end_of w side).taken + took ≡ length s.taken →
+        ensures { OnOk result ((w : World) (x : Emitted) (s : State) → IsNetwork self.old w → slice_get w.bag number ≡ Some x → length s.taken ≤ most_items → length (end_of w side).taken + took ≡ length s.taken →
             IsNetwork self.new (moved (marked w number x) side s (option_to_list reply))) }
     {
         self.packets[number].delivered = true;

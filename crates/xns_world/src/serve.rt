@@ -10,9 +10,9 @@ ghost use Rattle.xns_world.specs.ServeBounds.{IsServedWithin};
 ghost use Rattle.xns_world.specs.ServePlay.{IsServePlaying, GoesOn, IsWithin};
 ghost use Rattle.xns_world.specs.Setup.{IsGood};
 
-use crate::call_laws::server_laws_are_given;
 use crate::items::Items;
-use crate::serve_laws::served_ends_stay_within_bounds;
+use crate::laws::calls::server_laws_are_given;
+use crate::laws::serving::served_ends_stay_within_bounds;
 use crate::serve_trace::ServeTrace;
 use crate::serving::ServingEnd;
 use crate::setup::Setup;

@@ -4,7 +4,7 @@ use Rattle.xns_world.specs.CallPromises.{AreParties, Promised}
 use Rattle.xns_world.specs.CallWorld.{Parties, run_calls}
 use Rattle.xns_world.proofs.CallRuns.{always_between, once_in_order, meet_no_fault}
 use Rattle.xns_world.proofs.CallSettling.{settles_end}
-use Rattle.xns_world.proofs.call_laws.calls_come_in_order.Goals as goal
+use Rattle.xns_world.proofs.laws.calls.calls_come_in_order.Goals as goal
 
 promised : {S : Type 0} (serving : Serving S) (IsServiceState : S → Type 0) → ((p : Parties S) → AreParties serving IsServiceState p → Given p) → Promised serving IsServiceState
 promised serving IsServiceState given = record {

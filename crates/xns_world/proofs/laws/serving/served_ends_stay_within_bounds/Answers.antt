@@ -5,7 +5,7 @@ use Rattle.xns_world.proofs.ServeBounds.{BoundLaws, Within, handed_items, steps_
 use Rattle.xns_world.proofs.ServeOuts.{Brings, out_first}
 use Rattle.xns_world.specs.Serve.{serve, serve_start, serve_settles}
 use Rattle.xns_world.specs.Settling.{handed_by, end_step_with}
-use Rattle.xns_world.proofs.serve_laws.served_ends_stay_within_bounds.Goals as goal
+use Rattle.xns_world.proofs.laws.serving.served_ends_stay_within_bounds.Goals as goal
 
 pub returns-clause-ends : goal.returns-clause-ends
 returns-clause-ends g c s setup packets can fits good bytes =

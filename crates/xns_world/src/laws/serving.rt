@@ -10,7 +10,7 @@ ghost use Rattle.xns_world.specs.Settling.{serve_step, steps, stepped_out};
 ghost use Rattle.xns_world.specs.Setup.{IsSetup, IsGood};
 ghost use Rattle.xns_world.specs.declared.setup.Setup.{Setup};
 
-use crate::call_laws::server_laws_are_given;
+use crate::laws::calls::server_laws_are_given;
 use courier_calls::Service;
 use courier_calls::laws::{
     an_item_brings_at_most_one_answer, answers_are_short, service_stays_in_its_states,

@@ -1,4 +1,4 @@
-use Rattle.xns_world.proofs.call_laws.server_laws_are_given.Goals as goal
+use Rattle.xns_world.proofs.laws.calls.server_laws_are_given.Goals as goal
 
 pub returns : goal.returns
 returns g c s can =

@@ -1,6 +1,6 @@
 use Rattle.xns_world.specs.CallLaws.{WorldLaws}
 use Rattle.xns_world.proofs.CallGiven.{SessionLaws, given}
-use Rattle.xns_world.proofs.call_laws.laws_are_given.Goals as goal
+use Rattle.xns_world.proofs.laws.calls.laws_are_given.Goals as goal
 
 pub returns : goal.returns
 returns g c p are =
