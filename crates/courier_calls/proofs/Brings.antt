@@ -33,7 +33,7 @@ cut_back : (m : Message) → bytes_in (cut m) ≡ message_bytes m
 unfolding cut_bytes
 cut_back m = bytes_back ((length (message_bytes m) - 1) / 534) (message_bytes m)
 
-cut_size : (m : Message) → IsShort m → length (bytes_in (cut m)) ≤ 131072
+pub cut_size : (m : Message) → IsShort m → length (bytes_in (cut m)) ≤ 131072
 cut_size m short = omega (arith, short, ap (length {A = ℕ}) (cut_back m), bytes_length (message_words m))
 
 -- ---- the calls of one item

@@ -12,6 +12,7 @@ use crate::layers::small::{append_echo, append_error, append_exchange};
 use crate::layers::text::{append_address, append_data_line};
 use std::alloc::{AllocError, Global};
 use xns_idp::packet_type::{ECHO, ERROR, PACKET_EXCHANGE, SEQUENCED_PACKET};
+use xns_idp::places::read_word;
 use xns_idp::{IdpFault, Packet, decode};
 use xns_lines::numbers::{append_decimal, append_word};
 
@@ -86,7 +87,7 @@ fn append_idp_line(
 {
     append_decimal(report, number)?;
     report.extend_from_slice(b" idp ")?;
-    append_size(report, u16::from_be_bytes([bytes[0], bytes[1]]), packet)?;
+    append_size(report, read_word(bytes, 0), packet)?;
     append_kind(report, packet)?;
     append_route(report, packet)?;
     report.extend_from_slice(b"\n")
