@@ -1,4 +1,5 @@
--- The packets that this crate makes.
+-- The packets that this crate makes (XSIS 028112, Internet Datagram Protocol, Packet Format). That they are summed is this
+-- project's rule.
 use Rattle.std.specs.Prelude.{ℕ, true, List}
 use Rattle.xns_idp.specs.Packet.{packet_spelling}
 use Rattle.xns_idp.specs.declared.address.Address.{Address}
