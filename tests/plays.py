@@ -220,7 +220,7 @@ class Hearing:
         """The message that the item ends, as words, or None."""
         stream, _, last, body = item
         if stream != 0:
-            raise Fault("Stream")
+            raise Fault("Stream %d" % stream)
         if len(self.versions) < 4:
             need = 4 - len(self.versions)
             self.versions += body[:need]

@@ -2,7 +2,7 @@
 //!
 //! A step is an item or one of these: `add` calls Add of 5, `text` Add of a text, `eight` program 8, `list` the procedure with
 //! a list as its results, `raw` and a number Add with so many words of 0; `outcome` picks up an outcome.
-use crate::script::{item, put_item, put_words, session_fault};
+use crate::script::{item, put_item, put_session_fault, put_words};
 use crate::serving::MOST_ITEMS;
 use courier_calls::{
     Arguments, Call, CallFault, Caller, Procedure, Seen, Table, Words, tally_table,
@@ -121,7 +121,7 @@ fn put_step(
         return text.push_str(" more is out");
     }
     if let Err(fault) = caller.feed(alloc, item) {
-        text.push_str(session_fault(fault))?;
+        put_session_fault(text, fault)?;
     }
     put_out(caller, text)
 }

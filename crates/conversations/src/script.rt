@@ -110,15 +110,16 @@ pub fn message_fault(fault: MessageFault) -> &'static str {
     }
 }
 
-pub fn session_fault(fault: SessionFault) -> &'static str {
+/// Why a session stopped; of an item of another datastream, which.
+pub fn put_session_fault(text: &mut String, fault: SessionFault) -> Result<(), AllocError> {
     match fault {
-        SessionFault::NoCommonVersion => " NoCommonVersion",
-        SessionFault::BadVersions => " BadVersions",
-        SessionFault::BadMessage(fault) => message_fault(fault),
-        SessionFault::WrongTransaction => " WrongTransaction",
-        SessionFault::BadReply => " BadReply",
-        SessionFault::Stream { .. } => " Stream",
-        SessionFault::NoMemory => " NoMemory",
-        SessionFault::Failed => " Failed",
+        SessionFault::NoCommonVersion => text.push_str(" NoCommonVersion"),
+        SessionFault::BadVersions => text.push_str(" BadVersions"),
+        SessionFault::BadMessage(fault) => text.push_str(message_fault(fault)),
+        SessionFault::WrongTransaction => text.push_str(" WrongTransaction"),
+        SessionFault::BadReply => text.push_str(" BadReply"),
+        SessionFault::Stream { kind } => write!(text, " Stream {kind}"),
+        SessionFault::NoMemory => text.push_str(" NoMemory"),
+        SessionFault::Failed => text.push_str(" Failed"),
     }
 }

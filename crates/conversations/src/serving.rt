@@ -1,5 +1,5 @@
 //! A server of the tally, as lines play it.
-use crate::script::{item, put_item, put_words, session_fault};
+use crate::script::{item, put_item, put_session_fault, put_words};
 use courier_calls::{Arguments, Call, Server, Tally, tally_table};
 use std::alloc::{AllocError, Global};
 use std::fmt::Write;
@@ -43,7 +43,7 @@ fn put_fed(
     match server.feed(alloc, item) {
         Ok(Some(call)) => put_call(text, &call)?,
         Ok(None) => {}
-        Err(fault) => text.push_str(session_fault(fault))?,
+        Err(fault) => put_session_fault(text, fault)?,
     }
     put_out(server, text)
 }

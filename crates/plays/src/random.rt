@@ -2,7 +2,7 @@
 use crate::damage::damaged;
 use crate::draft::Draft;
 use crate::generator::Generator;
-use crate::telling::session_fault;
+use crate::telling::Fault;
 use courier_calls::{Tally, tally_table};
 use std::alloc::{AllocError, Global};
 use xns_idp::decode;
@@ -118,7 +118,7 @@ fn trace_text(
     let replies = trace.replies.as_slice();
     let handed = trace.handed.as_slice().len();
     let carried = trace.carried.len();
-    let fault = session_fault(&trace.fault);
+    let fault = Fault(&trace.fault);
     let sum = digest(replies);
     let total = trace.service.total();
     format!(in alloc;

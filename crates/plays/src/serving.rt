@@ -3,7 +3,7 @@ use crate::calls::put_carried;
 use crate::draft::{Draft, read_hex};
 use crate::lines::Lines;
 use crate::steps::counted;
-use crate::telling::{item_text, packet_text, session_fault};
+use crate::telling::{Fault, item_text, packet_text};
 use courier_calls::{Tally, tally_table};
 use std::alloc::{AllocError, Global};
 use xns_spp::{Bytes, Header};
@@ -51,7 +51,7 @@ fn trace_text(alloc: Global, trace: &ServeTrace<Tally>) -> Result<String, AllocE
         lines.put(item_text(alloc, "handed", item)?)?;
     }
     put_carried(alloc, &mut lines, trace.carried.as_slice())?;
-    lines.put(format!(in alloc; "fault {}", session_fault(&trace.fault))?)?;
+    lines.put(format!(in alloc; "fault {}", Fault(&trace.fault))?)?;
     put_replies(alloc, &mut lines, trace.replies.as_slice())?;
     lines.put(format!(in alloc; "total {}", trace.service.total())?)?;
     lines.into_text()

@@ -161,17 +161,24 @@ fn message_fault(fault: MessageFault) -> &'static str {
     }
 }
 
-pub fn session_fault(fault: &Option<SessionFault>) -> &'static str {
-    match fault {
-        None => "none",
-        Some(SessionFault::NoCommonVersion) => "NoCommonVersion",
-        Some(SessionFault::BadVersions) => "BadVersions",
-        Some(SessionFault::BadMessage(fault)) => message_fault(*fault),
-        Some(SessionFault::WrongTransaction) => "WrongTransaction",
-        Some(SessionFault::BadReply) => "BadReply",
-        Some(SessionFault::Stream { .. }) => "Stream",
-        Some(SessionFault::NoMemory) => "NoMemory",
-        Some(SessionFault::Failed) => "Failed",
+/// Why a session stopped; of an item of another datastream, which.
+#[derive(Drop)]
+pub struct Fault<'a>(pub &'a Option<SessionFault>);
+
+impl fmt::Display for Fault<'_> {
+    fn fmt<W: fmt::Write>(&self, f: &mut fmt::Formatter<W>) -> fmt::Result {
+        let name = match self.0 {
+            None => "none",
+            Some(SessionFault::NoCommonVersion) => "NoCommonVersion",
+            Some(SessionFault::BadVersions) => "BadVersions",
+            Some(SessionFault::BadMessage(fault)) => message_fault(*fault),
+            Some(SessionFault::WrongTransaction) => "WrongTransaction",
+            Some(SessionFault::BadReply) => "BadReply",
+            Some(SessionFault::Stream { kind }) => return write!(f, "Stream {kind}"),
+            Some(SessionFault::NoMemory) => "NoMemory",
+            Some(SessionFault::Failed) => "Failed",
+        };
+        write!(f, "{name}")
     }
 }
 
