@@ -61,7 +61,7 @@ enum xns_result {
     XNS_BUSY = 57          /* a call waits for its answer, or an answer was not picked up */
 };
 
-/* Why a received packet's item was neither taken nor kept. After the first four the endpoint is as it was. */
+/* Why a received packet's item was neither taken nor kept. After XNS_NOT_IDP to XNS_AHEAD_OF_US the endpoint is as it was. */
 enum xns_dropped {
     XNS_NOT_DROPPED = 0,   /* it was taken or kept, or the packet brings none */
     XNS_NOT_IDP = 31,      /* no internet packet */
@@ -87,7 +87,7 @@ enum xns_size {
 /* Where a packet goes to or comes from. */
 struct xns_address {
     uint32_t network; /* 0 is an unknown network */
-    uint8_t host[6];  /* the highest byte first; six bytes of 255 are every host */
+    uint8_t host[6];  /* the highest byte first; six bytes of 255 are a broadcast */
     uint16_t socket;
 };
 
@@ -120,7 +120,7 @@ uint32_t xns_encode(const struct xns_packet *packet, const uint8_t *body, size_t
 uint32_t xns_echo_reply(const struct xns_address *own, const uint8_t *bytes, size_t length, uint8_t *buffer, size_t room, size_t *written);
 
 /* Writes the Error packet from `own` about an offending packet, which it quotes. XNS_NOTHING where one must not complain: there are under
- * 30 bytes, it is itself an Error packet, or it went to every host. XNS_NO_MEMORY, XNS_SHORT_BUFFER. */
+ * 30 bytes, it is itself an Error packet, or it was a broadcast. XNS_NO_MEMORY, XNS_SHORT_BUFFER. */
 uint32_t xns_complain(const struct xns_address *own, uint16_t number, uint16_t parameter, const uint8_t *offending, size_t length, uint8_t *buffer, size_t room, size_t *written);
 
 /* Reads the data of an Error packet; what it quotes follows from byte 4 on. XNS_SHORT under 4 bytes. */
@@ -266,9 +266,9 @@ uint32_t xns_caller_call(struct xns_caller *caller, uint32_t program, uint16_t v
 uint32_t xns_caller_next_item(struct xns_caller *caller, struct xns_item *item, uint8_t *buffer, size_t room);
 
 /* Takes in an item that came, whose bytes it copies; `last` is 0 where no message ends with it. XNS_NO_CALLER; or the conversation stops:
- * XNS_NO_COMMON_VERSION, XNS_BAD_VERSIONS, XNS_ODD_LENGTH, XNS_SHORT_MESSAGE, XNS_UNKNOWN_KIND, XNS_LONG_MESSAGE, XNS_WRONG_TRANSACTION,
- * XNS_BAD_REPLY, XNS_OTHER_STREAM, XNS_NO_MEMORY. From then on each item and call is answered XNS_STOPPED; what is out and an answer that is there
- * can still be fetched. */
+ * XNS_OTHER_STREAM, XNS_BAD_VERSIONS, XNS_NO_COMMON_VERSION, XNS_LONG_MESSAGE, XNS_ODD_LENGTH, XNS_SHORT_MESSAGE, XNS_UNKNOWN_KIND, XNS_BAD_REPLY,
+ * XNS_WRONG_TRANSACTION; XNS_NO_MEMORY may come in the stead of each. From then on each item and call is answered XNS_STOPPED; what is out and an
+ * answer that is there can still be fetched. */
 uint32_t xns_caller_feed(struct xns_caller *caller, uint8_t stream, uint8_t last, const uint8_t *body, size_t length);
 
 /* Gives the answer that is there, once, its words to the front of a buffer with room for so many words: a return with the results, an abort with its

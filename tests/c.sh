@@ -84,11 +84,15 @@ build() {
     expect "$program is built" "$compiler" $flags -std=c99 "$@" $archive "$heap" -o "$work/$program"
 }
 
-build calls -Wl,--wrap=malloc,--wrap=realloc tests/c/calls.c tests/c/refuse.c
+wrap='-Wl,--wrap=malloc,--wrap=realloc'
+build layout tests/c/layout.c
+build calls $wrap tests/c/calls.c tests/c/refuse.c
 for example in endpoints fields echo courier; do
     build $example examples/c/$example.c
 done
+expect 'the structs and numbers of the header' "$work/layout"
 expect 'each call, and each growth refused' "$work/calls"
+sed 's/^/calls: /' "$work/out"
 expect 'two endpoints, 1,000 items each way' "$work/endpoints" 1000
 echo 42 > "$work/text"
 expect 'a call over a connection' "$work/courier"
@@ -101,6 +105,40 @@ expect 'its reply' cmp "$work/out" "$work/reply"
 expect 'the fields of a packet' sh -c "'$work/fields' < '$work/request'"
 printf '%s\n' 'summed 1 control 0 type 2 length 34' 'to network 1 host 0000aa000102 socket 2' 'from network 1 host 0000aa000304 socket 1024' 'data 00014869' > "$work/text"
 expect 'are these' cmp "$work/out" "$work/text"
+
+# Runs an example with its k-th growth refused, for every k up to the first run that sees no refusal. Each must end by itself, with 0 or with the status
+# that the example has for want of memory.
+refuse_each() {
+    example=$1
+    status_then=$2
+    shift 2
+    growth=0
+    while :; do
+        growth=$((growth + 1))
+        rm -f "$work/growths"
+        REFUSE_AT=$growth GROWTHS_TO=$work/growths timeout 60 "$work/refused_$example" "$@" < "$work/request" > "$work/out" 2> "$work/err"
+        status=$?
+        if [ ! -s "$work/growths" ]; then fail "$example with growth $growth refused: it ended with $status"; return; fi
+        if [ "$(cat "$work/growths")" -lt $growth ]; then break; fi
+        if [ $status -ne 0 ] && [ $status -ne "$status_then" ]; then fail "$example with growth $growth refused: status $status"; return; fi
+    done
+    growth=$((growth - 1))
+    if [ $status -ne 0 ] || [ -s "$work/err" ]; then fail "$example with nothing refused: status $status"
+    elif [ $growth -eq 0 ]; then fail "$example: no growth was seen"
+    else
+        passed=$((passed + 1))
+        echo "$example: ended by itself with each of $growth growths refused"
+    fi
+}
+
+if has timeout; then
+    for example in endpoints echo courier; do
+        build refused_$example $wrap examples/c/$example.c tests/c/refuse.c
+    done
+    refuse_each endpoints 0 40
+    refuse_each echo 0
+    refuse_each courier 1
+else left_out timeout 'the examples with each growth refused'; fi
 
 sed -n '/^```c$/,/^```$/p' docs/C.md | sed '/^```/d' > "$work/example.c"
 build example "$work/example.c"
@@ -128,7 +166,7 @@ else left_out 'tshark and text2pcap' 'whether they read what the endpoints sent'
 # ---- no error and no leak
 
 if has valgrind; then
-    for words in calls courier 'endpoints 100'; do
+    for words in calls layout courier 'endpoints 100'; do
         # shellcheck disable=SC2086
         expect "$words under valgrind" valgrind -q --leak-check=full --show-leak-kinds=all --error-exitcode=9 "$work/"$words
     done

@@ -358,11 +358,14 @@ static void bad_conversations(void) {
     stops(true, 0, "\0\1\0\2", 4, XNS_NO_COMMON_VERSION);
     stops(true, 0, "\0\4\0\3", 4, XNS_BAD_VERSIONS);
     stops(true, 0, "\0\3", 2, XNS_BAD_VERSIONS);
-    stops(true, 1, "\0\3\0\3", 4, XNS_OTHER_STREAM);
+    stops(true, 1, "\0\4\0\3", 4, XNS_OTHER_STREAM);
     stops(false, 0, "\0\2\0", 3, XNS_ODD_LENGTH);
     stops(false, 0, "\0\2", 2, XNS_SHORT_MESSAGE);
     stops(false, 0, "\0\4\0\1", 4, XNS_UNKNOWN_KIND);
     stops(false, 0, many, 131074, XNS_LONG_MESSAGE);
+    stops(false, 0, many, 131073, XNS_LONG_MESSAGE);
+    stops(false, 0, "\0\4", 2, XNS_SHORT_MESSAGE);
+    stops(false, 0, "\0\0\0\2\0\0\0\7\0\2\0\1", 12, XNS_BAD_REPLY);
     stops(false, 0, "\0\2\0\2", 4, XNS_WRONG_TRANSACTION);
     stops(false, 0, call, sizeof call, XNS_BAD_REPLY);
     CHECK(xns_caller_new(&caller) == XNS_OK && xns_caller_call(&caller, 7, 2, 1, many, 65531) == XNS_TOO_LONG && xns_caller_call(&caller, 7, 2, 1, many, 65530) == XNS_OK);
