@@ -87,7 +87,7 @@ enum xns_size {
 /* Where a packet goes to or comes from. */
 struct xns_address {
     uint32_t network; /* 0 is an unknown network */
-    uint8_t host[6];  /* the highest byte first; six bytes of 255 are a broadcast */
+    uint8_t host[6];  /* the highest byte first; six bytes of 255 are the broadcast host */
     uint16_t socket;
 };
 
@@ -120,7 +120,7 @@ uint32_t xns_encode(const struct xns_packet *packet, const uint8_t *body, size_t
 uint32_t xns_echo_reply(const struct xns_address *own, const uint8_t *bytes, size_t length, uint8_t *buffer, size_t room, size_t *written);
 
 /* Writes the Error packet from `own` about an offending packet, which it quotes. XNS_NOTHING where one must not complain: there are under
- * 30 bytes, it is itself an Error packet, or it was a broadcast. XNS_NO_MEMORY, XNS_SHORT_BUFFER. */
+ * 30 bytes, it is itself an Error packet, or it went to the broadcast host. XNS_NO_MEMORY, XNS_SHORT_BUFFER. */
 uint32_t xns_complain(const struct xns_address *own, uint16_t number, uint16_t parameter, const uint8_t *offending, size_t length, uint8_t *buffer, size_t room, size_t *written);
 
 /* Reads the data of an Error packet; what it quotes follows from byte 4 on. XNS_SHORT under 4 bytes. */
