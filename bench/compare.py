@@ -48,9 +48,13 @@ def built_c(name, folder, library):
     program = pathlib.Path(folder) / name
     words = ["gcc", "-O2", "-std=c99", f"-I{BENCH.parent / 'include'}", BENCH / f"{name}.c"]
     if library:
-        subprocess.run(["rt", "lib"], cwd=CRATES / "xns_c", stdout=subprocess.DEVNULL, stderr=subprocess.DEVNULL, check=True)
+        archive = CRATES / "xns_c" / "out" / "libxns_c.a"
+        archive.unlink(missing_ok=True)
+        built = subprocess.run(["rt", "lib"], cwd=CRATES / "xns_c", stdout=subprocess.PIPE, stderr=subprocess.STDOUT, check=False)
+        if built.returncode != 0 or not archive.exists():
+            sys.exit(built.stdout.decode() + f"no library at {archive}")
         first = pathlib.Path(subprocess.run(["rt", "doc"], stdout=subprocess.PIPE, check=True, text=True).stdout.strip())
-        words += [CRATES / "xns_c" / "out" / "libxns_c.a", first.parent / "c" / "liblibc_c.a"]
+        words += [archive, first.parent / "c" / "liblibc_c.a"]
     subprocess.run(words + ["-o", program], check=True)
     return program
 

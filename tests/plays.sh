@@ -12,10 +12,10 @@ trap 'rm -rf "$work"' EXIT
 passed=0
 failed=0
 
-(cd $crate && rt run < stdin) > "$work/build" 2>&1
-if [ ! -x "$program" ]; then
+rm -f "$program"
+if ! (cd $crate && rt run < stdin) > "$work/build" 2>&1 || [ ! -x "$program" ]; then
     cat "$work/build"
-    echo "no program at $program"
+    echo "the program was not built"
     exit 1
 fi
 gcc -O1 -shared -fPIC -o "$work/refuse_growth.so" tests/refuse_growth.c

@@ -103,6 +103,13 @@ for length in $(seq 0 33); do
     expect "an echo request cut to $length bytes" 1 '' "$work/text"
 done
 
+# What the examples print: each line of hex that is long enough for a header is a packet, and none is refused.
+grep -x '[0-9a-f]\{60,\}' crates/examples/stdout > "$work/in"
+run dump
+expect 'the packets of the examples' 0 '' -
+[ "$(grep -c '^[0-9]* idp length ' "$work/out")" -eq 8 ] && ! grep -q ' refused ' "$work/out"
+saw 'the examples have not 8 packets' $?
+
 # ---- plays of calls
 
 # The program on the lines of $work/in prints the words, each as a line.
@@ -279,6 +286,15 @@ for words in --help -h 'dump --help' 'sim --help' 'help' 'help dump' 'help sim';
     saw "$words: no usage on standard output" $?
 done
 
+for words in --help 'dump --help' 'sim --help'; do
+    # shellcheck disable=SC2086
+    run $words
+    for said in 'standard input' '65,536' 'Example'; do
+        grep -q "$said" "$work/out"
+        saw "$words: nothing of '$said'" $?
+    done
+done
+
 # ---- each read and each write failing in turn, and each growth refused
 
 gcc -O1 -shared -fPIC -o "$work/fail_streams.so" tests/fail_streams.c
@@ -338,6 +354,7 @@ refuse_growths() {
         fi
         growth=$((growth + 1))
     done
+    echo "$mode: $((growth - 1)) growths were refused"
     [ $growth -gt 1 ]
     saw "$mode: no growth to refuse" $?
     expect "$mode: a run that asks for fewer than $growth growths" "$fine" '' "$work/text"

@@ -1,7 +1,7 @@
 #!/bin/sh
 # Refuses each growth of the program `refusals` in turn. Each of its lines is a call that can take memory: every one is refused at least
-# once, stands then as before, and answers when it is called again. One line is a call that must take none, and answers in every run. The
-# script's last line is 'N passed, M failed', and it ends with 1 where one failed. It builds the program first.
+# once, stands then as before, and answers when it is called again. Three lines are calls that must take none: they answer in every run in
+# which their shape was made. The record with a choice of a text is refused three times, once for each of its parts. The script's last line is 'N passed, M failed', and it ends with 1 where one failed. It builds the program first.
 set -u
 cd "$(dirname "$0")/.."
 crate=crates/refusals
@@ -12,10 +12,9 @@ passed=0
 failed=0
 
 rm -f "$program"
-(cd $crate && rt run) > "$work/build" 2>&1
-if [ ! -x "$program" ]; then
+if ! (cd $crate && rt run) > "$work/build" 2>&1 || [ ! -x "$program" ]; then
     cat "$work/build"
-    echo "no program at $program"
+    echo "the program was not built"
     exit 1
 fi
 gcc -O1 -shared -fPIC -o "$work/refuse_growth.so" tests/refuse_growth.c
@@ -45,22 +44,35 @@ else
     echo "FAILED with nothing refused:"
     cat "$work/out"
 fi
-takes_none='read: a count with no bytes'
-sed 's/: done$//' $crate/stdout > "$work/names"
-while read -r name; do
-    if [ "$name" = "$takes_none" ]; then
-        if [ "$(grep -cxF "$name: done" "$work/all")" -eq $((growth - 1)) ]; then
-            passed=$((passed + 1))
-        else
-            failed=$((failed + 1))
-            echo "FAILED $name: it took memory"
-        fi
-    elif grep -qxF "$name: refused, then done" "$work/all"; then
+
+# A call that takes no memory answers in all runs but so many, in which what it is called with was refused.
+takes_none() {
+    if [ "$(grep -cxF "$1: done" "$work/all")" -eq $((growth - 1 - $2)) ] && [ "$(grep -cxF "$1: not called" "$work/all")" -eq "$2" ]; then
         passed=$((passed + 1))
     else
         failed=$((failed + 1))
-        echo "FAILED $name: it was refused no growth"
+        echo "FAILED $1: it took memory"
     fi
+}
+
+# A call is refused so often, and then answers.
+takes() {
+    if [ "$(grep -cxF "$1: refused, then done" "$work/all")" "$2" "$3" ]; then
+        passed=$((passed + 1))
+    else
+        failed=$((failed + 1))
+        echo "FAILED $1: it was not refused so many growths as it takes"
+    fi
+}
+
+sed 's/: done$//' $crate/stdout > "$work/names"
+while read -r name; do
+    case $name in
+    'read: a count with no bytes') takes_none "$name" 0 ;;
+    'read: a count with no cardinals' | 'read: a count with no long cardinals') takes_none "$name" 1 ;;
+    'read: a record with a choice of a text') takes "$name" -eq 3 ;;
+    *) takes "$name" -ge 1 ;;
+    esac
 done < "$work/names"
 
 echo "$((growth - 1)) growths were refused"

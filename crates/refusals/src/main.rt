@@ -43,8 +43,23 @@ fn main(rt: HostRuntime) -> Result<(), anyhow::Error> {
     tell(&rt, "read", values::reads(alloc))?;
     tell(
         &rt,
+        "read: a record with a choice of a text",
+        values::reads_a_record(alloc),
+    )?;
+    tell(
+        &rt,
         "read: a count with no bytes",
-        values::reads_a_count_alone(alloc),
+        values::reads_a_count_of_bytes(alloc),
+    )?;
+    tell(
+        &rt,
+        "read: a count with no cardinals",
+        values::reads_a_count_of_words(alloc),
+    )?;
+    tell(
+        &rt,
+        "read: a count with no long cardinals",
+        values::reads_a_count_of_values(alloc),
     )?;
     tell(&rt, "read_pieces", values::reads_pieces(alloc))?;
     tell(&rt, "write", values::writes(alloc))?;

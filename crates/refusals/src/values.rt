@@ -7,31 +7,51 @@ use std::alloc::{AllocError, Global};
 /// Two long cardinals in a sequence, as words.
 const WORDS: [u16; 5] = [2, 0, 1, 0, 2];
 
+/// A record of one choice, whose designator is 3 and which is a text of five bytes, as words.
+const RECORD: [u16; 5] = [3, 5, 0x4865, 0x6c6c, 0x6f00];
+
 fn shape(alloc: Global) -> Result<Shape, AllocError> {
     Ok(Shape::Sequence(9, Box::new(alloc, Shape::LongCardinal)?))
 }
 
-pub fn reads(alloc: Global) -> Result<Outcome, AllocError> {
-    let shape = shape(alloc)?;
+/// A record of one choice, which is a text.
+fn record_shape(alloc: Global) -> Result<Shape, AllocError> {
+    let members = vec![in alloc; (3, Shape::Text)]?;
+    Ok(Shape::Fields(vec![in alloc; Shape::Choice(members)]?))
+}
+
+/// What comes of reading all the words as one value.
+fn reads_whole(alloc: Global, shape: &Shape, words: &[u16]) -> Outcome {
     if shape.check().is_err() {
-        return Ok(Outcome::Broken);
+        return Outcome::Broken;
     }
-    if let Ok((_, taken)) = read(alloc, &shape, &WORDS) {
-        return Ok(done(taken == 5));
+    match read(alloc, shape, words) {
+        Ok((_, taken)) => return done(taken == words.len()),
+        Err(ReadRefusal::NoMemory) => {}
+        Err(ReadRefusal::Fault(_)) => return Outcome::Broken,
     }
-    match read(alloc, &shape, &WORDS) {
-        Ok((_, taken)) => Ok(refused(true, taken == 5)),
-        Err(_) => Ok(Outcome::Broken),
+    match read(alloc, shape, words) {
+        Ok((_, taken)) => refused(true, taken == words.len()),
+        Err(_) => Outcome::Broken,
     }
 }
 
-/// A text whose count is 65,535, and no word behind it: no room is made ahead of the words, so there is nothing to refuse.
-pub fn reads_a_count_alone(alloc: Global) -> Result<Outcome, AllocError> {
-    let shape = Shape::Text;
+pub fn reads(alloc: Global) -> Result<Outcome, AllocError> {
+    let shape = shape(alloc)?;
+    Ok(reads_whole(alloc, &shape, &WORDS))
+}
+
+pub fn reads_a_record(alloc: Global) -> Result<Outcome, AllocError> {
+    let shape = record_shape(alloc)?;
+    Ok(reads_whole(alloc, &shape, &RECORD))
+}
+
+/// What comes of reading the count 65,535 with no word behind it: no room is made ahead of the words, so there is nothing to refuse.
+fn reads_a_count(alloc: Global, shape: &Shape) -> Outcome {
     if shape.check().is_err() {
-        return Ok(Outcome::Broken);
+        return Outcome::Broken;
     }
-    match read(alloc, &shape, &[65535]) {
+    match read(alloc, shape, &[65535]) {
         Err(
             ReadRefusal::Fault(
                 ReadFault {
@@ -39,9 +59,23 @@ pub fn reads_a_count_alone(alloc: Global) -> Result<Outcome, AllocError> {
                     reason: Reason::Truncated,
                 },
             ),
-        ) => Ok(Outcome::Done),
-        _ => Ok(Outcome::Broken),
+        ) => Outcome::Done,
+        _ => Outcome::Broken,
     }
+}
+
+pub fn reads_a_count_of_bytes(alloc: Global) -> Result<Outcome, AllocError> {
+    Ok(reads_a_count(alloc, &Shape::Text))
+}
+
+pub fn reads_a_count_of_words(alloc: Global) -> Result<Outcome, AllocError> {
+    let shape = Shape::Sequence(65535, Box::new(alloc, Shape::Cardinal)?);
+    Ok(reads_a_count(alloc, &shape))
+}
+
+pub fn reads_a_count_of_values(alloc: Global) -> Result<Outcome, AllocError> {
+    let shape = Shape::Sequence(65535, Box::new(alloc, Shape::LongCardinal)?);
+    Ok(reads_a_count(alloc, &shape))
 }
 
 pub fn reads_pieces(alloc: Global) -> Result<Outcome, AllocError> {
@@ -52,8 +86,10 @@ pub fn reads_pieces(alloc: Global) -> Result<Outcome, AllocError> {
     if shape.check().is_err() {
         return Ok(Outcome::Broken);
     }
-    if let Ok((_, taken)) = read_pieces(alloc, &shape, &pieces, 0) {
-        return Ok(done(taken == 5));
+    match read_pieces(alloc, &shape, &pieces, 0) {
+        Ok((_, taken)) => return Ok(done(taken == 5)),
+        Err(ReadRefusal::NoMemory) => {}
+        Err(ReadRefusal::Fault(_)) => return Ok(Outcome::Broken),
     }
     match read_pieces(alloc, &shape, &pieces, 0) {
         Ok((_, taken)) => Ok(refused(true, taken == 5)),

@@ -11,7 +11,7 @@ use std::alloc::{AllocError, Global};
 
 /// What `xns --help` says at its end.
 const HELP: &str =
-    "It reads standard input and writes standard output. `xns dump --help` and `xns sim --help` say what a line is.\n\nIt ends with 0, or with 1 where a line was refused, 2 where the command line is wrong, 3 after a fault.";
+    "It reads standard input and writes standard output. A line of dump is one packet in hex, a line of sim a call or an event; `xns dump --help` and `xns sim --help` say more. A line has at most 4,096 bytes, and there are at most 65,536 lines.\n\nIt ends with 0, or with 1 where a line was refused, 2 where the command line is wrong, 3 after a fault.\n\nExample: echo 532300220002000000010000aa0001020002000000010000aa000304040000014869 | xns dump";
 
 /// What `xns dump --help` says at its end.
 const DUMP_HELP: &str =
