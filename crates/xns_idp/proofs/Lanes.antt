@@ -1,13 +1,13 @@
 -- Sums lane by lane, and how large they get.
-use Rattle.std.proofs.Common.{◌≡◌, ℕ, zero, suc, ◌+◌, ◌*◌, ◌%◌, ◌^◌, ◌<◌, ◌≤◌, List, [], ◌∷◌, ◌++◌, length, get_or, take, drop, refl, sym, ap, ◌∙◌, arith, map, subst, Fits, w8, w16}
-use Rattle.std.specs.Simd.Lanes.{Each1, Each2, zip2}
-use Rattle.std.proofs.lemmas.Simd.{Each1-zip2, Each2-of, Each1-weaker, chunk-fits, chunk-drop, length-chunk, length-zip2}
-use Rattle.std.proofs.Math.Nat.{pow-suc, le-mul_of_pos_right, mul-le-mul_right}
-use Rattle.std.proofs.lemmas.Nat.{pow_pos}
+use Rattle.std.proofs.Common.{◌≡◌, ℕ, zero, suc, ◌+◌, ◌-◌, ◌*◌, ◌%◌, ◌^◌, ◌<◌, ◌≤◌, List, [], ◌∷◌, ◌++◌, length, get_or, take, drop, replicate, append-nil, refl, sym, ap, ◌∙◌, arith, map, subst, Fits, w8, w16, w32}
+use Rattle.std.specs.Simd.Lanes.{Each1, Each2, zip2, sum_l, products}
+use Rattle.std.proofs.lemmas.Simd.{Each1-zip2, Each2-of, Each1-weaker, chunk-fits, chunk-drop, length-chunk, length-zip2, pick_l_whole, Each1-replicate}
+use Rattle.std.proofs.Math.Nat.{mul-le-mul_right}
 use Rattle.xns_idp.specs.Checksum.{words, sum_from}
-use Rattle.xns_idp.proofs.Sums.{sum_from-cons, sum_from-append, sum_from-mod, words-append, goes_on}
-use Rattle.std.proofs.lemmas.List.{take-append-drop, length-take, drop_all}
-use Rattle.xns_idp.proofs.Blocks.{from_nothing}
+use Rattle.xns_idp.proofs.Sums.{from_nothing, sum_from-cons, sum_from-append, sum_from-mod, words-append}
+use Rattle.std.proofs.lemmas.List.{take-append-drop, length-take, length-drop, drop_all}
+use Rattle.std.proofs.lemmas.Slice.{take-put_mid, drop-put_mid}
+use borrow.Rule.Slice.PartMut.{put_mid}
 
 -- the sum of sums is that of the lanes' sums
 pub zip_sum : (s t : ℕ) (xs ys : List ℕ) → length xs ≡ length ys → sum_from (s + t) (words (zip2 (λ a b. a + b) xs ys)) ≡ sum_from s (words xs) + sum_from t (words ys)
@@ -34,7 +34,7 @@ zip_sum s t (a ∷ d ∷ xs) (b ∷ c ∷ ys) e =
     ∙ ap (λ (n : ℕ). n + sum_from (2 * (t + (256 * b + c))) (words ys)) (sym (sum_from-cons s (256 * a + d) (words xs)))
     ∙ ap (λ (n : ℕ). sum_from s (words (a ∷ d ∷ xs)) + n) (sym (sum_from-cons t (256 * b + c) (words ys)))
 
-length_words : (n : ℕ) (bytes : List ℕ) → length bytes ≡ 2 * n → length (words bytes) ≡ n
+pub length_words : (n : ℕ) (bytes : List ℕ) → length bytes ≡ 2 * n → length (words bytes) ≡ n
 length_words n [] e = omega (arith, e)
 length_words n (a ∷ []) e = absurd (omega (arith, e))
 length_words zero (a ∷ b ∷ bytes) e = absurd (omega (arith, e))
@@ -46,7 +46,7 @@ unfolding sum_from
 come_round sum ws e = rw e (omega arith)
 
 -- a block is added to the lanes
-add_block : (start : ℕ) (lanes block : List ℕ) → length lanes ≡ 32 → length block ≡ 32
+pub add_block : (start : ℕ) (lanes block : List ℕ) → length lanes ≡ 32 → length block ≡ 32
     → sum_from start (words (zip2 (λ a b. a + b) lanes block)) % 65535 ≡ sum_from (sum_from start (words lanes)) (words block) % 65535
 add_block start lanes block hl hb =
     let zipped : sum_from start (words (zip2 (λ a b. a + b) lanes block)) ≡ sum_from start (words lanes) + sum_from 0 (words block) =
@@ -76,13 +76,66 @@ unfolding zeros
 no_block start bytes = sum_from-mod (sum_from start zeros) start (words bytes) (omega (arith, come_round start zeros refl, no_sum))
 
 -- the words that fill no block come first
-pub head_first : (start sum at : ℕ) (bytes : List ℕ) → at % 2 ≡ 0 → at ≤ length bytes → sum ≡ sum_from start (words (take at bytes)) % 65535
-    → sum_from sum (words (drop at bytes)) % 65535 ≡ sum_from start (words bytes) % 65535
-head_first start sum at bytes even within e =
+pub front_first : (sum at : ℕ) (bytes : List ℕ) → at % 2 ≡ 0 → at ≤ length bytes → sum ≡ sum_from 0 (words (take at bytes)) → sum_from sum (words (drop at bytes)) ≡ sum_from 0 (words bytes)
+front_first sum at bytes even within e =
     let two : length (take at bytes) % 2 ≡ 0 = omega (arith, length-take at bytes, even, within) in
-    ap (λ (n : ℕ). sum_from n (words (drop at bytes)) % 65535) e
-    ∙ goes_on start (take at bytes) (drop at bytes) two
-    ∙ ap (λ (xs : List ℕ). sum_from start (words xs) % 65535) (take-append-drop at bytes)
+    ap (λ (n : ℕ). sum_from n (words (drop at bytes))) e
+    ∙ sym (sum_from-append 0 (words (take at bytes)) (words (drop at bytes)))
+    ∙ ap (λ (ws : List ℕ). sum_from 0 ws) (sym (words-append (take at bytes) (drop at bytes) two) ∙ ap words (take-append-drop at bytes))
+
+-- zeros in front add nothing
+zeros_first : (zs bytes : List ℕ) → Each1 (λ z. z ≡ 0) zs → length zs % 2 ≡ 0 → sum_from 0 (words (zs ++ bytes)) ≡ sum_from 0 (words bytes)
+zeros_first [] bytes none even = refl
+zeros_first (y ∷ []) bytes none even = absurd (omega (arith, even))
+zeros_first (y ∷ z ∷ zs) bytes none even =
+    let nothing : 2 * (0 + (256 * y + z)) ≡ 0 = omega (arith, none.0, none.1.0) in
+    sum_from-cons 0 (256 * y + z) (words (zs ++ bytes))
+    ∙ ap (λ (n : ℕ). sum_from n (words (zs ++ bytes))) nothing
+    ∙ zeros_first zs bytes none.1.1 (omega (arith, even))
+
+some_of : (P : ℕ → Type 0) (n : ℕ) (xs : List ℕ) → Each1 P xs → Each1 P (take n xs)
+some_of P zero [] h = tt
+some_of P zero (x ∷ xs) h = tt
+some_of P (suc n) [] h = tt
+some_of P (suc n) (x ∷ xs) h = (h.0, some_of P n xs h.1)
+
+some_zeros : (n : ℕ) → Each1 {A = ℕ} (λ z. z ≡ 0) (take n (replicate 32 0))
+some_zeros n = some_of (λ (z : ℕ). z ≡ 0) n (replicate 32 0) (Each1-replicate (λ (z : ℕ). z ≡ 0) 32 0 refl)
+
+-- bytes at the end of a slice
+at_the_end : (a k : ℕ) (xs ys : List ℕ) → a + k ≡ length xs → length ys ≡ k → put_mid a k xs ys ≡ take a xs ++ ys
+at_the_end a k xs ys e l =
+    let n = length xs in
+    let all = put_mid a k xs ys in
+    let none : drop n all ≡ [] = drop-put_mid a k xs ys n (omega (arith, e)) (omega (arith, e)) l ∙ drop_all n xs (omega arith) in
+    sym (take-append-drop n all)
+    ∙ ap (λ (zs : List ℕ). take n all ++ zs) none
+    ∙ append-nil (take n all)
+    ∙ take-put_mid a k xs ys n (omega (arith, e, l)) (omega (arith, e))
+
+-- the words of the front are those of a block that ends with it, behind zeros
+pub behind_zeros : (at : ℕ) (put front : List ℕ) → put ≡ front → length front ≡ at → at % 2 ≡ 0 → at ≤ 32
+    → sum_from 0 (words (put_mid (32 - at) (32 - (32 - at)) (replicate 32 0) put)) ≡ sum_from 0 (words front)
+behind_zeros at put front same long two within =
+    let n = 32 - at in
+    let zeros : List ℕ = replicate 32 0 in
+    let even : length (take n zeros) % 2 ≡ 0 = omega (arith, length-take n zeros, two, within) in
+    let fits : length put ≡ 32 - n = omega (arith, ap (λ (xs : List ℕ). length xs) same, long, within) in
+    ap (λ (xs : List ℕ). sum_from 0 (words xs)) (at_the_end n (32 - n) zeros put (omega (arith, within)) fits)
+    ∙ zeros_first (take n zeros) put (some_zeros n) even
+    ∙ ap (λ (xs : List ℕ). sum_from 0 (words xs)) same
+
+-- whole rounds of 16 words weigh nothing on what stands before them
+pub rounds : (k s : ℕ) (ws : List ℕ) → length ws ≡ 16 * k → sum_from s ws % 65535 ≡ (s + sum_from 0 ws) % 65535
+rounds zero s [] e = omega (arith, from_nothing s, from_nothing 0)
+rounds zero s (w ∷ ws) e = absurd (omega (arith, e))
+rounds (suc k) s ws e =
+    let a = take 16 ws in
+    let b = drop 16 ws in
+    let la : length a ≡ 16 = omega (arith, length-take 16 ws, e) in
+    let lb : length b ≡ 16 * k = omega (arith, length-drop 16 ws, e) in
+    let split : (t : ℕ) → sum_from t ws ≡ sum_from (sum_from t a) b = λ t. ap (λ (xs : List ℕ). sum_from t xs) (sym (take-append-drop 16 ws)) ∙ sum_from-append t a b in
+    omega (arith, split s, split 0, rounds k (sum_from s a) b lb, rounds k (sum_from 0 a) b lb, come_round s a la)
 
 pub none_left : (sum at : ℕ) (bytes : List ℕ) → length bytes ≤ at → sum_from sum (words (drop at bytes)) % 65535 ≡ sum % 65535
 none_left sum at bytes past =
@@ -95,28 +148,55 @@ pub lanes_grow : (m n : ℕ) (lanes block : List ℕ) → m + 256 ≤ n → Each
 lanes_grow m n lanes block e x y =
     Each1-zip2 (λ a b. a + b) (λ z. z ≤ n) lanes block (Each2-of (λ z. z ≤ m) (λ z. z ≤ 255) (λ a b. a + b ≤ n) (λ a b ha hb. omega (arith, ha, hb, e)) lanes block x y)
 
-times : (a b : ℕ) → 0 < b → a ≤ a * b
-times a b h = le-mul_of_pos_right a h
+-- a byte, and a lane
+pub front_fits : (front lanes : List ℕ) → Each1 (λ x. x ≤ 255) front → Each1 (λ x. x ≤ 16384) lanes → Each2 (λ a b. Fits w16 (a + b)) front lanes
+front_fits front lanes x y = Each2-of (λ z. z ≤ 255) (λ z. z ≤ 16384) (λ a b. Fits w16 (a + b)) (λ a b ha hb. omega (arith, ha, hb)) front lanes x y
 
-double : (start n : ℕ) → (start + 33684992) * 2 ^ suc n ≡ (2 * start + 67369984) * 2 ^ n
-double start n = rw (pow-suc 2 n) (omega arith)
+pub front_grows : (front lanes : List ℕ) → Each1 (λ x. x ≤ 255) front → Each1 (λ x. x ≤ 16384) lanes → Each1 (λ x. x ≤ 16640) (zip2 (λ a b. a + b) front lanes)
+front_grows front lanes x y =
+    Each1-zip2 (λ a b. a + b) (λ z. z ≤ 16640) front lanes (Each2-of (λ z. z ≤ 255) (λ z. z ≤ 16384) (λ a b. a + b ≤ 16640) (λ a b ha hb. omega (arith, ha, hb)) front lanes x y)
 
--- each word doubles a sum at most, up to a little
-bound : (n start : ℕ) (lanes : List ℕ) → ((i : ℕ) → get_or lanes i 0 < 65536) → length lanes ≤ 2 * n → sum_from start (words lanes) + 33684992 ≤ (start + 33684992) * 2 ^ n
-bound n start [] fits len = let p = pow_pos n in let h : start + 33684992 ≤ (start + 33684992) * 2 ^ n = times (start + 33684992) (2 ^ n) p in omega (arith, from_nothing start, h)
-bound zero start (a ∷ bs) fits len = absurd (omega (arith, len))
-bound (suc n) start (a ∷ []) fits len =
-    let p = pow_pos n in
-    let h : 2 * start + 67369984 ≤ (2 * start + 67369984) * 2 ^ n = times (2 * start + 67369984) (2 ^ n) p in
-    omega (arith, sum_from-cons start (256 * a) [], from_nothing (2 * (start + 256 * a)), double start n, fits 0, h)
-bound (suc n) start (a ∷ b ∷ lanes) fits len =
-    let w = 256 * a + b in
-    let h = bound n (2 * (start + w)) lanes (λ i. fits (suc (suc i))) (omega (arith, len)) in
-    let small : 2 * (start + w) + 33684992 ≤ 2 * start + 67369984 = omega (arith, fits 0, fits 1) in
-    omega (arith, sum_from-cons start w (words lanes), h, double start n, mul-le-mul_right (2 ^ n) small)
+-- ---- what the lanes weigh
 
-pub below : (start : ℕ) (lanes : List ℕ) → start < 65535 → ((i : ℕ) → get_or lanes i 0 < 65536) → length lanes ≤ 32 → sum_from start (words lanes) < 2 ^ 60
-below start lanes small fits len = let h = bound 16 start lanes fits (omega (arith, len)) in omega (arith, h)
+-- the weights of a block's bytes, modulo 65535
+abbrev pub weights : List ℕ
+weights = 256 ∷ 1 ∷ 128 ∷ 32768 ∷ 64 ∷ 16384 ∷ 32 ∷ 8192 ∷ 16 ∷ 4096 ∷ 8 ∷ 2048 ∷ 4 ∷ 1024 ∷ 2 ∷ 512 ∷ 1 ∷ 256 ∷ 32768 ∷ 128 ∷ 16384 ∷ 64 ∷ 8192 ∷ 32 ∷ 4096 ∷ 16 ∷ 2048 ∷ 8 ∷ 1024 ∷ 4 ∷ 512 ∷ 2 ∷ []
+
+-- a word's weight and its remainder differ by a multiple of 65535
+front_weighs : (a0 a1 a2 a3 a4 a5 a6 a7 a8 a9 a10 a11 a12 a13 a14 a15 t u q : ℕ) → t ≡ u + 65535 * q
+    → 0 + ((256 * a0 + a1) * 65536 + ((256 * a2 + a3) * 32768 + ((256 * a4 + a5) * 16384 + ((256 * a6 + a7) * 8192 + ((256 * a8 + a9) * 4096 + ((256 * a10 + a11) * 2048 + ((256 * a12 + a13) * 1024 + ((256 * a14 + a15) * 512 + t)))))))) ≡ (a0 * 256 + (a1 * 1 + (a2 * 128 + (a3 * 32768 + (a4 * 64 + (a5 * 16384 + (a6 * 32 + (a7 * 8192 + (a8 * 16 + (a9 * 4096 + (a10 * 8 + (a11 * 2048 + (a12 * 4 + (a13 * 1024 + (a14 * 2 + (a15 * 512 + u)))))))))))))))) + 65535 * (a1 + 256 * a0 + 128 * a2 + 64 * a4 + 32 * a6 + 16 * a8 + 8 * a10 + 4 * a12 + 2 * a14 + q)
+front_weighs a0 a1 a2 a3 a4 a5 a6 a7 a8 a9 a10 a11 a12 a13 a14 a15 t u q e = omega (arith, e)
+
+back_weighs : (a16 a17 a18 a19 a20 a21 a22 a23 a24 a25 a26 a27 a28 a29 a30 a31 : ℕ) → ((256 * a16 + a17) * 256 + ((256 * a18 + a19) * 128 + ((256 * a20 + a21) * 64 + ((256 * a22 + a23) * 32 + ((256 * a24 + a25) * 16 + ((256 * a26 + a27) * 8 + ((256 * a28 + a29) * 4 + ((256 * a30 + a31) * 2 + 0)))))))) ≡ (a16 * 1 + (a17 * 256 + (a18 * 32768 + (a19 * 128 + (a20 * 16384 + (a21 * 64 + (a22 * 8192 + (a23 * 32 + (a24 * 4096 + (a25 * 16 + (a26 * 2048 + (a27 * 8 + (a28 * 1024 + (a29 * 4 + (a30 * 512 + (a31 * 2 + 0)))))))))))))))) + 65535 * a16
+back_weighs a16 a17 a18 a19 a20 a21 a22 a23 a24 a25 a26 a27 a28 a29 a30 a31 = omega arith
+
+same_remainder : (s t q : ℕ) → s ≡ t + 65535 * q → t % 65535 ≡ s % 65535
+same_remainder s t q e = omega (arith, e)
+
+cells_weigh : (a0 a1 a2 a3 a4 a5 a6 a7 a8 a9 a10 a11 a12 a13 a14 a15 a16 a17 a18 a19 a20 a21 a22 a23 a24 a25 a26 a27 a28 a29 a30 a31 : ℕ)
+    → sum_l (products (a0 ∷ a1 ∷ a2 ∷ a3 ∷ a4 ∷ a5 ∷ a6 ∷ a7 ∷ a8 ∷ a9 ∷ a10 ∷ a11 ∷ a12 ∷ a13 ∷ a14 ∷ a15 ∷ a16 ∷ a17 ∷ a18 ∷ a19 ∷ a20 ∷ a21 ∷ a22 ∷ a23 ∷ a24 ∷ a25 ∷ a26 ∷ a27 ∷ a28 ∷ a29 ∷ a30 ∷ a31 ∷ []) weights) % 65535 ≡ sum_from 0 (words (a0 ∷ a1 ∷ a2 ∷ a3 ∷ a4 ∷ a5 ∷ a6 ∷ a7 ∷ a8 ∷ a9 ∷ a10 ∷ a11 ∷ a12 ∷ a13 ∷ a14 ∷ a15 ∷ a16 ∷ a17 ∷ a18 ∷ a19 ∷ a20 ∷ a21 ∷ a22 ∷ a23 ∷ a24 ∷ a25 ∷ a26 ∷ a27 ∷ a28 ∷ a29 ∷ a30 ∷ a31 ∷ [])) % 65535
+unfolding sum_from
+cells_weigh a0 a1 a2 a3 a4 a5 a6 a7 a8 a9 a10 a11 a12 a13 a14 a15 a16 a17 a18 a19 a20 a21 a22 a23 a24 a25 a26 a27 a28 a29 a30 a31 =
+    same_remainder _ _ _ (front_weighs a0 a1 a2 a3 a4 a5 a6 a7 a8 a9 a10 a11 a12 a13 a14 a15 _ _ _ (back_weighs a16 a17 a18 a19 a20 a21 a22 a23 a24 a25 a26 a27 a28 a29 a30 a31))
+
+pub lanes_weigh : (lanes : List ℕ) → length lanes ≡ 32 → sum_l (products lanes weights) % 65535 ≡ sum_from 0 (words lanes) % 65535
+lanes_weigh lanes e =
+    let x : (i : ℕ) → ℕ = λ i. get_or lanes i 0 in
+    subst (λ (xs : List ℕ). sum_l (products xs weights) % 65535 ≡ sum_from 0 (words xs) % 65535) (pick_l_whole 0 lanes 32 e)
+    (cells_weigh (x 0) (x 1) (x 2) (x 3) (x 4) (x 5) (x 6) (x 7) (x 8) (x 9) (x 10) (x 11) (x 12) (x 13) (x 14) (x 15) (x 16) (x 17) (x 18) (x 19) (x 20) (x 21) (x 22) (x 23) (x 24) (x 25) (x 26) (x 27) (x 28) (x 29) (x 30) (x 31))
+
+weigh_at_most : (most : ℕ) (xs ws : List ℕ) → Each1 (λ x. x ≤ most) xs → sum_l (products xs ws) ≤ most * sum_l ws
+weigh_at_most most [] ws h = omega arith
+weigh_at_most most (x ∷ xs) [] h = omega arith
+weigh_at_most most (x ∷ xs) (w ∷ ws) h = omega (arith, mul-le-mul_right w h.0, weigh_at_most most xs ws h.1)
+
+pub weigh_below : (lanes : List ℕ) → Each1 (λ x. x ≤ 16640) lanes → sum_l (products lanes weights) < 2 ^ 32
+weigh_below lanes h = omega (arith, weigh_at_most 16640 lanes weights h)
+
+pub products_fit : (xs ws : List ℕ) → sum_l (products xs ws) < 2 ^ 32 → Each2 (λ x w. Fits w32 (x * w)) xs ws
+products_fit [] ws h = tt
+products_fit (x ∷ xs) [] h = tt
+products_fit (x ∷ xs) (w ∷ ws) h = (record { fits = omega (arith, h) }, products_fit xs ws (omega (arith, h)))
 
 -- ---- a widened block
 

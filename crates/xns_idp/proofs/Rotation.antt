@@ -3,8 +3,7 @@ use Rattle.std.proofs.Common.{◌≡◌, ℕ, ◌+◌, ◌*◌, ◌%◌, ◌<◌
 use Rattle.std.proofs.lemmas.Bool.{ltb-true, ltb-false, eqb-true, eqb-false, cases_Bool}
 use Rattle.xns_idp.specs.Checksum.{cycle_checksum, sum_from, add_with_end_around_carry, rotated_left, added_and_rotated, zero_for_all_ones}
 use Rattle.std.proofs.lemmas.List.Elements.{All-tail}
-use Rattle.xns_idp.proofs.Sums.{sum_from-cons, sum_from-mod, cycle_checksum-is}
-use Rattle.xns_idp.proofs.Blocks.{from_nothing}
+use Rattle.xns_idp.proofs.Sums.{from_nothing, sum_from-cons, sum_from-mod, cycle_checksum-is}
 
 record IsSumOf (n total : ℕ) : Type 0 where
   small : n ≤ 65535

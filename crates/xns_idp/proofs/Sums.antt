@@ -6,6 +6,11 @@ use Rattle.std.proofs.Math.Nat.{pow-suc}
 use Rattle.std.proofs.lemmas.List.{take_all}
 use Rattle.xns_idp.specs.Checksum.{words, sum_from, cycle_checksum, AreAlike}
 
+-- no words
+pub from_nothing : (start : ℕ) → sum_from start [] ≡ start
+unfolding sum_from
+from_nothing start = omega arith
+
 -- one word more
 pub sum_from-cons : (start w : ℕ) (ws : List ℕ) → sum_from start (w ∷ ws) ≡ sum_from (2 * (start + w)) ws
 unfolding sum_from

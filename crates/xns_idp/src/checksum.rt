@@ -1,4 +1,5 @@
-ghost use Rattle.std.specs.Prelude.{◌≡◌, ◌+◌, ◌*◌, ◌%◌, ◌^◌, ◌<◌, ◌≤◌, length};
+ghost use Rattle.std.specs.Prelude.{◌≡◌, ◌%◌, ◌<◌, ◌≤◌, length};
+ghost use Rattle.std.specs.Simd.Lanes.{Each1};
 ghost use Rattle.xns_idp.specs.Checksum.{words, cycle_checksum, sum_from};
 
 use std::simd::prelude::*;
@@ -6,8 +7,15 @@ use std::simd::prelude::*;
 /// So many bytes make a block, which has 16 words: after 16 words a word's weight has come round to what it was.
 const BLOCK: usize = 32;
 
-/// So many bytes have at most 255 blocks, so that no lane of 16 bits overflows.
-const CHUNK: usize = 8160;
+/// So many bytes have so few blocks that no lane of 16 bits overflows, nor what all of them weigh, in 32 bits.
+const CHUNK: usize = 2048;
+
+/// What the bytes of a block weigh, modulo 65535: the first byte of a pair is the high one, and a word is doubled once for itself and once
+/// for each word after it.
+const WEIGHTS: [u32; BLOCK] = [
+    256, 1, 128, 32768, 64, 16384, 32, 8192, 16, 4096, 8, 2048, 4, 1024, 2, 512, 1, 256, 32768,
+    128, 16384, 64, 8192, 32, 4096, 16, 2048, 8, 1024, 4, 512, 2,
+];
 
 /// The checksum of the words of the bytes, modulo 65535 (XSIS 028112, Internet Datagram Protocol, Checksum). Of no bytes it is 0.
 ///
@@ -16,74 +24,42 @@ pub fn cycle_sum(bytes: &[u8]) -> u16
     requires { length bytes.now % 2 ≡ 0 }
     ensures { result ≡ cycle_checksum (words bytes.now) }
 {
-    let mut sum = 0;
-    let mut left = bytes;
-    while left.len() > CHUNK {
+    let (front, chunks) = bytes.split_at(bytes.len() % CHUNK);
+    let mut sum = part_sum(front);
+    let mut left = chunks;
+    while left.len() >= CHUNK {
         let (chunk, rest) = left.split_at(CHUNK);
-        sum = sum_on(sum, chunk);
+        sum = (sum + part_sum(chunk)) % 65535;
         left = rest;
     }
-    sum_on(sum, left) as u16
+    sum as u16
 }
 
-/// The checksum of words of which the first have the checksum `start`, and the others are those of the bytes. Fewer than two blocks
-/// are summed word by word: to weigh the lanes takes as long as a block. Before more blocks, the words that fill none come first, so
-/// that their sum needn't wait for that of the lanes.
-fn sum_on(start: u64, bytes: &[u8]) -> u64
-    requires small { start < 65535 }
+/// The checksum of the words of at most a chunk. Blocks are added lane by lane. The words that fill none stand before them, and make a
+/// block with zeros in front.
+fn part_sum(bytes: &[u8]) -> u32
     requires even { length bytes.now % 2 ≡ 0 }
-    requires short { length bytes.now ≤ 8160 }
+    requires short { length bytes.now ≤ 2048 }
     ensures below { result < 65535 }
-    ensures sum { result ≡ sum_from start (words bytes.now) % 65535 }
+    ensures sum { result ≡ sum_from 0 (words bytes.now) % 65535 }
 {
-    if bytes.len() < 2 * BLOCK {
-        return block_sum(start, bytes) % 65535;
-    }
     let mut at = bytes.len() % BLOCK;
-    let sum = block_sum(start, &bytes[..at]) % 65535;
+    let mut front = [0; BLOCK];
+    front[BLOCK - at..].copy_from_slice(&bytes[..at]);
     let mut lanes = u16x32::splat(0);
     while at + BLOCK <= bytes.len() {
         lanes = lanes.strict_add(u8x32::from_slice(&bytes[at..]).cast::<u16>());
         at += BLOCK;
     }
-    lane_sum(sum, &lanes.to_array()) % 65535
+    lane_sum(u8x32::from_array(front).cast::<u16>().strict_add(lanes))
 }
 
 /// What is summed over 16 words in lanes, the first of a pair being the high part.
-#[tactic(auto, using(crate::proofs::Blocks::from_nothing))]
-fn lane_sum(start: u64, lanes: &[u16]) -> u64
-    requires small { start < 65535 }
-    requires short { length lanes.now ≤ 32 }
-    ensures { result ≡ sum_from start (words lanes.now) }
+fn lane_sum(lanes: u16x32) -> u32
+    requires { Each1 (λ x. x ≤ 16640) lanes }
+    ensures below { result < 65535 }
+    ensures sum { result ≡ sum_from 0 (words lanes) % 65535 }
 {
-    let mut sum = start;
-    let mut left = lanes;
-    while let [high, low, rest @ ..] = left {
-        sum = (sum + u64::from(*high) * 256 + u64::from(*low)) * 2;
-        left = rest;
-    }
-    if let [high] = left {
-        sum = (sum + u64::from(*high) * 256) * 2;
-    }
-    sum
-}
-
-/// What is summed over at most 32 words, with no remainder taken.
-#[tactic(auto, using(crate::proofs::Blocks::from_nothing))]
-fn block_sum(start: u64, bytes: &[u8]) -> u64
-    requires small { start < 65535 }
-    requires short { length bytes.now ≤ 64 }
-    ensures { result ≡ sum_from start (words bytes.now) }
-{
-    let mut sum = start;
-    let mut left = bytes;
-    while let [high, low, rest @ ..] = left {
-        let word = u64::from(u16::from_be_bytes([*high, *low]));
-        sum = (sum + word) * 2;
-        left = rest;
-    }
-    if let [high] = left {
-        sum = (sum + u64::from(*high) * 256) * 2;
-    }
-    sum
+    let weighed = lanes.cast::<u32>().strict_mul(u32x32::from_array(WEIGHTS));
+    weighed.strict_reduce_sum() % 65535
 }

@@ -6,7 +6,7 @@ use crate::encoding::{GARBAGE, put_checksum};
 use crate::packet::{HEADER, Packet};
 
 /// Puts bytes behind the first `at` of a slice, and says where they end.
-fn put(out: &mut [u8], at: usize, bytes: &[u8]) -> usize
+fn put_behind(out: &mut [u8], at: usize, bytes: &[u8]) -> usize
     requires { at + length bytes.now ≤ length out.old }
     ensures end { result ≡ at + length bytes.now }
     ensures put { take result out.new ≡ take at out.old ++ bytes.now }
@@ -27,11 +27,11 @@ pub fn encode_into(packet: &Packet<'_>, out: &mut [u8]) -> usize
     ensures { (result ≡ length (packet_spelling (packet_model packet.now))) × (out.new ≡ packet_spelling (packet_model packet.now) ++ drop (length (packet_spelling (packet_model packet.now))) out.old) }
 {
     let [high, low] = (HEADER + packet.body.len() as u16).to_be_bytes();
-    let end = put(out, 0, &[0, 0, high, low, packet.control, packet.kind]);
-    let end = put(out, end, &packet.target.to_bytes());
-    let end = put(out, end, &packet.source.to_bytes());
-    let end = put(out, end, packet.body);
-    let end = put(out, end, &[GARBAGE][..packet.body.len() % 2]);
+    let end = put_behind(out, 0, &[0, 0, high, low, packet.control, packet.kind]);
+    let end = put_behind(out, end, &packet.target.to_bytes());
+    let end = put_behind(out, end, &packet.source.to_bytes());
+    let end = put_behind(out, end, packet.body);
+    let end = put_behind(out, end, &[GARBAGE][..packet.body.len() % 2]);
     put_checksum(&mut out[..end], packet.summed);
     end
 }

@@ -3,11 +3,11 @@ ghost use Rattle.xns_idp.specs.Packet.{IsPacket, packet_model};
 use crate::address::Address;
 use crate::known::known_bytes;
 
-/// A header has so many bytes.
-pub const HEADER_BYTES: usize = 30;
-
 /// The length field of a packet that is a header alone.
 pub(crate) const HEADER: u16 = 30;
+
+/// A header has so many bytes.
+pub const HEADER_BYTES: usize = HEADER as usize;
 
 /// A packet has at most so many bytes, without the garbage byte.
 pub(crate) const LONGEST: u16 = 576;

@@ -1,4 +1,4 @@
-//! Packets and checksums with values from outside.
+//! Packets and checksums over worked examples, by hand from the standard, their sums checked by a separate program.
 use super::*;
 use std::test::Fail;
 

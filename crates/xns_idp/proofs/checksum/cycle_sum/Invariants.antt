@@ -5,7 +5,7 @@ use Rattle.xns_idp.proofs.checksum.cycle_sum.Given as goal
 abbrev pub invariant-loop-left : goal.invariant-loop-left
 invariant-loop-left l = record {
   small : l.sum < 65535;
-  even : length l.left % 2 ≡ 0;
+  whole : length l.left % 2048 ≡ 0;
   same : sum_from l.sum (words l.left) % 65535 ≡ sum_from 0 (words l.bytes) % 65535;
 }
 

@@ -1,25 +1,22 @@
-use Rattle.std.proofs.Common.{refl, arith}
-use Rattle.xns_idp.proofs.Blocks.{next, next_odd, one_word}
-use Rattle.xns_idp.proofs.Lanes.{below}
+use Rattle.std.proofs.Common.{◌≡◌, ◌+◌, ◌*◌, ◌%◌, ℕ, List, refl, sym, ap, ◌∙◌, subst, arith, Fits, w32}
+use Rattle.std.specs.Simd.Lanes.{Each2, Steps, fold_l, products, sum_l}
+use Rattle.std.proofs.lemmas.Simd.{fold-sum, sum_fits}
+use Rattle.xns_idp.proofs.Lanes.{weights, same_lanes, lanes_weigh, weigh_below, products_fit}
 use Rattle.xns_idp.proofs.checksum.lane_sum.Goals as goal
 
-pub overflow_add-sum : goal.overflow_add-sum
-overflow_add-sum c = omega (arith, below c.args.start c.args.lanes.now c.requires.small (λ i. omega (arith, c.type_inv.lanes i)) c.requires.short, next c.loop-left.sum c.loop-left.left.now c.in-len2-up.len_at_least, c.loop-left.invariant)
+pub overflow_mul-weighed : goal.overflow_mul-weighed
+overflow_mul-weighed c =
+    let xs = c.args.lanes in
+    subst (λ (ys : List ℕ). Each2 (λ x w. Fits w32 (x * w)) ys weights) (sym (same_lanes _ (λ x. refl) xs)) (products_fit xs weights (weigh_below xs c.requires))
 
-pub overflow_add-sum-in-len2-up : goal.overflow_add-sum-in-len2-up
-overflow_add-sum-in-len2-up c = omega (arith, below c.args.start c.args.lanes.now c.requires.small (λ i. omega (arith, c.type_inv.lanes i)) c.requires.short, next c.loop-left.sum c.loop-left.left.now c.in-len2-up.len_at_least, c.loop-left.invariant)
+pub overflow_add-result : goal.overflow_add-result
+overflow_add-result c =
+    let xs = c.args.lanes in
+    subst (λ (ys : List ℕ). Steps (λ s x. Fits w32 (s + x)) (λ s x. s + x) 0 (products ys weights)) (sym (same_lanes _ (λ x. refl) xs))
+    (sum_fits w32 0 (products xs weights) (omega (arith, weigh_below xs c.requires)))
 
-pub overflow_mul-sum-in-len2-up : goal.overflow_mul-sum-in-len2-up
-overflow_mul-sum-in-len2-up c = omega (arith, below c.args.start c.args.lanes.now c.requires.small (λ i. omega (arith, c.type_inv.lanes i)) c.requires.short, next c.loop-left.sum c.loop-left.left.now c.in-len2-up.len_at_least, c.loop-left.invariant)
-
-pub loop-left-preserved : goal.loop-left-preserved
-loop-left-preserved c = one_word _ c.loop-left.sum _ _ c.loop-left.left.now refl c.in-len2-up.len_at_least (omega arith) c.loop-left.invariant
-
-pub overflow_add-sum-in-len1 : goal.overflow_add-sum-in-len1
-overflow_add-sum-in-len1 c = omega (arith, below c.args.start c.args.lanes.now c.requires.small (λ i. omega (arith, c.type_inv.lanes i)) c.requires.short, next_odd c.loop-left.sum c.loop-left.left.now (omega arith), c.loop-left.invariant)
-
-pub overflow_mul-sum-in-len1-2 : goal.overflow_mul-sum-in-len1-2
-overflow_mul-sum-in-len1-2 c = omega (arith, below c.args.start c.args.lanes.now c.requires.small (λ i. omega (arith, c.type_inv.lanes i)) c.requires.short, next_odd c.loop-left.sum c.loop-left.left.now (omega arith), c.loop-left.invariant)
-
-pub returns-in-len1 : goal.returns-in-len1
-returns-in-len1 c = omega (arith, next_odd c.loop-left.sum c.loop-left.left.now (omega arith), c.loop-left.invariant)
+pub returns-clause-sum : goal.returns-clause-sum
+returns-clause-sum c =
+    let xs = c.args.lanes in
+    let sum : fold_l (λ s x. s + x) 0 (products xs weights) ≡ sum_l (products xs weights) = omega (arith, fold-sum 0 (products xs weights)) in
+    ap (λ (n : ℕ). n % 65535) (ap (λ (ys : List ℕ). fold_l (λ s x. s + x) 0 (products ys weights)) (same_lanes _ (λ x. refl) xs) ∙ sum) ∙ lanes_weigh xs c.fits-lanes.0

@@ -1,6 +1,6 @@
 use Rattle.std.proofs.Common.{◌+◌, ◌-◌, length, arith, rules}
 use Rattle.std.proofs.lemmas.Slice.{drop-put_mid}
-use Rattle.xns_idp.proofs.encoding_into.put.Goals as goal
+use Rattle.xns_idp.proofs.encoding_into.put_behind.Goals as goal
 
 pub returns-clause-behind : goal.returns-clause-behind
 returns-clause-behind c = λ place h.
