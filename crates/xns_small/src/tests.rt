@@ -1,4 +1,4 @@
-//! The three protocols with values from outside.
+//! The three protocols over worked examples, by hand from the standard, their sums checked by a separate program.
 use super::*;
 use std::alloc::Global;
 use std::test::Fail;
@@ -72,11 +72,11 @@ fn a_request_is_answered_with_a_right_sum(rt: HostRuntime) -> Result<(), Fail> {
 }
 
 #[test]
-fn only_requests_to_this_socket_of_this_host_or_of_every_host_are_answered(
+fn only_requests_to_this_socket_of_this_host_or_of_the_broadcast_host_are_answered(
     rt: HostRuntime,
 ) -> Result<(), Fail> {
     let request = [0, 1, 0x48, 0x69];
-    let every_host = Address {
+    let broadcast_host = Address {
         host: [255; 6],
         ..ASKED
     };
@@ -90,7 +90,7 @@ fn only_requests_to_this_socket_of_this_host_or_of_every_host_are_answered(
     };
     let cases = [
         (echo_to(ASKED, &request), true),
-        (echo_to(every_host, &request), true),
+        (echo_to(broadcast_host, &request), true),
         (echo_to(other_network, &request), true),
         (echo_to(other_host, &request), false),
         (echo_to(SERVICE, &request), false),

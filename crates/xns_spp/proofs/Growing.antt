@@ -13,7 +13,7 @@ use Rattle.xns_spp.specs.Ends as ends
 use Rattle.xns_spp.specs.Ends.{is_open}
 use Rattle.xns_spp.specs.Growth.{Begins, Grows, Stays, HasCome, Takes, Acknowledges, IsOwnPacket}
 use Rattle.xns_spp.specs.FieldNumbers.{acknowledged_by}
-use Rattle.xns_spp.specs.Header.{wants_reply}
+use Rattle.xns_spp.specs.Header.{wants_reply, probe_control, reply_control}
 use Rattle.xns_spp.specs.Item.{item_in}
 use Rattle.xns_spp.specs.Outgoing.{data_packets}
 use Rattle.xns_spp.specs.Packet.{SppPacketModel, spelled, spp_packet_spelling, spp_packet_of}
@@ -230,9 +230,9 @@ packets_out s i low h =
     let count : i + length (take (n - i) xs) ≤ n = omega (arith, length-take (n - i) xs) in
     item_packets s (sent_out s) i (take (n - i) xs) (drop (n - i) xs) (sym (take-append-drop (n - i) xs)) low count
 
-probe_out : (s t : State) → All (IsOwnPacket s t) (system_packet s 192 ∷ [])
+probe_out : (s t : State) → All (IsOwnPacket s t) (system_packet s probe_control ∷ [])
 probe_out s t =
-    All-cons (IsOwnPacket s t) (system_packet s 192) [] (inl (record { control = 192; small = lit< tt; system = refl; is = refl })) (All-nil (IsOwnPacket s t))
+    All-cons (IsOwnPacket s t) (system_packet s probe_control) [] (inl (record { control = probe_control; small = lit< tt; system = refl; is = refl })) (All-nil (IsOwnPacket s t))
 
 flush_cases : (s : State) (b : Bool) → IsState s → All (IsOwnPacket s (if b then sent_out s else s)) (if b then packets_from s s.sent else [])
 flush_cases s true fits = packets_out s s.sent fits.bounds.acknowledged_sent (omega (arith, fits.bounds.sent_accepted, fits.bounds.sent_allowed))
@@ -242,7 +242,7 @@ pub flush_out : (s : State) → IsState s → All (IsOwnPacket s (after_flush s)
 flush_out s = flush_cases s (is_open s.ends)
 
 tick_cases : (s : State) (p q r : Bool) → nat_lt s.acknowledged (send_limit s) ≡ q
-    → All (IsOwnPacket s (if p && q then sent_out s else s)) (if not p then system_packet s 192 ∷ [] else if q then packets_from s s.acknowledged else if r then system_packet s 192 ∷ [] else [])
+    → All (IsOwnPacket s (if p && q then sent_out s else s)) (if not p then system_packet s probe_control ∷ [] else if q then packets_from s s.acknowledged else if r then system_packet s probe_control ∷ [] else [])
 tick_cases s false q r h = probe_out s s
 tick_cases s true true r h = let less = ltb-true s.acknowledged (send_limit s) h in packets_out s s.acknowledged (omega arith) (omega arith)
 tick_cases s true false true h = probe_out s s
@@ -251,19 +251,19 @@ tick_cases s true false false h = All-nil (IsOwnPacket s s)
 pub tick_out : (s : State) → All (IsOwnPacket s (after_tick s)) (tick_packets s)
 tick_out s = tick_cases s (is_open s.ends) (nat_lt s.acknowledged (send_limit s)) (nat_lt s.acknowledged (length s.accepted)) refl
 
-spelled_reply : (t : State) (b : Bool) (reply : List ℕ) → spelled (if b then Some (system_packet t 128) else None) ≡ Some reply → reply ≡ spp_packet_spelling (system_packet t 128)
+spelled_reply : (t : State) (b : Bool) (reply : List ℕ) → spelled (if b then Some (system_packet t reply_control) else None) ≡ Some reply → reply ≡ spp_packet_spelling (system_packet t reply_control)
 spelled_reply t true reply h = cc
 spelled_reply t false reply h = absurd (cc)
 
-packet_reply : (s : State) (p : SppPacketModel) (o : Option Dropped) (reply : List ℕ) → (packet_answer o s p).reply ≡ Some reply → reply ≡ spp_packet_spelling (system_packet (after_packet o s p) 128)
+packet_reply : (s : State) (p : SppPacketModel) (o : Option Dropped) (reply : List ℕ) → (packet_answer o s p).reply ≡ Some reply → reply ≡ spp_packet_spelling (system_packet (after_packet o s p) reply_control)
 packet_reply s p (Some d) reply h = absurd (cc)
 packet_reply s p None reply h = spelled_reply (after_arrival s p) (wants_reply p.header) reply h
 
-bytes_reply : (s : State) (o : Result SppPacketModel Dropped) (reply : List ℕ) → (bytes_answer s o).reply ≡ Some reply → reply ≡ spp_packet_spelling (system_packet (after_bytes s o) 128)
+bytes_reply : (s : State) (o : Result SppPacketModel Dropped) (reply : List ℕ) → (bytes_answer s o).reply ≡ Some reply → reply ≡ spp_packet_spelling (system_packet (after_bytes s o) reply_control)
 bytes_reply s (Err d) reply h = absurd (cc)
 bytes_reply s (Ok p) reply h = packet_reply s p (arrival_fault s p) reply h
 
-pub receive_reply : (s : State) (b : List ℕ) (reply : List ℕ) → (receive_answer s b).reply ≡ Some reply → reply ≡ spp_packet_spelling (system_packet (after_receive s b) 128)
+pub receive_reply : (s : State) (b : List ℕ) (reply : List ℕ) → (receive_answer s b).reply ≡ Some reply → reply ≡ spp_packet_spelling (system_packet (after_receive s b) reply_control)
 receive_reply s b = bytes_reply s (spp_packet_of b)
 
 -- ---- what is acknowledged then

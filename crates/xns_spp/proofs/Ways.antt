@@ -1,17 +1,19 @@
 -- What each step of an end other than receive does.
-use Rattle.std.proofs.Common.{◌≡◌, ℕ, ◌+◌, ◌-◌, ◌^◌, ◌<◌, ◌≤◌, Bool, true, false, not, List, [], ◌∷◌, ◌++◌, inl, inr, length, take, get_or, nat_lt, Option, Some, None, refl, sym, ◌∙◌, ap, arith}
+use Rattle.std.proofs.Common.{◌≡◌, ℕ, ◌+◌, ◌-◌, ◌<◌, ◌≤◌, Bool, true, false, not, List, [], ◌∷◌, ◌++◌, inl, inr, length, take, get_or, nat_lt, Option, Some, None, refl, sym, ◌∙◌, ap, arith}
 use Rattle.std.specs.Prelude.{◌⊎◌, ◌==◌, ◌&&◌, ◌||◌, if◌then◌else◌, is_ok, is_some, slice_get}
-use Rattle.std.proofs.lemmas.Bool.{le-ltb, lt-ltb, eqb-false}
+use Rattle.std.proofs.lemmas.Bool.{le-ltb, lt-ltb, ltb-true, eqb-false}
 use Rattle.std.proofs.lemmas.List.{take_more}
 use Rattle.std.proofs.lemmas.Option.{slice_get_within, slice_get_cases, get_or_from_slice_get}
+use Rattle.xns_spp.specs.Acceptance.{is_exhausted, is_backlog_full}
 use Rattle.xns_spp.specs.Ends.{is_open}
 use Rattle.xns_spp.specs.Growth.{HearsNothing}
 use Rattle.xns_spp.specs.Item.{IsShortItem}
 use Rattle.xns_spp.specs.Sending.{is_full, send_fault, refused, send_answer, accepting, after_send, take_answer, handing, after_take, waiting_count, after_flush, after_tick}
-use Rattle.xns_spp.specs.State.{State, IsState, send_limit}
+use Rattle.xns_spp.specs.State.{State, IsState, numbers_of, send_limit}
 use Rattle.xns_spp.specs.declared.item.Item.{Item}
 use Rattle.xns_spp.specs.declared.send_fault.SendFault.{SendFault}
 use Rattle.xns_spp.specs.declared.send_fault.SendFault.TheVariants.{TooLong, AttentionSize, Exhausted, Full}
+use Rattle.xns_spp.specs.Packet.{most_body}
 
 -- ---- only packets are heard
 
@@ -71,7 +73,7 @@ not_attention false c h = refl
 
 pub short_accepted : (s : State) (x : Item) → IsShortItem x → x.attention ≡ false → is_full s ≡ false → is_ok (send_answer s x) ≡ true
 short_accepted s x short plain full =
-    let none : send_fault s x ≡ None = none_of _ _ _ _ (le-ltb 534 (length x.body) short.size) (not_attention x.attention (not (length x.body == 1)) plain) full in
+    let none : send_fault s x ≡ None = none_of _ _ _ _ (le-ltb most_body (length x.body) short.size) (not_attention x.attention (not (length x.body == 1)) plain) full in
     ap (λ (o : Option SendFault). is_ok (refused o x)) none
 
 not_second : (p q : Bool) → (p || q) ≡ false → q ≡ false
@@ -80,7 +82,7 @@ not_second false q h = h
 
 pub has_room : (s : State) → IsState s → is_full s ≡ false → length s.accepted < s.acknowledged + s.ends.backlog
 has_room s fits full =
-    let apart = eqb-false (length s.accepted - s.acknowledged) s.ends.backlog (not_second (length s.accepted == 2 ^ 48) (length s.accepted - s.acknowledged == s.ends.backlog) full) in
+    let apart = eqb-false (length s.accepted - s.acknowledged) s.ends.backlog (not_second (is_exhausted (numbers_of s)) (is_backlog_full s.ends (numbers_of s)) full) in
     omega (arith, apart, fits.bounds.backlog_holds, fits.bounds.acknowledged_sent, fits.bounds.sent_accepted)
 
 -- ---- the next item is handed up
@@ -105,3 +107,11 @@ within_or_not xs k = by_case (slice_get_cases xs k).1
 
 pub waits_for : (s : State) → nat_lt 0 (waiting_count s) ≡ is_some (take_answer s)
 waits_for s = within_or_not s.taken s.handed
+
+pub fewer_wait : (s : State) (x : Item) → take_answer s ≡ Some x → waiting_count (after_take s) < waiting_count s
+fewer_wait s x h =
+    let waits = ltb-true 0 (waiting_count s) (waits_for s ∙ ap is_some h) in
+    omega (arith, waits, ap waiting_count (handed_one s x h))
+
+pub as_many_wait : (s : State) (x : Item) → is_ok (send_answer s x) ≡ true → waiting_count (after_send s x) ≡ waiting_count s
+as_many_wait s x ok = ap waiting_count (accepted_one s x ok)

@@ -1,5 +1,5 @@
 -- What the steps of an end add to its history: nothing of it is ever taken back.
-use Rattle.std.specs.Prelude.{◌≡◌, ◌⊎◌, ℕ, ◌+◌, ◌<◌, ◌≤◌, true, List, ◌++◌, length, slice_get, Some, Ok}
+use Rattle.std.specs.Prelude.{◌≡◌, ◌⊎◌, ℕ, ◌+◌, ◌<◌, ◌≤◌, true, List, [], ◌++◌, length, slice_get, Some, None, Ok}
 use Rattle.xns_spp.specs.declared.item.Item.{Item}
 use Rattle.xns_spp.specs.Header.{system_bit, has_bit, brings_item}
 use Rattle.xns_spp.specs.Item.{item_in}
@@ -11,6 +11,16 @@ use Rattle.xns_spp.specs.State.{State, window_top}
 -- ys is xs followed by some list
 abbrev pub Begins : {X : Type 0} → List X → List X → Type 0
 Begins {X} xs ys = (rest : List X) × (xs ++ rest ≡ ys)
+
+-- nothing has happened at the end yet
+pub record IsFresh (s : State) : Type 0 where
+  pub accepted : s.accepted ≡ []
+  pub acknowledged : s.acknowledged ≡ 0
+  pub sent : s.sent ≡ 0
+  pub allowed : s.allowed ≡ 0
+  pub taken : s.taken ≡ []
+  pub early : (k : ℕ) → s.early k ≡ None
+  pub handed : s.handed ≡ 0
 
 -- s goes on as t: each list begins the later one, and no number falls
 pub record Grows (s t : State) : Type 0 where
