@@ -152,12 +152,19 @@ pub fn packet_text(
     }
 }
 
-fn message_fault(fault: MessageFault) -> &'static str {
-    match fault {
-        MessageFault::OddLength => "OddLength",
-        MessageFault::ShortMessage => "ShortMessage",
-        MessageFault::UnknownKind { .. } => "UnknownKind",
-        MessageFault::TooLong => "TooLong",
+/// Why bytes are no message; of an unknown kind, which.
+#[derive(Drop)]
+struct WrongMessage(MessageFault);
+
+impl fmt::Display for WrongMessage {
+    fn fmt<W: fmt::Write>(&self, f: &mut fmt::Formatter<W>) -> fmt::Result {
+        let name = match self.0 {
+            MessageFault::OddLength => "OddLength",
+            MessageFault::ShortMessage => "ShortMessage",
+            MessageFault::UnknownKind { found } => return write!(f, "UnknownKind {found}"),
+            MessageFault::TooLong => "TooLong",
+        };
+        write!(f, "{name}")
     }
 }
 
@@ -171,7 +178,7 @@ impl fmt::Display for Fault<'_> {
             None => "none",
             Some(SessionFault::NoCommonVersion) => "NoCommonVersion",
             Some(SessionFault::BadVersions) => "BadVersions",
-            Some(SessionFault::BadMessage(fault)) => message_fault(*fault),
+            Some(SessionFault::BadMessage(fault)) => return write!(f, "{}", WrongMessage(*fault)),
             Some(SessionFault::WrongTransaction) => "WrongTransaction",
             Some(SessionFault::BadReply) => "BadReply",
             Some(SessionFault::Stream { kind }) => return write!(f, "Stream {kind}"),

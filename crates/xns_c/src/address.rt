@@ -6,7 +6,7 @@ use xns_idp::Address;
 pub struct XnsAddress {
     /// The network number; 0 is an unknown network.
     pub network: u32,
-    /// The host number, its highest byte first; six bytes of 255 are every host.
+    /// The host number, its highest byte first; six bytes of 255 are the broadcast host, which is every host.
     pub host: [u8; 6],
     /// The socket number.
     pub socket: u16,

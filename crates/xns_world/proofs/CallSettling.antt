@@ -16,8 +16,8 @@ use Rattle.xns_world.proofs.CallQuiet.{not_refused, send_accepts, take_hands_up}
 use Rattle.xns_world.proofs.Sides.{same_end}
 use Rattle.xns_world.specs.CallOrder.{CallsHold, AllListed, IsBetween, Settles}
 use Rattle.xns_world.specs.CallWorld.{Parties, CallWorld, or_caller, calls_made, next_out, outcomes_read, in_world, sends_next, feeds, lists, makes, has_outcome, may_call, caller_step, step_with, step}
-use Rattle.xns_world.specs.Settling.{steps}
-use Rattle.xns_world.proofs.Stepping.{GoesOn, IfGoesOn, steps_keep, steps_end}
+use Rattle.xns_world.specs.Settling.{most_steps, steps}
+use Rattle.xns_world.proofs.Stepping.{steps_are, GoesOn, IfGoesOn, steps_keep, steps_end}
 use Rattle.xns_world.specs.EndLaws.{EndLaws}
 
 -- ---- how many steps are left at most
@@ -53,7 +53,7 @@ unfolding room_of
 send_room laws s x fits full ok =
     let room = laws.room s fits full in
     let longer = length-append s.accepted (x ∷ []) in
-    subst (λ (t : State). (room_of t < room_of s) × (waiting_count t ≡ waiting_count s)) (sym (laws.accepted s x ok)) (omega (arith, longer, room, fits.bounds.acknowledged_sent, fits.bounds.sent_accepted), refl)
+    (subst (λ (t : State). room_of t < room_of s) (sym (laws.accepted s x ok)) (omega (arith, longer, room, fits.bounds.acknowledged_sent, fits.bounds.sent_accepted)), laws.waiting s x ok)
 
 -- an item that waits
 pub waiting_item : EndLaws → (s : State) → nat_lt 0 (waiting_count s) ≡ true → (x : Item) × (take_answer s ≡ Some x)
@@ -63,11 +63,9 @@ waiting_item laws s is = some_item (take_answer s) (sym (laws.waits s) ∙ is)
     some_item (Some x) h = (x, refl)
     some_item None h = absurd (cc)
 
-pub take_waiting : EndLaws → (s : State) (x : Item) → nat_lt 0 (waiting_count s) ≡ true → take_answer s ≡ Some x → (waiting_count (after_take s) < waiting_count s) × (room_of (after_take s) ≡ room_of s)
+pub take_waiting : EndLaws → (s : State) (x : Item) → take_answer s ≡ Some x → (waiting_count (after_take s) < waiting_count s) × (room_of (after_take s) ≡ room_of s)
 unfolding room_of
-take_waiting laws s x waits is =
-    let more = ltb-true 0 (waiting_count s) waits in
-    subst (λ (t : State). (waiting_count t < waiting_count s) × (room_of t ≡ room_of s)) (sym (laws.handed s x is)) (omega (arith, more), refl)
+take_waiting laws s x is = (laws.fewer s x is, ap room_of (laws.handed s x is))
 
 same_left : {S : Type 0} (p : Parties S) (w : CallWorld) (v : World) (side : Side) → handed_at v A ≡ handed_at w.world A → caller_left p (in_world w v) side ≡ caller_left p w side
 unfolding caller_left
@@ -102,7 +100,7 @@ unfolding left
 feeds_go p w side g h is =
     let s : State = end_of w.world side in
     let e = waiting_item g.answering.ends s is in
-    let falls = take_waiting g.answering.ends s e.0 is e.1 in
+    let falls = take_waiting g.answering.ends s e.0 e.1 in
     let same = same_end w.world side (after_take s) [] in
     let caller = fed_left p w side e.0 g h e.1 in
     record {
@@ -172,5 +170,5 @@ unfolding left room_of
 settles_end p side w g b =
     let fits = (b.holds.holds.ends side).fits in
     let few = first_left p w side b.listed in
-    let most : left p side w ≤ 257 = omega (arith, fits.bounds.window_holds, fits.ends.window_most, fits.ends.backlog_most, few) in
+    let most : left p side w ≤ most_steps = omega (arith, steps_are, fits.bounds.window_holds, fits.ends.window_most, fits.ends.backlog_most, few) in
     steps_end (step p side) (CallsHold p) (left p side) (λ v h. step_goes p v side g h) w b.holds most

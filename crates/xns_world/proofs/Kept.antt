@@ -2,10 +2,10 @@
 use Rattle.std.proofs.Common.{append-nil, ◌≡◌, ℕ, ◌+◌, ◌-◌, ◌≤◌, true, List, [], ◌++◌, length, length-take, map, take, Option, Some, None, Ok, refl, sym, ◌∙◌, ap, subst, arith}
 use Rattle.xns_world.specs.World.{World, end_of, start, moment, emitted, moved, is_past, has_passed, flushes, receives, ticks, sends, takes, marked, sent_at, handed_at}
 use Rattle.xns_world.specs.Landing.{answered, landed, landing}
-use Rattle.xns_spp.specs.Growth.{Begins, Grows}
+use Rattle.xns_spp.specs.Growth.{Begins, IsFresh, Grows}
 use Rattle.xns_world.proofs.Sound.{IsProper, stays_sound}
 use Rattle.xns_world.proofs.Sides.{each_side, placed}
-use Rattle.xns_world.proofs.Moves.{Keeps, Goes, Moves, silent, flush_moves, tick_moves, take_goes, send_goes}
+use Rattle.xns_world.proofs.Moves.{Keeps, Goes, silent, flush_moves, tick_moves, take_goes, send_goes}
 use Rattle.xns_world.proofs.Fronts.{begins_then, begins_get, begins_length, front_begins}
 use Rattle.std.proofs.lemmas.List.{length-append}
 use Rattle.xns_spp.specs.Item.{IsItem}
@@ -14,9 +14,10 @@ use Rattle.std.specs.Prelude.{slice_get, All, false, if◌then◌else◌}
 use Rattle.std.proofs.Math.Seq.{take-append-add}
 use Rattle.std.proofs.lemmas.List.Elements.{All-nil, All-append, All-map, All-set, All-weaker}
 use Rattle.std.proofs.lemmas.Option.{get_or_from_slice_get, slice_get_within}
+use Rattle.xns_spp.specs.Meant.{as_meant}
 use Rattle.xns_spp.specs.Packet.{SppPacketModel, IsSppPacket, spp_packet_spelling, spp_packet_of}
 use Rattle.xns_spp.specs.Receiving.{numbers_in, receive_answer, after_receive}
-use Rattle.xns_spp.specs.Sending.{after_send, flush_packets, after_flush, tick_packets, after_tick, after_take}
+use Rattle.xns_spp.specs.Sending.{after_send, flush_packets, flush_answer, after_flush, tick_packets, tick_answer, after_tick, after_take}
 use Rattle.xns_spp.specs.State.{State, IsState}
 use Rattle.xns_spp.specs.declared.item.Item.{Item}
 use Rattle.xns_world.proofs.Alive.{read_as_meant}
@@ -26,7 +27,7 @@ use Rattle.xns_world.specs.declared.emitted.Emitted.{Emitted}
 use Rattle.xns_world.specs.declared.setup.Setup.{Setup}
 use Rattle.xns_world.specs.declared.side.Side.{Side}
 use Rattle.xns_world.specs.declared.side.Side.TheVariants.{A, B}
-use Rattle.xns_world.specs.Invariant.{as_meant, IsSound, IsSoundSpelling, WentOut, Stands, Holds}
+use Rattle.xns_world.specs.Invariant.{IsSound, IsSoundSpelling, WentOut, Stands, Holds}
 use Rattle.xns_world.specs.Setup.{IsSetup, IsGood}
 use Rattle.xns_world.specs.Side.{other}
 
@@ -116,17 +117,14 @@ moved_kept w side t bs k m =
           (All-map (IsKeptIn v) new bs sent);
     }
 
--- packets by their models
-packets_kept : (w : World) (side : Side) (t : State) (ps : List SppPacketModel) → IsKept w → Moves (end_of w side) t (end_of w (other side)) ps → IsKept (moved w side t (map spp_packet_spelling ps))
-packets_kept w side t ps k m = moved_kept w side t (map spp_packet_spelling ps) k (record { packets = ps; spells = refl; moves = m })
-
 -- no packets
 silent_kept : (w : World) (side : Side) (t : State) → IsKept w → Goes (end_of w side) t (end_of w (other side)) → IsKept (moved w side t [])
-silent_kept w side t k g = packets_kept w side t [] k (silent (end_of w side) t (end_of w (other side)) g)
+silent_kept w side t k g = moved_kept w side t [] k (record { packets = []; spells = refl; moves = silent (end_of w side) t (end_of w (other side)) g })
 
 pub flush_kept : EndLaws → (w : World) (side : Side) → IsKept w → IsKept (flushes w side)
-flush_kept laws w side k = packets_kept w side (after_flush (end_of w side)) (flush_packets (end_of w side)) k
-    (flush_moves laws (end_of w side) (end_of w (other side)) (k.ends side))
+flush_kept laws w side k =
+    let s : State = end_of w side in
+    moved_kept w side (after_flush s) (flush_answer s) k (record { packets = flush_packets s; spells = laws.flush_bytes s; moves = flush_moves laws s (end_of w (other side)) (k.ends side) })
 
 -- ---- a packet is delivered
 
@@ -163,7 +161,7 @@ received_kept laws w side x i alive k =
     let peer : State = end_of w (other side) in
     let read : spp_packet_of x.bytes ≡ Ok i.packet = read_back laws x.bytes i.packet i.fits i.spells in
     moved_kept w side (after_receive s x.bytes) (option_to_list (receive_answer s x.bytes).reply) k
-    (receive_sends laws s peer x.bytes (record { packet = i.packet; meant = i.meant; read = read; sound = i.sound; numbers = read_as_meant laws.back s peer x i (k.ends side) alive })
+    (receive_sends laws s peer x.bytes (record { packet = i.packet; meant = i.meant; read = read; sound = i.sound; numbers = read_as_meant laws s peer x i (k.ends side) alive })
     (laws.packet s x.bytes i.packet (k.ends side).fits read i.fits) (k.ends side))
 
 -- that it comes from one side and goes to the other is kept where it is marked
@@ -194,8 +192,9 @@ land_kept laws w k l h e = landed_kept laws w k (slice_get w.bag k) l refl h e
 -- ---- each small step
 
 pub tick_kept : EndLaws → (w : World) (side : Side) → IsKept w → IsKept (ticks w side)
-tick_kept laws w side k = packets_kept w side (after_tick (end_of w side)) (tick_packets (end_of w side)) k
-    (tick_moves laws (end_of w side) (end_of w (other side)) (k.ends side))
+tick_kept laws w side k =
+    let s : State = end_of w side in
+    moved_kept w side (after_tick s) (tick_answer s) k (record { packets = tick_packets s; spells = laws.tick_bytes s; moves = tick_moves laws s (end_of w (other side)) (k.ends side) })
 
 pub send_kept : EndLaws → (w : World) (side : Side) (x : Item) → IsItem x → IsKept w → IsKept (sends w side x)
 send_kept laws w side x fits k = silent_kept w side (after_send (end_of w side) x) k
@@ -207,14 +206,14 @@ take_kept laws w side k = silent_kept w side (after_take (end_of w side)) k
 
 -- ---- the start
 
-new_keeps : (s peer : State) → IsState s → s.taken ≡ [] → ((k : ℕ) → s.early k ≡ None) → s.acknowledged ≡ 0 → peer.taken ≡ [] → Keeps s peer
-new_keeps s peer fits taken early acknowledged nothing = record {
+new_keeps : (s peer : State) → IsState s → IsFresh s → IsFresh peer → Keeps s peer
+new_keeps s peer fits new peer_new = record {
   fits = fits;
-  taken = subst (λ (l : List Item). Begins l peer.accepted) (sym taken) (peer.accepted, refl);
-  went_out = omega (arith, ap length taken);
-  early = λ k x e. let none : s.early k ≡ None = early k in absurd (cc);
-  acknowledged = omega arith;
-  reached = omega (arith, ap length nothing);
+  taken = subst (λ (l : List Item). Begins l peer.accepted) (sym new.taken) (peer.accepted, refl);
+  went_out = omega (arith, ap length new.taken);
+  early = λ k x e. let none : s.early k ≡ None = new.early k in absurd (cc);
+  acknowledged = omega (arith, new.acknowledged);
+  reached = omega (arith, ap length peer_new.taken);
 }
 
 pub start_kept : EndLaws → (setup : Setup) → IsSetup setup → IsGood setup → IsKept (start setup)
@@ -224,10 +223,12 @@ start_kept laws setup fits good =
     laws.initiator setup.a setup.b setup.a_id setup.window setup.backlog fits.a fits.b good.a_id fits.a_id good.window_least good.window_most good.backlog_least good.backlog_most in
     let b : IsState w.b =
     laws.responder setup.b setup.a setup.b_id setup.a_id setup.window setup.backlog fits.b fits.a good.b_id fits.b_id good.a_id fits.a_id good.window_least good.window_most good.backlog_least good.backlog_most in
+    let a_new : IsFresh w.a = laws.initiator_fresh setup.a setup.b setup.a_id setup.window setup.backlog in
+    let b_new : IsFresh w.b = laws.responder_fresh setup.b setup.a setup.b_id setup.a_id setup.window setup.backlog in
     record {
       ends = λ side. elim side as (λ s. Keeps (end_of w s) (end_of w (other s))) [
-        | A ↦ new_keeps w.a w.b a refl (λ k. refl) refl refl
-        | B ↦ new_keeps w.b w.a b refl (λ k. refl) refl refl
+        | A ↦ new_keeps w.a w.b a a_new b_new
+        | B ↦ new_keeps w.b w.a b b_new a_new
       ];
       bag = All-nil (IsKeptIn w);
     }
@@ -248,8 +249,8 @@ holds w k = record { ends = λ side. stands (end_of w side) (end_of w (other sid
 
 living : EndLaws → (w : World) (side : Side) (x : Emitted) → IsKept w → (i : IsSoundSpelling (end_of w side) (end_of w (other side)) x) → is_past x.at (length (end_of w side).taken) (length (end_of w (other side)).taken) ≡ false
     → numbers_in (end_of w (other side)) i.packet ≡ as_meant i.meant
-living laws w A x k i alive = read_as_meant laws.back w.b w.a x i (k.ends B) alive
-living laws w B x k i alive = read_as_meant laws.back w.a w.b x i (k.ends A) alive
+living laws w A x k i alive = read_as_meant laws w.b w.a x i (k.ends B) alive
+living laws w B x k i alive = read_as_meant laws w.a w.b x i (k.ends A) alive
 
 -- and back
 keeps : (s peer : State) → Stands s peer → Keeps s peer

@@ -141,7 +141,7 @@ run_stays laws w es =
 -- ---- a packet that lives no longer
 
 past_later : (n m k : ℕ) → n ≤ m → nat_lt lifetime (n - k) ≡ true → nat_lt lifetime (m - k) ≡ true
-past_later n m k l h = let before : 30000 < n - k = ltb-true 30000 (n - k) h in lt-ltb 30000 (m - k) (omega arith)
+past_later n m k l h = let before : lifetime < n - k = ltb-true lifetime (n - k) h in lt-ltb lifetime (m - k) (omega arith)
 
 either_later : (p q r s : Bool) → (p ≡ true → r ≡ true) → (q ≡ true → s ≡ true) → (p || q) ≡ true → (r || s) ≡ true
 either_later true q r s f g h = ap (λ (b : Bool). b || s) (f refl)

@@ -15,7 +15,7 @@ use Rattle.xns_world.proofs.CallSettling.{room_of, room_most, send_room, take_wa
 use Rattle.xns_world.specs.CallLaws.{Answering}
 use Rattle.xns_world.specs.ServeEnd.{next_of}
 use Rattle.xns_world.specs.Settling.{handed_by, end_step_with, most_steps, serve_step, stepped_out}
-use Rattle.xns_world.proofs.Stepping.{GoesOn, IfGoesOn, steps_keep, steps_end}
+use Rattle.xns_world.proofs.Stepping.{steps_are, GoesOn, IfGoesOn, steps_keep, steps_end}
 
 pub record Keeps (v : State) : Type 0 where
   pub fits : IsState v
@@ -40,7 +40,7 @@ takes_go : {S : Type 0} (serving : Serving S) (s : S) (v : State) → Answering 
 unfolding left_of
 takes_go serving s v a k is =
     let e = waiting_item a.ends v is in
-    let falls = take_waiting a.ends v e.0 is e.1 in
+    let falls = take_waiting a.ends v e.0 e.1 in
     record {
       keeps = record { fits = a.ends.take v k.fits; items = subst (All IsItem) (sym (a.ends.take_hears v).taken) k.items };
       fewer = omega (arith, falls.0, falls.1);
@@ -69,5 +69,5 @@ stepped_keeps serving s v a k = steps_keep (serve_step serving s) Keeps left_of 
 pub settled : {S : Type 0} (serving : Serving S) (s : S) (v : State) → Answering serving s → Keeps v → serve_step serving s (stepped_out (serve_step serving s) v) ≡ None
 unfolding left_of
 settled serving s v a k =
-    let most : left_of v ≤ 257 = omega (arith, k.fits.bounds.window_holds, k.fits.ends.window_most, k.fits.ends.backlog_most, room_most v) in
+    let most : left_of v ≤ most_steps = omega (arith, steps_are, k.fits.bounds.window_holds, k.fits.ends.window_most, k.fits.ends.backlog_most, room_most v) in
     steps_end (serve_step serving s) Keeps left_of (λ u h. step_goes serving s u a h) v k most

@@ -2,6 +2,7 @@
 use Rattle.std.proofs.Common.{◌≡◌, ℕ, zero, suc, ◌+◌, ◌-◌, ◌<◌, ◌≤◌, true, false, Option, Some, None, refl, sym, ◌∙◌, ap, subst, arith}
 use Rattle.xns_world.specs.Settling.{most_steps, onward, steps, stepped_out, Stepped}
 
+-- the number itself
 pub steps_are : most_steps ≡ 257
 unfolding most_steps
 steps_are = refl
@@ -62,10 +63,10 @@ none_below K left n most x None h i b = refl
 none_below K left n most x (Some y) h i b = absurd (omega (arith, h, b, i.fewer))
 
 -- after as many steps as were left none applies
-pub steps_end : {X : Type 0} (step : X → Option X) (K : X → Type 0) (left : X → ℕ) → Goes step K left → (x : X) → K x → left x ≤ 257 → step (stepped_out step x) ≡ None
+pub steps_end : {X : Type 0} (step : X → Option X) (K : X → Type 0) (left : X → ℕ) → Goes step K left → (x : X) → K x → left x ≤ most_steps → step (stepped_out step x) ≡ None
 steps_end step K left go x k few =
     let y = stepped_out step x in
-    none_below K left most_steps (left x) y (step y) (omega (arith, few, steps_are)) (go y (steps_keep step K left go x most_steps k)) (steps_below step K left go x most_steps k)
+    none_below K left most_steps (left x) y (step y) few (go y (steps_keep step K left go x most_steps k)) (steps_below step K left go x most_steps k)
 
 -- ---- where a program stops
 
@@ -91,10 +92,10 @@ steps_stay {X} step x n (suc k) m is none =
     ∙ (ap (λ (y : X). onward y (step y)) same
     ∙ ap (λ (o : Option X). onward (steps step x n) o) none)
 
-pub stepped_all : {X : Type 0} (step : X → Option X) (x : X) (n : ℕ) → n ≤ 257 → step (steps step x n) ≡ None → steps step x n ≡ stepped_out step x
+pub stepped_all : {X : Type 0} (step : X → Option X) (x : X) (n : ℕ) → n ≤ most_steps → step (steps step x n) ≡ None → steps step x n ≡ stepped_out step x
 stepped_all step x n h none =
-    let count : most_steps ≡ (257 - n) + n = omega (arith, steps_are) in
-    sym (steps_stay step x n (257 - n) most_steps count none)
+    let count : most_steps ≡ (most_steps - n) + n = omega arith in
+    sym (steps_stay step x n (most_steps - n) most_steps count none)
 
-pub stepped_end : {X : Type 0} (step : X → Option X) (x : X) (n : ℕ) → n ≡ 257 → steps step x n ≡ stepped_out step x
-stepped_end step x n is = let e : n ≡ most_steps = omega (arith, steps_are) in ap (λ (k : ℕ). steps step x k) e
+pub stepped_end : {X : Type 0} (step : X → Option X) (x : X) (n : ℕ) → n ≡ most_steps → steps step x n ≡ stepped_out step x
+stepped_end step x n is = ap (λ (k : ℕ). steps step x k) is

@@ -3,7 +3,8 @@ use Rattle.std.specs.Prelude.{◌≡◌, ◌≤◌, ℕ, List, length, drop, Ok,
 use Rattle.courier_calls.specs.Calls.{RawCall, Serving, decision, HasWords}
 use Rattle.courier_calls.specs.Conversation.{Phase}
 use Rattle.courier_calls.specs.Cutting.{answer_message}
-use Rattle.courier_calls.specs.Laws.{IsBounded, IsShort, bytes_in}
+use Rattle.courier_calls.specs.Bounds.{IsBounded, bytes_in}
+use Rattle.courier_calls.specs.Laws.{IsShort}
 use Rattle.courier_calls.specs.Server.{server_ending, server_items, server_state}
 use Rattle.xns_spp.specs.Sending.{is_full, after_send}
 use Rattle.xns_spp.specs.State.{State, IsState}

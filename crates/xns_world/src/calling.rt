@@ -12,10 +12,10 @@ ghost use Rattle.xns_world.specs.Settling.{stepped_out, Stepped};
 
 use courier_calls::{Call, Caller, Seen, Service};
 use std::alloc::{AllocError, Global};
-use xns_spp::Endpoint;
+use xns_spp::{Endpoint, MOST_PENDING};
 
-/// As many steps as a side can take.
-pub const MOST_STEPS: usize = 257;
+/// As many steps as a side can take: one for each item that there is room for, three at most for each that waits, and one call.
+pub const MOST_STEPS: usize = 4 * MOST_PENDING + 1;
 
 /// The caller's end in a play: its endpoint, its session, and the outcomes that were listed.
 #[derive(Drop)]

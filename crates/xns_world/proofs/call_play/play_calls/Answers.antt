@@ -45,3 +45,14 @@ returns-clause-once g c =
     let w = run_calls p c.args.setup.now c.args.events.now in
     let given : Given p = c.laws_are_given.ensures p (record { serving_is = refl; state = c.requires.state; calls = c.known_calls.ensures }) in
     once_along g.S.Service.serving c.args.service c.args.calls.now _ w (trace g c) (once_in_order p w given (always_between p c.args.setup.now c.args.events.now given c.known.ensures c.requires.good).holds)
+
+-- the caller that is left is one whole
+pub invariant_of-a : goal.invariant_of-a
+invariant_of-a g c =
+    let caller = c.happen_all.new.self.a.caller in
+    record { kept = caller.kept; few = caller.few }
+
+pub invariant_of-a-2 : goal.invariant_of-a-2
+invariant_of-a-2 g c =
+    let caller = c.happen_all.new.self.a.caller in
+    record { kept = caller.kept; few = caller.few }
