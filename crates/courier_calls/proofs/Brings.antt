@@ -1,5 +1,5 @@
 -- What one item more brings.
-use Rattle.std.proofs.Common.{◌≡◌, ◌∙◌, ap, refl, subst, ℕ, zero, suc, ◌-◌, ◌/◌, ◌≤◌, List, [], ◌∷◌, ◌++◌, length, take, drop, append-nil, take-append-drop, Result, Ok, Err, inl, inr, arith}
+use Rattle.std.proofs.Common.{◌≡◌, ◌∙◌, ap, refl, subst, ℕ, ◌≤◌, List, [], ◌∷◌, ◌++◌, length, append-nil, Result, Ok, Err, inl, inr, arith}
 use Rattle.std.specs.List.{AllByRecursion}
 use Rattle.xns_spp.specs.declared.item.Item.{Item}
 use Rattle.xns_spp.specs.Item.{IsItem}
@@ -11,11 +11,12 @@ use Rattle.courier_calls.specs.Text.{signs}
 use Rattle.courier_calls.specs.Conversation.{Phase, conversation}
 use Rattle.courier_calls.specs.Phases.{said}
 use Rattle.courier_calls.specs.Calls.{RawCall, Serving, IsLawful, decision}
-use Rattle.courier_calls.specs.Cutting.{cut, cut_items, cut_bytes, versions_item, answer_message}
+use Rattle.courier_calls.specs.Cutting.{cut, versions_item, answer_message}
 use Rattle.courier_calls.specs.Server.{calls_of, raws, decided, server_ending, server_state, answer_items}
-use Rattle.courier_calls.specs.Laws.{IsShort, bytes_in, BringsNone, BringsOne, BringsAtMostOne}
+use Rattle.courier_calls.specs.Bounds.{bytes_in}
+use Rattle.courier_calls.specs.Laws.{IsShort, BringsNone, BringsOne, BringsAtMostOne}
 use Rattle.courier_calls.proofs.Both.{item_one}
-use Rattle.courier_calls.proofs.Cuts.{bytes_length}
+use Rattle.courier_calls.proofs.Cuts.{bytes_length, bytes_back}
 use Rattle.courier_calls.proofs.Lawful.{Values, keeps, keeps_all}
 use Rattle.courier_calls.proofs.Numbers.{IsHeard, heard_numbers}
 use Rattle.courier_calls.proofs.Sent.{raws_words}
@@ -24,14 +25,8 @@ use Rattle.courier_calls.proofs.Sides.{IsReadAgain, reply_read}
 
 -- ---- the bytes of a message's items
 
-bytes_back : (n : ℕ) (bytes : List ℕ) → bytes_in (cut_items n bytes) ≡ bytes
-unfolding cut_items
-bytes_back zero bytes = append-nil bytes
-bytes_back (suc n) bytes = ap (λ (l : List ℕ). take 534 bytes ++ l) (bytes_back n (drop 534 bytes)) ∙ take-append-drop 534 bytes
-
 cut_back : (m : Message) → bytes_in (cut m) ≡ message_bytes m
-unfolding cut_bytes
-cut_back m = bytes_back ((length (message_bytes m) - 1) / 534) (message_bytes m)
+cut_back m = bytes_back (message_bytes m)
 
 pub cut_size : (m : Message) → IsShort m → length (bytes_in (cut m)) ≤ 131072
 cut_size m short = omega (arith, short, ap (length {A = ℕ}) (cut_back m), bytes_length (message_words m))
