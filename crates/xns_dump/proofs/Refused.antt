@@ -1,6 +1,6 @@
 -- A line's text has the word `refused` exactly where the line is refused.
 use Rattle.std.proofs.Common.{◌≡◌, ◌∙◌, ap, sym, refl, arith, ℕ, zero, suc, ◌+◌, ◌/◌, ◌%◌, ◌<◌, ◌==◌, Bool, true, false, cond, List, [], ◌∷◌, ◌++◌, codes, length, append_assoc, append-nil, Option, Some, None, Result, Ok, Err}
-use Rattle.std.specs.Prelude.{nat_lt, slice_index}
+use Rattle.std.specs.Prelude.{nat_lt, slice_index, is_err}
 use Rattle.std.specs.List.{flat_map}
 use Rattle.std.specs.Fmt.{decimal, digit_glyph, digits, digits_onto}
 use Rattle.std.specs.Int.{w16, w32, to_be_bytes}
@@ -28,8 +28,8 @@ use Rattle.xns_dump.specs.Dump.Line.{are_digits_refused, digits_of, digits_text,
 use Rattle.xns_dump.specs.Flows.{DataPacket}
 use Rattle.xns_dump.specs.Layers.Courier.{callee_text, courier_text, message_line, message_text, report_message}
 use Rattle.xns_dump.specs.Layers.Packets.{body_text, idp_line, idp_refusal, is_body_refused, is_fault, is_packet_refused, kind_text, packet_text, report_packet, route_text, size_text, sum_text}
-use Rattle.xns_dump.specs.Layers.Sequenced.{connection_text, content_text, header_line, header_refusal, is_header_fault, item_line, item_of, item_text, report_sequenced, sequence_text, sequenced_text}
-use Rattle.xns_dump.specs.Layers.Small.{echo_line, echo_text, error_fields, error_line, error_text, exchange_fields, exchange_line, exchange_text, inner_refusal, is_inner_fault, line_or_refusal}
+use Rattle.xns_dump.specs.Layers.Sequenced.{connection_text, content_text, header_line, header_refusal, item_line, item_of, item_text, report_sequenced, sequence_text, sequenced_text}
+use Rattle.xns_dump.specs.Layers.Small.{echo_line, echo_text, error_fields, error_line, error_text, exchange_fields, exchange_line, exchange_text, inner_refusal, line_or_refusal}
 use Rattle.xns_dump.specs.Layers.Text.{address_text, data_line, words_line}
 use Rattle.xns_lines.specs.Text.{bytes_or_dash, hex_word, words_in_hex, words_or_dash, words_text}
 
@@ -203,19 +203,19 @@ exchange : (n : ℕ) (v : ExchangeModel) → IsQuiet (exchange_line n v)
 unfolding exchange_line
 exchange n v = both _ _ (both _ _ (both _ _ (number n) (record { skips = λ ys. refl })) (exchange_numbers v)) (record { skips = λ ys. refl })
 
-line_or : {View : Type 0} (line : ℕ → View → List ℕ) (n : ℕ) (r : Result View SmallFault) → ((v : View) → IsQuiet (line n v)) → refused (line_or_refusal line n r) ≡ is_inner_fault r
+line_or : {View : Type 0} (line : ℕ → View → List ℕ) (n : ℕ) (r : Result View SmallFault) → ((v : View) → IsQuiet (line n v)) → refused (line_or_refusal line n r) ≡ is_err r
 line_or line n (Ok v) h = alone (line n v) (h v)
 line_or line n (Err fault) h = inner n fault
 
-echo_is : (n : ℕ) (body : List ℕ) → refused (echo_text n body) ≡ is_inner_fault (echo_of body)
+echo_is : (n : ℕ) (body : List ℕ) → refused (echo_text n body) ≡ is_err (echo_of body)
 unfolding echo_text
 echo_is n body = line_or echo_line n (echo_of body) (echo n)
 
-error_is : (n : ℕ) (body : List ℕ) → refused (error_text n body) ≡ is_inner_fault (error_of body)
+error_is : (n : ℕ) (body : List ℕ) → refused (error_text n body) ≡ is_err (error_of body)
 unfolding error_text
 error_is n body = line_or error_line n (error_of body) (error n)
 
-exchange_is : (n : ℕ) (body : List ℕ) → refused (exchange_text n body) ≡ is_inner_fault (exchange_of body)
+exchange_is : (n : ℕ) (body : List ℕ) → refused (exchange_text n body) ≡ is_err (exchange_of body)
 unfolding exchange_text
 exchange_is n body = line_or exchange_line n (exchange_of body) (exchange n)
 
@@ -273,11 +273,11 @@ content n f xs = either (is_system f) [] _ (record { skips = λ ys. refl }) (eit
 no_header : (n : ℕ) (fault : SppFault) → refused (header_refusal n fault) ≡ true
 no_header n (spp.Short have) = inner n _
 
-sequenced_with : (n : ℕ) (numbers : DataPacket → ℕ) (p : PacketModel) (r : Result (Header × List ℕ) SppFault) → refused (report_sequenced n numbers p r) ≡ is_header_fault r
+sequenced_with : (n : ℕ) (numbers : DataPacket → ℕ) (p : PacketModel) (r : Result (Header × List ℕ) SppFault) → refused (report_sequenced n numbers p r) ≡ is_err r
 sequenced_with n numbers p (Ok found) = alone _ (both _ _ (both _ _ (header n found.0) (item n numbers (item_of p found.0))) (content n found.0 found.1))
 sequenced_with n numbers p (Err fault) = no_header n fault
 
-sequenced_is : (n : ℕ) (numbers : DataPacket → ℕ) (p : PacketModel) → refused (sequenced_text n numbers p) ≡ is_header_fault (header_of p.body)
+sequenced_is : (n : ℕ) (numbers : DataPacket → ℕ) (p : PacketModel) → refused (sequenced_text n numbers p) ≡ is_err (header_of p.body)
 unfolding sequenced_text
 sequenced_is n numbers p = sequenced_with n numbers p (header_of p.body)
 

@@ -28,8 +28,8 @@ use xns_lines::{RunFault, take_lines};
 /// answered. The text of all lines before the fault is written first, but for a write that fails.
 ///
 /// It holds one piece of 65,536 bytes of the input, one line of at most 4,096 bytes, its digits without blanks, their
-/// values and the bytes that they spell, the text of that line, the words of a message, some 65,536 bytes of text that
-/// isn't written yet, and the number of the last item of each flow. A line begins at most one flow.
+/// values and the bytes that they spell, the words of a message, the text that isn't written yet, which is less than
+/// 65,536 bytes and the text of one line, and the number of the last item of each flow. A line begins at most one flow.
 pub fn dump<R: Read, W: Write>(
     alloc: Global,
     reader: &mut R,

@@ -1,7 +1,9 @@
 //! Hex digits of bytes, with no branch for each byte.
-ghost use Rattle.std.specs.Prelude.{◌≡◌, ◌*◌, ◌/◌, ◌%◌, ◌<◌, length, slice_index, take};
+ghost use Rattle.std.specs.Prelude.{◌≡◌, ◌++◌, ◌*◌, ◌/◌, ◌%◌, ◌<◌, OnErr, OnOk, length, slice_index, take};
 ghost use Rattle.hex.specs.Hex.{encode_lower, lower_digits};
 ghost use Rattle.xns_lines.specs.Text.{spaced};
+
+use std::alloc::AllocError;
 
 /// Writes the two digits of each byte, in lower case.
 pub fn write_digits(bytes: &[u8], digits: &mut [u8])
@@ -14,8 +16,42 @@ pub fn write_digits(bytes: &[u8], digits: &mut [u8])
     }
 }
 
+/// Appends the two digits of each byte, in lower case. Where memory is refused, nothing is appended.
+pub(crate) fn append_digits(text: &mut Vec<u8>, bytes: &[u8]) -> Result<(), AllocError>
+    ensures ok { OnOk result (text.new.items ≡ text.old.items ++ encode_lower bytes.now) }
+    ensures err { OnErr result (text.new.items ≡ text.old.items) }
+{
+    let start = text.len();
+    let Some(end) = start.checked_add(2 * bytes.len()) else {
+        return Err(AllocError);
+    };
+    text.resize(end, 0)?;
+    write_digits(bytes, &mut text.as_mut_slice()[start..]);
+    Ok(())
+}
+
+/// Appends words of four digits, each before a space. Where memory is refused, nothing is appended.
+pub(crate) fn append_spaced(text: &mut Vec<u8>, bytes: &[u8]) -> Result<(), AllocError>
+    requires { length bytes.now % 2 ≡ 0 }
+    ensures ok { OnOk result (text.new.items ≡ text.old.items ++ spaced (encode_lower bytes.now)) }
+    ensures err { OnErr result (text.new.items ≡ text.old.items) }
+{
+    let start = text.len();
+    let words = bytes.len() / 2;
+    let Some(size) = words.checked_mul(9) else {
+        return Err(AllocError);
+    };
+    let Some(end) = start.checked_add(size) else {
+        return Err(AllocError);
+    };
+    text.resize(end, 0)?;
+    write_spaced(bytes, &mut text.as_mut_slice()[start..]);
+    text.truncate(start + 5 * words);
+    Ok(())
+}
+
 /// Writes words of four digits at the front of some room, each before a space. Their digits alone are left behind them.
-pub(crate) fn write_spaced(bytes: &[u8], room: &mut [u8])
+fn write_spaced(bytes: &[u8], room: &mut [u8])
     requires whole { length bytes.now % 2 ≡ 0 }
     requires fits { length room.old ≡ 9 * (length bytes.now / 2) }
     ensures { take (5 * (length bytes.now / 2)) room.new ≡ spaced (encode_lower bytes.now) }

@@ -1,5 +1,5 @@
-//! The lines of an input within its limits, and what programs that read such lines write: a whole text, and numbers and
-//! bytes as text.
+//! The lines of an input within its limits, and what programs that read such lines write: text that grows line by line,
+//! numbers and bytes as text, and a whole text.
 #![tactic(auto)]
 
 mod cutter;
@@ -8,6 +8,7 @@ mod fault;
 pub mod laws;
 mod line_end;
 pub mod numbers;
+mod report;
 mod taker;
 mod taking;
 mod writing;
@@ -15,6 +16,7 @@ mod writing;
 pub use digits::write_digits;
 pub use fault::RunFault;
 pub use line_end::without_return;
+pub use report::Report;
 pub use taker::LineTaker;
 pub use taking::take_lines;
 pub use writing::write_whole;

@@ -8,6 +8,7 @@ use Rattle.courier_calls.specs.Server.{call_of}
 use Rattle.courier_calls.specs.Tally.{tally}
 use Rattle.courier_calls.specs.declared.call.Call.{Call}
 use Rattle.courier_calls.specs.declared.call.Seen.{Seen}
+use Rattle.xns_lines.specs.Report.{ReportModel, whole}
 use Rattle.xns_script.specs.Reading.{HasRead}
 use Rattle.xns_script.specs.Script.{calls_in, events_in}
 use Rattle.xns_script.specs.declared.script.Script.{Script}
@@ -66,6 +67,10 @@ handed setup service calls events t old new n carried total packets seen (Ok x) 
     ∙ played setup service calls events t is zero h)
 
 -- ---- of a script
+
+-- what is added to a report with no text is all of it
+pub said_alone : (report empty : ReportModel) (text : List ℕ) → empty.front ≡ [] → report.front ≡ empty.front → report.line ≡ empty.line ++ text → whole report ≡ empty.line ++ text
+said_alone report empty text none front line = ap (λ before. before ++ report.line) (front ∙ none) ∙ line
 
 pub refusal_said : (s : Script) (lines : List (List ℕ)) (o : Option ℕ) (n : ℕ) (text before : List ℕ) → o ≡ s.refused → o ≡ Some n → before ≡ [] → text ≡ before ++ (decimal n ++ codes " refused\n") → HasRead s lines
     → text ≡ script_text lines

@@ -1,8 +1,9 @@
 //! What a script comes to, as text.
-ghost use Rattle.std.specs.Prelude.{◌≡◌, ◌++◌, ℕ, List, All, IfOk, OnOk, codes, map};
+ghost use Rattle.std.specs.Prelude.{◌≡◌, ◌++◌, ℕ, List, All, IfOk, codes, map};
 ghost use Rattle.std.specs.Fmt.{decimal};
 ghost use Rattle.courier_calls.specs.Calls.{CallFits, call_model};
 ghost use Rattle.courier_calls.specs.Tally.{tally};
+ghost use Rattle.xns_lines.specs.Report.{Adds, whole};
 ghost use Rattle.xns_script.specs.Reading.{HasRead};
 ghost use Rattle.xns_world.specs.Setup.{IsGood};
 ghost use Rattle.xns_sim.specs.Sim.Play.{play_text, script_setup};
@@ -12,15 +13,16 @@ use crate::trace::{Played, append_trace};
 use courier_calls::{Call, Tally, tally_table};
 use std::alloc::{AllocError, Global};
 use xns_idp::Address;
+use xns_lines::Report;
 use xns_lines::numbers::append_decimal;
 use xns_script::Script;
 use xns_world::{Event, Setup, play_calls};
 
 /// The text of what the script comes to: its first refused line, or its play.
-pub(crate) fn play_script(alloc: Global, script: &Script) -> Result<Vec<u8>, AllocError>
-    ensures { IfOk result (λ text. (lines : List (List ℕ)) → HasRead script.now lines → text.items ≡ script_text lines) }
+pub(crate) fn play_script(alloc: Global, script: &Script) -> Result<Report, AllocError>
+    ensures { IfOk result (λ text. (lines : List (List ℕ)) → HasRead script.now lines → whole text ≡ script_text lines) }
 {
-    let mut text = Vec::new(alloc);
+    let mut text = Report::new(alloc);
     match script.refused() {
         Some(number) => append_refusal(&mut text, number)?,
         None => append_play(alloc, &mut text, script.calls(), script.events())?,
@@ -29,22 +31,22 @@ pub(crate) fn play_script(alloc: Global, script: &Script) -> Result<Vec<u8>, All
 }
 
 /// Appends that the line of that number is refused.
-fn append_refusal(text: &mut Vec<u8>, number: usize) -> Result<(), AllocError>
-    ensures { OnOk result (text.new.items ≡ text.old.items ++ (decimal number ++ codes " refused\n")) }
+fn append_refusal(text: &mut Report, number: usize) -> Result<(), AllocError>
+    ensures { Adds result text.old text.new (decimal number ++ codes " refused\n") }
 {
     append_decimal(text, number)?;
-    text.extend_from_slice(b" refused\n")
+    text.append(b" refused\n")
 }
 
 /// Appends what the play of these calls comes to, when these events happen.
 fn append_play(
     alloc: Global,
-    text: &mut Vec<u8>,
+    text: &mut Report,
     calls: &[Call],
     events: &[Event],
 ) -> Result<(), AllocError>
     requires fit { All (CallFits tally.table) (map call_model calls.now) }
-    ensures { OnOk result (text.new.items ≡ text.old.items ++ play_text (map call_model calls.now) events.now) }
+    ensures { Adds result text.old text.new (play_text (map call_model calls.now) events.now) }
 {
     let table = tally_table(alloc)?;
     let trace = play_calls(alloc, &setup(), &table, Tally::new(), calls, events)?;

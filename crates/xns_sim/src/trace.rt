@@ -1,13 +1,15 @@
 //! The text of a play of calls.
-ghost use Rattle.std.specs.Prelude.{◌≡◌, ◌++◌, OnOk, codes, length, map};
+ghost use Rattle.std.specs.Prelude.{◌++◌, codes, map};
 ghost use Rattle.std.specs.Fmt.{decimal};
 ghost use Rattle.courier_types.specs.Value.{value_model};
 ghost use Rattle.courier_calls.specs.Calls.{seen_model};
+ghost use Rattle.xns_lines.specs.Report.{Adds};
 ghost use Rattle.xns_sim.specs.Sim.Trace.{count_line, outcome_line, outcome_lines, seen_text, trace_text, value_text};
 
 use courier_calls::Seen;
 use courier_types::Value;
 use std::alloc::AllocError;
+use xns_lines::Report;
 use xns_lines::numbers::{append_decimal, append_word_list};
 
 /// What a play of calls came to, as numbers and outcomes.
@@ -27,8 +29,8 @@ pub(crate) struct Played<'a> {
 
 /// Appends the text of a play.
 #[tactic(auto, unfolding(crate::specs::Sim::Trace::trace_text))]
-pub(crate) fn append_trace(text: &mut Vec<u8>, played: &Played<'_>) -> Result<(), AllocError>
-    ensures { OnOk result (text.new.items ≡ text.old.items ++ trace_text played.now.calls played.now.carried (map seen_model played.now.seen.now) played.now.total played.now.packets) }
+pub(crate) fn append_trace(text: &mut Report, played: &Played<'_>) -> Result<(), AllocError>
+    ensures { Adds result text.old text.new (trace_text played.now.calls played.now.carried (map seen_model played.now.seen.now) played.now.total played.now.packets) }
 {
     append_count(text, b"calls ", played.calls)?;
     append_count(text, b"carried ", played.carried)?;
@@ -39,17 +41,17 @@ pub(crate) fn append_trace(text: &mut Vec<u8>, played: &Played<'_>) -> Result<()
 
 /// Appends a name and a number, as a line.
 #[tactic(auto, unfolding(crate::specs::Sim::Trace::count_line))]
-fn append_count(text: &mut Vec<u8>, name: &[u8], number: usize) -> Result<(), AllocError>
-    ensures { OnOk result (text.new.items ≡ text.old.items ++ count_line name.now number) }
+fn append_count(text: &mut Report, name: &[u8], number: usize) -> Result<(), AllocError>
+    ensures { Adds result text.old text.new (count_line name.now number) }
 {
-    text.extend_from_slice(name)?;
+    text.append(name)?;
     append_decimal(text, number)?;
-    text.extend_from_slice(b"\n")
+    text.append(b"\n")
 }
 
 /// Appends the lines of outcomes, which count from 1.
-fn append_outcomes(text: &mut Vec<u8>, outcomes: &[Seen]) -> Result<(), AllocError>
-    ensures { OnOk result (text.new.items ≡ text.old.items ++ outcome_lines 1 (map seen_model outcomes.now)) }
+fn append_outcomes(text: &mut Report, outcomes: &[Seen]) -> Result<(), AllocError>
+    ensures { Adds result text.old text.new (outcome_lines 1 (map seen_model outcomes.now)) }
 {
     for (index, seen) in outcomes.iter().enumerate() {
         append_outcome(text, index + 1, seen)?;
@@ -58,21 +60,21 @@ fn append_outcomes(text: &mut Vec<u8>, outcomes: &[Seen]) -> Result<(), AllocErr
 }
 
 #[tactic(auto, unfolding(crate::specs::Sim::Trace::outcome_line))]
-fn append_outcome(text: &mut Vec<u8>, number: usize, seen: &Seen) -> Result<(), AllocError>
-    ensures { OnOk result (text.new.items ≡ text.old.items ++ outcome_line number (seen_model seen.now)) }
+fn append_outcome(text: &mut Report, number: usize, seen: &Seen) -> Result<(), AllocError>
+    ensures { Adds result text.old text.new (outcome_line number (seen_model seen.now)) }
 {
     append_decimal(text, number)?;
     append_seen(text, seen)?;
-    text.extend_from_slice(b"\n")
+    text.append(b"\n")
 }
 
 #[tactic(auto, unfolding(crate::specs::Sim::Trace::seen_text))]
-fn append_seen(text: &mut Vec<u8>, seen: &Seen) -> Result<(), AllocError>
-    ensures { OnOk result (text.new.items ≡ text.old.items ++ seen_text (seen_model seen.now)) }
+fn append_seen(text: &mut Report, seen: &Seen) -> Result<(), AllocError>
+    ensures { Adds result text.old text.new (seen_text (seen_model seen.now)) }
 {
     match seen {
         Seen::Returned(value) => {
-            text.extend_from_slice(b" returned ")?;
+            text.append(b" returned ")?;
             append_value(text, value)
         }
         Seen::Aborted(error, value) => {
@@ -87,17 +89,17 @@ fn append_seen(text: &mut Vec<u8>, seen: &Seen) -> Result<(), AllocError>
 }
 
 /// Appends a name, a number and a space.
-fn append_kind(text: &mut Vec<u8>, name: &[u8], number: u16) -> Result<(), AllocError>
-    ensures { OnOk result (text.new.items ≡ text.old.items ++ (name.now ++ decimal number ++ codes " ")) }
+fn append_kind(text: &mut Report, name: &[u8], number: u16) -> Result<(), AllocError>
+    ensures { Adds result text.old text.new (name.now ++ decimal number ++ codes " ") }
 {
-    text.extend_from_slice(name)?;
+    text.append(name)?;
     append_decimal(text, usize::from(number))?;
-    text.extend_from_slice(b" ")
+    text.append(b" ")
 }
 
 /// Appends a value of the tally's outcomes, which is a long cardinal.
-fn append_value(text: &mut Vec<u8>, value: &Value) -> Result<(), AllocError>
-    ensures { OnOk result (text.new.items ≡ text.old.items ++ value_text (value_model value.now)) }
+fn append_value(text: &mut Report, value: &Value) -> Result<(), AllocError>
+    ensures { Adds result text.old text.new (value_text (value_model value.now)) }
 {
     match value {
         Value::LongCardinal(number) => append_decimal(text, *number as usize),

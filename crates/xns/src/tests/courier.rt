@@ -1,4 +1,4 @@
-//! Lines of Courier messages whose text is known from outside.
+//! Worked examples of Courier messages, by hand from the standard, their sums checked by a separate program.
 use xns_dump::dump;
 
 /// A line and its text.

@@ -1,5 +1,5 @@
 -- The lines that say what the bytes of a packet mean, a text for each layer.
-use Rattle.std.specs.Prelude.{ℕ, ◌+◌, ◌==◌, Bool, true, false, if◌then◌else◌, List, ◌++◌, length, codes, Option, None, Result, Ok, Err}
+use Rattle.std.specs.Prelude.{ℕ, ◌+◌, ◌==◌, Bool, true, false, if◌then◌else◌, List, ◌++◌, length, codes, Option, None, Result, Ok, Err, is_err}
 use Rattle.std.specs.Fmt.{decimal}
 use Rattle.xns_idp.specs.Packet.{PacketModel}
 use Rattle.xns_idp.specs.Reading.{packet_of, word_at}
@@ -9,9 +9,9 @@ use Rattle.xns_small.specs.Echo.{echo_of}
 use Rattle.xns_small.specs.ErrorReport.{error_of}
 use Rattle.xns_small.specs.Exchange.{exchange_of}
 use Rattle.xns_dump.specs.Flows.{DataPacket}
-use Rattle.xns_dump.specs.Layers.Small.{echo_text, error_text, exchange_text, is_inner_fault}
+use Rattle.xns_dump.specs.Layers.Small.{echo_text, error_text, exchange_text}
 use Rattle.xns_spp.specs.Header.{header_of}
-use Rattle.xns_dump.specs.Layers.Sequenced.{is_header_fault, sequenced_item, sequenced_text}
+use Rattle.xns_dump.specs.Layers.Sequenced.{sequenced_item, sequenced_text}
 use Rattle.xns_dump.specs.Layers.Text.{address_text, data_line}
 use Rattle.xns_lines.specs.Text.{hex_word}
 
@@ -29,10 +29,10 @@ body_text n number packet =
 -- whether the body is not what the packet type says
 unfoldable pub is_body_refused : PacketModel → Bool
 is_body_refused packet =
-    if packet.kind == 2 then is_inner_fault (echo_of packet.body)
-    else if packet.kind == 3 then is_inner_fault (error_of packet.body)
-    else if packet.kind == 4 then is_inner_fault (exchange_of packet.body)
-    else if packet.kind == 5 then is_header_fault (header_of packet.body)
+    if packet.kind == 2 then is_err (echo_of packet.body)
+    else if packet.kind == 3 then is_err (error_of packet.body)
+    else if packet.kind == 4 then is_err (exchange_of packet.body)
+    else if packet.kind == 5 then is_err (header_of packet.body)
     else false
 
 -- the data packet of a flow that it is, if it is one

@@ -3,7 +3,7 @@ use Rattle.std.specs.Prelude.{ℕ, ◌==◌, not, Bool, true, false, if◌then�
 use Rattle.std.specs.Fmt.{decimal}
 use Rattle.hex.specs.Hex.{encode_lower}
 use Rattle.xns_idp.specs.Packet.{PacketModel}
-use Rattle.xns_spp.specs.Header.{brings_item, has_bit, header_of, is_system}
+use Rattle.xns_spp.specs.Header.{brings_item, has_bit, header_of, is_system, message_end_bit}
 use Rattle.xns_spp.specs.declared.header.Header.{Header}
 use Rattle.xns_spp.specs.declared.spp_fault.SppFault.{SppFault}
 use Rattle.xns_spp.specs.declared.spp_fault.SppFault.TheVariants.{Short}
@@ -52,7 +52,7 @@ unfoldable pub content_text : ℕ → Header → List ℕ → List ℕ
 content_text n f content =
     if is_system f then []
     else if not (f.stream == 0) then data_line n content
-    else if has_bit f.control 16 then courier_text n content
+    else if has_bit f.control message_end_bit then courier_text n content
     else words_line n content
 
 -- the body is shorter than a header
@@ -74,7 +74,3 @@ item_found packet (Err fault) = None
 -- the data packet that a sequenced packet is, if it is one
 unfoldable pub sequenced_item : PacketModel → Option DataPacket
 sequenced_item packet = item_found packet (header_of packet.body)
-
-abbrev pub is_header_fault : Result (Header × List ℕ) SppFault → Bool
-is_header_fault (Ok found) = false
-is_header_fault (Err fault) = true

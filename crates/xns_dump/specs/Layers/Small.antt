@@ -42,10 +42,6 @@ abbrev pub line_or_refusal : {View : Type 0} → (ℕ → View → List ℕ) →
 line_or_refusal line n (Ok view) = line n view
 line_or_refusal line n (Err fault) = inner_refusal n fault
 
-abbrev pub is_inner_fault : {View : Type 0} → Result View SmallFault → Bool
-is_inner_fault (Ok view) = false
-is_inner_fault (Err fault) = true
-
 unfoldable pub echo_text : ℕ → List ℕ → List ℕ
 echo_text n body = line_or_refusal echo_line n (echo_of body)
 

@@ -1,10 +1,11 @@
 //! The lines of sequenced packets, a function for each.
-ghost use Rattle.std.specs.Prelude.{◌≡◌, ◌++◌, ℕ, Option, IfOk, OnOk};
+ghost use Rattle.std.specs.Prelude.{◌≡◌, ◌++◌, ℕ, Option, IfOk, OnOk, is_err};
 ghost use Rattle.xns_idp.specs.Packet.{packet_model};
 ghost use Rattle.xns_spp.specs.Header.{header_of};
 ghost use Rattle.xns_dump.specs.Flows.{DataPacket};
 ghost use Rattle.xns_dump.specs.Flows.Numbers.{numbered, numbering};
-ghost use Rattle.xns_dump.specs.Layers.Sequenced.{connection_text, content_text, header_line, header_refusal, is_header_fault, item_line, item_of, item_text, sequence_text, sequenced_item, sequenced_text};
+ghost use Rattle.xns_dump.specs.Layers.Sequenced.{connection_text, content_text, header_line, header_refusal, item_line, item_of, item_text, sequence_text, sequenced_item, sequenced_text};
+ghost use Rattle.xns_lines.specs.Report.{Adds};
 
 use crate::flows::flow::Flow;
 use crate::flows::numbered::Numbered;
@@ -16,28 +17,24 @@ use crate::layers::small::append_inner_refusal;
 use crate::layers::text::{append_data_line, append_words_line};
 use std::alloc::{AllocError, Global};
 use xns_idp::Packet;
+use xns_lines::Report;
 use xns_lines::numbers::{append_decimal, append_hex, append_long, append_word};
 use xns_small::SmallFault;
+use xns_spp::control::{END_OF_MESSAGE, SYSTEM};
 use xns_spp::{Header, SppFault, read_header};
-
-/// The bit of the connection control that a system packet has.
-const SYSTEM: u8 = 128;
-
-/// The bit of the connection control that the last packet of a message has.
-const END_OF_MESSAGE: u8 = 16;
 
 /// Appends the lines of a sequenced packet.
 #[tactic(auto, unfolding(crate::specs::Layers::Sequenced::sequenced_text, crate::specs::Layers::Sequenced::sequenced_item))]
 pub(crate) fn append_sequenced(
     alloc: Global,
-    report: &mut Vec<u8>,
+    report: &mut Report,
     number: usize,
     packet: &Packet<'_>,
     numbers: &FlowNumbers,
 ) -> Result<Reported, AllocError>
-    ensures { IfOk result (λ reported. (report.new.items ≡ report.old.items ++ sequenced_text number (numbering numbers.now.last) (packet_model packet.now))
-        × (reported.is_refused ≡ is_header_fault (header_of packet.now.body.now))
-        × (reported.item ≡ numbered (numbering numbers.now.last) (sequenced_item (packet_model packet.now)))) }
+    ensures text { Adds result report.old report.new (sequenced_text number (numbering numbers.now.last) (packet_model packet.now)) }
+    ensures refused { IfOk result (λ reported. reported.is_refused ≡ is_err (header_of packet.now.body.now)) }
+    ensures item { IfOk result (λ reported. reported.item ≡ numbered (numbering numbers.now.last) (sequenced_item (packet_model packet.now))) }
 {
     match read_header(packet.body) {
         Ok((header, content)) => {
@@ -65,7 +62,7 @@ pub(crate) fn append_sequenced(
 fn numbered_item(packet: &Packet<'_>, header: &Header, numbers: &FlowNumbers) -> Option<Numbered>
     ensures { result ≡ numbered (numbering numbers.now.last) (item_of (packet_model packet.now) header.now) }
 {
-    if header.control & SYSTEM != 0 || header.target_id == 0 {
+    if !header.brings_item() {
         return None;
     }
     let flow = Flow {
@@ -88,13 +85,10 @@ fn numbered_item(packet: &Packet<'_>, header: &Header, numbers: &FlowNumbers) ->
 }
 
 /// Appends the line of an item's number, if there is an item.
-fn append_item(
-    report: &mut Vec<u8>,
-    number: usize,
-    item: Option<Numbered>,
-) -> Result<(), AllocError>
-    ensures { OnOk result ((numbers : DataPacket → ℕ) (packet : Option DataPacket) → item ≡ numbered numbers packet
-        → report.new.items ≡ report.old.items ++ item_text number numbers packet) }
+fn append_item(report: &mut Report, number: usize, item: Option<Numbered>) -> Result<(), AllocError>
+    ensures front { report.new.front ≡ report.old.front }
+    ensures line { OnOk result ((numbers : DataPacket → ℕ) (packet : Option DataPacket) → item ≡ numbered numbers packet
+        → report.new.line ≡ report.old.line ++ item_text number numbers packet) }
 {
     match item {
         Some(numbered) => append_item_line(report, number, numbered.item),
@@ -104,55 +98,51 @@ fn append_item(
 
 /// Appends the line of an item's number.
 #[tactic(auto, unfolding(crate::specs::Layers::Sequenced::item_line))]
-fn append_item_line(report: &mut Vec<u8>, number: usize, item: u64) -> Result<(), AllocError>
-    ensures { OnOk result (report.new.items ≡ report.old.items ++ item_line number item) }
+fn append_item_line(report: &mut Report, number: usize, item: u64) -> Result<(), AllocError>
+    ensures { Adds result report.old report.new (item_line number item) }
 {
     append_decimal(report, number)?;
-    report.extend_from_slice(b" item ")?;
+    report.append(b" item ")?;
     append_long(report, item)?;
-    report.extend_from_slice(b"\n")
+    report.append(b"\n")
 }
 
 /// Appends the line of a header.
 #[tactic(auto, unfolding(crate::specs::Layers::Sequenced::header_line))]
-fn append_header_line(
-    report: &mut Vec<u8>,
-    number: usize,
-    header: &Header,
-) -> Result<(), AllocError>
-    ensures { OnOk result (report.new.items ≡ report.old.items ++ header_line number header.now) }
+fn append_header_line(report: &mut Report, number: usize, header: &Header) -> Result<(), AllocError>
+    ensures { Adds result report.old report.new (header_line number header.now) }
 {
     append_decimal(report, number)?;
-    report.extend_from_slice(b" spp control ")?;
+    report.append(b" spp control ")?;
     append_connection(report, header)?;
     append_sequence(report, header)?;
-    report.extend_from_slice(b"\n")
+    report.append(b"\n")
 }
 
 /// Appends the connection control, the datastream type and the connection identifiers.
 #[tactic(auto, unfolding(crate::specs::Layers::Sequenced::connection_text))]
-fn append_connection(report: &mut Vec<u8>, header: &Header) -> Result<(), AllocError>
-    ensures { OnOk result (report.new.items ≡ report.old.items ++ connection_text header.now) }
+fn append_connection(report: &mut Report, header: &Header) -> Result<(), AllocError>
+    ensures { Adds result report.old report.new (connection_text header.now) }
 {
     append_hex(report, &[header.control])?;
-    report.extend_from_slice(b" stream ")?;
+    report.append(b" stream ")?;
     append_decimal(report, usize::from(header.stream))?;
-    report.extend_from_slice(b" source ")?;
+    report.append(b" source ")?;
     append_word(report, header.source_id)?;
-    report.extend_from_slice(b" target ")?;
+    report.append(b" target ")?;
     append_word(report, header.target_id)
 }
 
 /// Appends the sequence, acknowledge and allocation numbers.
 #[tactic(auto, unfolding(crate::specs::Layers::Sequenced::sequence_text))]
-fn append_sequence(report: &mut Vec<u8>, header: &Header) -> Result<(), AllocError>
-    ensures { OnOk result (report.new.items ≡ report.old.items ++ sequence_text header.now) }
+fn append_sequence(report: &mut Report, header: &Header) -> Result<(), AllocError>
+    ensures { Adds result report.old report.new (sequence_text header.now) }
 {
-    report.extend_from_slice(b" seq ")?;
+    report.append(b" seq ")?;
     append_decimal(report, usize::from(header.sequence))?;
-    report.extend_from_slice(b" ack ")?;
+    report.append(b" ack ")?;
     append_decimal(report, usize::from(header.acknowledge))?;
-    report.extend_from_slice(b" alloc ")?;
+    report.append(b" alloc ")?;
     append_decimal(report, usize::from(header.allocation))
 }
 
@@ -160,12 +150,12 @@ fn append_sequence(report: &mut Vec<u8>, header: &Header) -> Result<(), AllocErr
 #[tactic(auto, unfolding(crate::specs::Layers::Sequenced::content_text))]
 fn append_content(
     alloc: Global,
-    report: &mut Vec<u8>,
+    report: &mut Report,
     number: usize,
     header: &Header,
     content: &[u8],
 ) -> Result<(), AllocError>
-    ensures { OnOk result (report.new.items ≡ report.old.items ++ content_text number header.now content.now) }
+    ensures { Adds result report.old report.new (content_text number header.now content.now) }
 {
     if header.control & SYSTEM != 0 {
         return Ok(());
@@ -181,11 +171,11 @@ fn append_content(
 
 /// Appends the line of a body that is shorter than a header.
 fn append_header_refusal(
-    report: &mut Vec<u8>,
+    report: &mut Report,
     number: usize,
     fault: SppFault,
 ) -> Result<(), AllocError>
-    ensures { OnOk result (report.new.items ≡ report.old.items ++ header_refusal number fault) }
+    ensures { Adds result report.old report.new (header_refusal number fault) }
 {
     match fault {
         SppFault::Short { have } => {

@@ -3,10 +3,10 @@ use Rattle.xns_dump.proofs.Numbered.{an_item, no_item}
 use Rattle.xns_dump.proofs.Writes.{on_ok_1}
 use Rattle.xns_dump.proofs.layers.sequenced.append_item.Goals as goal
 
-pub returns-in-Some : goal.returns-in-Some
-returns-in-Some c =
-    on_ok_1 _ _ c.append_item_line.result c.append_item_line.ensures (λ said. λ numbers packet e.
-    an_item c.args.number numbers packet c.args.report.now.items c.append_item_line.new.report.items c.in-Some.numbered (sym c.in-Some.is ∙ e) said)
+pub returns-in-Some-clause-line : goal.returns-in-Some-clause-line
+returns-in-Some-clause-line c =
+    on_ok_1 _ _ c.append_item_line.result c.append_item_line.ensures.line (λ said. λ numbers packet e.
+    an_item c.args.number numbers packet c.args.report.now.line c.append_item_line.new.report.line c.in-Some.numbered (sym c.in-Some.is ∙ e) said)
 
-pub returns-in-None : goal.returns-in-None
-returns-in-None c = λ numbers packet e. no_item c.args.number numbers packet c.args.report.now.items (sym c.in-None.is ∙ e)
+pub returns-in-None-clause-line : goal.returns-in-None-clause-line
+returns-in-None-clause-line c = λ numbers packet e. no_item c.args.number numbers packet c.args.report.now.line (sym c.in-None.is ∙ e)
