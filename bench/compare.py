@@ -1,20 +1,23 @@
 #!/usr/bin/env python3
-"""Times a proved program beside a plain Rust peer, five runs of each in turn, and prints the medians and their ratio.
+"""Times a proved program beside a plain Rust peer, five runs of each in turn, or fifteen of `exchange` and `calls`, which scatter, and
+prints the medians and their ratio.
 
     python3 bench/compare.py checksum     the cycle checksum of a million packets of 576 bytes
     python3 bench/compare.py values       Courier values read, read over pieces, and written; the least time of many
     python3 bench/compare.py c            a million packets of 576 bytes written and read by the library for C, beside plain C and
                                           beside the same in Rattle
-    python3 bench/compare.py exchange     65,535 items of 534 bytes each way at window 64, in order and with every second packet late, beside
-                                          a peer that sums by the standard's loop and one that sums in lanes
+    python3 bench/compare.py exchange     65,535 items of 534 bytes each way at window 64, in order, with every second packet late, and with the last
+                                          seven packets of each 51 lost, which a tick sends again; both say how many were late, lost and sent
+                                          again. Beside a peer that sums by the standard's loop and one that sums in lanes
     python3 bench/compare.py calls        100,000 calls of Courier through a caller and a server in memory, and 200 calls of 60,000
-                                          cardinals each way, with the most memory that a run holds
+                                          cardinals each way, with the most memory that a run holds, beside a peer that makes a message of
+                                          its own of what comes, and one that reads words where the bytes lie
     python3 bench/compare.py sim          `xns sim` of 2,500, 5,000 and 10,000 calls Add, and of 5,000 calls with 50,000 events, among them 30,000
                                           packets that come again; nearly as many lines as an input may have
     python3 bench/compare.py plays        a play of 1,000 calls and 100,000 events, most of them packets that come again, beside the same peer; and plays of
                                           1,000, 10,000 and 65,535 items each way, to see that their time grows with the packets
-    python3 bench/compare.py dump         `xns dump` of 65,536 packets in hex: of types that no layer reads, of types 2 to 4, and sequenced ones of 1, 1,000
-                                          and 65,536 flows; and the largest resident memory of each
+    python3 bench/compare.py dump         `xns dump` of 65,536 packets in hex: of types that no layer reads, of types 2 to 4, sequenced ones of 1, 1,000 and
+                                          65,536 flows, and those that end messages of Courier; and the largest resident memory of each
 
 The proved program is built by `rt run` in its crate, the peer by `rustc -O`. Absolute times say little on a shared machine; the
 ratio is of processor time in one run. What is printed is thrown away, once it is known that both print the same; that of `xns dump` goes
@@ -25,6 +28,7 @@ import os, pathlib, statistics, subprocess, sys, tempfile, time
 BENCH = pathlib.Path(__file__).resolve().parent
 CRATES = BENCH.parent / "crates"
 RUNS = 5
+MANY_RUNS = 15
 
 
 def built_program(crate):
@@ -83,14 +87,14 @@ def held_by(words, given):
     return most
 
 
-def compare(ours, peer, given, to=os.devnull):
+def compare(ours, peer, given, to=os.devnull, runs=RUNS):
     if output_of(ours, given) != output_of(peer, given):
         sys.exit("the two programs print different things")
     times = {"ours": [], "peer": []}
-    for _ in range(RUNS):
+    for _ in range(runs):
         for name, words in (("ours", ours), ("peer", peer)):
             times[name].append(seconds_of(words, given, to))
-    medians = {name: statistics.median(runs) for name, runs in times.items()}
+    medians = {name: statistics.median(spent) for name, spent in times.items()}
     print(f"ours {medians['ours']:.3f} s, peer {medians['peer']:.3f} s: the peer takes {medians['peer'] / medians['ours']:.1f} times as long, ours {medians['ours'] / medians['peer']:.2f} of its time")
     return medians
 
@@ -129,7 +133,7 @@ def main():
             compare([built_program("checksum_bench")], [built_peer("checksum_peer", folder)], given)
         elif which == "dump":
             ours, peer = built_program("xns"), built_peer("dump_peer", folder)
-            for which in (["data"], ["echo"], ["error"], ["exchange"], ["sequenced", "1"], ["sequenced", "1000"], ["sequenced", "65536"]):
+            for which in (["data"], ["echo"], ["error"], ["exchange"], ["sequenced", "1"], ["sequenced", "1000"], ["sequenced", "65536"], ["messages"]):
                 given.write_bytes(subprocess.run([sys.executable, BENCH / "packets.py", *which], stdout=subprocess.PIPE, check=True).stdout)
                 print(" ".join(which) + ":", end=" ", flush=True)
                 compare([ours, "dump"], [peer], given)
@@ -163,17 +167,19 @@ def main():
             given.touch()
             ours = built_program("exchange_bench")
             loop, lanes = built_peer("exchange_peer", folder, "--cfg", "standard"), built_peer("exchange_peer", folder)
-            for order in ("ordered", "late"):
+            for order in ("ordered", "late", "lossy"):
                 for name, peer in (("loop", loop), ("lanes", lanes)):
                     print(f"{order}, {name}:", end=" ", flush=True)
-                    compare([ours, order, "5"], [peer, order, "5"], given)
+                    compare([ours, order, "5"], [peer, order, "5"], given, runs=MANY_RUNS)
         elif which == "calls":
             given.touch()
-            ours, peer = built_program("calls_bench"), built_peer("calls_peer", folder)
+            ours = built_program("calls_bench")
+            plain, tuned = built_peer("calls_peer", folder, "--cfg", "plain"), built_peer("calls_peer", folder)
             for name, counts in (("adds", ["100000", "0"]), ("lists", ["0", "200"])):
-                print(f"{name}:", end=" ", flush=True)
-                compare([ours, *counts], [peer, *counts], given)
-                print(f"{name}: ours holds {held_by([ours, *counts], given)} KiB at most, the peer {held_by([peer, *counts], given)}")
+                for kind, peer in (("plain", plain), ("tuned", tuned)):
+                    print(f"{name}, {kind}:", end=" ", flush=True)
+                    compare([ours, *counts], [peer, *counts], given, runs=MANY_RUNS)
+                    print(f"{name}, {kind}: ours holds {held_by([ours, *counts], given)} KiB at most, the peer {held_by([peer, *counts], given)}")
         else:
             sys.exit(__doc__)
 

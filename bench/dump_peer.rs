@@ -1,6 +1,6 @@
 // A plain Rust `dump` of internet packets (no proofs, std alone): what a user would write without us, to be timed beside
 // `xns dump`. It prints the `idp` line of each packet, the faults, the line of an Echo, Error or Packet Exchange packet that is whole, of a sequenced
-// data packet without an end of message its header, the number of its item and its words, and else the data line.
+// data packet its header, the number of its item and its message or words, and else the data line.
 use std::collections::HashMap;
 use std::io::{self, BufRead, Write};
 
@@ -22,6 +22,25 @@ fn hex(out: &mut Vec<u8>, b: &[u8]) {
     const D: &[u8; 16] = b"0123456789abcdef";
     if b.is_empty() { out.push(b'-'); }
     for x in b { out.push(D[(x >> 4) as usize]); out.push(D[(x & 15) as usize]); }
+}
+
+fn words(out: &mut Vec<u8>, b: &[u8]) {
+    if b.is_empty() { out.push(b'-'); }
+    for (i, w) in b.chunks(2).enumerate() { if i > 0 { out.push(b' '); } hex(out, w); }
+    out.push(b'\n');
+}
+
+fn message(out: &mut Vec<u8>, n: u32, d: &[u8]) {
+    let at = |place: usize| be(&d[place..place + 2]);
+    let kind = if d.len() % 2 == 0 && d.len() >= 4 { at(0) } else { 4 };
+    let rest = match kind {
+        0 if d.len() >= 12 => { write!(out, "{n} call {} program {} version {} procedure {} args ", at(2), be(&d[4..8]), at(8), at(10)).unwrap(); &d[12..] }
+        1 if d.len() >= 6 => { write!(out, "{n} reject {} reason {} words ", at(2), at(4)).unwrap(); &d[6..] }
+        2 => { write!(out, "{n} return {} results ", at(2)).unwrap(); &d[4..] }
+        3 if d.len() >= 6 => { write!(out, "{n} abort {} error {} args ", at(2), at(4)).unwrap(); &d[6..] }
+        _ => { write!(out, "{n} words ").unwrap(); d }
+    };
+    words(out, rest);
 }
 
 fn near(last: u64, field: u64) -> u64 {
@@ -81,10 +100,7 @@ fn main() {
                             let item = items.entry(flow).and_modify(|last| *last = near(*last, field)).or_insert(field);
                             writeln!(out, "{n} item {item}").unwrap();
                             let d = &b[12..];
-                            write!(out, "{n} words ").unwrap();
-                            let mut first = true;
-                            for w in d.chunks(2) { if !first { out.push(b' '); } first = false; hex(&mut out, w); }
-                            out.push(b'\n');
+                            if b[0] & 16 != 0 { message(&mut out, n, d); } else { write!(out, "{n} words ").unwrap(); words(&mut out, d); }
                         } else {
                             let rest = match bytes[5] {
                                 2 if b.len() >= 2 => { write!(out, "{n} echo {} ", if b[1] == 1 { "request" } else { "reply" }).unwrap(); &b[2..] }

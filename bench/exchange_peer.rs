@@ -4,6 +4,7 @@ use std::collections::VecDeque;
 
 const ROUND: usize = 51;
 const ROUNDS: usize = 1285;
+const FIRST_LOST: usize = 44;
 const WINDOW: usize = 64;
 const BACKLOG: usize = 64;
 const MOST_ITEMS: u64 = 1 << 48;
@@ -189,6 +190,16 @@ impl End {
         packets
     }
 
+    /// The packets not yet acknowledged, or one that asks for a reply where none may go out.
+    fn tick(&mut self) -> Vec<Vec<u8>> {
+        let limit = self.accepted.min(self.allowed);
+        if self.peer_id == 0 || limit <= self.acknowledged && self.acknowledged < self.accepted {
+            return vec![self.write(192, 0, self.sent, &[])];
+        }
+        self.sent = self.sent.min(self.acknowledged);
+        self.flush()
+    }
+
     fn is_ours(&self, target: &Address, source: &Address, header: &[u8]) -> bool {
         let (source_id, target_id) = (word(header, 2), word(header, 4));
         let is_from_peer = source.host == self.peer.host && source.socket == self.peer.socket && source_id == self.peer_id;
@@ -298,48 +309,99 @@ fn deliver(packet: &[u8], from: &mut End, to: &mut End) {
     }
 }
 
-fn exchange(from: &mut End, to: &mut End, is_late: bool) -> usize {
+/// What the way does to the packets of a round: all come in order, every second one comes after the others, or the last seven are lost.
+#[derive(Clone, Copy)]
+enum Way {
+    Ordered,
+    Late,
+    Lossy,
+}
+
+#[derive(Clone, Copy, PartialEq, Eq)]
+enum Fate {
+    InTurn,
+    Late,
+    Lost,
+}
+
+impl Way {
+    fn fate(self, place: usize) -> Fate {
+        match self {
+            Way::Late if place % 2 == 1 => Fate::Late,
+            Way::Lossy if place >= FIRST_LOST => Fate::Lost,
+            Way::Ordered | Way::Late | Way::Lossy => Fate::InTurn,
+        }
+    }
+}
+
+/// Items handed up, packets with items that went out, and of those the late, the lost, and the ones that a tick sent again.
+#[derive(Default)]
+struct Tally {
+    handed: usize,
+    packets: usize,
+    late: usize,
+    lost: usize,
+    again: usize,
+}
+
+/// Sends a round of items from one end to the other, which hands them up. Once the packets have come, both ends tick.
+fn exchange(from: &mut End, to: &mut End, way: Way, tally: &mut Tally) {
     for _ in 0..ROUND {
         let _ = from.send(Item { stream: 0, attention: false, last: true, body: vec![0x5a; 534] });
     }
     let packets = from.flush();
     for (place, packet) in packets.iter().enumerate() {
-        if !is_late || place % 2 == 0 {
-            deliver(packet, from, to);
+        match way.fate(place) {
+            Fate::InTurn => deliver(packet, from, to),
+            Fate::Late => tally.late += 1,
+            Fate::Lost => tally.lost += 1,
         }
     }
     for (place, packet) in packets.iter().enumerate() {
-        if is_late && place % 2 == 1 {
+        if way.fate(place) == Fate::Late {
             deliver(packet, from, to);
         }
+    }
+    let again = tick(from, to) + tick(to, from);
+    tally.again += again;
+    tally.packets += packets.len() + again;
+    tally.handed += (0..ROUND).filter(|_| to.take().is_some()).count();
+}
+
+/// Delivers what an end sends once time has passed, and says how many packets that were.
+fn tick(from: &mut End, to: &mut End) -> usize {
+    let packets = from.tick();
+    for packet in &packets {
+        deliver(packet, from, to);
     }
     packets.len()
 }
 
-/// Opens a connection and exchanges the items: how many were handed up, and how many packets went out.
-fn connection(is_late: bool) -> (usize, usize) {
+/// Opens a connection and exchanges the items.
+fn connection(way: Way) -> Tally {
     let here = Address { network: 1, host: [0, 0, 0xaa, 0, 3, 4], socket: 0x400 };
     let there = Address { network: 1, host: [0, 0, 0xaa, 0, 1, 2], socket: 5 };
     let mut caller = End::new(true, here, 0x1234, there, 0, WINDOW, BACKLOG);
     let mut server = End::new(false, there, 0x5678, here, 0x1234, WINDOW, BACKLOG);
-    let opening = caller.write(192, 0, 0, &[]);
-    deliver(&opening, &mut caller, &mut server);
-    let (mut handed, mut packets) = (0, 0);
+    tick(&mut caller, &mut server);
+    let mut tally = Tally::default();
     for _ in 0..ROUNDS {
-        packets += exchange(&mut caller, &mut server, is_late);
-        handed += (0..ROUND).filter(|_| server.take().is_some()).count();
-        packets += exchange(&mut server, &mut caller, is_late);
-        handed += (0..ROUND).filter(|_| caller.take().is_some()).count();
+        exchange(&mut caller, &mut server, way, &mut tally);
+        exchange(&mut server, &mut caller, way, &mut tally);
     }
-    (handed, packets)
+    tally
 }
 
 fn main() {
     let words: Vec<String> = std::env::args().collect();
-    let is_late = words.get(1).is_some_and(|word| word == "late");
+    let way = match words.get(1).map(String::as_str) {
+        Some("late") => Way::Late,
+        Some("lossy") => Way::Lossy,
+        _ => Way::Ordered,
+    };
     let times = words.get(2).map_or(1, |word| word.parse().unwrap_or(1));
     for _ in 0..times {
-        let (handed, packets) = connection(is_late);
-        println!("handed up {handed} of {packets} packets");
+        let Tally { handed, packets, late, lost, again } = connection(way);
+        println!("handed up {handed} of {packets} packets: {late} late, {lost} lost, {again} sent again");
     }
 }

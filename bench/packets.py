@@ -4,6 +4,7 @@
     packets.py                     of types that no layer reads
     packets.py echo                Echo requests and replies; so also error and exchange, for Error and Packet Exchange
     packets.py sequenced FLOWS     sequenced data packets without an end of message, of so many flows in turn
+    packets.py messages            sequenced data packets that end messages: calls, returns, rejects and aborts of Courier, and one in seven that is none
 """
 import random, sys
 
@@ -25,6 +26,18 @@ def some_bytes(largest):
     return bytes(random.randrange(256) for _ in range(random.choice([2, 16, 40, 300, largest])))
 
 
+def sequenced(control, flows, i, data):
+    header = bytes([control]) + bytes.fromhex("0012345678") + (i // flows % 65536).to_bytes(2, "big") + bytes.fromhex("00000003")
+    return packet(5, header + data, bytes.fromhex("0000aa00") + (i % flows).to_bytes(2, "big"))
+
+
+def message(i):
+    """A message of any kind, of which 4 is none, with what comes before its words."""
+    kind = random.choice([0, 0, 1, 2, 2, 3, 4])
+    head = {0: bytes.fromhex("0000000700020001"), 1: b"\0\1", 3: b"\0\2"}.get(kind, b"")
+    return kind.to_bytes(2, "big") + i.to_bytes(2, "big") + head + some_bytes(522)
+
+
 def packet_of(which, flows, i):
     if which == "echo":
         return packet(2, random.choice([b"\0\1", b"\0\2"]) + some_bytes(544))
@@ -33,8 +46,9 @@ def packet_of(which, flows, i):
     if which == "exchange":
         return packet(4, i.to_bytes(4, "big") + b"\0\1" + some_bytes(540))
     if which == "sequenced":
-        header = bytes.fromhex("400012345678") + (i // flows % 65536).to_bytes(2, "big") + bytes.fromhex("00000003")
-        return packet(5, header + some_bytes(534), bytes.fromhex("0000aa00") + (i % flows).to_bytes(2, "big"))
+        return sequenced(0x40, flows, i, some_bytes(534))
+    if which == "messages":
+        return sequenced(0x50, flows, i, message(i))
     return packet(random.choice([1, 6, 7, 20]), some_bytes(546))
 
 

@@ -258,7 +258,7 @@ class Hearing:
         if len(words) < 2:
             raise Fault("ShortMessage")
         if words[0] > 3:
-            raise Fault("UnknownKind")
+            raise Fault("UnknownKind %d" % words[0])
         if len(words) < (6, 3, 2, 3)[words[0]]:
             raise Fault("ShortMessage")
         return words

@@ -335,15 +335,21 @@ fail_streams() {
     done
 }
 
+# The program on the words, of which the growth of that number is refused; $work/failed is then there.
+run_refusing() {
+    number=$1
+    shift
+    rm -f "$work/failed"
+    REFUSE_AT=$number REFUSED=$work/failed LD_PRELOAD=$work/refuse_growth.so "$program" "$@" < "$work/in" > "$work/out" 2> "$work/err"
+    ended=$?
+}
+
 # Each growth is refused in turn: the whole text, or 3 and of `dump` a front of the text, of `sim` nothing.
 refuse_growths() {
     mode=$1 fine=$2
-    library=$work/refuse_growth.so
     growth=1
     while [ $growth -le 1000 ]; do
-        rm -f "$work/failed"
-        REFUSE_AT=$growth REFUSED=$work/failed LD_PRELOAD=$library "$program" "$mode" < "$work/in" > "$work/out" 2> "$work/err"
-        ended=$?
+        run_refusing $growth "$mode"
         [ -e "$work/failed" ] || break
         if [ "$ended" -eq "$fine" ]; then
             expect "$mode: growth $growth refused, and done without" "$fine" '' "$work/text"
@@ -359,6 +365,32 @@ refuse_growths() {
     saw "$mode: no growth to refuse" $?
     expect "$mode: a run that asks for fewer than $growth growths" "$fine" '' "$work/text"
 }
+
+# Each growth is refused in turn to a command line in error: its one line and 2, or 3. Both are seen.
+refuse_mistaken() {
+    mistake=$1
+    shift
+    growth=1 told=0
+    while [ $growth -le 1000 ]; do
+        run_refusing $growth "$@"
+        [ -e "$work/failed" ] || break
+        if [ "$ended" -eq 2 ]; then
+            told=$((told + 1))
+            expect "$*: growth $growth refused, and done without" 2 "$mistake" "$work/nothing"
+        else
+            expect "$*: growth $growth refused" 3 'xns: no memory' "$work/nothing"
+        fi
+        growth=$((growth + 1))
+    done
+    echo "$*: $((growth - 1)) growths were refused, $told of them done without"
+    [ $told -gt 0 ] && [ $told -lt $((growth - 1)) ]
+    saw "$*: not both 2 and 3 after a refused growth" $?
+    expect "$*: a run that asks for fewer than $growth growths" 2 "$mistake" "$work/nothing"
+}
+
+: > "$work/in"
+refuse_mistaken "error: unrecognized subcommand 'play'; the subcommands are dump and sim; try 'xns --help'" play
+refuse_mistaken "error: unexpected argument 'extra' found; try 'xns --help'" dump extra
 
 { cat "$work/packet" && echo 5g; } > "$work/in"
 "$program" dump < "$work/in" > "$work/text"

@@ -2,24 +2,13 @@
 //!
 //! A step is an item or one of these: `add` calls Add of 5, `text` Add of a text, `eight` program 8, `list` the procedure with
 //! a list as its results, `raw` and a number Add with so many words of 0; `outcome` picks up an outcome.
-use crate::script::{item, put_item, put_session_fault, put_words};
-use crate::serving::MOST_ITEMS;
+use crate::script::{item, put_out, put_session_fault, put_words};
 use courier_calls::{
     Arguments, Call, CallFault, Caller, Procedure, Seen, Table, Words, tally_table,
 };
 use courier_types::{Shape, Value};
 use std::alloc::{AllocError, Global};
 use std::fmt::Write;
-
-fn put_out(caller: &mut Caller, text: &mut String) -> Result<(), AllocError> {
-    for _ in 0..MOST_ITEMS {
-        match caller.next_out() {
-            Some(item) => put_item(text, &item)?,
-            None => break,
-        }
-    }
-    Ok(())
-}
 
 fn put_values(text: &mut String, values: &[Value]) -> Result<(), AllocError> {
     for value in values {
@@ -100,6 +89,7 @@ fn step_call(alloc: Global, step: &str) -> Result<Option<Call>, AllocError> {
     }
 }
 
+#[tactic(auto, using(courier_calls::specs::Outs::nothing_out))]
 fn put_step(
     alloc: Global,
     caller: &mut Caller,
@@ -114,7 +104,7 @@ fn put_step(
         if let Err(fault) = caller.call(alloc, &call) {
             text.push_str(call_fault(fault))?;
         }
-        return put_out(caller, text);
+        return put_out(text, || caller.next_out());
     }
     let item = item(alloc, step)?;
     if caller.has_out() {
@@ -123,7 +113,7 @@ fn put_step(
     if let Err(fault) = caller.feed(alloc, item) {
         put_session_fault(text, fault)?;
     }
-    put_out(caller, text)
+    put_out(text, || caller.next_out())
 }
 
 /// The tally's table with one procedure more, whose results are a list of cardinals.

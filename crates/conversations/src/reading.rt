@@ -1,5 +1,5 @@
 //! What bytes are as a message.
-use crate::script::{message_fault, put_bytes, put_words, unhexed};
+use crate::script::{put_bytes, put_message_fault, put_words, unhexed};
 use courier_calls::{Message, MessageRefusal, read_message, write_message};
 use std::alloc::{AllocError, Global};
 use std::fmt::Write;
@@ -51,7 +51,7 @@ pub fn tell(alloc: Global, digits: &str) -> Result<String, AllocError> {
             text.push_str(" = ")?;
             put_bytes(&mut text, &again)?;
         }
-        Err(MessageRefusal::Fault(fault)) => text.push_str(message_fault(fault))?,
+        Err(MessageRefusal::Fault(fault)) => put_message_fault(&mut text, fault)?,
         Err(MessageRefusal::NoMemory) => return Err(AllocError),
     }
     Ok(text)

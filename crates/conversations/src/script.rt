@@ -6,8 +6,11 @@ use std::alloc::{AllocError, Global};
 use std::fmt::Write;
 use xns_spp::{Bytes, Item};
 
-/// A body of more bytes is told by their number.
+/// More bytes or words are told by their number.
 const MOST_SHOWN: usize = 40;
+
+/// No side has more items out at a time.
+const MOST_ITEMS: usize = 300;
 
 /// What a hex digit stands for; 0 for any other sign.
 fn digit(sign: u8) -> u8
@@ -81,7 +84,11 @@ pub fn put_bytes(text: &mut String, bytes: &[u8]) -> Result<(), AllocError> {
     Ok(())
 }
 
+/// Words in hex, and many by their number.
 pub fn put_words(text: &mut String, words: &[u16]) -> Result<(), AllocError> {
+    if words.len() > MOST_SHOWN {
+        return write!(text, " ={}", words.len());
+    }
     for word in words {
         write!(text, " {word:04x}")?;
     }
@@ -89,7 +96,7 @@ pub fn put_words(text: &mut String, words: &[u16]) -> Result<(), AllocError> {
 }
 
 /// An item that goes out.
-pub fn put_item(text: &mut String, item: &Item) -> Result<(), AllocError> {
+fn put_item(text: &mut String, item: &Item) -> Result<(), AllocError> {
     let body = item.body.as_slice();
     text.push_str(" <")?;
     if body.len() > MOST_SHOWN {
@@ -101,12 +108,29 @@ pub fn put_item(text: &mut String, item: &Item) -> Result<(), AllocError> {
     Ok(())
 }
 
-pub fn message_fault(fault: MessageFault) -> &'static str {
+/// All items that a side has out; `next_out` hands out the next.
+pub fn put_out<F: FnMut() -> Option<Item>>(
+    text: &mut String,
+    mut next_out: F,
+) -> Result<(), AllocError>
+    requires { F.IsAlwaysCallable next_out }
+{
+    for _ in 0..MOST_ITEMS {
+        match next_out() {
+            Some(item) => put_item(text, &item)?,
+            None => break,
+        }
+    }
+    Ok(())
+}
+
+/// Why bytes are no message; of an unknown kind, which.
+pub fn put_message_fault(text: &mut String, fault: MessageFault) -> Result<(), AllocError> {
     match fault {
-        MessageFault::OddLength => " OddLength",
-        MessageFault::ShortMessage => " ShortMessage",
-        MessageFault::UnknownKind { .. } => " UnknownKind",
-        MessageFault::TooLong => " TooLong",
+        MessageFault::OddLength => text.push_str(" OddLength"),
+        MessageFault::ShortMessage => text.push_str(" ShortMessage"),
+        MessageFault::UnknownKind { found } => write!(text, " UnknownKind {found}"),
+        MessageFault::TooLong => text.push_str(" TooLong"),
     }
 }
 
@@ -115,7 +139,7 @@ pub fn put_session_fault(text: &mut String, fault: SessionFault) -> Result<(), A
     match fault {
         SessionFault::NoCommonVersion => text.push_str(" NoCommonVersion"),
         SessionFault::BadVersions => text.push_str(" BadVersions"),
-        SessionFault::BadMessage(fault) => text.push_str(message_fault(fault)),
+        SessionFault::BadMessage(fault) => put_message_fault(text, fault),
         SessionFault::WrongTransaction => text.push_str(" WrongTransaction"),
         SessionFault::BadReply => text.push_str(" BadReply"),
         SessionFault::Stream { kind } => write!(text, " Stream {kind}"),

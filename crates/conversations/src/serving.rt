@@ -1,22 +1,9 @@
 //! A server of the tally, as lines play it.
-use crate::script::{item, put_item, put_session_fault, put_words};
+use crate::script::{item, put_out, put_session_fault, put_words};
 use courier_calls::{Arguments, Call, Server, Tally, tally_table};
 use std::alloc::{AllocError, Global};
 use std::fmt::Write;
 use xns_spp::Item;
-
-/// No side has more items out at a time.
-pub const MOST_ITEMS: usize = 300;
-
-fn put_out(server: &mut Server<Tally>, text: &mut String) -> Result<(), AllocError> {
-    for _ in 0..MOST_ITEMS {
-        match server.next_out() {
-            Some(item) => put_item(text, &item)?,
-            None => break,
-        }
-    }
-    Ok(())
-}
 
 fn put_call(text: &mut String, call: &Call) -> Result<(), AllocError> {
     write!(
@@ -31,6 +18,7 @@ fn put_call(text: &mut String, call: &Call) -> Result<(), AllocError> {
 }
 
 /// Feeds an item when nothing is out: the call that it ends, or the fault, and then what goes out.
+#[tactic(auto, using(courier_calls::specs::Outs::nothing_out))]
 fn put_fed(
     alloc: Global,
     server: &mut Server<Tally>,
@@ -45,7 +33,7 @@ fn put_fed(
         Ok(None) => {}
         Err(fault) => put_session_fault(text, fault)?,
     }
-    put_out(server, text)
+    put_out(text, || server.next_out())
 }
 
 /// What a server answers to the items, and the total at last.
@@ -53,7 +41,7 @@ pub fn play(alloc: Global, steps: &str) -> Result<String, AllocError> {
     let table = tally_table(alloc)?;
     let mut server = Server::new(alloc, &table, Tally::new())?;
     let mut text = String::new(alloc);
-    put_out(&mut server, &mut text)?;
+    put_out(&mut text, || server.next_out())?;
     for step in steps.split(' ') {
         let item = item(alloc, step)?;
         put_fed(alloc, &mut server, item, &mut text)?;

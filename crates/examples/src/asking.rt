@@ -1,7 +1,7 @@
 //! The asking side of a packet exchange.
 
 use crate::hex_lines::print_hex;
-use xns_idp::{Address, Packet};
+use xns_idp::{Address, Packet, packet_type};
 use xns_small::Requester;
 
 /// Who asks.
@@ -25,7 +25,7 @@ pub fn ask(rt: &HostRuntime) -> Result<(), anyhow::Error> {
     let response = Packet {
         summed: true,
         control: 0,
-        kind: 4,
+        kind: packet_type::PACKET_EXCHANGE,
         target: CLIENT,
         source: SERVICE,
         body: &[0, 1, 0, 2, 0, 4, 0xcc],

@@ -4,10 +4,13 @@
 mod asking;
 mod calls;
 mod connection;
+mod counting_lines;
 mod echo_server;
 mod hex_lines;
 mod network;
 mod packet;
+mod scripting;
+mod simulating;
 mod values;
 
 fn main(rt: HostRuntime) -> Result<(), anyhow::Error> {
@@ -17,5 +20,8 @@ fn main(rt: HostRuntime) -> Result<(), anyhow::Error> {
     connection::send_an_item(&rt)?;
     values::show(&rt, rt.alloc())?;
     calls::converse(&rt)?;
-    network::play(&rt)
+    network::play(&rt)?;
+    counting_lines::count(&rt)?;
+    scripting::read(&rt)?;
+    simulating::play(&rt)
 }

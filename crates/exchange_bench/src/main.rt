@@ -1,5 +1,5 @@
-//! Two ends exchange 65,535 items each way, to be timed: in order, or with every second packet late where the first word is `late`; as often as the second
-//! word says, else once.
+//! Two ends exchange 65,535 items each way, to be timed: in order; with every second packet late where the first word is `late`; or with the last seven packets
+//! of each round lost where it is `lossy`. They do so as often as the second word says, else once.
 #![tactic(auto)]
 
 use std::alloc::{AllocError, Global};
@@ -25,47 +25,116 @@ const ROUND: usize = 51;
 /// So many rounds are 65,535 items.
 const ROUNDS: usize = 1285;
 
+/// The packets from this place of a round on can be lost.
+const FIRST_LOST: usize = 44;
+
 /// Each item has the most bytes that a packet holds.
 const BODY: [u8; 534] = [0x5a; 534];
 
+/// What the way does to the packets of a round.
+#[derive(Clone, Copy)]
+enum Way {
+    /// All come in order.
+    Ordered,
+    /// Every second one comes after the others.
+    Late,
+    /// The last seven are lost.
+    Lossy,
+}
+
+/// What becomes of a packet on its way.
+#[derive(Clone, Copy, PartialEq, Eq)]
+enum Fate {
+    InTurn,
+    Late,
+    Lost,
+}
+
+impl Way {
+    /// What becomes of the packet in this place of a round.
+    fn fate(self, place: usize) -> Fate {
+        match self {
+            Way::Late if place % 2 == 1 => Fate::Late,
+            Way::Lossy if place >= FIRST_LOST => Fate::Lost,
+            Way::Ordered | Way::Late | Way::Lossy => Fate::InTurn,
+        }
+    }
+}
+
+/// What was counted in a connection.
+#[derive(Clone, Copy)]
+struct Tally {
+    /// Items that were handed up.
+    handed: u64,
+    /// Packets with items that went out.
+    packets: u64,
+    /// Of those, the ones that came late.
+    late: u64,
+    /// Of those, the ones that were lost.
+    lost: u64,
+    /// Of those, the ones that a tick sent again.
+    again: u64,
+}
+
 fn main(rt: HostRuntime) -> Result<(), anyhow::Error> {
     let mut words = env::args(&rt)?;
-    let is_late = words.nth(1).map_or(false, |word| word.as_str() == "late");
+    let way = words
+        .nth(1)
+        .map_or(Way::Ordered, |word| way_named(word.as_str()));
     let times = words
         .next()
         .map_or(1, |word| word.parse::<u32>().unwrap_or(1));
     for _ in 0..times {
-        let (handed, packets) = connection(rt.alloc(), is_late)?;
-        println!(rt; "handed up {handed} of {packets} packets")?;
+        let Tally {
+            handed,
+            packets,
+            late,
+            lost,
+            again,
+        } = connection(rt.alloc(), way)?;
+        println!(rt;
+            "handed up {handed} of {packets} packets: {late} late, {lost} lost, {again} sent again"
+        )?;
     }
     Ok(())
 }
 
-/// Opens a connection and exchanges the items: how many were handed up, and how many packets went out.
-fn connection(alloc: Global, is_late: bool) -> Result<(u64, u64), AllocError> {
-    let mut caller = Endpoint::initiator(alloc, CALLER, 0x1234, SERVER, 64, 64)?;
-    let mut server = Endpoint::responder(alloc, SERVER, 0x5678, CALLER, 0x1234, 64, 64)?;
-    for opening in &caller.tick(alloc)? {
-        deliver(alloc, opening, &mut caller, &mut server)?;
+/// The way of that name, or in order.
+fn way_named(name: &str) -> Way {
+    match name {
+        "late" => Way::Late,
+        "lossy" => Way::Lossy,
+        _ => Way::Ordered,
     }
-    let mut handed = 0u64;
-    let mut packets = 0u64;
-    for _ in 0..ROUNDS {
-        packets = packets.saturating_add(exchange(alloc, &mut caller, &mut server, is_late)?);
-        handed = handed.saturating_add(hand_up(&mut server));
-        packets = packets.saturating_add(exchange(alloc, &mut server, &mut caller, is_late)?);
-        handed = handed.saturating_add(hand_up(&mut caller));
-    }
-    Ok((handed, packets))
 }
 
-/// Sends a round of items from one end to the other, and says how many packets went out. Late, every second packet comes after the others.
+/// Opens a connection and exchanges the items.
+fn connection(alloc: Global, way: Way) -> Result<Tally, AllocError> {
+    let mut caller = Endpoint::initiator(alloc, CALLER, 0x1234, SERVER, 64, 64)?;
+    let mut server = Endpoint::responder(alloc, SERVER, 0x5678, CALLER, 0x1234, 64, 64)?;
+    let _ = tick(alloc, &mut caller, &mut server)?;
+    let mut tally = Tally {
+        handed: 0,
+        packets: 0,
+        late: 0,
+        lost: 0,
+        again: 0,
+    };
+    for _ in 0..ROUNDS {
+        exchange(alloc, &mut caller, &mut server, way, &mut tally)?;
+        exchange(alloc, &mut server, &mut caller, way, &mut tally)?;
+    }
+    Ok(tally)
+}
+
+/// Sends a round of items from one end to the other, which hands them up. Once the packets have come, both ends tick.
 fn exchange(
     alloc: Global,
     from: &mut Endpoint,
     to: &mut Endpoint,
-    is_late: bool,
-) -> Result<u64, AllocError> {
+    way: Way,
+    tally: &mut Tally,
+) -> Result<(), AllocError> {
     for _ in 0..ROUND {
         let body = Bytes::new(Vec::from_slice(alloc, &BODY)?);
         let _ = from.send(Item {
@@ -77,14 +146,32 @@ fn exchange(
     }
     let packets = from.flush(alloc)?;
     for (place, packet) in packets.iter().enumerate() {
-        if !is_late || place % 2 == 0 {
-            deliver(alloc, packet, from, to)?;
+        match way.fate(place) {
+            Fate::InTurn => deliver(alloc, packet, from, to)?,
+            Fate::Late => tally.late = tally.late.saturating_add(1),
+            Fate::Lost => tally.lost = tally.lost.saturating_add(1),
         }
     }
     for (place, packet) in packets.iter().enumerate() {
-        if is_late && place % 2 == 1 {
+        if way.fate(place) == Fate::Late {
             deliver(alloc, packet, from, to)?;
         }
+    }
+    let again = tick(alloc, from, to)?.saturating_add(tick(alloc, to, from)?);
+    tally.again = tally.again.saturating_add(again);
+    tally.packets = tally
+        .packets
+        .saturating_add(packets.len() as u64)
+        .saturating_add(again);
+    tally.handed = tally.handed.saturating_add(hand_up(to));
+    Ok(())
+}
+
+/// Delivers what an end sends once time has passed, and says how many packets that were.
+fn tick(alloc: Global, from: &mut Endpoint, to: &mut Endpoint) -> Result<u64, AllocError> {
+    let packets = from.tick(alloc)?;
+    for packet in &packets {
+        deliver(alloc, packet, from, to)?;
     }
     Ok(packets.len() as u64)
 }

@@ -1,0 +1,35 @@
+//! The lines of a simulation, one after the other.
+ghost use Rattle.std.specs.Prelude.{◌≤◌, [], ◌∷◌, IfOk, length};
+ghost use Rattle.xns_script.specs.Reading.{HasRead};
+
+use std::alloc::{AllocError, Global};
+use xns_script::Script;
+
+/// The script of two lines.
+fn script_of(alloc: Global, first: &[u8], second: &[u8]) -> Result<Script, AllocError>
+    requires first { length first.now ≤ 4096 }
+    requires second { length second.now ≤ 4096 }
+    ensures { IfOk result (λ script. HasRead script (first.now ∷ second.now ∷ [])) }
+{
+    let mut script = Script::new(alloc);
+    script.read_line(1, first)?;
+    script.read_line(2, second)?;
+    Ok(script)
+}
+
+/// A call and what opens its connection, and then a line that is refused.
+pub fn read(rt: &HostRuntime) -> Result<(), anyhow::Error> {
+    let seconds: [&[u8]; 2] = [b"tick a", b"tick c"];
+    for second in seconds {
+        let script = script_of(rt.alloc(), b"call add 5", second)?;
+        match script.refused() {
+            Some(number) => println!(rt; "line {number} is refused")?,
+            None => println!(rt;
+                "{} call, {} event",
+                script.calls().len(),
+                script.events().len()
+            )?,
+        }
+    }
+    Ok(())
+}
