@@ -1,7 +1,7 @@
 //! Courier's messages.
 
 ghost use Rattle.std.specs.Prelude.{◌≡◌, ◌≢◌, ◌<◌, ◌≤◌, length, IfSome, Ok, Err, Some, None, MatchOption};
-ghost use Rattle.courier_calls.specs.Message.{message_bytes, message_of};
+ghost use Rattle.courier_calls.specs.Message.{most_bytes, message_bytes, message_of};
 ghost use Rattle.courier_calls.specs.declared.fault.MessageFault.{MessageFault};
 ghost use Rattle.courier_calls.specs.declared.message.Message.{Message};
 ghost use Rattle.xns_c.specs.Courier.{message_fault_number, message_given, words_in};
@@ -11,11 +11,8 @@ ghost use Rattle.xns_c.specs.Results.{ok, bad_argument, no_memory, short_buffer,
 use crate::front::put_front;
 use crate::message::XnsMessage;
 use crate::results::{BAD_ARGUMENT, NO_MEMORY, OK, SHORT_BUFFER, TOO_LONG};
-use courier_calls::{Message, MessageFault, MessageRefusal, Words, read_message, write_message};
+use courier_calls::{MOST_BYTES, Message, MessageFault, MessageRefusal, Words, read_message, write_message};
 use std::alloc::Global;
-
-/// A message has at most so many bytes.
-const LONGEST: usize = 131_072;
 
 /// Why bytes are no message.
 pub fn message_fault_number(fault: MessageFault) -> u32
@@ -170,11 +167,11 @@ pub extern "C" fn xns_message_write(
     written: &mut usize,
 ) -> u32
     ensures written { (m : Message) → message_given message.now words.now ≡ Some m → result ≡ ok →
-        (length (message_bytes m) ≤ 131072) × IsPut (message_bytes m) buffer.old buffer.new written.new }
-    ensures long { (m : Message) → message_given message.now words.now ≡ Some m → 131072 < length (message_bytes m) → result ≢ no_memory → result ≡ too_long }
-    ensures short { (m : Message) → message_given message.now words.now ≡ Some m → length (message_bytes m) ≤ 131072 → length buffer.old < length (message_bytes m) →
+        (length (message_bytes m) ≤ most_bytes) × IsPut (message_bytes m) buffer.old buffer.new written.new }
+    ensures long { (m : Message) → message_given message.now words.now ≡ Some m → most_bytes < length (message_bytes m) → result ≢ no_memory → result ≡ too_long }
+    ensures short { (m : Message) → message_given message.now words.now ≡ Some m → length (message_bytes m) ≤ most_bytes → length buffer.old < length (message_bytes m) →
         result ≢ no_memory → result ≡ short_buffer }
-    ensures memory { (m : Message) → message_given message.now words.now ≡ Some m → length (message_bytes m) ≤ 131072 → length (message_bytes m) ≤ length buffer.old →
+    ensures memory { (m : Message) → message_given message.now words.now ≡ Some m → length (message_bytes m) ≤ most_bytes → length (message_bytes m) ≤ length buffer.old →
         result ≢ ok → result ≡ no_memory }
     ensures bad { message_given message.now words.now ≡ None → result ≢ no_memory → result ≡ bad_argument }
     ensures unchanged { result ≢ ok → (buffer.new ≡ buffer.old) × (written.new ≡ written.old) }
@@ -190,7 +187,7 @@ pub extern "C" fn xns_message_write(
     if write_message(alloc, &whole, &mut bytes).is_err() {
         return NO_MEMORY;
     }
-    if bytes.len() > LONGEST {
+    if bytes.len() > MOST_BYTES {
         return TOO_LONG;
     }
     put_front(bytes.as_slice(), buffer, written)

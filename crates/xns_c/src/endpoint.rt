@@ -25,10 +25,7 @@ use crate::results::{
     BAD_ARGUMENT, NO_ENDPOINT, NO_MEMORY, NOTHING, OK, SHORT_BUFFER, dropped_number,
 };
 use std::alloc::Global;
-use xns_spp::{Bytes, Endpoint, Item};
-
-/// An item that is handed up has at most so many bytes.
-const LONGEST_ITEM: usize = 534;
+use xns_spp::{Bytes, Endpoint, Item, MOST_BODY};
 
 /// A reply has so many bytes.
 const REPLY: usize = 42;
@@ -225,7 +222,7 @@ pub extern "C" fn xns_endpoint_take(
     ensures none { line_of handle.old ≡ None → 534 ≤ length buffer.old → (result ≡ no_endpoint) × (line_of handle.new ≡ None) }
     ensures unchanged { result ≢ ok → (item.new ≡ item.old) × (buffer.new ≡ buffer.old) }
 {
-    if buffer.len() < LONGEST_ITEM {
+    if buffer.len() < MOST_BODY {
         return SHORT_BUFFER;
     }
     let Some(mut connection) = handle.take(alloc) else {

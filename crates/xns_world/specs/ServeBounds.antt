@@ -3,6 +3,7 @@ use Rattle.std.specs.Prelude.{◌≡◌, ◌≤◌, ℕ, List, length, drop, Ok,
 use Rattle.courier_calls.specs.Calls.{RawCall, Serving, decision, HasWords}
 use Rattle.courier_calls.specs.Conversation.{Phase}
 use Rattle.courier_calls.specs.Cutting.{answer_message}
+use Rattle.courier_calls.specs.Message.{most_bytes}
 use Rattle.courier_calls.specs.Bounds.{IsBounded, bytes_in}
 use Rattle.courier_calls.specs.Laws.{IsShort}
 use Rattle.courier_calls.specs.Server.{server_ending, server_items, server_state}
@@ -19,7 +20,7 @@ items_out serving s v = drop (length v.accepted) (server_items serving s (handed
 
 -- their bodies have at most 131,072 bytes, all together
 abbrev pub IsOutShort : {S : Type 0} → Serving S → S → State → Type 0
-IsOutShort serving s v = length (bytes_in (items_out serving s v)) ≤ 131072
+IsOutShort serving s v = length (bytes_in (items_out serving s v)) ≤ most_bytes
 
 pub record IsServedWithin {S : Type 0} (serving : Serving S) (s : S) (w : Served) : Type 0 where
   -- at most window items wait or are early, and at most backlog are unacknowledged
