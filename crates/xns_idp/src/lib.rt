@@ -23,6 +23,3 @@ pub use encoding::{encode, encode_parts};
 pub use encoding_into::encode_into;
 pub use fault::IdpFault;
 pub use packet::{HEADER_BYTES, Packet};
-
-#[cfg(test)]
-mod tests;

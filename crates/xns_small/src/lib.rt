@@ -24,6 +24,3 @@ pub use exchange::{Exchange, read_exchange, write_exchange};
 pub use fault::SmallFault;
 pub use replying::answer_echo;
 pub use requester::Requester;
-
-#[cfg(test)]
-mod tests;

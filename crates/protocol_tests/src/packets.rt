@@ -1,13 +1,7 @@
 //! Packets and checksums over worked examples, by hand from the standard, their sums checked by a separate program.
-use super::*;
+use crate::worked::{CALLER, ECHO_REQUEST, ECHO_SERVER};
 use std::test::Fail;
-
-/// An Echo request from one host to another, worked out by hand from the standard.
-const ECHO_REQUEST: [u8; 34] = [
-    0x53, 0x23, 0x00, 0x22, 0x00, 0x02, 0x00, 0x00, 0x00, 0x01, 0x00, 0x00, 0xaa, 0x00, 0x01, 0x02,
-    0x00, 0x02, 0x00, 0x00, 0x00, 0x01, 0x00, 0x00, 0xaa, 0x00, 0x03, 0x04, 0x04, 0x00, 0x00, 0x01,
-    0x48, 0x69,
-];
+use xns_idp::{IdpFault, Packet, cycle_sum, decode, encode};
 
 /// The request with other bytes at a place.
 fn request_with(rt: &HostRuntime, at: usize, bytes: &[u8]) -> Result<Vec<u8>, Fail> {
@@ -30,16 +24,8 @@ fn an_echo_request_decodes_and_is_written_again(rt: HostRuntime) -> Result<(), F
         summed: true,
         control: 0,
         kind: 2,
-        target: Address {
-            network: 1,
-            host: [0, 0, 0xaa, 0, 1, 2],
-            socket: 2,
-        },
-        source: Address {
-            network: 1,
-            host: [0, 0, 0xaa, 0, 3, 4],
-            socket: 0x400,
-        },
+        target: ECHO_SERVER,
+        source: CALLER,
         body: &[0, 1, 0x48, 0x69],
     };
     assert_eq!(rt; taken, 34);

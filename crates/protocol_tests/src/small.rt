@@ -1,72 +1,52 @@
-//! The three protocols over worked examples, by hand from the standard, their sums checked by a separate program.
-use super::*;
+//! Echo, Error and Packet Exchange over worked examples, by hand from the standard, their sums checked by a separate program.
+use crate::worked::{CALLER, ECHO_REQUEST, ECHO_SERVER, SERVER};
 use std::alloc::Global;
 use std::test::Fail;
 use xns_idp::{Address, Packet, decode};
-
-/// The asking host.
-const ASKING: Address = Address {
-    network: 1,
-    host: [0, 0, 0xaa, 0, 3, 4],
-    socket: 0x400,
+use xns_small::{
+    Echo, ErrorReport, Exchange, Requester, SmallFault, answer_echo, complain, error_number,
+    read_echo, read_error, read_exchange, write_echo, write_error, write_exchange,
 };
 
-/// The asked host, at its Echo socket.
-const ASKED: Address = Address {
-    network: 1,
-    host: [0, 0, 0xaa, 0, 1, 2],
-    socket: 2,
-};
-
-/// The asked host, at a service's socket.
-const SERVICE: Address = Address { socket: 5, ..ASKED };
-
-/// An Echo request from `ASKING` to `ASKED`, worked out by hand from the standard.
-const ECHO_REQUEST: [u8; 34] = [
-    0x53, 0x23, 0x00, 0x22, 0x00, 0x02, 0x00, 0x00, 0x00, 0x01, 0x00, 0x00, 0xaa, 0x00, 0x01, 0x02,
-    0x00, 0x02, 0x00, 0x00, 0x00, 0x01, 0x00, 0x00, 0xaa, 0x00, 0x03, 0x04, 0x04, 0x00, 0x00, 0x01,
-    0x48, 0x69,
-];
-
-/// The reply to it.
+/// The reply to `ECHO_REQUEST`.
 const ECHO_REPLY: [u8; 34] = [
     0x17, 0x27, 0x00, 0x22, 0x00, 0x02, 0x00, 0x00, 0x00, 0x01, 0x00, 0x00, 0xaa, 0x00, 0x03, 0x04,
     0x04, 0x00, 0x00, 0x00, 0x00, 0x01, 0x00, 0x00, 0xaa, 0x00, 0x01, 0x02, 0x00, 0x02, 0x00, 0x02,
     0x48, 0x69,
 ];
 
-/// A packet exchange request from `ASKING` to `SERVICE`.
+/// A packet exchange request from `CALLER` to `SERVER`.
 const EXCHANGE_REQUEST: [u8; 38] = [
     0x76, 0xea, 0x00, 0x26, 0x00, 0x04, 0x00, 0x00, 0x00, 0x01, 0x00, 0x00, 0xaa, 0x00, 0x01, 0x02,
     0x00, 0x05, 0x00, 0x00, 0x00, 0x01, 0x00, 0x00, 0xaa, 0x00, 0x03, 0x04, 0x04, 0x00, 0x00, 0x01,
     0x00, 0x02, 0x00, 0x03, 0xaa, 0xbb,
 ];
 
-/// An Echo packet from `ASKING`.
+/// An Echo packet from `CALLER`.
 fn echo_to(target: Address, body: &[u8]) -> Packet<'_> {
     Packet {
         summed: true,
         control: 0,
         kind: 2,
         target,
-        source: ASKING,
+        source: CALLER,
         body,
     }
 }
 
-/// Whether `ASKED` answers the packet.
+/// Whether `ECHO_SERVER` answers the packet.
 fn is_answered(alloc: Global, packet: &Packet<'_>) -> Result<bool, Fail> {
     if packet.body.len() > 546 {
         return Ok(false);
     }
-    Ok(answer_echo(alloc, ASKED, packet)?.is_some())
+    Ok(answer_echo(alloc, ECHO_SERVER, packet)?.is_some())
 }
 
 #[test]
 fn a_request_is_answered_with_a_right_sum(rt: HostRuntime) -> Result<(), Fail> {
     let (request, _) = decode(&ECHO_REQUEST).ok().ok_or("no packet")?;
     assert!(rt; request.body.len() <= 546);
-    let reply = answer_echo(rt.alloc(), ASKED, &request)?.ok_or("no reply")?;
+    let reply = answer_echo(rt.alloc(), ECHO_SERVER, &request)?.ok_or("no reply")?;
     assert_eq!(rt; reply.as_slice(), ECHO_REPLY.as_slice());
     Ok(())
 }
@@ -78,28 +58,28 @@ fn only_requests_to_this_socket_of_this_host_or_of_the_broadcast_host_are_answer
     let request = [0, 1, 0x48, 0x69];
     let broadcast_host = Address {
         host: [255; 6],
-        ..ASKED
+        ..ECHO_SERVER
     };
     let other_host = Address {
         host: [0, 0, 0xaa, 0, 1, 3],
-        ..ASKED
+        ..ECHO_SERVER
     };
     let other_network = Address {
         network: 9,
-        ..ASKED
+        ..ECHO_SERVER
     };
     let cases = [
-        (echo_to(ASKED, &request), true),
+        (echo_to(ECHO_SERVER, &request), true),
         (echo_to(broadcast_host, &request), true),
         (echo_to(other_network, &request), true),
         (echo_to(other_host, &request), false),
-        (echo_to(SERVICE, &request), false),
-        (echo_to(ASKED, &[0, 2, 0x48, 0x69]), false),
-        (echo_to(ASKED, &[0]), false),
+        (echo_to(SERVER, &request), false),
+        (echo_to(ECHO_SERVER, &[0, 2, 0x48, 0x69]), false),
+        (echo_to(ECHO_SERVER, &[0]), false),
         (
             Packet {
                 kind: 4,
-                ..echo_to(ASKED, &request)
+                ..echo_to(ECHO_SERVER, &request)
             },
             false,
         ),
@@ -114,7 +94,7 @@ fn only_requests_to_this_socket_of_this_host_or_of_the_broadcast_host_are_answer
 fn a_reply_is_not_answered(rt: HostRuntime) -> Result<(), Fail> {
     let (reply, _) = decode(&ECHO_REPLY).ok().ok_or("no packet")?;
     assert!(rt; reply.body.len() <= 546);
-    assert!(rt; answer_echo(rt.alloc(), ASKING, &reply)?.is_none());
+    assert!(rt; answer_echo(rt.alloc(), CALLER, &reply)?.is_none());
     Ok(())
 }
 
@@ -123,22 +103,22 @@ fn a_damaged_packet_is_complained_of_to_its_source(rt: HostRuntime) -> Result<()
     let alloc = rt.alloc();
     let mut damaged = ECHO_REQUEST;
     damaged[30..].copy_from_slice(&[0x48, 0x69, 0x00, 0x01]);
-    let complaint = complain(alloc, ASKED, error_number::BAD_CHECKSUM, 0, &damaged)?.ok_or(
+    let complaint = complain(alloc, ECHO_SERVER, error_number::BAD_CHECKSUM, 0, &damaged)?.ok_or(
         "no complaint",
     )?;
     assert_eq!(rt; complaint.len(), 68);
     let (packet, _) = decode(complaint.as_slice()).ok().ok_or("no packet")?;
     assert_eq!(rt; packet.kind, 3);
-    assert_eq!(rt; packet.target, ASKING);
-    assert_eq!(rt; packet.source, ASKED);
+    assert_eq!(rt; packet.target, CALLER);
+    assert_eq!(rt; packet.source, ECHO_SERVER);
     let report = read_error(packet.body).ok().ok_or("no report")?;
     assert_eq!(rt; report.number, 1);
     assert_eq!(rt; report.parameter, 0);
     assert_eq!(rt; report.quoted, damaged.as_slice());
-    assert!(rt; complain(alloc, ASKING, 1, 0, complaint.as_slice())?.is_none());
+    assert!(rt; complain(alloc, CALLER, 1, 0, complaint.as_slice())?.is_none());
     damaged[10..16].copy_from_slice(&[255; 6]);
-    assert!(rt; complain(alloc, ASKED, 1, 0, &damaged)?.is_none());
-    assert!(rt; complain(alloc, ASKED, 1, 0, &damaged[..29])?.is_none());
+    assert!(rt; complain(alloc, ECHO_SERVER, 1, 0, &damaged)?.is_none());
+    assert!(rt; complain(alloc, ECHO_SERVER, 1, 0, &damaged[..29])?.is_none());
     Ok(())
 }
 
@@ -146,7 +126,9 @@ fn a_damaged_packet_is_complained_of_to_its_source(rt: HostRuntime) -> Result<()
 fn padding_behind_the_offending_packet_is_quoted_as_given(rt: HostRuntime) -> Result<(), Fail> {
     let mut padded = ECHO_REQUEST.to_vec(rt.alloc())?;
     padded.extend_from_slice(&[0; 12])?;
-    let complaint = complain(rt.alloc(), ASKED, 0, 0, padded.as_slice())?.ok_or("no complaint")?;
+    let complaint = complain(rt.alloc(), ECHO_SERVER, 0, 0, padded.as_slice())?.ok_or(
+        "no complaint",
+    )?;
     let (packet, _) = decode(complaint.as_slice()).ok().ok_or("no packet")?;
     let report = read_error(packet.body).ok().ok_or("no report")?;
     assert_eq!(rt; report.quoted.len(), 42);
@@ -156,15 +138,15 @@ fn padding_behind_the_offending_packet_is_quoted_as_given(rt: HostRuntime) -> Re
 
 /// The request that the next tests are about.
 fn asked(alloc: Global) -> Result<Requester, Fail> {
-    Ok(Requester::request(alloc, ASKING, SERVICE, 0x0001_0002, 3, &[0xaa, 0xbb])?)
+    Ok(Requester::request(alloc, CALLER, SERVER, 0x0001_0002, 3, &[0xaa, 0xbb])?)
 }
 
-/// A packet exchange packet from the service to `ASKING`.
+/// A packet exchange packet from the service to `CALLER`.
 fn response(body: &[u8]) -> Packet<'_> {
     Packet {
         kind: 4,
-        source: SERVICE,
-        ..echo_to(ASKING, body)
+        source: SERVER,
+        ..echo_to(CALLER, body)
     }
 }
 
@@ -183,7 +165,7 @@ fn a_response_is_accepted_from_any_network(rt: HostRuntime) -> Result<(), Fail> 
     let other_network = Packet {
         source: Address {
             network: 9,
-            ..SERVICE
+            ..SERVER
         },
         ..response(&body)
     };
@@ -198,11 +180,11 @@ fn what_is_no_response_is_not_accepted(rt: HostRuntime) -> Result<(), Fail> {
     let body = [0, 1, 0, 2, 0, 4, 0xcc];
     let other_socket = Address {
         socket: 6,
-        ..SERVICE
+        ..SERVER
     };
     let other_host = Address {
         host: [0, 0, 0xaa, 0, 3, 4],
-        ..SERVICE
+        ..SERVER
     };
     let refused = [
         response(&[0, 1, 0, 3, 0, 4, 0xcc]),
