@@ -1,6 +1,7 @@
 //! A connection of the Sequenced Packet Protocol: one item goes from one end to the other.
 
 use crate::hex_lines::print_hex;
+use std::alloc::{AllocError, Global};
 use xns_idp::Address;
 use xns_spp::{Bytes, Endpoint, Item};
 
@@ -23,23 +24,25 @@ pub fn send_an_item(rt: &HostRuntime) -> Result<(), anyhow::Error> {
     let alloc = rt.alloc();
     let mut here = Endpoint::initiator(alloc, HERE, 0x1234, THERE, 4, 16)?;
     let mut there = Endpoint::responder(alloc, THERE, 0x5678, HERE, 0x1234, 4, 16)?;
-    let opening = here.tick(alloc)?;
-    carry(rt, &opening, &mut there, &mut here)?;
-    let item = Item {
-        stream: 0,
-        attention: false,
-        last: true,
-        body: Bytes::new(b"Hello".to_vec(alloc)?),
-    };
-    if let Err((fault, _)) = here.send(item) {
+    carry(rt, &here.tick(alloc)?, &mut there, &mut here)?;
+    if let Err((fault, _)) = here.send(hello(alloc)?) {
         println!(rt; "not sent: {fault}")?;
     }
-    let packets = here.flush(alloc)?;
-    carry(rt, &packets, &mut there, &mut here)?;
+    carry(rt, &here.flush(alloc)?, &mut there, &mut here)?;
     if let Some(item) = there.take() {
         println!(rt; "{} bytes came", item.body.as_slice().len())?;
     }
     Ok(())
+}
+
+/// An item that is a message of its own.
+fn hello(alloc: Global) -> Result<Item, AllocError> {
+    Ok(Item {
+        stream: 0,
+        attention: false,
+        last: true,
+        body: Bytes::new(b"Hello".to_vec(alloc)?),
+    })
 }
 
 /// The network: each packet comes to one end, and its reply to the other.

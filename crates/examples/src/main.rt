@@ -5,6 +5,7 @@ mod asking;
 mod calls;
 mod connection;
 mod counting_lines;
+mod dumping;
 mod echo_server;
 mod hex_lines;
 mod network;
@@ -23,5 +24,6 @@ fn main(rt: HostRuntime) -> Result<(), anyhow::Error> {
     network::play(&rt)?;
     counting_lines::count(&rt)?;
     scripting::read(&rt)?;
-    simulating::play(&rt)
+    simulating::play(&rt)?;
+    dumping::show(&rt)
 }

@@ -1,5 +1,5 @@
 -- The numbers of a flow, as one more packet is sent.
-use Rattle.std.proofs.Common.{◌≡◌, ◌∙◌, ap, sym, refl, rules, arith, ℕ, ◌+◌, ◌*◌, ◌<◌, ◌≤◌, ◌==◌, ◌&&◌, Bool, true, false, cond, List, [], ◌∷◌, ◌++◌, length, append-nil, subst, Option, Some, None, ◌-◌, ◌%◌, ◌^◌}
+use Rattle.std.proofs.Common.{◌≡◌, ◌∙◌, ap, sym, refl, rules, arith, ℕ, ◌+◌, ◌*◌, ◌<◌, ◌≤◌, ◌==◌, ◌&&◌, Bool, true, false, cond, List, [], ◌∷◌, ◌++◌, length, append-nil, subst, Option, Some, None, ◌-◌, ◌%◌}
 use Rattle.std.specs.Prelude.{IfSome, nat_lt}
 use Rattle.std.specs.Str.{bytes_eq}
 use Rattle.std.specs.Option.{option_to_list, unwrap_or}
@@ -13,6 +13,7 @@ use Rattle.std.specs.declared.cmp.Ordering.{Ordering}
 use Rattle.std.specs.declared.cmp.Ordering.TheVariants.{Less, Equal, Greater}
 use Rattle.std.proofs.lemmas.Map.Text.{is_eq-slice_cmp}
 use Rattle.xns_spp.specs.Nearest.{nearest}
+use Rattle.xns_spp.specs.Numbers.{most_items}
 use Rattle.xns_dump.specs.Flows.{DataPacket, fields_of, is_flow, is_place, item_number, last_number, number_after, number_from, with_field}
 use Rattle.xns_dump.specs.Flows.Numbers.{AreWords, StandsFor, flow_cmp, number_near, numbered, numbering}
 use Rattle.xns_dump.specs.Layers.Sequenced.{item_line, item_text}
@@ -115,7 +116,7 @@ words_last (t ∷ sent) s lt h = (h.0, words_last sent s lt h.1)
 
 -- ---- no number is too large
 
-not_over : (n : ℕ) → n ≤ 2 ^ 48 → nat_lt (2 ^ 48) n ≡ false
+not_over : (n : ℕ) → n ≤ most_items → nat_lt most_items n ≡ false
 not_over n le = grind (arith, nat_tests)
 
 below_more : (o : Option ℕ) (m n : ℕ) → m ≤ n → IfSome o (λ v. v ≤ m) → IfSome o (λ v. v ≤ n)
@@ -147,17 +148,17 @@ bound flow (s ∷ sent) last n words ge h =
     (below_more _ ((n + 32768) + 32768 * length sent) (n + 32768 * length (s ∷ sent)) (omega arith)
     (bound flow sent (Some (number_after last s.1)) (n + 32768) words.1 (omega (arith, ge)) (after_bound last s.1 n words.0 ge h)))
 
-pub last_small : (m : BTreeMap Flow ℕ) (sent : List DataPacket) (flow : Flow) → StandsFor m sent → length sent ≤ 65536 → IfSome (get flow_cmp m flow) (λ v. v ≤ 2 ^ 48)
+pub last_small : (m : BTreeMap Flow ℕ) (sent : List DataPacket) (flow : Flow) → StandsFor m sent → length sent ≤ 65536 → IfSome (get flow_cmp m flow) (λ v. v ≤ most_items)
 last_small m sent flow h few =
-    subst (λ o. IfSome o (λ v. v ≤ 2 ^ 48)) (sym (h.numbers flow))
-    (below_more _ (65535 + 32768 * length sent) (2 ^ 48) (omega (arith, few)) (bound flow sent None 65535 h.words (omega arith) tt))
+    subst (λ o. IfSome o (λ v. v ≤ most_items)) (sym (h.numbers flow))
+    (below_more _ (65535 + 32768 * length sent) most_items (omega (arith, few)) (bound flow sent None 65535 h.words (omega arith) tt))
 
 -- ---- the map
 
 -- what is kept tells the numbers
-near_is : (last : Option ℕ) (field : ℕ) → IfSome last (λ v. v ≤ 2 ^ 48) → number_near last field ≡ number_after last field
+near_is : (last : Option ℕ) (field : ℕ) → IfSome last (λ v. v ≤ most_items) → number_near last field ≡ number_after last field
 near_is None field small = refl
-near_is (Some last) field small = let test : nat_lt (2 ^ 48) last ≡ false = not_over last small in rw test refl
+near_is (Some last) field small = let test : nat_lt most_items last ≡ false = not_over last small in rw test refl
 
 pub numbering_is : (m : BTreeMap Flow ℕ) (earlier : List DataPacket) → StandsFor m earlier → length earlier ≤ 65536 → numbering m ≡ item_number earlier
 numbering_is m earlier h few =

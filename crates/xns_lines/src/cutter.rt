@@ -99,14 +99,12 @@ impl Cutter {
             → IsCutShort fault ((taken ++ line.now) ++ 10 ∷ []) (StandsAfter fault (T.stands taker.new before (W.contents writer.new)) (T.fails taker.new before (W.contents writer.new)))) }
         ensures room { OnOk result (room_of self.new + length line.now < room_of self.old) }
     {
-        if self.count >= MOST_LINES {
-            return Err(RunFault::TooManyLines);
-        }
+        let number = self.next_number()?;
         if line.len() > MOST_BYTES {
             return Err(RunFault::LineTooLong);
         }
-        taker.take_line(self.count + 1, line, writer)?;
-        self.count += 1;
+        taker.take_line(number, line, writer)?;
+        self.count = number;
         Ok(())
     }
 
@@ -121,9 +119,7 @@ impl Cutter {
         if run.is_empty() {
             return Ok(());
         }
-        if self.count >= MOST_LINES {
-            return Err(RunFault::TooManyLines);
-        }
+        self.next_number()?;
         if self.line.len() + run.len() > MOST_BYTES {
             return Err(RunFault::LineTooLong);
         }
@@ -146,13 +142,22 @@ impl Cutter {
             → IsCutShort fault (taken ++ 10 ∷ []) (StandsAfter fault (T.stands taker.new before (W.contents writer.new)) (T.fails taker.new before (W.contents writer.new)))) }
         ensures room { OnOk result (room_of self.new < room_of self.old) }
     {
+        let number = self.next_number()?;
+        taker.take_line(number, self.line.as_slice(), writer)?;
+        self.count = number;
+        self.line.clear();
+        Ok(())
+    }
+
+    /// The number of the line that is not over, or of the next one where there is none.
+    fn next_number(&self) -> Result<usize, RunFault>
+        ensures ok { IfOk result (λ number. (number ≡ self.now.count + 1) × (self.now.count < 65536)) }
+        ensures err { IfErr result (λ fault. (fault ≡ RunFault.TooManyLines) × (65536 ≤ self.now.count)) }
+    {
         if self.count >= MOST_LINES {
             return Err(RunFault::TooManyLines);
         }
-        taker.take_line(self.count + 1, self.line.as_slice(), writer)?;
-        self.count += 1;
-        self.line.clear();
-        Ok(())
+        Ok(self.count + 1)
     }
 
     /// Hands on the line that isn't over at the end of the input.

@@ -16,11 +16,11 @@ use std::alloc::AllocError;
 pub fn append_decimal(report: &mut Report, number: usize) -> Result<(), AllocError>
     ensures { Adds result report.old report.new (decimal number) }
 {
-    append_long(report, number as u64)
+    append_decimal_u64(report, number as u64)
 }
 
 /// Appends a number of 64 bits in decimal.
-pub fn append_long(report: &mut Report, number: u64) -> Result<(), AllocError>
+pub fn append_decimal_u64(report: &mut Report, number: u64) -> Result<(), AllocError>
     ensures { Adds result report.old report.new (decimal number) }
 {
     let mut buffer = Buffer::new();

@@ -30,12 +30,13 @@ report_bytes n number (Err error) = hex_refusal n error
 unfoldable pub digits_text : ℕ → (DataPacket → ℕ) → List ℕ → List ℕ
 digits_text n number digits = report_bytes n number (decode_of digits)
 
-abbrev pub spelt_item : Result (List ℕ) FromHexError → Option DataPacket
-spelt_item (Ok bytes) = packet_item bytes
-spelt_item (Err error) = None
+-- the data packet at the front of the bytes that were read, if one is there
+abbrev pub item_of_read_digits : Result (List ℕ) FromHexError → Option DataPacket
+item_of_read_digits (Ok bytes) = packet_item bytes
+item_of_read_digits (Err error) = None
 
 unfoldable pub digits_item : List ℕ → Option DataPacket
-digits_item digits = spelt_item (decode_of digits)
+digits_item digits = item_of_read_digits (decode_of digits)
 
 abbrev pub is_refusal : Result (List ℕ) FromHexError → Bool
 is_refusal (Ok bytes) = is_packet_refused bytes

@@ -1,7 +1,8 @@
 -- The map that keeps a number for each flow.
-use Rattle.std.specs.Prelude.{◌≡◌, ℕ, ◌^◌, ◌<◌, nat_lt, List, [], ◌∷◌, Option, Some, None, if◌then◌else◌}
+use Rattle.std.specs.Prelude.{◌≡◌, ℕ, ◌<◌, nat_lt, List, [], ◌∷◌, Option, Some, None, if◌then◌else◌}
 use Rattle.std.specs.BTreeMap.{BTreeMap, get}
 use Rattle.std.specs.declared.cmp.Ordering.{Ordering}
+use Rattle.xns_spp.specs.Numbers.{most_items}
 use Rattle.xns_dump.specs.Flows.{DataPacket, fields_of, last_number, number_after}
 use Rattle.xns_dump.specs.declared.flows.flow.Flow.{Flow}
 use Rattle.xns_dump.specs.declared.flows.numbered.Numbered.{Numbered}
@@ -11,10 +12,10 @@ use Rattle.xns_dump.specs.contracts.flows.flow.FlowOrd.TheImpl as flow_ord
 abbrev pub flow_cmp : Flow → Flow → Ordering
 flow_cmp = (flow_ord.ghosts).cmp
 
--- the number near one that is kept, which is never over 2^48
+-- the number near one that is kept, which is never more than a connection carries
 abbrev pub number_near : Option ℕ → ℕ → ℕ
 number_near None field = field
-number_near (Some last) field = if nat_lt (2 ^ 48) last then field else number_after (Some last) field
+number_near (Some last) field = if nat_lt most_items last then field else number_after (Some last) field
 
 -- the numbers of the next items, by what is kept
 abbrev pub numbering : BTreeMap Flow ℕ → DataPacket → ℕ

@@ -82,13 +82,14 @@ report_packet n number bytes (Err fault) = idp_refusal n fault
 unfoldable pub packet_text : ℕ → (DataPacket → ℕ) → List ℕ → List ℕ
 packet_text n number bytes = report_packet n number bytes (packet_of bytes)
 
-abbrev pub found_item : Result (PacketModel × ℕ) IdpFault → Option DataPacket
-found_item (Ok found) = body_item found.0
-found_item (Err fault) = None
+-- the data packet that the packet that was read is, if it is one
+abbrev pub item_of_read_packet : Result (PacketModel × ℕ) IdpFault → Option DataPacket
+item_of_read_packet (Ok found) = body_item found.0
+item_of_read_packet (Err fault) = None
 
 -- the data packet at the front of bytes, if one is there
 unfoldable pub packet_item : List ℕ → Option DataPacket
-packet_item bytes = found_item (packet_of bytes)
+packet_item bytes = item_of_read_packet (packet_of bytes)
 
 abbrev pub is_fault : Result (PacketModel × ℕ) IdpFault → Bool
 is_fault (Ok found) = is_body_refused found.0

@@ -67,10 +67,11 @@ report_sequenced n number packet (Err fault) = header_refusal n fault
 unfoldable pub sequenced_text : ℕ → (DataPacket → ℕ) → PacketModel → List ℕ
 sequenced_text n number packet = report_sequenced n number packet (header_of packet.body)
 
-abbrev pub item_found : PacketModel → Result (Header × List ℕ) SppFault → Option DataPacket
-item_found packet (Ok found) = item_of packet found.0
-item_found packet (Err fault) = None
+-- the data packet that a packet with the header that was read is, if it is one
+abbrev pub item_of_read_header : PacketModel → Result (Header × List ℕ) SppFault → Option DataPacket
+item_of_read_header packet (Ok found) = item_of packet found.0
+item_of_read_header packet (Err fault) = None
 
 -- the data packet that a sequenced packet is, if it is one
 unfoldable pub sequenced_item : PacketModel → Option DataPacket
-sequenced_item packet = item_found packet (header_of packet.body)
+sequenced_item packet = item_of_read_header packet (header_of packet.body)

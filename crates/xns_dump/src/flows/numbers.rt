@@ -11,8 +11,9 @@ use std::alloc::{AllocError, Global};
 use std::collections::BTreeMap;
 use xns_spp::nearest;
 
-/// No item has a larger number, by the limit on an input's lines.
-const MOST: u64 = 1 << 48;
+/// A connection carries so many items each way at most. No item of an input has a larger number, by the limit on its
+/// lines.
+const MOST_ITEMS: u64 = 1 << 48;
 
 /// The number of the last item of each flow, in an ordered map, for which nobody can choose flows that make it slow.
 #[derive(Drop)]
@@ -69,7 +70,9 @@ fn number_near_last(last: Option<&u64>, sequence: u16) -> u64
     ensures { result ≡ number_near (option_copied last.entry) sequence }
 {
     match last {
-        Some(last) if *last <= MOST => nearest(*last, sequence).unwrap_or(u64::from(sequence)),
+        Some(last) if *last <= MOST_ITEMS => nearest(*last, sequence).unwrap_or(u64::from(
+            sequence,
+        )),
         _ => u64::from(sequence),
     }
 }

@@ -9,7 +9,7 @@ use crate::layers::text::{append_named, append_words_line};
 use courier_calls::{Message, MessageRefusal, Words, read_message};
 use std::alloc::{AllocError, Global};
 use xns_lines::Report;
-use xns_lines::numbers::{append_decimal, append_long, append_word_list};
+use xns_lines::numbers::{append_decimal, append_decimal_u64, append_word_list};
 
 /// Appends the line of the data at the end of a message: that of the message that it reads as, or its words.
 #[tactic(auto, unfolding(crate::specs::Layers::Courier::courier_text))]
@@ -110,7 +110,7 @@ fn append_callee(
     ensures { Adds result report.old report.new (callee_text program version procedure) }
 {
     report.append(b" program ")?;
-    append_long(report, u64::from(program))?;
+    append_decimal_u64(report, u64::from(program))?;
     report.append(b" version ")?;
     append_decimal(report, usize::from(version))?;
     report.append(b" procedure ")?;

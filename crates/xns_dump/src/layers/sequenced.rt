@@ -18,7 +18,7 @@ use crate::layers::text::{append_data_line, append_words_line};
 use std::alloc::{AllocError, Global};
 use xns_idp::Packet;
 use xns_lines::Report;
-use xns_lines::numbers::{append_decimal, append_hex, append_long, append_word};
+use xns_lines::numbers::{append_decimal, append_decimal_u64, append_hex, append_word};
 use xns_small::SmallFault;
 use xns_spp::control::{END_OF_MESSAGE, SYSTEM};
 use xns_spp::{Header, SppFault, read_header};
@@ -103,7 +103,7 @@ fn append_item_line(report: &mut Report, number: usize, item: u64) -> Result<(),
 {
     append_decimal(report, number)?;
     report.append(b" item ")?;
-    append_long(report, item)?;
+    append_decimal_u64(report, item)?;
     report.append(b"\n")
 }
 

@@ -1,4 +1,4 @@
-use Rattle.std.proofs.Common.{arith, ap, refl, ◌+◌}
+use Rattle.std.proofs.Common.{arith, ap, refl, ◌∙◌, ◌+◌}
 use Rattle.std.proofs.lemmas.Result.{err_from_is_err_and}
 use Rattle.xns_lines.specs.Lines.{closed_lines}
 use Rattle.xns_lines.proofs.Cutting.{cut_newline, left_as, short_at, takes_newline}
@@ -10,17 +10,17 @@ returns-in_err-take_line-clause-err g c =
     let fails = g.T.LineTaker.fails c.take_line.new.self in
     let contents = g.W.Write.contents c.take_line.new.writer in
     let f = c.in_err-take_line.field-0.0 in
-    let p = err_from_is_err_and c.from_residual.result c.from_residual.ensures.1 in
-    rw (p.1, p.2) (λ taken before h. short_at c.args.self.now f (stands before contents) (fails before contents) taken (omega arith) h.0
+    let p = err_from_is_err_and c.from_residual-in_err-take_line.result c.from_residual-in_err-take_line.ensures.1 in
+    rw (p.1, p.2) (λ taken before h. short_at c.args.self.now f (stands before contents) (fails before contents) taken (omega (arith, c.in_ok-number.ensures.ok)) h.0
     (left_as c.args.self.now f (stands before contents) (fails before contents) taken c.as_slice.result.now c.as_slice.ensures.value h.0
-    (c.in_err-take_line.ensures.err before (closed_lines taken) (ap (λ n. n + 1) h.0.count) h.1)))
+    (c.in_err-take_line.ensures.err before (closed_lines taken) (c.in_ok-number.ensures.ok.0 ∙ ap (λ n. n + 1) h.0.count) h.1)))
 
 pub returns-clause-ok : goal.returns-clause-ok
 returns-clause-ok g c =
     let stands = g.T.LineTaker.stands c.take_line.new.self in
     let contents = g.W.Write.contents c.take_line.new.writer in
-    λ taken before h. takes_newline c.args.self.now _ (stands before contents) taken c.as_slice.result.now (omega arith) c.clear.ensures.items refl c.as_slice.ensures.value h.0
-    (c.in_ok-take_line.ensures.ok before (closed_lines taken) (ap (λ n. n + 1) h.0.count) h.1)
+    λ taken before h. takes_newline c.args.self.now _ (stands before contents) taken c.as_slice.result.now (omega (arith, c.in_ok-number.ensures.ok)) c.clear.ensures.items c.in_ok-number.ensures.ok.0 c.as_slice.ensures.value h.0
+    (c.in_ok-take_line.ensures.ok before (closed_lines taken) (c.in_ok-number.ensures.ok.0 ∙ ap (λ n. n + 1) h.0.count) h.1)
 
 pub returns-clause-cut : goal.returns-clause-cut
-returns-clause-cut g c = λ taken h. cut_newline c.args.self.now _ taken (omega arith) c.clear.ensures.items refl h
+returns-clause-cut g c = λ taken h. cut_newline c.args.self.now _ taken (omega (arith, c.in_ok-number.ensures.ok)) c.clear.ensures.items c.in_ok-number.ensures.ok.0 h

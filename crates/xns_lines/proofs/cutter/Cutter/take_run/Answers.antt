@@ -4,8 +4,8 @@ use Rattle.xns_lines.proofs.cutter.Cutter.take_run.Goals as goal
 
 pub returns-then-len-run-gt-MOST_BYTES-clause-err : goal.returns-then-len-run-gt-MOST_BYTES-clause-err
 returns-then-len-run-gt-MOST_BYTES-clause-err c = λ taken h.
-    short_long c.args.self.now taken c.args.run.now c.requires (omega arith) (omega (arith, c.args.self.now.line.ok.0)) h
+    short_long c.args.self.now taken c.args.run.now c.requires (omega (arith, c.in_ok-next_number.ensures.ok)) (omega (arith, c.args.self.now.line.ok.0)) h
 
 pub returns-in-Ok-clause-ok : goal.returns-in-Ok-clause-ok
 returns-in-Ok-clause-ok c = λ taken h.
-    run_cut _ taken c.args.run.now c.requires (cut_run c.args.self.now _ taken c.args.run.now c.requires (omega arith) (omega (arith, c.args.self.now.line.ok.0)) c.in-Ok.ensures.items refl h)
+    run_cut _ taken c.args.run.now c.requires (cut_run c.args.self.now _ taken c.args.run.now c.requires (omega (arith, c.in_ok-next_number.ensures.ok)) (omega (arith, c.args.self.now.line.ok.0)) c.in-Ok.ensures.items refl h)

@@ -1,4 +1,4 @@
-use Rattle.std.proofs.Common.{arith, ap, refl, ◌+◌, ◌++◌, ◌∷◌, []}
+use Rattle.std.proofs.Common.{arith, ap, refl, ◌∙◌, ◌+◌, ◌++◌, ◌∷◌, []}
 use Rattle.std.proofs.lemmas.Result.{err_from_is_err_and}
 use Rattle.xns_lines.specs.Lines.{closed_lines}
 use Rattle.xns_lines.proofs.Cutting.{cut_whole, short_at_whole, short_later, short_long, short_own, takes_whole}
@@ -9,7 +9,7 @@ returns-then-line-gt-MOST_BYTES-clause-err g c =
     let contents = g.W.Write.contents c.args.writer.now in
     λ taken before h. short_later (taken ++ c.args.line.now) (10 ∷ []) _ _ _ refl
     (short_own _ (g.T.LineTaker.stands c.args.taker.now before contents) (g.T.LineTaker.fails c.args.taker.now before contents) taken _ h.1
-    (short_long c.args.self.now taken c.args.line.now c.requires.plain (omega arith) (omega arith) h.0))
+    (short_long c.args.self.now taken c.args.line.now c.requires.plain (omega (arith, c.in_ok-number.ensures.ok)) (omega arith) h.0))
 
 pub returns-in_err-take_line-clause-err : goal.returns-in_err-take_line-clause-err
 returns-in_err-take_line-clause-err g c =
@@ -17,17 +17,17 @@ returns-in_err-take_line-clause-err g c =
     let fails = g.T.LineTaker.fails c.take_line.new.self in
     let contents = g.W.Write.contents c.take_line.new.writer in
     let f = c.in_err-take_line.field-0.0 in
-    let p = err_from_is_err_and c.from_residual.result c.from_residual.ensures.1 in
+    let p = err_from_is_err_and c.from_residual-in_err-take_line.result c.from_residual-in_err-take_line.ensures.1 in
     rw (p.1, p.2) (λ taken before h.
-    short_at_whole c.args.self.now f (stands before contents) (fails before contents) taken c.args.line.now c.requires.plain (omega arith) c.requires.first (omega arith) h.0
-    (c.in_err-take_line.ensures.err before (closed_lines taken) (ap (λ n. n + 1) h.0.count) h.1))
+    short_at_whole c.args.self.now f (stands before contents) (fails before contents) taken c.args.line.now c.requires.plain (omega (arith, c.in_ok-number.ensures.ok)) c.requires.first (omega arith) h.0
+    (c.in_err-take_line.ensures.err before (closed_lines taken) (c.in_ok-number.ensures.ok.0 ∙ ap (λ n. n + 1) h.0.count) h.1))
 
 pub returns-clause-cut : goal.returns-clause-cut
-returns-clause-cut g c = λ taken h. cut_whole c.args.self.now _ taken c.args.line.now c.requires.plain (omega arith) c.requires.first (omega arith) refl refl h
+returns-clause-cut g c = λ taken h. cut_whole c.args.self.now _ taken c.args.line.now c.requires.plain (omega (arith, c.in_ok-number.ensures.ok)) c.requires.first (omega arith) refl c.in_ok-number.ensures.ok.0 h
 
 pub returns-clause-ok : goal.returns-clause-ok
 returns-clause-ok g c =
     let stands = g.T.LineTaker.stands c.take_line.new.self in
     let contents = g.W.Write.contents c.take_line.new.writer in
-    λ taken before h. takes_whole c.args.self.now _ (stands before contents) taken c.args.line.now c.requires.plain (omega arith) c.requires.first (omega arith) refl refl h.0
-    (c.in_ok-take_line.ensures.ok before (closed_lines taken) (ap (λ n. n + 1) h.0.count) h.1)
+    λ taken before h. takes_whole c.args.self.now _ (stands before contents) taken c.args.line.now c.requires.plain (omega (arith, c.in_ok-number.ensures.ok)) c.requires.first (omega arith) refl c.in_ok-number.ensures.ok.0 h.0
+    (c.in_ok-take_line.ensures.ok before (closed_lines taken) (c.in_ok-number.ensures.ok.0 ∙ ap (λ n. n + 1) h.0.count) h.1)
