@@ -11,7 +11,7 @@ use Rattle.courier_calls.specs.declared.call.Call.{Call}
 use Rattle.courier_calls.specs.declared.caller.Caller.{Caller}
 use Rattle.xns_spp.specs.Held.{Held, StandsFor}
 use Rattle.xns_spp.specs.Receiving.{receive_answer, after_receive}
-use Rattle.xns_spp.specs.Sending.{is_full, waiting_count, after_send, after_take}
+use Rattle.xns_spp.specs.Sending.{is_full, waiting_count, after_send, after_take, flush_answer, after_flush, tick_answer, after_tick}
 use Rattle.xns_spp.specs.State.{State}
 use Rattle.xns_spp.specs.declared.item.Item.{Item}
 use Rattle.xns_world.proofs.CallQuiet.{IsQuiet, flush_quiet, tick_quiet, land_quiet}
@@ -25,6 +25,7 @@ use Rattle.xns_world.proofs.ServeEnds.{served_on}
 use Rattle.xns_world.proofs.Sides.{same_other, same_marked}
 use Rattle.xns_world.specs.declared.call_trace.CallTrace.{CallTrace}
 use Rattle.xns_world.specs.declared.calling.CallingEnd.{CallingEnd}
+use Rattle.xns_world.specs.declared.call_pair.CallPair.{CallPair}
 use Rattle.xns_world.specs.declared.call_play.CallPlay.{CallPlay}
 use Rattle.xns_world.specs.declared.emitted.Emitted.{Emitted}
 use Rattle.xns_world.specs.declared.network.Network.{Network}
@@ -38,7 +39,7 @@ use Rattle.xns_world.specs.Network.{IsNetwork, IsEnd}
 use Rattle.xns_world.specs.Side.{other}
 use Rattle.xns_world.specs.CallLaws.{Given}
 use Rattle.xns_world.specs.CallOrder.{IsBetween, AreOnceInOrder}
-use Rattle.xns_world.specs.CallPlay.{IsCalling, IsServing, IsCallPlaying, IsReady, IsCallTrace, IsOnceInOrder, parties}
+use Rattle.xns_world.specs.CallPlay.{endpoint_at, with_endpoint, Acts, IsCalling, IsServing, IsAtSide, IsCallPair, IsCallPlaying, IsReady, IsCallTrace, IsOnceInOrder, parties}
 use Rattle.xns_world.specs.CallWorld.{Parties, CallWorld, or_caller, calls_made, next_out, outcomes_read, in_world, lists, makes, has_outcome, may_call, caller_step, step_with, settles, arrived, delivers, seen_at, carried_at, step}
 use Rattle.xns_world.specs.Settling.{most_steps, onward, steps, stepped_out}
 use Rattle.xns_world.specs.ServeEnd.{IsServed}
@@ -137,39 +138,61 @@ quiet_calling p e w u endpoint q stands h =
 pub quiet_serving : {S : Type 0} (p : Parties S) (e : ServingEnd S) (w : CallWorld) (u : World) (endpoint : Held) → IsQuiet w.world u → StandsFor endpoint u.b → IsServing p e w → IsServing p (record e { endpoint = endpoint }) (in_world w u)
 quiet_serving p e w u endpoint q stands h = served_on p.serving p.service e w.world.b u.b endpoint h stands (q.accepted B) (q.handed B)
 
+-- ---- both ends
+
+pub pair_of : {S : Type 0} (p : Parties S) (e : CallPair S) (w : CallWorld) → IsCalling p e.a w → IsServing p e.b w → IsCallPair p e w
+pair_of p e w a b = λ side. elim side as (λ t. IsAtSide p e w t) [ A ↦ a | B ↦ b ]
+
+-- the end at a side takes its steps, and the other one stays
+pub caller_stepped : {S : Type 0} → EndLaws → (p : Parties S) (e : CallPair S) (w : CallWorld) (a : CallingEnd) → IsCallPair p e w → IsCalling p a (stepped_out (step p A) w) → IsCallPair p (record e { a = a }) (stepped_out (step p A) w)
+caller_stepped laws p e w a h i =
+    let v = stepped_out (step p A) w in
+    pair_of p (record e { a = a }) v i (other_serving p e.b w v (steps_leave laws p A w most_steps).there (h B))
+
+pub server_stepped : {S : Type 0} (p : Parties S) (e : CallPair S) (w : CallWorld) (b : ServingEnd S) → IsCallPair p e w → IsServing p b (stepped_out (step p B) w) → IsCallPair p (record e { b = b }) (stepped_out (step p B) w)
+server_stepped p e w b h i =
+    let v = stepped_out (step p B) w in
+    pair_of p (record e { b = b }) v (other_calling p e.a w v (server_steps p w most_steps) (h A)) i
+
+-- an endpoint goes on that accepts and hands up nothing, and the other end stays
+quiet_pair : {S : Type 0} (p : Parties S) (e : CallPair S) (w : CallWorld) (u : World) (side : Side) (endpoint : Held) → IsQuiet w.world u → end_of u (other side) ≡ end_of w.world (other side) → StandsFor endpoint (end_of u side) → IsCallPair p e w → IsCallPair p (with_endpoint e side endpoint) (in_world w u)
+quiet_pair p e w u A endpoint q same stands h = pair_of p (with_endpoint e A endpoint) (in_world w u) (quiet_calling p e.a w u endpoint q stands (h A)) (other_serving p e.b w (in_world w u) same (h B))
+quiet_pair p e w u B endpoint q same stands h = pair_of p (with_endpoint e B endpoint) (in_world w u) (other_calling p e.a w (in_world w u) (record { world = same; made = refl; listed = refl }) (h A)) (quiet_serving p e.b w u endpoint q stands (h B))
+
+stands_at : {S : Type 0} (p : Parties S) (e : CallPair S) (w : CallWorld) (side : Side) → IsCallPair p e w → StandsFor (endpoint_at e side) (end_of w.world side)
+stands_at p e w A h = (h A).stands
+stands_at p e w B h = (h B).stands
+
+acts : {S : Type 0} (e : CallPair S) (side : Side) (endpoint : Held) (n m : Network) (leads : World → World → Type 0) → (EndLaws → (w v : World) → leads w v → IsEnd (endpoint_at e side) n w side → IsEnd endpoint m v side)
+    → Acts e (with_endpoint e side endpoint) n m side leads
+acts e A endpoint n m leads h = record { pair = refl; stands = h }
+acts e B endpoint n m leads h = record { pair = refl; stands = h }
+
+-- the endpoint at a side acts
+pub acts_at : {S : Type 0} (leads : Side → World → World → Type 0) (e : CallPair S) (side t : Side) (endpoint : Held) (n m : Network) → side ≡ t
+    → (EndLaws → (w v : World) → leads t w v → IsEnd (endpoint_at e t) n w t → IsEnd endpoint m v t) → Acts e (with_endpoint e t endpoint) n m side (leads side)
+acts_at leads e side t endpoint n m is h = subst (λ (s : Side). Acts e (with_endpoint e t endpoint) n m s (leads s)) (sym is) (acts e t endpoint n m (leads t) h)
+
+-- it accepts and hands up nothing
+acted : {S : Type 0} → EndLaws → (p : Parties S) (e f : CallPair S) (n m : Network) (w : CallWorld) (u : World) (side : Side) (leads : World → World → Type 0) → Acts e f n m side leads → leads w.world u → IsQuiet w.world u
+    → end_of u (other side) ≡ end_of w.world (other side) → IsCallPair p e w → IsNetwork n w.world → IsCallPlaying p (record { ends = f; network = m }) (in_world w u)
+acted {S} laws p e f n m w u side leads a led q same h network =
+    let end = a.stands laws w.world u led (record { stands = stands_at p e w side h; network = network }) in
+    record {
+      ends = subst (λ (x : CallPair S). IsCallPair p x (in_world w u)) (sym a.pair) (quiet_pair p e w u side (endpoint_at f side) q same end.stands h);
+      network = end.network;
+    }
+
 -- ---- a side settles
 
-pub settled_a : {S : Type 0} (p : Parties S) (play : CallPlay S) (w : CallWorld) (a : CallingEnd) (endpoint : Held) (network : Network) → Given p → IsBetween p w → IsCallPlaying p play w
-    → IsCalling p a (stepped_out (step p A) w) → IsEnd endpoint network (flushes (stepped_out (step p A) w).world A) A
-    → IsCallPlaying p (record play { a = record a { endpoint = endpoint }; network = network }) (settles p A w)
-settled_a p play w a endpoint network g b h i end =
-    let v = stepped_out (step p A) w in
-    let holds = (steps_hold p A w most_steps g b.holds).holds in
-    record {
-      a = quiet_calling p a v (flushes v.world A) endpoint (flush_quiet g.answering.ends v.world A holds) end.stands i;
-      b = other_serving p play.b w (settles p A w) (steps_leave g.answering.ends p A w most_steps).there h.b;
-      network = end.network;
-    }
-
-pub settled_b : {S : Type 0} (p : Parties S) (play : CallPlay S) (w : CallWorld) (s : ServingEnd S) (endpoint : Held) (network : Network) → Given p → IsBetween p w → IsCallPlaying p play w
-    → IsServing p s (stepped_out (step p B) w) → IsEnd endpoint network (flushes (stepped_out (step p B) w).world B) B
-    → IsCallPlaying p (record play { b = record s { endpoint = endpoint }; network = network }) (settles p B w)
-settled_b p play w s endpoint network g b h i end =
-    let v = stepped_out (step p B) w in
-    let l = server_steps p w most_steps in
-    let holds = (steps_hold p B w most_steps g b.holds).holds in
-    record {
-      a = other_calling p play.a w (settles p B w) (record { world = l.world; made = l.made; listed = l.listed }) h.a;
-      b = quiet_serving p s v (flushes v.world B) endpoint (flush_quiet g.answering.ends v.world B holds) end.stands i;
-      network = end.network;
-    }
-
--- the end as it stands before it flushes
-pub stepped_end_a : {S : Type 0} (p : Parties S) (play : CallPlay S) → EndLaws → (w : CallWorld) (a : CallingEnd) → IsCallPlaying p play w → IsCalling p a (stepped_out (step p A) w) → IsEnd a.endpoint play.network (stepped_out (step p A) w).world A
-stepped_end_a p play laws w a h i = record { stands = i.stands; network = (steps_leave laws p A w most_steps).network play.network h.network }
-
-pub stepped_end_b : {S : Type 0} (p : Parties S) (play : CallPlay S) → EndLaws → (w : CallWorld) (s : ServingEnd S) → IsCallPlaying p play w → IsServing p s (stepped_out (step p B) w) → IsEnd s.endpoint play.network (stepped_out (step p B) w).world B
-stepped_end_b p play laws w s h i = record { stands = i.stands; network = (steps_leave laws p B w most_steps).network play.network h.network }
+pub settled : {S : Type 0} (p : Parties S) (e f : CallPair S) (n m : Network) (w : CallWorld) (side : Side) → Given p → IsBetween p w → IsCallPair p e (stepped_out (step p side) w) → IsNetwork n w.world
+    → Acts e f n m side (λ v u. flushes v side ≡ u) → IsCallPlaying p (record { ends = f; network = m }) (settles p side w)
+settled p e f n m w side g b h network a =
+    let laws = g.answering.ends in
+    let v = stepped_out (step p side) w in
+    let s : State = end_of v.world side in
+    let holds = (steps_hold p side w most_steps g b.holds).holds in
+    acted laws p e f n m v (flushes v.world side) side (λ v u. flushes v side ≡ u) a refl (flush_quiet laws v.world side holds) (same_other v.world side (after_flush s) (flush_answer s)) h ((steps_leave laws p side w most_steps).network n network)
 
 -- ---- a packet is delivered
 
@@ -189,37 +212,18 @@ pub record Heard {S : Type 0} (serving : Serving S) (cs : List Call) (p : Partie
 ready_on : {S : Type 0} (serving : Serving S) (cs : List Call) (p : Parties S) (w : CallWorld) (u : World) → IsReady serving cs p w → Holds u → IsQuiet w.world u → IsReady serving cs p (in_world w u)
 ready_on serving cs p w u r holds q = record { given = r.given; between = quiet_between p w u r.between holds q; serving_is = r.serving_is; calls_are = r.calls_are }
 
-heard_a : {S : Type 0} (serving : Serving S) (cs : List Call) (p : Parties S) (play : CallPlay S) (w : CallWorld) (u : World) (endpoint : Held) (network : Network) → IsReady serving cs p w → IsCallPlaying p play w → Holds u → IsQuiet w.world u → u.b ≡ w.world.b
-    → IsEnd endpoint network u A → Heard serving cs p (record play { a = record play.a { endpoint = endpoint }; network = network }) (in_world w u)
-heard_a serving cs p play w u endpoint network r h holds q same end = record {
+heard : {S : Type 0} (serving : Serving S) (cs : List Call) (p : Parties S) (e f : CallPair S) (n m : Network) (w : CallWorld) (u : World) (side : Side) (leads : World → World → Type 0) → IsReady serving cs p w → IsCallPlaying p (record { ends = e; network = n }) w
+    → Acts e f n m side leads → leads w.world u → Holds u → IsQuiet w.world u → end_of u (other side) ≡ end_of w.world (other side) → Heard serving cs p (record { ends = f; network = m }) (in_world w u)
+heard serving cs p e f n m w u side leads r h a led holds q same = record {
   ready = ready_on serving cs p w u r holds q;
-  playing = record { a = quiet_calling p play.a w u endpoint q end.stands h.a; b = other_serving p play.b w (in_world w u) same h.b; network = end.network };
+  playing = acted r.given.answering.ends p e f n m w u side leads a led q same h.ends h.network;
 }
 
-heard_b : {S : Type 0} (serving : Serving S) (cs : List Call) (p : Parties S) (play : CallPlay S) (w : CallWorld) (u : World) (endpoint : Held) (network : Network) → IsReady serving cs p w → IsCallPlaying p play w → Holds u → IsQuiet w.world u → u.a ≡ w.world.a
-    → IsEnd endpoint network u B → Heard serving cs p (record play { b = record play.b { endpoint = endpoint }; network = network }) (in_world w u)
-heard_b serving cs p play w u endpoint network r h holds q same end = record {
-  ready = ready_on serving cs p w u r holds q;
-  playing = record {
-    a = other_calling p play.a w (in_world w u) (record { world = same; made = refl; listed = refl }) h.a;
-    b = quiet_serving p play.b w u endpoint q end.stands h.b;
-    network = end.network;
-  };
-}
-
-pub landed_a : {S : Type 0} (serving : Serving S) (cs : List Call) (p : Parties S) (play : CallPlay S) (w : CallWorld) (k : ℕ) (u : World) (endpoint : Held) (network : Network) → IsReady serving cs p w → IsCallPlaying p play w
-    → landing w.world k ≡ Some (A, u) → IsEnd endpoint network u A
-    → Heard serving cs p (record play { a = record play.a { endpoint = endpoint }; network = network }) (in_world w u)
-landed_a serving cs p play w k u endpoint network r h came end =
+pub landed : {S : Type 0} (serving : Serving S) (cs : List Call) (p : Parties S) (e f : CallPair S) (n m : Network) (w : CallWorld) (k : ℕ) (u : World) (side : Side) → IsReady serving cs p w → IsCallPlaying p (record { ends = e; network = n }) w
+    → landing w.world k ≡ Some (side, u) → Acts e f n m side (λ w v. landing w k ≡ Some (side, v)) → Heard serving cs p (record { ends = f; network = m }) (in_world w u)
+landed serving cs p e f n m w k u side r h came a =
     let holds = r.between.holds.holds in
-    heard_a serving cs p play w u endpoint network r h (r.given.world.land w.world k (A, u) holds came) (land_quiet r.given.answering.ends w.world k (A, u) holds came) (landed_other w.world u A k came) end
-
-pub landed_b : {S : Type 0} (serving : Serving S) (cs : List Call) (p : Parties S) (play : CallPlay S) (w : CallWorld) (k : ℕ) (u : World) (endpoint : Held) (network : Network) → IsReady serving cs p w → IsCallPlaying p play w
-    → landing w.world k ≡ Some (B, u) → IsEnd endpoint network u B
-    → Heard serving cs p (record play { b = record play.b { endpoint = endpoint }; network = network }) (in_world w u)
-landed_b serving cs p play w k u endpoint network r h came end =
-    let holds = r.between.holds.holds in
-    heard_b serving cs p play w u endpoint network r h (r.given.world.land w.world k (B, u) holds came) (land_quiet r.given.answering.ends w.world k (B, u) holds came) (landed_other w.world u B k came) end
+    heard serving cs p e f n m w u side (λ w v. landing w k ≡ Some (side, v)) r h a came (r.given.world.land w.world k (side, u) holds came) (land_quiet r.given.answering.ends w.world k (side, u) holds came) (landed_other w.world u side k came)
 
 pub delivers_to : {S : Type 0} (p : Parties S) (w : CallWorld) (k : ℕ) (side : Side) (u : World) → landing w.world k ≡ Some (side, u) → settles p side (in_world w u) ≡ delivers p w k
 delivers_to p w k side u lands = sym (ap (λ (o : Option (Side × World)). arrived p w o) lands)
@@ -232,17 +236,12 @@ delivers_nowhere p w k none = sym (delivers_none p w k (no_landing (landing w.wo
 
 -- ---- time passes
 
-pub ticked_a : {S : Type 0} (serving : Serving S) (cs : List Call) (p : Parties S) (play : CallPlay S) (w : CallWorld) (endpoint : Held) (network : Network) → IsReady serving cs p w → IsCallPlaying p play w
-    → IsEnd endpoint network (ticks w.world A) A → Heard serving cs p (record play { a = record play.a { endpoint = endpoint }; network = network }) (in_world w (ticks w.world A))
-ticked_a serving cs p play w endpoint network r h end =
+pub ticked : {S : Type 0} (serving : Serving S) (cs : List Call) (p : Parties S) (e f : CallPair S) (n m : Network) (w : CallWorld) (side : Side) → IsReady serving cs p w → IsCallPlaying p (record { ends = e; network = n }) w
+    → Acts e f n m side (λ w v. ticks w side ≡ v) → Heard serving cs p (record { ends = f; network = m }) (in_world w (ticks w.world side))
+ticked serving cs p e f n m w side r h a =
     let holds = r.between.holds.holds in
-    heard_a serving cs p play w (ticks w.world A) endpoint network r h (r.given.world.tick w.world A holds) (tick_quiet r.given.answering.ends w.world A holds) refl end
-
-pub ticked_b : {S : Type 0} (serving : Serving S) (cs : List Call) (p : Parties S) (play : CallPlay S) (w : CallWorld) (endpoint : Held) (network : Network) → IsReady serving cs p w → IsCallPlaying p play w
-    → IsEnd endpoint network (ticks w.world B) B → Heard serving cs p (record play { b = record play.b { endpoint = endpoint }; network = network }) (in_world w (ticks w.world B))
-ticked_b serving cs p play w endpoint network r h end =
-    let holds = r.between.holds.holds in
-    heard_b serving cs p play w (ticks w.world B) endpoint network r h (r.given.world.tick w.world B holds) (tick_quiet r.given.answering.ends w.world B holds) refl end
+    let s : State = end_of w.world side in
+    heard serving cs p e f n m w (ticks w.world side) side (λ w v. ticks w side ≡ v) r h a refl (r.given.world.tick w.world side holds) (tick_quiet r.given.answering.ends w.world side holds) (same_other w.world side (after_tick s) (tick_answer s))
 
 -- ---- deliveries in turn
 

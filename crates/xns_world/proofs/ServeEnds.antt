@@ -64,10 +64,8 @@ served_first serving s e v stands session carried fault listed handed accepted =
       items = subst (All IsItem) (sym handed) (All-nil IsItem);
     }
 
-pub served_first_of : {S : Type 0} (serving t : Serving S) (service s : S) (e : ServingEnd S) (v : State) → t ≡ serving → s ≡ service → StandsFor e.endpoint v → server.StandsFor serving e.server service [] [] → e.carried.items ≡ [] → e.fault ≡ None → e.handed ≡ []
-    → handed_by v ≡ [] → v.accepted ≡ [] → IsServed t s e v
-served_first_of {S = S} serving t service s e v is same stands session carried fault listed handed accepted =
-    subst (λ (u : Serving S). IsServed u s e v) (sym is) (subst (λ (u : S). IsServed serving u e v) (sym same) (served_first serving service e v stands session carried fault listed handed accepted))
+pub served_of : {S : Type 0} (serving t : Serving S) (service s : S) (e : ServingEnd S) (v : State) → t ≡ serving → s ≡ service → IsServed serving service e v → IsServed t s e v
+served_of {S = S} serving t service s e v is same h = subst (λ (u : Serving S). IsServed u s e v) (sym is) (subst (λ (u : S). IsServed serving u e v) (sym same) h)
 
 -- ---- an item is sent
 

@@ -4,19 +4,23 @@ use Rattle.courier_calls.specs.Calls.{Serving, last_state, outcomes, seen_model,
 use Rattle.courier_calls.specs.declared.call.Call.{Call}
 use Rattle.courier_calls.specs.Caller as caller
 use Rattle.courier_calls.specs.Server.{call_of}
-use Rattle.xns_spp.specs.Held.{StandsFor}
+use Rattle.xns_spp.specs.Held.{Held, StandsFor}
 use Rattle.xns_world.specs.CallLaws.{Given}
 use Rattle.xns_world.specs.CallOrder.{IsBetween}
 use Rattle.xns_spp.specs.Growth.{Begins}
-use Rattle.xns_world.specs.Network.{IsNetwork}
+use Rattle.xns_world.specs.EndLaws.{EndLaws}
+use Rattle.xns_world.specs.Network.{IsNetwork, IsEnd}
 use Rattle.xns_world.specs.ServeEnd.{IsServed}
+use Rattle.xns_world.specs.declared.call_pair.CallPair.{CallPair}
 use Rattle.xns_world.specs.declared.call_play.CallPlay.{CallPlay}
 use Rattle.xns_world.specs.declared.call_trace.CallTrace.{CallTrace}
 use Rattle.xns_world.specs.declared.calling.CallingEnd.{CallingEnd}
+use Rattle.xns_world.specs.declared.network.Network.{Network}
 use Rattle.xns_world.specs.declared.serving.ServingEnd.{ServingEnd}
-use Rattle.xns_world.specs.declared.side.Side.TheVariants.{A}
+use Rattle.xns_world.specs.declared.side.Side.{Side}
+use Rattle.xns_world.specs.declared.side.Side.TheVariants.{A, B}
 use Rattle.xns_world.specs.CallWorld.{Parties, CallWorld, calls_made, seen_at, carried_at, service_at}
-use Rattle.xns_world.specs.World.{handed_at, sent_at, packets_of}
+use Rattle.xns_world.specs.World.{World, handed_at, sent_at, packets_of}
 
 -- the caller's end, with its session, the calls made and the outcomes listed
 pub record IsCalling {S : Type 0} (p : Parties S) (e : CallingEnd) (w : CallWorld) : Type 0 where
@@ -36,10 +40,31 @@ pub record IsCallTrace {S : Type 0} (p : Parties S) (t : CallTrace S) (w : CallW
   pub service : t.service ≡ service_at p w
   pub bag : t.bag ≡ packets_of w.world
 
+abbrev pub endpoint_at : {S : Type 0} → CallPair S → Side → Held
+endpoint_at e A = e.a.endpoint
+endpoint_at e B = e.b.endpoint
+
+abbrev pub with_endpoint : {S : Type 0} → CallPair S → Side → Held → CallPair S
+with_endpoint e A x = record e { a = record e.a { endpoint = x } }
+with_endpoint e B x = record e { b = record e.b { endpoint = x } }
+
+-- an endpoint of the pair acts on the network, and nothing else of the pair changes; under the laws of an end: where both stood for w,
+-- they then stand for what w leads to
+pub record Acts {S : Type 0} (e f : CallPair S) (n m : Network) (side : Side) (leads : World → World → Type 0) : Type 0 where
+  pub pair : f ≡ with_endpoint e side (endpoint_at f side)
+  pub stands : EndLaws → (w v : World) → leads w v → IsEnd (endpoint_at e side) n w side → IsEnd (endpoint_at f side) m v side
+
+-- the end at this side
+abbrev pub IsAtSide : {S : Type 0} → Parties S → CallPair S → CallWorld → Side → Type 0
+IsAtSide p e w A = IsCalling p e.a w
+IsAtSide p e w B = IsServing p e.b w
+
+abbrev pub IsCallPair : {S : Type 0} → Parties S → CallPair S → CallWorld → Type 0
+IsCallPair p e w = (side : Side) → IsAtSide p e w side
+
 -- a play stands for a world of calls
 pub record IsCallPlaying {S : Type 0} (p : Parties S) (play : CallPlay S) (w : CallWorld) : Type 0 where
-  pub a : IsCalling p play.a w
-  pub b : IsServing p play.b w
+  pub ends : IsCallPair p play.ends w
   pub network : IsNetwork play.network w.world
 
 -- these are the parties of the play, and the world is one between events

@@ -7,11 +7,12 @@ use Rattle.courier_calls.specs.Server.{decided, server_ending, server_state, cal
 use Rattle.courier_calls.specs.declared.fault.SessionFault.{SessionFault}
 use Rattle.xns_spp.specs.Receiving.{receive_answer, after_receive}
 use Rattle.xns_spp.specs.Sending.{flush_answer, after_flush}
-use Rattle.xns_spp.specs.State.{State, responder_state}
+use Rattle.xns_spp.specs.State.{State}
 use Rattle.xns_spp.specs.declared.item.Item.{Item}
 use Rattle.xns_world.specs.Settling.{handed_by, stepped_out, serve_step}
 use Rattle.xns_world.specs.declared.serve_trace.ServeTrace.{ServeTrace}
 use Rattle.xns_world.specs.declared.setup.Setup.{Setup}
+use Rattle.xns_world.specs.World.{start}
 
 -- the end, and every packet that it sent
 pub record Served : Type 0 where
@@ -36,8 +37,9 @@ serve_receives w b = answers_by w (after_receive w.end b) (option_to_list (recei
 abbrev pub serve_hears : {S : Type 0} → Serving S → S → Served → List ℕ → Served
 serve_hears serving s w b = serve_settles serving s (serve_receives w b)
 
+-- the server's end of a connection that begins so
 abbrev pub serve_start : Setup → Served
-serve_start setup = record { end = responder_state setup.b setup.b_id setup.a setup.a_id setup.window setup.backlog; replies = [] }
+serve_start setup = record { end = (start setup).b; replies = [] }
 
 -- it settles before the first packet and after each one
 abbrev pub serve : {S : Type 0} → Serving S → S → Setup → List (List ℕ) → Served

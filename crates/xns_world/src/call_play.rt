@@ -9,25 +9,22 @@ ghost use Rattle.xns_world.specs.CallPlay.{IsCallPlaying, Goes, IsCallTrace, IsO
 ghost use Rattle.xns_world.specs.CallWorld.{Parties, CallWorld, call_happens, call_start, begun, run_calls, delivers, settles, in_world};
 ghost use Rattle.xns_world.specs.Setup.{IsGood};
 
+use crate::call_pair::CallPair;
 use crate::call_trace::CallTrace;
 use crate::calling::CallingEnd;
-use crate::ends::{flush_end, land, tick_end};
 use crate::event::Event;
-use crate::items::Items;
 use crate::laws::calls::laws_are_given;
 use crate::network::Network;
 use crate::serving::ServingEnd;
 use crate::setup::Setup;
 use crate::side::Side;
-use courier_calls::{Call, Caller, Server, Service, Table, known_calls};
+use courier_calls::{Call, Caller, Service, Table, known_calls};
 use std::alloc::{AllocError, Global};
-use xns_spp::Endpoint;
 
 /// Two ends whose sessions carry calls, and the network between them.
 #[derive(Drop)]
 pub struct CallPlay<'a, S: Service> {
-    a: CallingEnd<'a>,
-    b: ServingEnd<'a, S>,
+    ends: CallPair<'a, S>,
     network: Network,
 }
 
@@ -45,50 +42,29 @@ impl<'a, S: Service> CallPlay<'a, S> {
         requires state { S.IsServiceState service }
         ensures { IfOk result (λ play. (p : Parties S) → p.serving ≡ S.serving → p.service ≡ service → IsCallPlaying p play (call_start setup.now)) }
     {
-        let Setup {
-            a,
-            b,
-            a_id,
-            b_id,
-            window,
-            backlog,
-        } = *setup;
-        let initiator = Endpoint::initiator(alloc, a, a_id, b, window, backlog)?;
-        let responder = Endpoint::responder(alloc, b, b_id, a, a_id, window, backlog)?;
+        let endpoint = setup.end(alloc, Side::A)?;
         let caller = Caller::new(alloc, table)?;
-        let server = Server::new(alloc, table, service)?;
+        let b = ServingEnd::new(alloc, setup, table, service)?;
         Ok(CallPlay {
-            a: CallingEnd {
-                endpoint: initiator,
-                caller,
-                made: 0,
-                seen: Vec::new(alloc),
-            },
-            b: ServingEnd {
-                endpoint: responder,
-                server,
-                carried: Vec::new(alloc),
-                fault: None,
-                handed: Items::new(Vec::new(alloc)),
+            ends: CallPair {
+                a: CallingEnd {
+                    endpoint,
+                    caller,
+                    made: 0,
+                    seen: Vec::new(alloc),
+                },
+                b,
             },
             network: Network::new(alloc),
         })
     }
 
-    /// The caller's end settles.
-    fn settle_a(&mut self, alloc: Global, calls: &[Call]) -> Result<(), AllocError>
-        ensures { OnOk result (Goes S.serving calls.now self.old self.new (λ p w. settles p A w)) }
+    /// The end at this side settles.
+    fn settle(&mut self, alloc: Global, calls: &[Call], side: Side) -> Result<(), AllocError>
+        ensures { OnOk result (Goes S.serving calls.now self.old self.new (λ p w. settles p side w)) }
     {
-        self.a.step_out::<S>(alloc, calls)?;
-        flush_end(alloc, Side::A, &mut self.a.endpoint, &mut self.network)
-    }
-
-    /// The server's end settles.
-    fn settle_b(&mut self, alloc: Global, _calls: &[Call]) -> Result<(), AllocError>
-        ensures { OnOk result (Goes S.serving _calls.now self.old self.new (λ p w. settles p B w)) }
-    {
-        self.b.step_out(alloc)?;
-        flush_end(alloc, Side::B, &mut self.b.endpoint, &mut self.network)
+        self.ends.step_out(alloc, calls, side)?;
+        self.ends.flush(alloc, side, &mut self.network)
     }
 
     /// Delivers the packet of this number, where there is one that still lives.
@@ -98,28 +74,8 @@ impl<'a, S: Service> CallPlay<'a, S> {
         let Some(side) = self.network.lands_at(number) else {
             return Ok(());
         };
-        match side {
-            Side::A => {
-                land(
-                    alloc,
-                    Side::A,
-                    &mut self.a.endpoint,
-                    &mut self.network,
-                    number,
-                )?;
-                self.settle_a(alloc, calls)
-            }
-            Side::B => {
-                land(
-                    alloc,
-                    Side::B,
-                    &mut self.b.endpoint,
-                    &mut self.network,
-                    number,
-                )?;
-                self.settle_b(alloc, calls)
-            }
-        }
+        self.ends.land(alloc, side, &mut self.network, number)?;
+        self.settle(alloc, calls, side)
     }
 
     /// Delivers these packets in turn.
@@ -148,16 +104,8 @@ impl<'a, S: Service> CallPlay<'a, S> {
     fn tick(&mut self, alloc: Global, calls: &[Call], side: Side) -> Result<(), AllocError>
         ensures { OnOk result (Goes S.serving calls.now self.old self.new (λ p w. call_happens p w (Tick side))) }
     {
-        match side {
-            Side::A => {
-                tick_end(alloc, Side::A, &mut self.a.endpoint, &mut self.network)?;
-                self.settle_a(alloc, calls)
-            }
-            Side::B => {
-                tick_end(alloc, Side::B, &mut self.b.endpoint, &mut self.network)?;
-                self.settle_b(alloc, calls)
-            }
-        }
+        self.ends.tick(alloc, side, &mut self.network)?;
+        self.settle(alloc, calls, side)
     }
 
     /// Bytes from elsewhere change nothing: those of the connection are passed over, and all others are dropped. Items are sent and taken
@@ -216,10 +164,13 @@ pub fn play_calls<S: Service>(
     known_calls(table, calls);
     laws_are_given::<S>();
     let mut play = CallPlay::new(alloc, setup, table, service)?;
-    play.settle_a(alloc, calls)?;
-    play.settle_b(alloc, calls)?;
+    play.settle(alloc, calls, Side::A)?;
+    play.settle(alloc, calls, Side::B)?;
     play.happen_all(alloc, calls, events)?;
-    let CallPlay { a, b, network } = play;
+    let CallPlay {
+        ends: CallPair { a, b },
+        network,
+    } = play;
     Ok(CallTrace {
         carried: b.carried,
         seen: a.seen,

@@ -10,16 +10,15 @@ ghost use Rattle.xns_world.specs.ServeBounds.{IsServedWithin};
 ghost use Rattle.xns_world.specs.ServePlay.{IsServePlaying, GoesOn, IsWithin};
 ghost use Rattle.xns_world.specs.Setup.{IsGood};
 
-use crate::items::Items;
 use crate::laws::calls::server_laws_are_given;
 use crate::laws::serving::served_ends_stay_within_bounds;
 use crate::serve_trace::ServeTrace;
 use crate::serving::ServingEnd;
 use crate::setup::Setup;
-use courier_calls::{Server, Service, Table};
+use courier_calls::{Service, Table};
 use std::alloc::{AllocError, Global};
 use xns_idp::known::known_bytes;
-use xns_spp::{Bytes, Endpoint};
+use xns_spp::Bytes;
 
 /// A server's end, and every packet that it sent.
 #[derive(Drop)]
@@ -42,24 +41,9 @@ impl<'a, S: Service> ServePlay<'a, S> {
         requires state { S.IsServiceState service }
         ensures { IfOk result (λ play. IsServePlaying S.serving service play (serve_start setup.now)) }
     {
-        let endpoint = Endpoint::responder(
-            alloc,
-            setup.b,
-            setup.b_id,
-            setup.a,
-            setup.a_id,
-            setup.window,
-            setup.backlog,
-        )?;
-        let server = Server::new(alloc, table, service)?;
+        let b = ServingEnd::new(alloc, setup, table, service)?;
         Ok(ServePlay {
-            b: ServingEnd {
-                endpoint,
-                server,
-                carried: Vec::new(alloc),
-                fault: None,
-                handed: Items::new(Vec::new(alloc)),
-            },
+            b,
             replies: Vec::new(alloc),
         })
     }

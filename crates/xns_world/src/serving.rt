@@ -1,4 +1,5 @@
 ghost use Rattle.std.specs.Prelude.{◌≡◌, ◌++◌, ◌∷◌, List, length, nat_lt, [], OnOk, IfOk, Some, None, true, false, if◌then◌else◌};
+ghost use Rattle.courier_calls.specs.Table.{table_model, IsCheckedTable};
 ghost use Rattle.courier_calls.specs.declared.fault.SessionFault.{SessionFault};
 ghost use Rattle.xns_spp.specs.Sending.{is_full, waiting_count, after_send, after_take};
 ghost use Rattle.xns_spp.specs.Item.{IsItem};
@@ -7,11 +8,16 @@ ghost use Rattle.xns_spp.specs.declared.item.Item.{Item};
 ghost use Rattle.xns_world.specs.CallLaws.{Answering};
 ghost use Rattle.xns_world.specs.ServeEnd.{IsServed, IsHearing, next_of, noted};
 ghost use Rattle.xns_world.specs.Settling.{handed_by, serve_step, stepped_out, Stepped};
+ghost use Rattle.xns_world.specs.Setup.{IsGood};
+ghost use Rattle.xns_world.specs.World.{start, end_of};
+ghost use Rattle.xns_world.specs.declared.side.Side.TheVariants.{B};
 
 use crate::calling::MOST_STEPS;
 use crate::items::Items;
 use crate::participant::copied;
-use courier_calls::{Call, Server, Service, SessionFault};
+use crate::setup::Setup;
+use crate::side::Side;
+use courier_calls::{Call, Server, Service, SessionFault, Table};
 use std::alloc::{AllocError, Global};
 use xns_spp::{Endpoint, Item};
 
@@ -27,6 +33,30 @@ pub struct ServingEnd<'a, S: Service> {
 }
 
 impl<'a, S: Service> ServingEnd<'a, S> {
+    /// The end at B of this setup, before anything has happened; it hasn't settled.
+    pub fn new(
+        alloc: Global,
+        setup: &Setup,
+        table: &'a Table,
+        service: S,
+    ) -> Result<ServingEnd<'a, S>, AllocError>
+        requires good { IsGood setup.now }
+        requires listed { table_model table.now ≡ S.serving.table }
+        requires checked { IsCheckedTable (table_model table.now) }
+        requires state { S.IsServiceState service }
+        ensures { IfOk result (λ e. IsServed S.serving service e (end_of (start setup.now) B)) }
+    {
+        let endpoint = setup.end(alloc, Side::B)?;
+        let server = Server::new(alloc, table, service)?;
+        Ok(ServingEnd {
+            endpoint,
+            server,
+            carried: Vec::new(alloc),
+            fault: None,
+            handed: Items::new(Vec::new(alloc)),
+        })
+    }
+
     /// Sends the first item that is out.
     fn send(&mut self)
         ensures { (s : S) (v : State) (x : Item) → Answering S.serving s → IsServed S.serving s self.old v → next_of S.serving s v ≡ Some x → is_full v ≡ false →

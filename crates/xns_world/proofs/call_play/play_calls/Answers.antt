@@ -24,15 +24,15 @@ trace g c =
     let w1 = settles p A w0 in
     let b1 = settles_between p A w0 given b0 in
     let r1 : IsReady serving cs p w1 = record { given = given; between = b1; serving_is = refl; calls_are = refl } in
-    let h1 = c.in_ok-settle_a.ensures p w0 r0 h0 in
+    let h1 = c.in_ok-settle.ensures p w0 r0 h0 in
     let w2 = settles p B w1 in
     let r2 : IsReady serving cs p w2 = record { given = given; between = settles_between p B w1 given b1; serving_is = refl; calls_are = refl } in
-    let h2 = c.in_ok-settle_b.ensures p w1 r1 h1 in
+    let h2 = c.in_ok-settle-2.ensures p w1 r1 h1 in
     let h = c.in_ok-happen_all.ensures p w2 r2 h2 in
     record {
-      carried = h.b.hearing.carried;
-      seen = h.a.seen;
-      service = c.into_service.ensures.stands p.service _ _ h.b.hearing.session;
+      carried = (h.ends B).hearing.carried;
+      seen = (h.ends A).seen;
+      service = c.into_service.ensures.stands p.service _ _ (h.ends B).hearing.session;
       bag = c.in_ok-into_bag.ensures ∙ ap (map sender_and_bytes) h.network.bag;
     }
 
@@ -49,10 +49,15 @@ returns-clause-once g c =
 -- the caller that is left is one whole
 pub invariant_of-a : goal.invariant_of-a
 invariant_of-a g c =
-    let caller = c.happen_all.new.self.a.caller in
+    let caller = c.happen_all.new.self.ends.a.caller in
     record { kept = caller.kept; few = caller.few }
 
 pub invariant_of-a-2 : goal.invariant_of-a-2
 invariant_of-a-2 g c =
-    let caller = c.happen_all.new.self.a.caller in
+    let caller = c.happen_all.new.self.ends.a.caller in
+    record { kept = caller.kept; few = caller.few }
+
+pub invariant_of-play : goal.invariant_of-play
+invariant_of-play g c =
+    let caller = c.settle.new.self.ends.a.caller in
     record { kept = caller.kept; few = caller.few }
