@@ -1,7 +1,9 @@
 #!/bin/sh
 # Refuses each growth of the program `refusals` in turn. Each of its lines is a call that can take memory: every one is refused at least
 # once, stands then as before, and answers when it is called again. Three lines are calls that must take none: they answer in every run in
-# which their shape was made. The record with a choice of a text is refused three times, once for each of its parts. The script's last line is 'N passed, M failed', and it ends with 1 where one failed. It builds the program first.
+# which their shape was made. The record with a choice of a text is refused three times, once for each of its parts, and an early item
+# twice, for its body and for the reply. The script's last line is 'N passed, M failed', and it ends with 1 where one failed. It builds the
+# program first.
 set -u
 cd "$(dirname "$0")/.."
 crate=crates/refusals
@@ -71,6 +73,7 @@ while read -r name; do
     'read: a count with no bytes') takes_none "$name" 0 ;;
     'read: a count with no cardinals' | 'read: a count with no long cardinals') takes_none "$name" 1 ;;
     'read: a record with a choice of a text') takes "$name" -eq 3 ;;
+    'receive: an early item') takes "$name" -eq 2 ;;
     *) takes "$name" -ge 1 ;;
     esac
 done < "$work/names"

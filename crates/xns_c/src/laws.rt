@@ -21,7 +21,9 @@ pub fn packets_have_their_sizes()
 {
     xns_spp::laws::written_packet_is_read_again();
     xns_spp::laws::own_packets_are_packets();
-    xns_spp::laws::packet_at_front_is_its_spelling();
+    xns_spp::laws::own_packets_say_what_is_meant();
+    xns_spp::laws::accepted_items_go_out();
+    xns_spp::laws::bounds_hold_after_each_step();
 }
 
 /// A session that goes on has given the versions and the items of its calls, in order, or they are out; each message that the peer's items say was

@@ -6,6 +6,7 @@ use Rattle.std.proofs.lemmas.List.Elements.{All-nil, All-cons}
 use Rattle.std.proofs.lemmas.Option.{slice_get_within}
 use Rattle.xns_spp.proofs.Arriving.{learned_window, next_item, early_item}
 use Rattle.xns_spp.proofs.Bounds.{acknowledged_more, allowed_more}
+use Rattle.xns_spp.proofs.Deciding.{packet_answer, after_packet, bytes_answer, after_bytes}
 use Rattle.xns_spp.proofs.States.{left_over, IsKeptItem, New, Old, kept_item}
 use Rattle.xns_spp.proofs.Windows.{run_get}
 use Rattle.xns_spp.specs.Early.{run_from}
@@ -17,7 +18,7 @@ use Rattle.xns_spp.specs.Header.{wants_reply, probe_control, reply_control}
 use Rattle.xns_spp.specs.Item.{item_in}
 use Rattle.xns_spp.specs.Outgoing.{data_packets}
 use Rattle.xns_spp.specs.Packet.{SppPacketModel, spelled, spp_packet_spelling, spp_packet_of}
-use Rattle.xns_spp.specs.Receiving.{numbers_in, arrival_fault, verdict, run, items_taken, early_after, after_arrival, packet_answer, after_packet, bytes_answer, after_bytes, receive_answer, after_receive}
+use Rattle.xns_spp.specs.Receiving.{numbers_in, arrival_fault, verdict, run, items_taken, early_after, after_arrival, receive_answer, after_receive}
 use Rattle.xns_spp.specs.Sending.{data_packet, system_packet, packets_from, send_fault, accepting, after_send, take_answer, handing, after_take, flush_packets, after_flush, tick_packets, after_tick}
 use Rattle.xns_spp.specs.State.{State, IsState, numbers_of, window_top, send_limit}
 use Rattle.xns_spp.specs.declared.dropped.Dropped.{Dropped}

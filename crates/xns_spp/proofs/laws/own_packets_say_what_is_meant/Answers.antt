@@ -8,5 +8,6 @@ returns c = record {
   brings = brings;
   item_fields = λ s i x. record { sequence = refl; acknowledge = refl; allocation = refl };
   none = λ s control h. h;
+  no_data = λ s control. refl;
   system_fields = λ s control. record { sequence = refl; acknowledge = refl; allocation = refl };
 }
