@@ -1,5 +1,6 @@
 -- Bytes that are taken a run at a time.
 use Rattle.std.proofs.Common.{◌≡◌, ◌∙◌, ap, sym, subst, refl, ℕ, zero, suc, ◌+◌, ◌-◌, ◌*◌, ◌/◌, ◌%◌, ◌<◌, ◌≤◌, List, [], ◌∷◌, ◌++◌, length, drop, take, Result, Ok, Err, OnErr, is_ok, if◌then◌else◌, get_or, take_all, length-append, append_assoc, arith, Vec, Global}
+use Rattle.std.proofs.lemmas.List.{drop-append-le}
 use Rattle.courier_types.specs.declared.read_fault.Reason.TheVariants.{Truncated}
 use Rattle.courier_types.specs.Reading.{◌>>=◌, front_bytes}
 use Rattle.courier_types.specs.Source.{bytes_of}
@@ -58,6 +59,12 @@ words_dropped_of (suc n) (suc (suc m)) e (b ∷ c ∷ bytes) = words_dropped_of 
 
 pub words_dropped : (n : ℕ) (bytes : List ℕ) → words_of (drop (2 * n) bytes) ≡ drop n (words_of bytes)
 words_dropped n bytes = words_dropped_of n (2 * n) refl bytes
+
+-- words that all lie in front are dropped there
+pub front_dropped : (n : ℕ) (front back : List ℕ) → n ≤ length front / 2 → words_of (drop (2 * n) front ++ back) ≡ drop n (words_of (front ++ back))
+front_dropped n front back h =
+    let le : 2 * n ≤ length front = omega (arith, h) in
+    ap words_of (sym (drop-append-le (2 * n) front back le)) ∙ words_dropped n (front ++ back)
 
 bytes_taken_of : (n m : ℕ) → m ≡ 2 * n → (bytes : List ℕ) → m ≤ length bytes → AreBytes (take m bytes) → take m bytes ≡ bytes_of (take n (words_of bytes))
 bytes_taken_of zero zero e bytes le h = refl

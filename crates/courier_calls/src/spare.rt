@@ -1,0 +1,40 @@
+//! Room for words.
+ghost use Rattle.std.specs.Prelude.{◌≡◌, [], IfOk};
+
+use std::alloc::{AllocError, Global};
+use std::mem::replace;
+
+/// A message that is made has room for so many words at first, which most messages need no more than.
+const FIRST_ROOM: usize = 16;
+
+/// The room that the words of a message were made in, kept for those of the next one where it is no more than was made at first.
+#[derive(Debug, Drop)]
+pub struct Spare {
+    room: Vec<u16>,
+}
+
+impl Spare {
+    /// No room yet.
+    pub fn new(alloc: Global) -> Spare {
+        Spare {
+            room: Vec::new(alloc),
+        }
+    }
+
+    /// No words, in the room that is kept or in new room.
+    pub fn take(&mut self, alloc: Global) -> Result<Vec<u16>, AllocError>
+        ensures { IfOk result (λ w. w.items ≡ []) }
+    {
+        let mut room = replace(&mut self.room, Vec::new(alloc));
+        room.clear();
+        room.reserve(FIRST_ROOM)?;
+        Ok(room)
+    }
+
+    /// Keeps the room of words that are no longer wanted, where it is small.
+    pub fn keep(&mut self, words: Vec<u16>) {
+        if words.capacity() <= FIRST_ROOM {
+            self.room = words;
+        }
+    }
+}
