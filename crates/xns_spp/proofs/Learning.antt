@@ -8,7 +8,6 @@ use Rattle.xns_spp.specs.Packet.{SppPacketModel, spp_packet_of}
 use Rattle.xns_spp.specs.Receiving.{arrival_fault, after_receive}
 use Rattle.xns_spp.specs.State.{State}
 use Rattle.xns_spp.specs.declared.dropped.Dropped.{Dropped}
-use Rattle.xns_spp.specs.declared.ends.Ends.{Ends}
 use Rattle.xns_spp.specs.declared.role.Role.TheVariants.{Responder}
 
 packet_learns : (s : State) (p : SppPacketModel) (o : Option Dropped) → is_open s.ends ≡ true → (after_packet o s p).ends ≡ s.ends

@@ -4,9 +4,8 @@ ghost use Rattle.courier_calls.specs.Calls.{call_model, CallFits};
 ghost use Rattle.xns_world.specs.declared.side.Side.{Side};
 ghost use Rattle.xns_world.specs.declared.side.Side.TheVariants.{A, B};
 ghost use Rattle.xns_world.specs.declared.event.Event.TheVariants.{Deliver, Rest, Tick, Foreign, Send, Take};
-ghost use Rattle.xns_world.specs.CallOrder.{IsBetween};
 ghost use Rattle.xns_world.specs.CallPlay.{IsCallPlaying, Goes, IsCallTrace, IsOnceInOrder, parties};
-ghost use Rattle.xns_world.specs.CallWorld.{Parties, CallWorld, call_happens, call_start, begun, run_calls, delivers, settles, in_world};
+ghost use Rattle.xns_world.specs.CallWorld.{Parties, call_happens, call_start, run_calls, delivers, settles};
 ghost use Rattle.xns_world.specs.Setup.{IsGood};
 
 use crate::call_pair::CallPair;

@@ -1,11 +1,9 @@
-ghost use Rattle.std.specs.Prelude.{◌≡◌, ◌<◌, ◌≤◌, ◌++◌, ℕ, List, length, take, fold, All, OnOk, IfOk, None};
+ghost use Rattle.std.specs.Prelude.{◌≡◌, ◌<◌, ◌++◌, ℕ, List, fold, All, OnOk, IfOk};
 ghost use Rattle.std.specs.Option.{option_to_list};
 ghost use Rattle.xns_idp.specs.Packet.{AreBytes};
 ghost use Rattle.courier_calls.specs.Table.{table_model, IsCheckedTable};
 ghost use Rattle.xns_spp.specs.Growth.{Begins};
-ghost use Rattle.xns_spp.specs.State.{IsState};
-ghost use Rattle.xns_world.specs.CallLaws.{Answering};
-ghost use Rattle.xns_world.specs.Serve.{Served, serve, serve_start, serve_settles, serve_receives, serve_hears, IsServeTrace, IsHeard};
+ghost use Rattle.xns_world.specs.Serve.{serve, serve_start, serve_settles, serve_receives, serve_hears, IsServeTrace, IsHeard};
 ghost use Rattle.xns_world.specs.ServeBounds.{IsServedWithin};
 ghost use Rattle.xns_world.specs.ServePlay.{IsServePlaying, GoesOn, IsWithin};
 ghost use Rattle.xns_world.specs.Setup.{IsGood};

@@ -1,13 +1,12 @@
-ghost use Rattle.std.specs.Prelude.{◌≡◌, ◌++◌, ◌∷◌, List, length, nat_lt, [], OnOk, IfOk, Some, None, true, false, if◌then◌else◌};
+ghost use Rattle.std.specs.Prelude.{◌≡◌, ◌++◌, ◌∷◌, List, nat_lt, [], OnOk, IfOk, Some, None, true, false, if◌then◌else◌};
 ghost use Rattle.courier_calls.specs.Table.{table_model, IsCheckedTable};
 ghost use Rattle.courier_calls.specs.declared.fault.SessionFault.{SessionFault};
 ghost use Rattle.xns_spp.specs.Sending.{is_full, waiting_count, after_send, after_take};
-ghost use Rattle.xns_spp.specs.Item.{IsItem};
 ghost use Rattle.xns_spp.specs.State.{State};
 ghost use Rattle.xns_spp.specs.declared.item.Item.{Item};
 ghost use Rattle.xns_world.specs.CallLaws.{Answering};
 ghost use Rattle.xns_world.specs.ServeEnd.{IsServed, IsHearing, next_of, noted};
-ghost use Rattle.xns_world.specs.Settling.{handed_by, serve_step, stepped_out, Stepped};
+ghost use Rattle.xns_world.specs.Settling.{serve_step, stepped_out, Stepped};
 ghost use Rattle.xns_world.specs.Setup.{IsGood};
 ghost use Rattle.xns_world.specs.World.{start, end_of};
 ghost use Rattle.xns_world.specs.declared.side.Side.TheVariants.{B};
