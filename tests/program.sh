@@ -289,10 +289,31 @@ done
 for words in --help 'dump --help' 'sim --help'; do
     # shellcheck disable=SC2086
     run $words
-    for said in 'standard input' '65,536' 'Example'; do
+    for said in 'standard input' 'Example'; do
         grep -q "$said" "$work/out"
         saw "$words: nothing of '$said'" $?
     done
+done
+
+# The limits that help names are those that hold: a line of so many bytes and so many lines are read, and not one more.
+for words in --help 'dump --help' 'sim --help'; do
+    # shellcheck disable=SC2086
+    run $words
+    tr '\n' ' ' < "$work/out" | tr -d , > "$work/said"
+    bytes=$(sed -n 's/.* at most \([0-9]*\) bytes.*/\1/p' "$work/said")
+    lines=$(sed -n 's/.* at most \([0-9]*\) lines.*/\1/p' "$work/said")
+    repeat "$bytes" ' ' > "$work/in"
+    run dump
+    expect "$words: a line of '$bytes' bytes" 1 '' -
+    repeat $((bytes + 1)) ' ' > "$work/in"
+    run dump
+    expect "$words: a line of a byte more than '$bytes'" 3 'xns: line too long' -
+    repeat "$lines" '\n' > "$work/in"
+    run dump
+    expect "$words: '$lines' lines" 1 '' -
+    repeat $((lines + 1)) '\n' > "$work/in"
+    run dump
+    expect "$words: a line more than '$lines'" 3 'xns: too many lines' -
 done
 
 # ---- each read and each write failing in turn, and each growth refused
