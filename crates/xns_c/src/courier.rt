@@ -11,7 +11,9 @@ ghost use Rattle.xns_c.specs.Results.{ok, bad_argument, no_memory, short_buffer,
 use crate::front::put_front;
 use crate::message::XnsMessage;
 use crate::results::{BAD_ARGUMENT, NO_MEMORY, OK, SHORT_BUFFER, TOO_LONG};
-use courier_calls::{MOST_BYTES, Message, MessageFault, MessageRefusal, Words, read_message, write_message};
+use courier_calls::{
+    MOST_BYTES, Message, MessageFault, MessageRefusal, Words, read_message, write_message,
+};
 use std::alloc::Global;
 
 /// Why bytes are no message.
