@@ -89,7 +89,7 @@ sends_hold p w side x g h is ok =
 -- ---- an item that waits is fed
 
 pub read_more : {S : Type 0} (p : Parties S) (w : CallWorld) (side : Side) (x : Item) → Given p → HandsUp w.world (takes w.world side) side x → Begins (outcomes_read p w) (outcomes_read p (feeds w side))
-read_more p w A x g t = g.heard.reads p.serving.table (calls_made p w) (handed_at w.world A) (handed_at (takes w.world A) A) (x ∷ [], sym t.here)
+read_more p w A x g t = g.heard.caller p.serving.table (calls_made p w) (handed_at w.world A) (handed_at (takes w.world A) A) (x ∷ [], sym t.here)
 read_more p w B x g t = subst (λ (l : List Item). Begins (outcomes_read p w) (answers p.serving.table (calls_made p w) l)) (sym t.there) (begins_itself (outcomes_read p w))
 
 fed_out : {S : Type 0} (p : Parties S) (w : CallWorld) (side : Side) (x : Item) → Given p → HandsUp w.world (takes w.world side) side x → CallsHold p w → (t : Side) → Begins (sent_at (takes w.world side) t) (put_out p (feeds w side) t)
@@ -148,7 +148,7 @@ makes_hold p w g h is =
     record {
       holds = h.holds;
       out = λ t. elim t as (λ t. Begins (sent_at w.world t) (put_out p (makes w) t)) [
-        | A ↦ begins_then (sent_at w.world A) (put_out p w A) (put_out p (makes w) A) (h.out A) (g.heard.caller (calls_made p w) (calls_made p (makes w)) (c.call ∷ [], sym c.more))
+        | A ↦ begins_then (sent_at w.world A) (put_out p w A) (put_out p (makes w) A) (h.out A) (g.heard.calls (calls_made p w) (calls_made p (makes w)) (c.call ∷ [], sym c.more))
         | B ↦ h.out B
       ];
       made = omega (arith, less);

@@ -6,7 +6,7 @@ use Rattle.std.proofs.lemmas.Bool.{le-ltb, lt-ltb, ltb-true, ltb-false, eq-eqb, 
 use Rattle.std.proofs.lemmas.List.{take_all, take-append-le, length-take-le, map-append, length-map}
 use Rattle.courier_calls.specs.Calls.{RawCall, SeenModel, seen_model, raw_call}
 use Rattle.courier_calls.specs.Caller as caller
-use Rattle.courier_calls.specs.Caller.{caller_items, answers}
+use Rattle.courier_calls.specs.Caller.{answers}
 use Rattle.courier_calls.specs.declared.call.Call.{Call}
 use Rattle.courier_calls.specs.declared.call.Seen.{Seen}
 use Rattle.courier_calls.specs.declared.caller.Caller.{Caller}
@@ -89,15 +89,15 @@ calling_sends p e w x endpoint new g holds h is full stands session =
 -- ---- an item is fed
 
 pub not_waiting : EndLaws → (s : State) → None ≡ take_answer s → nat_lt 0 (waiting_count s) ≡ false
-not_waiting laws s is = laws.waits s ∙ ap is_some (sym is)
+not_waiting laws s is = laws.hands_up.waits s ∙ ap is_some (sym is)
 
 pub is_waiting : EndLaws → (s : State) (x : Item) → Some x ≡ take_answer s → nat_lt 0 (waiting_count s) ≡ true
-is_waiting laws s x is = laws.waits s ∙ ap is_some (sym is)
+is_waiting laws s x is = laws.hands_up.waits s ∙ ap is_some (sym is)
 
 pub calling_none : {S : Type 0} (p : Parties S) (e : CallingEnd) (w : CallWorld) (endpoint : Held) → Given p → IsCalling p e w → None ≡ take_answer w.world.a → StandsFor endpoint (after_take w.world.a)
     → (false ≡ nat_lt 0 (waiting_count w.world.a)) × IsCalling p (record e { endpoint = endpoint }) w
 calling_none p e w endpoint g h is stands =
-    (sym (not_waiting g.answering.ends w.world.a is), record { stands = subst (λ (s : State). StandsFor endpoint s) (g.answering.ends.none w.world.a (sym is)) stands; session = h.session; made = h.made; seen = h.seen })
+    (sym (not_waiting g.answering.ends w.world.a is), record { stands = subst (λ (s : State). StandsFor endpoint s) (g.answering.ends.hands_up.none w.world.a (sym is)) stands; session = h.session; made = h.made; seen = h.seen })
 
 front_same : (n : ℕ) (xs ys : List SeenModel) → Begins xs ys → n ≤ length xs → take n ys ≡ take n xs
 front_same n xs ys b h = ap (take n) (sym b.1) ∙ take-append-le n xs b.0 h

@@ -80,10 +80,10 @@ caller_leaves p B w = leaves_same B w w refl
 
 send_leaves : {S : Type 0} → EndLaws → (p : Parties S) (side : Side) (w : CallWorld) (x : Item) (b : Bool) → Leaves side w (onward w (or_caller p w side (if b then None else Some (after_send (end_of w.world side) x))))
 send_leaves laws p side w x true = caller_leaves p side w
-send_leaves laws p side w x false = leaves_moved side w (after_send (end_of w.world side) x) (laws.send_hears (end_of w.world side) x).taken
+send_leaves laws p side w x false = leaves_moved side w (after_send (end_of w.world side) x) (laws.hears.send (end_of w.world side) x).taken
 
 feed_leaves : {S : Type 0} → EndLaws → (p : Parties S) (side : Side) (w : CallWorld) (b : Bool) → Leaves side w (onward w (or_caller p w side (if b then Some (after_take (end_of w.world side)) else None)))
-feed_leaves laws p side w true = leaves_moved side w (after_take (end_of w.world side)) (laws.take_hears (end_of w.world side)).taken
+feed_leaves laws p side w true = leaves_moved side w (after_take (end_of w.world side)) (laws.hears.take (end_of w.world side)).taken
 feed_leaves laws p side w false = caller_leaves p side w
 
 step_leaves : {S : Type 0} → EndLaws → (p : Parties S) (side : Side) (w : CallWorld) (o : Option Item) → Leaves side w (onward w (step_with p w side o))

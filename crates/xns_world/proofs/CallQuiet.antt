@@ -63,7 +63,7 @@ land_quiet laws w k l h e =
 -- ---- an item is accepted
 
 pub not_refused : EndLaws → (s : State) (x : Item) → IsSendableItem x → is_full s ≡ false → is_ok (send_answer s x) ≡ true
-not_refused laws s x p full = laws.fits s x p.short p.plain full
+not_refused laws s x p full = laws.accepts.fits s x p.short p.plain full
 
 -- an item joins those that the end accepted
 pub record Accepts (w v : World) (side : Side) (x : Item) : Type 0 where
@@ -74,7 +74,7 @@ pub record Accepts (w v : World) (side : Side) (x : Item) : Type 0 where
 pub send_accepts : EndLaws → (w : World) (side : Side) (x : Item) → is_ok (send_answer (end_of w side) x) ≡ true → Accepts w (sends w side x) side x
 send_accepts laws w side x h =
     let t : State = after_send (end_of w side) x in
-    let is = laws.accepted (end_of w side) x h in
+    let is = laws.accepts.accepted (end_of w side) x h in
     record {
       here = ap (λ (s : State). s.accepted) (same_end w side t [] ∙ is);
       there = ap (λ (s : State). s.accepted) (same_other w side t []);
@@ -96,9 +96,9 @@ pub record HandsUp (w v : World) (side : Side) (x : Item) : Type 0 where
 pub take_hands_up : EndLaws → (w : World) (side : Side) (x : Item) → take_answer (end_of w side) ≡ Some x → HandsUp w (takes w side) side x
 take_hands_up laws w side x h =
     let t : State = after_take (end_of w side) in
-    let is = laws.handed (end_of w side) x h in
+    let is = laws.hands_up.some (end_of w side) x h in
     record {
       accepted = λ u. each_end w side t [] (λ v s. s.accepted ≡ sent_at w v) (ap (λ (s : State). s.accepted) is) u refl;
-      here = ap (λ (s : State). take s.handed s.taken) (same_end w side t [] ∙ is) ∙ laws.more (end_of w side) x h;
+      here = ap (λ (s : State). take s.handed s.taken) (same_end w side t [] ∙ is) ∙ laws.hands_up.more (end_of w side) x h;
       there = ap (λ (s : State). take s.handed s.taken) (same_other w side t []);
     }

@@ -51,13 +51,13 @@ pub send_room : EndLaws → (s : State) (x : Item) → IsState s → is_full s �
     → (room_of (after_send s x) < room_of s) × (waiting_count (after_send s x) ≡ waiting_count s)
 unfolding room_of
 send_room laws s x fits full ok =
-    let room = laws.room s fits full in
+    let room = laws.accepts.room s fits full in
     let longer = length-append s.accepted (x ∷ []) in
-    (subst (λ (t : State). room_of t < room_of s) (sym (laws.accepted s x ok)) (omega (arith, longer, room, fits.bounds.acknowledged_sent, fits.bounds.sent_accepted)), laws.waiting s x ok)
+    (subst (λ (t : State). room_of t < room_of s) (sym (laws.accepts.accepted s x ok)) (omega (arith, longer, room, fits.bounds.acknowledged_sent, fits.bounds.sent_accepted)), laws.accepts.waiting s x ok)
 
 -- an item that waits
 pub waiting_item : EndLaws → (s : State) → nat_lt 0 (waiting_count s) ≡ true → (x : Item) × (take_answer s ≡ Some x)
-waiting_item laws s is = some_item (take_answer s) (sym (laws.waits s) ∙ is)
+waiting_item laws s is = some_item (take_answer s) (sym (laws.hands_up.waits s) ∙ is)
   where
     some_item : (o : Option Item) → is_some o ≡ true → (x : Item) × (o ≡ Some x)
     some_item (Some x) h = (x, refl)
@@ -65,7 +65,7 @@ waiting_item laws s is = some_item (take_answer s) (sym (laws.waits s) ∙ is)
 
 pub take_waiting : EndLaws → (s : State) (x : Item) → take_answer s ≡ Some x → (waiting_count (after_take s) < waiting_count s) × (room_of (after_take s) ≡ room_of s)
 unfolding room_of
-take_waiting laws s x is = (laws.fewer s x is, ap room_of (laws.handed s x is))
+take_waiting laws s x is = (laws.hands_up.fewer s x is, ap room_of (laws.hands_up.some s x is))
 
 same_left : {S : Type 0} (p : Parties S) (w : CallWorld) (v : World) (side : Side) → handed_at v A ≡ handed_at w.world A → caller_left p (in_world w v) side ≡ caller_left p w side
 unfolding caller_left
@@ -89,7 +89,7 @@ fed_left : {S : Type 0} (p : Parties S) (w : CallWorld) (side : Side) (x : Item)
 unfolding caller_left
 fed_left p w A x g h is =
     let more = (take_hands_up g.answering.ends w.world A x is).here in
-    let one = g.heard.one_more p.serving.table (calls_made p w) (handed_at w.world A) x in
+    let one = g.heard.single p.serving.table (calls_made p w) (handed_at w.world A) x in
     let read : length (outcomes_read p (feeds w A)) ≤ length (outcomes_read p w) + 1 = subst (λ (l : List Item). length (answers p.serving.table (calls_made p w) l) ≤ length (outcomes_read p w) + 1) (sym more) one in
     let last = one_if_most (length (outcomes_read p (feeds w A)) == w.made) in
     omega (arith, read, last, h.listed)

@@ -124,7 +124,7 @@ silent_kept w side t k g = moved_kept w side t [] k (record { packets = []; spel
 pub flush_kept : EndLaws → (w : World) (side : Side) → IsKept w → IsKept (flushes w side)
 flush_kept laws w side k =
     let s : State = end_of w side in
-    moved_kept w side (after_flush s) (flush_answer s) k (record { packets = flush_packets s; spells = laws.flush_bytes s; moves = flush_moves laws s (end_of w (other side)) (k.ends side) })
+    moved_kept w side (after_flush s) (flush_answer s) k (record { packets = flush_packets s; spells = laws.goes_out.flush_bytes s; moves = flush_moves laws s (end_of w (other side)) (k.ends side) })
 
 -- ---- a packet is delivered
 
@@ -152,7 +152,7 @@ marked_kept w k x i h =
     }
 
 read_back : EndLaws → (bytes : List ℕ) (p : SppPacketModel) → IsSppPacket p → bytes ≡ spp_packet_spelling p → spp_packet_of bytes ≡ Ok p
-read_back laws bytes p fits is = ap spp_packet_of (is ∙ sym (append-nil (spp_packet_spelling p))) ∙ laws.again p [] fits
+read_back laws bytes p fits is = ap spp_packet_of (is ∙ sym (append-nil (spp_packet_spelling p))) ∙ laws.written.again p [] fits
 
 received_kept : EndLaws → (w : World) (side : Side) (x : Emitted) → IsSoundSpelling (end_of w (other side)) (end_of w side) x → is_past x.at (length (end_of w (other side)).taken) (length (end_of w side).taken) ≡ false
     → IsKept w → IsKept (receives w side x.bytes)
@@ -162,7 +162,7 @@ received_kept laws w side x i alive k =
     let read : spp_packet_of x.bytes ≡ Ok i.packet = read_back laws x.bytes i.packet i.fits i.spells in
     moved_kept w side (after_receive s x.bytes) (option_to_list (receive_answer s x.bytes).reply) k
     (receive_sends laws s peer x.bytes (record { packet = i.packet; meant = i.meant; read = read; sound = i.sound; numbers = read_as_meant laws s peer x i (k.ends side) alive })
-    (laws.packet s x.bytes i.packet (k.ends side).fits read i.fits) (k.ends side))
+    (laws.bounds.packet s x.bytes i.packet (k.ends side).fits read i.fits) (k.ends side))
 
 -- that it comes from one side and goes to the other is kept where it is marked
 abbrev GoesTo : World → Emitted → Side → Side → Type 0
@@ -194,11 +194,11 @@ land_kept laws w k l h e = landed_kept laws w k (slice_get w.bag k) l refl h e
 pub tick_kept : EndLaws → (w : World) (side : Side) → IsKept w → IsKept (ticks w side)
 tick_kept laws w side k =
     let s : State = end_of w side in
-    moved_kept w side (after_tick s) (tick_answer s) k (record { packets = tick_packets s; spells = laws.tick_bytes s; moves = tick_moves laws s (end_of w (other side)) (k.ends side) })
+    moved_kept w side (after_tick s) (tick_answer s) k (record { packets = tick_packets s; spells = laws.goes_out.tick_bytes s; moves = tick_moves laws s (end_of w (other side)) (k.ends side) })
 
 pub send_kept : EndLaws → (w : World) (side : Side) (x : Item) → IsItem x → IsKept w → IsKept (sends w side x)
 send_kept laws w side x fits k = silent_kept w side (after_send (end_of w side) x) k
-    (send_goes laws (end_of w side) (end_of w (other side)) x (laws.send (end_of w side) x (k.ends side).fits fits) (k.ends side))
+    (send_goes laws (end_of w side) (end_of w (other side)) x (laws.bounds.send (end_of w side) x (k.ends side).fits fits) (k.ends side))
 
 pub take_kept : EndLaws → (w : World) (side : Side) → IsKept w → IsKept (takes w side)
 take_kept laws w side k = silent_kept w side (after_take (end_of w side)) k
@@ -220,11 +220,11 @@ pub start_kept : EndLaws → (setup : Setup) → IsSetup setup → IsGood setup 
 start_kept laws setup fits good =
     let w : World = start setup in
     let a : IsState w.a =
-    laws.initiator setup.a setup.b setup.a_id setup.window setup.backlog fits.a fits.b good.a_id fits.a_id good.window_least good.window_most good.backlog_least good.backlog_most in
+    laws.bounds.initiator setup.a setup.b setup.a_id setup.window setup.backlog fits.a fits.b good.a_id fits.a_id good.window_least good.window_most good.backlog_least good.backlog_most in
     let b : IsState w.b =
-    laws.responder setup.b setup.a setup.b_id setup.a_id setup.window setup.backlog fits.b fits.a good.b_id fits.b_id good.a_id fits.a_id good.window_least good.window_most good.backlog_least good.backlog_most in
-    let a_new : IsFresh w.a = laws.initiator_fresh setup.a setup.b setup.a_id setup.window setup.backlog in
-    let b_new : IsFresh w.b = laws.responder_fresh setup.b setup.a setup.b_id setup.a_id setup.window setup.backlog in
+    laws.bounds.responder setup.b setup.a setup.b_id setup.a_id setup.window setup.backlog fits.b fits.a good.b_id fits.b_id good.a_id fits.a_id good.window_least good.window_most good.backlog_least good.backlog_most in
+    let a_new : IsFresh w.a = laws.fresh.initiator setup.a setup.b setup.a_id setup.window setup.backlog in
+    let b_new : IsFresh w.b = laws.fresh.responder setup.b setup.a setup.b_id setup.a_id setup.window setup.backlog in
     record {
       ends = λ side. elim side as (λ s. Keeps (end_of w s) (end_of w (other s))) [
         | A ↦ new_keeps w.a w.b a a_new b_new

@@ -69,28 +69,28 @@ no_less s t h = omega (arith, ap length h.taken)
 pub flushes_later : EndLaws → (w : World) (side : Side) → Later w (flushes w side)
 flushes_later laws w side =
     let s : State = end_of w side in
-    moved_later w side (after_flush s) (flush_answer s) (no_less s (after_flush s) (laws.flush_hears s))
+    moved_later w side (after_flush s) (flush_answer s) (no_less s (after_flush s) (laws.hears.flush s))
 
 ticks_later : EndLaws → (w : World) (side : Side) → Later w (ticks w side)
 ticks_later laws w side =
     let s : State = end_of w side in
-    moved_later w side (after_tick s) (tick_answer s) (no_less s (after_tick s) (laws.tick_hears s))
+    moved_later w side (after_tick s) (tick_answer s) (no_less s (after_tick s) (laws.hears.tick s))
 
 sends_later : EndLaws → (w : World) (side : Side) (x : Item) → Later w (sends w side x)
 sends_later laws w side x =
     let s : State = end_of w side in
-    moved_later w side (after_send s x) [] (no_less s (after_send s x) (laws.send_hears s x))
+    moved_later w side (after_send s x) [] (no_less s (after_send s x) (laws.hears.send s x))
 
 takes_later : EndLaws → (w : World) (side : Side) → Later w (takes w side)
 takes_later laws w side =
     let s : State = end_of w side in
-    moved_later w side (after_take s) [] (no_less s (after_take s) (laws.take_hears s))
+    moved_later w side (after_take s) [] (no_less s (after_take s) (laws.hears.take s))
 
 receives_later : EndLaws → (w : World) (side : Side) (bytes : List ℕ) → Later w (receives w side bytes)
 receives_later laws w side bytes =
     let s : State = end_of w side in
     let t : State = after_receive s bytes in
-    moved_later w side t (option_to_list (receive_answer s bytes).reply) (begins_length s.taken t.taken (laws.receive_grows s bytes).taken)
+    moved_later w side t (option_to_list (receive_answer s bytes).reply) (begins_length s.taken t.taken (laws.grows.receive s bytes).taken)
 
 landed_later : EndLaws → (w : World) (k : ℕ) (o : Option Emitted) (l : Side × World) → slice_get w.bag k ≡ o → landed w k o ≡ Some l → Later w l.1
 landed_later laws w k None l is e = absurd (cc)

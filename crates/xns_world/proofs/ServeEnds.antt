@@ -5,7 +5,7 @@ use Rattle.std.specs.Option.{option_to_list}
 use Rattle.std.proofs.lemmas.List.Elements.{All-nil, All-push}
 use Rattle.courier_calls.specs.Calls.{Serving}
 use Rattle.courier_calls.specs.Conversation.{Phase, conversation, conversation_fault, ending}
-use Rattle.courier_calls.specs.Laws.{IsSendableItem}
+use Rattle.courier_calls.specs.Laws.{FirstFaultStays, IsSendableItem}
 use Rattle.courier_calls.specs.Server as server
 use Rattle.courier_calls.specs.Server.{decided, server_ending, server_items, calls_of, all_calls, Feeds, call_of}
 use Rattle.courier_calls.specs.declared.call.Call.{Call}
@@ -19,7 +19,7 @@ use Rattle.xns_spp.specs.declared.item.Item.{Item}
 use Rattle.xns_world.proofs.CallCarries.{at_place}
 use Rattle.xns_world.proofs.CallEnds.{out_first, not_waiting, is_waiting}
 use Rattle.xns_world.proofs.CallQuiet.{not_refused}
-use Rattle.xns_world.specs.CallLaws.{Answering, Faults}
+use Rattle.xns_world.specs.CallLaws.{Answering}
 use Rattle.xns_world.specs.CallPlay.{IsServing}
 use Rattle.xns_world.specs.CallWorld.{Parties, CallWorld, or_caller, step}
 use Rattle.xns_world.specs.Serve.{first_fault, fault_in}
@@ -78,7 +78,7 @@ pub serving_sends : {S : Type 0} (serving : Serving S) (s : S) (e : ServingEnd S
     → StandsFor endpoint (after_send v x) → server.StandsFor serving new s (handed_by v) (v.accepted ++ x ∷ []) → IsServed serving s (record e { endpoint = endpoint; server = new }) (after_send v x)
 serving_sends {S = S} serving s e v x endpoint new a h is full stands session =
     let piece : IsSendableItem x = at_place (server_items serving s (handed_by v)) (length v.accepted) x is (a.pieces.server (handed_by v) h.items) in
-    let one = a.ends.accepted v x (not_refused a.ends v x piece full) in
+    let one = a.ends.accepts.accepted v x (not_refused a.ends v x piece full) in
     let f : ServingEnd S = record e { endpoint = endpoint; server = new } in
     let here : IsServed serving s f (record v { accepted = v.accepted ++ x ∷ [] }) = record {
       stands = subst (λ (u : State). StandsFor endpoint u) one stands;
@@ -91,11 +91,11 @@ serving_sends {S = S} serving s e v x endpoint new a h is full stands session =
 -- ---- an item is fed
 
 -- where no fault came, none was there
-fault_none : (F : List Item) (x : Item) (p : Phase) (r : Result Phase SessionFault) → Faults → server_ending F ≡ r → server_ending (F ++ x ∷ []) ≡ Ok p → fault_in r ≡ first_fault (F ++ x ∷ [])
+fault_none : (F : List Item) (x : Item) (p : Phase) (r : Result Phase SessionFault) → FirstFaultStays → server_ending F ≡ r → server_ending (F ++ x ∷ []) ≡ Ok p → fault_in r ≡ first_fault (F ++ x ∷ [])
 fault_none F x p (Ok q) f was is = sym (ap fault_in is)
 fault_none F x p (Err e) f was is = absurd (let stays = f.stays F x e was in cc)
 
-pub hears_well : {S : Type 0} (serving : Serving S) (s : S) (e f : ServingEnd S) (F P : List Item) (x : Item) (o : Option Call) → Faults → IsHearing serving s e F P → Feeds serving f.server s F P x (Ok o)
+pub hears_well : {S : Type 0} (serving : Serving S) (s : S) (e f : ServingEnd S) (F P : List Item) (x : Item) (o : Option Call) → FirstFaultStays → IsHearing serving s e F P → Feeds serving f.server s F P x (Ok o)
     → map call_of (decided (F ++ x ∷ [])) ≡ map call_of (decided F) ++ option_to_list o → f.carried.items ≡ e.carried.items ++ option_to_list o → f.fault ≡ e.fault → IsHearing serving s f (F ++ x ∷ []) P
 hears_well serving s e f F P x o faults h fed more carried fault = record {
   session = fed.0;
@@ -108,15 +108,15 @@ record Refused {S : Type 0} (serving : Serving S) (s : S) (f : ServingEnd S) (F 
   ends : server_ending (F ++ x ∷ []) ≡ Err e
   fault : f.fault ≡ Some e
 
-refused : {S : Type 0} (serving : Serving S) (s : S) (e f : ServingEnd S) (F P : List Item) (x : Item) (fault : SessionFault) → Faults → IsHearing serving s e F P → f.carried.items ≡ e.carried.items → Refused serving s f F P x fault
+refused : {S : Type 0} (serving : Serving S) (s : S) (e f : ServingEnd S) (F P : List Item) (x : Item) (fault : SessionFault) → FirstFaultStays → IsHearing serving s e F P → f.carried.items ≡ e.carried.items → Refused serving s f F P x fault
     → IsHearing serving s f (F ++ x ∷ []) P
 refused serving s e f F P x fault faults h carried r = record {
   session = r.session;
-  carried = carried ∙ (h.carried ∙ ap (map call_of) (sym (faults.no_call F x fault r.ends)));
+  carried = carried ∙ (h.carried ∙ ap (map call_of) (sym (faults.calls F x fault r.ends)));
   fault = r.fault ∙ sym (ap fault_in r.ends);
 }
 
-pub hears_badly : {S : Type 0} (serving : Serving S) (s : S) (e f : ServingEnd S) (F P : List Item) (x : Item) (fault : SessionFault) → Faults → IsHearing serving s e F P → Feeds serving f.server s F P x (Err fault)
+pub hears_badly : {S : Type 0} (serving : Serving S) (s : S) (e f : ServingEnd S) (F P : List Item) (x : Item) (fault : SessionFault) → FirstFaultStays → IsHearing serving s e F P → Feeds serving f.server s F P x (Err fault)
     → f.carried.items ≡ e.carried.items → noted fault e.fault f.fault → IsHearing serving s f (F ++ x ∷ []) P
 hears_badly serving s e f F P x NoMemory faults h fed carried n = absurd n
 hears_badly serving s e f F P x Failed faults h fed carried n =
@@ -131,14 +131,14 @@ hears_badly serving s e f F P x (Stream kind) faults h fed carried n = refused s
 pub serving_none : {S : Type 0} (serving : Serving S) (s : S) (e : ServingEnd S) (v : State) (endpoint : Held) → EndLaws → IsServed serving s e v → None ≡ take_answer v → StandsFor endpoint (after_take v)
     → (false ≡ nat_lt 0 (waiting_count v)) × IsServed serving s (record e { endpoint = endpoint }) v
 serving_none serving s e v endpoint laws h is stands =
-    (sym (not_waiting laws v is), served_on serving s e v v endpoint h (subst (λ (u : State). StandsFor endpoint u) (laws.none v (sym is)) stands) refl refl)
+    (sym (not_waiting laws v is), served_on serving s e v v endpoint h (subst (λ (u : State). StandsFor endpoint u) (laws.hands_up.none v (sym is)) stands) refl refl)
 
 pub serving_feeds : {S : Type 0} (serving : Serving S) (s : S) (e f : ServingEnd S) (v : State) (x : Item) → EndLaws → IsServed serving s e v → Some x ≡ take_answer v → IsItem x → StandsFor f.endpoint (after_take v)
     → IsHearing serving s f (handed_by v ++ x ∷ []) v.accepted → f.handed ≡ handed_by v ++ x ∷ []
     → (true ≡ nat_lt 0 (waiting_count v)) × IsServed serving s f (after_take v)
 serving_feeds serving s e f v x laws h is item stands hearing listed =
-    let one = laws.handed v x (sym is) in
-    let up = laws.more v x (sym is) in
+    let one = laws.hands_up.some v x (sym is) in
+    let up = laws.hands_up.more v x (sym is) in
     let here : IsServed serving s f (record v { handed = v.handed + 1 }) = record {
       stands = subst (λ (u : State). StandsFor f.endpoint u) one stands;
       hearing = subst (λ (l : List Item). IsHearing serving s f l v.accepted) (sym up) hearing;

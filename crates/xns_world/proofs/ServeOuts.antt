@@ -5,7 +5,7 @@ use Rattle.std.proofs.lemmas.List.Elements.{All-take}
 use Rattle.courier_calls.specs.Calls.{Serving}
 use Rattle.courier_calls.specs.Conversation.{conversation}
 use Rattle.courier_calls.specs.Bounds.{bytes_in}
-use Rattle.courier_calls.specs.Laws.{IsSendableItem, BringsAtMostOne, next_answer}
+use Rattle.courier_calls.specs.Laws.{IsSendableItem, AnItemBringsAtMostOneAnswer, BringsAtMostOne, next_answer}
 use Rattle.courier_calls.specs.Server.{answer_items, calls_of, server_items}
 use Rattle.xns_spp.specs.Item.{IsItem}
 use Rattle.xns_spp.specs.Sending.{is_full, waiting_count, after_send, after_take}
@@ -19,10 +19,6 @@ use Rattle.xns_world.specs.CallLaws.{Answering}
 use Rattle.xns_world.specs.ServeBounds.{IsOutShort}
 use Rattle.xns_world.specs.ServeEnd.{next_of}
 use Rattle.xns_world.specs.Settling.{handed_by, end_step_with, serve_step}
-
--- the law of a session that is wanted here
-abbrev pub Brings : {S : Type 0} → Serving S → S → Type 0
-Brings serving s = (F : List Item) (x : Item) → All IsItem (F ++ x ∷ []) → BringsAtMostOne serving s F (F ++ x ∷ [])
 
 -- ---- the bytes behind a place
 
@@ -85,22 +81,22 @@ sends_out : {S : Type 0} (serving : Serving S) (s : S) (v : State) (x : Item) �
 sends_out serving s v x a k is full h =
     let out = server_items serving s (handed_by v) in
     let piece : IsSendableItem x = at_place out (length v.accepted) x is (a.pieces.server (handed_by v) (All-take IsItem v.handed v.taken k.items)) in
-    let one = a.ends.accepted v x (not_refused a.ends v x piece full) in
+    let one = a.ends.accepts.accepted v x (not_refused a.ends v x piece full) in
     let longer : length (v.accepted ++ x ∷ []) ≡ suc (length v.accepted) = omega (arith, length-append v.accepted (x ∷ [])) in
     let fewer : length (bytes_in (drop (suc (length v.accepted)) out)) ≤ 131072 = omega (arith, bytes_further (length v.accepted) out, h) in
     subst (λ (u : State). IsOutShort serving s u) (sym one) (subst (λ (n : ℕ). length (bytes_in (drop n out)) ≤ 131072) (sym longer) fewer)
 
-takes_out : {S : Type 0} (serving : Serving S) (s : S) (v : State) → Answering serving s → Brings serving s → Keeps v → next_of serving s v ≡ None → nat_lt 0 (waiting_count v) ≡ true → IsOutShort serving s (after_take v)
+takes_out : {S : Type 0} (serving : Serving S) (s : S) (v : State) → Answering serving s → AnItemBringsAtMostOneAnswer serving s → Keeps v → next_of serving s v ≡ None → nat_lt 0 (waiting_count v) ≡ true → IsOutShort serving s (after_take v)
 takes_out serving s v a brings k none waits =
     let e = waiting_item a.ends v waits in
-    let one = a.ends.handed v e.0 e.1 in
-    let up = a.ends.more v e.0 e.1 in
+    let one = a.ends.hands_up.some v e.0 e.1 in
+    let up = a.ends.hands_up.more v e.0 e.1 in
     let items : All IsItem (handed_by v ++ e.0 ∷ []) = subst (All IsItem) up (All-take IsItem (v.handed + 1) v.taken k.items) in
     let there = out_after serving s (handed_by v) e.0 (length v.accepted) (none_at (server_items serving s (handed_by v)) (length v.accepted) none) (brings (handed_by v) e.0 items) in
     subst (λ (u : State). IsOutShort serving s u) (sym one)
     (subst (λ (l : List Item). length (bytes_in (drop (length v.accepted) (server_items serving s l))) ≤ 131072) (sym up) there)
 
-pub step_out : {S : Type 0} (serving : Serving S) (s : S) (v : State) → Answering serving s → Brings serving s → Keeps v → IsOutShort serving s v → IfOut serving s (serve_step serving s v)
+pub step_out : {S : Type 0} (serving : Serving S) (s : S) (v : State) → Answering serving s → AnItemBringsAtMostOneAnswer serving s → Keeps v → IsOutShort serving s v → IfOut serving s (serve_step serving s v)
 step_out serving s v a brings k h = by_next (next_of serving s v) refl where
   by_room : (x : Item) → next_of serving s v ≡ Some x → (b : Bool) → is_full v ≡ b → IfOut serving s (if b then None else Some (after_send v x))
   by_room x is true full = tt

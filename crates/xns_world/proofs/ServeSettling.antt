@@ -32,7 +32,7 @@ sends_go serving s v x a k is full =
     let ok = not_refused a.ends v x piece full in
     let falls = send_room a.ends v x k.fits full ok in
     record {
-      keeps = record { fits = a.ends.send v x k.fits piece.short.fits; items = subst (All IsItem) (sym (a.ends.send_hears v x).taken) k.items };
+      keeps = record { fits = a.ends.bounds.send v x k.fits piece.short.fits; items = subst (All IsItem) (sym (a.ends.hears.send v x).taken) k.items };
       fewer = omega (arith, falls.0, falls.1);
     }
 
@@ -42,7 +42,7 @@ takes_go serving s v a k is =
     let e = waiting_item a.ends v is in
     let falls = take_waiting a.ends v e.0 e.1 in
     record {
-      keeps = record { fits = a.ends.take v k.fits; items = subst (All IsItem) (sym (a.ends.take_hears v).taken) k.items };
+      keeps = record { fits = a.ends.bounds.take v k.fits; items = subst (All IsItem) (sym (a.ends.hears.take v).taken) k.items };
       fewer = omega (arith, falls.0, falls.1);
     }
 

@@ -5,6 +5,6 @@ use Rattle.courier_calls.proofs.Brings.{brings}
 use Rattle.courier_calls.proofs.laws.an_item_brings_at_most_one_answer.Goals as goal
 
 pub returns : goal.returns
-returns g c = λ s f x can bytes.
+returns g c = λ s can f x bytes.
     brings c.written_value_is_read.ensures (record { found = c.value_of_is_spelled.ensures.found; only = c.value_of_is_spelled.ensures.only; fits = c.spelled_value_fits.ensures.fits }) g.S.Service.serving g.S.Service.IsServiceState g.met.S.Service.lawful s f x can
     (recursion_from_All IsItem (f ++ x ∷ []) bytes)

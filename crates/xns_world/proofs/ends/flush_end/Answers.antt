@@ -10,4 +10,4 @@ returns c =
     ok_then c.emit.result c.emit.ensures (λ emitted laws w h.
     let s = end_of w c.args.side in
     end_moved w c.args.side (after_flush s) (flush_answer s) c.in_ok-packets.packets.items c.flush.new.self c.emit.new.self (c.in_ok-packets.ensures.stands s h.stands) (c.in_ok-packets.ensures.answer s h.stands)
-    (emitted w (after_flush s) h.network (ap length (laws.flush_hears s).taken)))
+    (emitted w (after_flush s) h.network (ap length (laws.hears.flush s).taken)))

@@ -10,4 +10,4 @@ returns c =
     ok_then c.emit.result c.emit.ensures (λ emitted laws w h.
     let s = end_of w c.args.side in
     end_moved w c.args.side (after_tick s) (tick_answer s) c.in_ok-packets.packets.items c.tick.new.self c.emit.new.self (c.in_ok-packets.ensures.stands s h.stands) (c.in_ok-packets.ensures.answer s h.stands)
-    (emitted w (after_tick s) h.network (ap length (laws.tick_hears s).taken)))
+    (emitted w (after_tick s) h.network (ap length (laws.hears.tick s).taken)))

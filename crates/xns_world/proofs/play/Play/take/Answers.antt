@@ -13,4 +13,4 @@ returns c =
     let side = c.args.side in
     let s = end_of w side in
     let here = subst (λ (p : Participant). IsParticipant p s) (sym c.at.ensures.value) (h.ends side) in
-    acts_alone c.args.self.now.ends c.args.self.now.network w side c.take.new.self (after_take s) h.ends (took laws s here) h.network (laws.take_hears s).taken)
+    acts_alone c.args.self.now.ends c.args.self.now.network w side c.take.new.self (after_take s) h.ends (took laws s here) h.network (laws.hears.take s).taken)
