@@ -1,6 +1,7 @@
 //! What carries the items of a conversation, in memory.
 
-use courier_calls::{Call, Caller, Seen, Server, Service, SessionFault};
+use courier_calls::{Call, Caller, Seen, Server, Service};
+use courier_messages::SessionFault;
 use std::alloc::Global;
 use xns_spp::Item;
 

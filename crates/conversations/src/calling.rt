@@ -3,9 +3,8 @@
 //! A step is an item or one of these: `add` calls Add of 5, `text` Add of a text, `eight` program 8, `list` the procedure with
 //! a list as its results, `raw` and a number Add with so many words of 0; `outcome` picks up an outcome.
 use crate::script::{item, put_out, put_session_fault, put_words};
-use courier_calls::{
-    Arguments, Call, CallFault, Caller, Procedure, Seen, Table, Words, tally_table,
-};
+use courier_calls::{Arguments, Call, CallFault, Caller, Procedure, Seen, Table, tally_table};
+use courier_messages::Words;
 use courier_types::{Shape, Value};
 use std::alloc::{AllocError, Global};
 use std::fmt::Write;

@@ -1,6 +1,6 @@
 //! What bytes are as a message.
 use crate::script::{put_bytes, put_message_fault, put_words, unhexed};
-use courier_calls::{Message, MessageRefusal, read_message, write_message};
+use courier_messages::{Message, MessageRefusal, read_message, write_message};
 use std::alloc::{AllocError, Global};
 use std::fmt::Write;
 

@@ -1,7 +1,7 @@
 //! Items and bytes as text.
 ghost use Rattle.std.specs.Prelude.{◌<◌};
 
-use courier_calls::{MessageFault, SessionFault};
+use courier_messages::{MessageFault, SessionFault};
 use std::alloc::{AllocError, Global};
 use std::fmt::Write;
 use xns_spp::{Bytes, Item};

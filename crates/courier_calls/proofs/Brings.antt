@@ -3,20 +3,23 @@ use Rattle.std.proofs.Common.{◌≡◌, ◌∙◌, ap, refl, subst, ℕ, ◌≤
 use Rattle.std.specs.List.{AllByRecursion}
 use Rattle.xns_spp.specs.declared.item.Item.{Item}
 use Rattle.xns_spp.specs.Item.{IsItem}
-use Rattle.courier_calls.specs.declared.fault.SessionFault.{SessionFault}
-use Rattle.courier_calls.specs.declared.message.Message.{Message}
-use Rattle.courier_calls.specs.declared.message.Message.TheVariants.{Call, Reject, Return, Abort}
-use Rattle.courier_calls.specs.Message.{message_words, message_bytes}
-use Rattle.courier_calls.specs.Text.{signs}
-use Rattle.courier_calls.specs.Conversation.{Phase, conversation}
-use Rattle.courier_calls.specs.Phases.{said}
-use Rattle.courier_calls.specs.Calls.{RawCall, Serving, IsLawful, decision}
-use Rattle.courier_calls.specs.Cutting.{cut, versions_item, answer_message}
+use Rattle.courier_messages.specs.declared.fault.SessionFault.{SessionFault}
+use Rattle.courier_messages.specs.declared.message.Message.{Message}
+use Rattle.courier_messages.specs.declared.message.Message.TheVariants.{Call, Reject, Return, Abort}
+use Rattle.courier_messages.specs.Message.{message_words, message_bytes}
+use Rattle.courier_messages.specs.Text.{signs}
+use Rattle.courier_messages.specs.Conversation.{Phase, conversation}
+use Rattle.courier_messages.specs.Phases.{said}
+use Rattle.courier_messages.specs.RawCalls.{RawCall}
+use Rattle.courier_calls.specs.Calls.{Serving, IsLawful, decision}
+use Rattle.courier_messages.specs.Cutting.{cut, versions_item}
+use Rattle.courier_calls.specs.Answers.{answer_message}
 use Rattle.courier_calls.specs.Server.{calls_of, raws, decided, server_ending, server_state, answer_items}
-use Rattle.courier_calls.specs.Bounds.{bytes_in}
-use Rattle.courier_calls.specs.Laws.{IsShort, BringsNone, BringsOne, BringsAtMostOne}
-use Rattle.courier_calls.proofs.Both.{item_one}
-use Rattle.courier_calls.proofs.Cuts.{bytes_length, bytes_back}
+use Rattle.courier_messages.specs.Bounds.{bytes_in}
+use Rattle.courier_messages.specs.Laws.{IsShort}
+use Rattle.courier_calls.specs.Laws.{BringsNone, BringsOne, BringsAtMostOne}
+use Rattle.courier_messages.proofs.More.{item_one}
+use Rattle.courier_messages.proofs.Cuts.{bytes_length, bytes_back}
 use Rattle.courier_calls.proofs.Lawful.{Values, keeps, keeps_all}
 use Rattle.courier_calls.proofs.Numbers.{IsHeard, heard_numbers}
 use Rattle.courier_calls.proofs.Sent.{raws_words}

@@ -2,22 +2,24 @@
 use Rattle.std.proofs.Common.{◌≡◌, ◌∙◌, ap, sym, refl, ℕ, ◌+◌, ◌%◌, ◌≤◌, List, [], ◌∷◌, ◌++◌, length, map, append-nil, Bool, true, false, arith, Ok, Err}
 use Rattle.std.specs.Prelude.{Result, if◌then◌else◌, ◌==◌}
 use Rattle.xns_spp.specs.declared.item.Item.{Item}
-use Rattle.courier_calls.specs.declared.fault.MessageFault.{MessageFault}
-use Rattle.courier_calls.specs.declared.fault.SessionFault.{SessionFault}
-use Rattle.courier_calls.specs.declared.message.Message.{Message}
-use Rattle.courier_calls.specs.declared.message.Message.TheVariants.{Call, Reject, Return, Abort}
-use Rattle.courier_calls.specs.Message.{message_of}
-use Rattle.courier_calls.specs.Text.{byte, mark, foreign, end_of, signs}
-use Rattle.courier_calls.specs.Conversation.{Phase, opening, fresh, inside, conversation, ending}
-use Rattle.courier_calls.specs.Phases.{step, ended, closed, good, run, said, onwards, ◌then◌}
+use Rattle.courier_messages.specs.declared.fault.MessageFault.{MessageFault}
+use Rattle.courier_messages.specs.declared.fault.SessionFault.{SessionFault}
+use Rattle.courier_messages.specs.declared.message.Message.{Message}
+use Rattle.courier_messages.specs.declared.message.Message.TheVariants.{Call, Reject, Return, Abort}
+use Rattle.courier_messages.specs.Message.{message_of}
+use Rattle.courier_messages.specs.Text.{byte, mark, foreign, end_of, signs}
+use Rattle.courier_messages.specs.Conversation.{Phase, opening, fresh, inside, conversation, ending}
+use Rattle.courier_messages.specs.Phases.{step, ended, closed, good, run, said, onwards, ◌then◌}
 use Rattle.courier_calls.specs.Table.{EntryModel}
-use Rattle.courier_calls.specs.Calls.{RawCall, SeenModel}
+use Rattle.courier_messages.specs.RawCalls.{RawCall}
+use Rattle.courier_calls.specs.Calls.{SeenModel}
 use Rattle.courier_calls.specs.Server.{calls_of, all_calls, raws, heard, decided, server_ending}
 use Rattle.courier_calls.specs.Caller.{answer_in, before, answers, answers_from, unanswered, unanswered_from, caller_ending}
-use Rattle.courier_calls.proofs.Runs.{run_append, run_mark, said_append, said_bytes, said_mark, said_stream}
+use Rattle.courier_messages.proofs.Runs.{run_append, run_mark, said_append, said_bytes, said_mark, said_stream}
 use Rattle.courier_calls.proofs.Asks.{unanswered_more, answers_more, stopped_answers}
-use Rattle.courier_calls.proofs.Serves.{conversation_more, ending_more, goes, stays_failed}
-use Rattle.courier_calls.proofs.Both.{item_one}
+use Rattle.courier_messages.proofs.More.{conversation_more, ending_more}
+use Rattle.courier_calls.proofs.Serves.{goes, stays_failed}
+use Rattle.courier_messages.proofs.More.{item_one}
 
 -- where signs stop, they end no message
 

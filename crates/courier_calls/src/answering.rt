@@ -4,10 +4,8 @@ ghost use Rattle.courier_calls.specs.Table.{table_model, IsCheckedTable};
 ghost use Rattle.courier_calls.specs.Caller.{answer_to, Answers, unasked};
 
 use crate::call::Seen;
-use crate::fault::SessionFault;
-use crate::head::Head;
-use crate::pieced_message::PiecedMessage;
 use crate::table::Table;
+use courier_messages::{Head, PiecedMessage, SessionFault};
 use std::alloc::Global;
 
 /// What a call that waits for its answer has called.

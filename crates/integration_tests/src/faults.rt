@@ -1,5 +1,6 @@
 //! What faults say, beside the text that each is to say.
-use courier_calls::{CallFault, MessageFault, MessageRefusal, SessionFault, TableFault};
+use courier_calls::{CallFault, TableFault};
+use courier_messages::{MessageFault, MessageRefusal, SessionFault};
 use courier_types::{ReadFault, ReadRefusal, Reason, ShapeFault};
 use std::error::Error;
 use std::fmt::InlineText;

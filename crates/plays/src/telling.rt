@@ -1,6 +1,7 @@
 //! Items, calls, outcomes and packets as text.
 use crate::setting::{A, B};
-use courier_calls::{Arguments, Call, MessageFault, Seen, SessionFault};
+use courier_calls::{Arguments, Call, Seen};
+use courier_messages::{MessageFault, SessionFault};
 use courier_types::Value;
 use std::alloc::{AllocError, Global};
 use std::fmt;

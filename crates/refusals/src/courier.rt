@@ -1,9 +1,8 @@
 //! Courier's messages, and the sessions' beginnings.
 
 use crate::outcome::{Outcome, done, refused};
-use courier_calls::{
-    Caller, Message, Server, Tally, Words, read_message, tally_table, write_message,
-};
+use courier_calls::{Caller, Server, Tally, tally_table};
+use courier_messages::{Message, Words, read_message, write_message};
 use std::alloc::{AllocError, Global};
 
 /// A return with two words.

@@ -3,19 +3,20 @@ use Rattle.std.proofs.Common.{◌≡◌, ◌∙◌, ap, sym, refl, subst, ℕ, �
 use Rattle.std.specs.Prelude.{Result, Option, Some, None, ◌==◌, ◌&&◌, ◌||◌, nat_lt, if◌then◌else◌}
 use Rattle.std.specs.Option.{option_to_list}
 use Rattle.xns_spp.specs.declared.item.Item.{Item}
-use Rattle.courier_calls.specs.declared.fault.SessionFault.{SessionFault}
-use Rattle.courier_calls.specs.declared.message.Message.{Message}
-use Rattle.courier_calls.specs.declared.message.Message.TheVariants.{Call, Reject, Return, Abort}
-use Rattle.courier_calls.specs.Calls.{RawCall}
-use Rattle.courier_calls.specs.Caller.{caller_items, call_items}
-use Rattle.courier_calls.specs.Conversation.{Phase, conversation, conversation_fault, ending}
-use Rattle.courier_calls.specs.Cutting.{cut, call_message, versions_item}
-use Rattle.courier_calls.specs.Phases.{run, said, onwards, ◌then◌}
-use Rattle.courier_calls.specs.Text.{signs}
-use Rattle.courier_calls.proofs.Asks.{items_more}
-use Rattle.courier_calls.proofs.Both.{item_one}
-use Rattle.courier_calls.proofs.Goes.{next_number}
-use Rattle.courier_calls.proofs.Serves.{conversation_more, ending_more}
+use Rattle.courier_messages.specs.declared.fault.SessionFault.{SessionFault}
+use Rattle.courier_messages.specs.declared.message.Message.{Message}
+use Rattle.courier_messages.specs.declared.message.Message.TheVariants.{Call, Reject, Return, Abort}
+use Rattle.courier_messages.specs.RawCalls.{RawCall}
+use Rattle.courier_messages.specs.RawCalls.{caller_items, call_items}
+use Rattle.courier_messages.specs.Conversation.{Phase, conversation, conversation_fault, ending}
+use Rattle.courier_messages.specs.Cutting.{cut, versions_item}
+use Rattle.courier_messages.specs.RawCalls.{call_message}
+use Rattle.courier_messages.specs.Phases.{run, said, onwards, ◌then◌}
+use Rattle.courier_messages.specs.Text.{signs}
+use Rattle.courier_messages.proofs.More.{items_more}
+use Rattle.courier_messages.proofs.More.{item_one}
+use Rattle.courier_messages.proofs.More.{next_number}
+use Rattle.courier_messages.proofs.More.{conversation_more, ending_more}
 use Rattle.std.proofs.lemmas.Bool.{eqb-true}
 use Rattle.xns_c.specs.Results.{ok, stopped, busy, too_long}
 use Rattle.xns_c.specs.Talk.{Talk, new_talk, next_transaction, called, is_there, call_number, wrong_unless, reply_fault, answered_unless, answered, after_item}

@@ -1,9 +1,9 @@
 -- A fault that is told is the peer's.
 use Rattle.std.proofs.Common.{◌≡◌, Result, Err, refl}
 use Rattle.std.specs.Prelude.{◌≢◌}
-use Rattle.courier_calls.specs.declared.fault.SessionFault.{SessionFault}
-use Rattle.courier_calls.specs.declared.fault.SessionFault.TheVariants.{NoCommonVersion, BadVersions, BadMessage, WrongTransaction, BadReply, Stream, NoMemory, Failed}
-use Rattle.courier_calls.specs.Refusal.{UnlessMemory}
+use Rattle.courier_messages.specs.declared.fault.SessionFault.{SessionFault}
+use Rattle.courier_messages.specs.declared.fault.SessionFault.TheVariants.{NoCommonVersion, BadVersions, BadMessage, WrongTransaction, BadReply, Stream, NoMemory, Failed}
+use Rattle.courier_messages.specs.Refusal.{UnlessMemory}
 use Rattle.xns_c.specs.Results.{no_memory}
 use Rattle.xns_c.specs.Talk.{Talk, session_fault_number}
 

@@ -1,9 +1,9 @@
 -- Courier's messages, as C has them.
 use Rattle.std.specs.Prelude.{ℕ, ◌==◌, if◌then◌else◌, List, Option, Some, None}
-use Rattle.courier_calls.specs.declared.fault.MessageFault.{MessageFault}
-use Rattle.courier_calls.specs.declared.fault.MessageFault.TheVariants.{OddLength, ShortMessage, UnknownKind, TooLong}
-use Rattle.courier_calls.specs.declared.message.Message.{Message}
-use Rattle.courier_calls.specs.declared.message.Message.TheVariants.{Call, Reject, Return, Abort}
+use Rattle.courier_messages.specs.declared.fault.MessageFault.{MessageFault}
+use Rattle.courier_messages.specs.declared.fault.MessageFault.TheVariants.{OddLength, ShortMessage, UnknownKind, TooLong}
+use Rattle.courier_messages.specs.declared.message.Message.{Message}
+use Rattle.courier_messages.specs.declared.message.Message.TheVariants.{Call, Reject, Return, Abort}
 use Rattle.xns_c.specs.declared.message.XnsMessage.{XnsMessage}
 
 -- why bytes are no message

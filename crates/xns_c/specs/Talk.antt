@@ -1,15 +1,16 @@
 -- The side of a Courier conversation that calls, as C holds it (XSIS 038112, Courier).
 use Rattle.std.specs.Prelude.{◌≡◌, ℕ, ◌+◌, ◌%◌, List, [], ◌∷◌, ◌++◌, length, Bool, true, false, ◌&&◌, ◌||◌, ◌==◌, nat_lt, if◌then◌else◌, Option, Some, None, Result, Ok, Err}
 use Rattle.xns_spp.specs.declared.item.Item.{Item}
-use Rattle.courier_calls.specs.declared.fault.SessionFault.{SessionFault}
-use Rattle.courier_calls.specs.declared.fault.SessionFault.TheVariants.{NoCommonVersion, BadVersions, BadMessage, WrongTransaction, BadReply, Stream, NoMemory, Failed}
-use Rattle.courier_calls.specs.declared.message.Message.{Message}
-use Rattle.courier_calls.specs.declared.message.Message.TheVariants.{Call, Reject, Return, Abort}
-use Rattle.courier_calls.specs.Calls.{RawCall}
-use Rattle.courier_calls.specs.Conversation.{Phase, opening}
-use Rattle.courier_calls.specs.Cutting.{cut, call_message, versions_item}
-use Rattle.courier_calls.specs.Phases.{run, said, ◌then◌}
-use Rattle.courier_calls.specs.Text.{signs}
+use Rattle.courier_messages.specs.declared.fault.SessionFault.{SessionFault}
+use Rattle.courier_messages.specs.declared.fault.SessionFault.TheVariants.{NoCommonVersion, BadVersions, BadMessage, WrongTransaction, BadReply, Stream, NoMemory, Failed}
+use Rattle.courier_messages.specs.declared.message.Message.{Message}
+use Rattle.courier_messages.specs.declared.message.Message.TheVariants.{Call, Reject, Return, Abort}
+use Rattle.courier_messages.specs.RawCalls.{RawCall}
+use Rattle.courier_messages.specs.Conversation.{Phase, opening}
+use Rattle.courier_messages.specs.Cutting.{cut, versions_item}
+use Rattle.courier_messages.specs.RawCalls.{call_message}
+use Rattle.courier_messages.specs.Phases.{run, said, ◌then◌}
+use Rattle.courier_messages.specs.Text.{signs}
 use Rattle.xns_c.specs.Courier.{message_fault_number}
 use Rattle.xns_c.specs.Results.{ok, no_memory, stopped, busy, too_long}
 

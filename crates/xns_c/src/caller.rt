@@ -2,8 +2,8 @@
 
 ghost use Rattle.std.specs.Prelude.{◌≡◌, ◌≢◌, ◌<◌, ◌≤◌, ℕ, List, [], ◌∷◌, length, true, false, IfOk, IfSome, Ok, Some, None};
 ghost use Rattle.xns_spp.specs.declared.item.Item.{Item};
-ghost use Rattle.courier_calls.specs.declared.message.Message.{Message};
-ghost use Rattle.courier_calls.specs.Calls.{words_call};
+ghost use Rattle.courier_messages.specs.declared.message.Message.{Message};
+ghost use Rattle.courier_messages.specs.RawCalls.{words_call};
 ghost use Rattle.xns_c.specs.Handle.{talk_of};
 ghost use Rattle.xns_c.specs.Courier.{message_given, words_in};
 ghost use Rattle.xns_c.specs.Given.{GivesItem, IsPut};

@@ -1,9 +1,9 @@
 //! Courier's messages.
 
 ghost use Rattle.std.specs.Prelude.{◌≡◌, ◌≢◌, ◌<◌, ◌≤◌, length, IfSome, Ok, Err, Some, None, MatchOption};
-ghost use Rattle.courier_calls.specs.Message.{most_bytes, message_bytes, message_of};
-ghost use Rattle.courier_calls.specs.declared.fault.MessageFault.{MessageFault};
-ghost use Rattle.courier_calls.specs.declared.message.Message.{Message};
+ghost use Rattle.courier_messages.specs.Message.{most_bytes, message_bytes, message_of};
+ghost use Rattle.courier_messages.specs.declared.fault.MessageFault.{MessageFault};
+ghost use Rattle.courier_messages.specs.declared.message.Message.{Message};
 ghost use Rattle.xns_c.specs.Courier.{message_fault_number, message_given, words_in};
 ghost use Rattle.xns_c.specs.Given.{IsPut};
 ghost use Rattle.xns_c.specs.Results.{ok, bad_argument, no_memory, short_buffer, too_long};
@@ -11,7 +11,7 @@ ghost use Rattle.xns_c.specs.Results.{ok, bad_argument, no_memory, short_buffer,
 use crate::front::put_front;
 use crate::message::XnsMessage;
 use crate::results::{BAD_ARGUMENT, NO_MEMORY, OK, SHORT_BUFFER, TOO_LONG};
-use courier_calls::{
+use courier_messages::{
     MOST_BYTES, Message, MessageFault, MessageRefusal, Words, read_message, write_message,
 };
 use std::alloc::Global;

@@ -2,9 +2,9 @@
 
 ghost use Rattle.std.specs.Prelude.{◌≡◌, ◌≤◌, ℕ, List, [], ◌∷◌, ◌++◌, All, length, Some, None, Ok, Err};
 ghost use Rattle.xns_idp.specs.Packet.{AreBytes};
-ghost use Rattle.courier_calls.specs.declared.fault.SessionFault.{SessionFault};
-ghost use Rattle.courier_calls.specs.declared.message.Message.{Message};
-ghost use Rattle.courier_calls.specs.Calls.{RawCall};
+ghost use Rattle.courier_messages.specs.declared.fault.SessionFault.{SessionFault};
+ghost use Rattle.courier_messages.specs.declared.message.Message.{Message};
+ghost use Rattle.courier_messages.specs.RawCalls.{RawCall};
 ghost use Rattle.xns_c.specs.Results.{ok};
 ghost use Rattle.xns_c.specs.Talk.{Talk, new_talk, called, call_number, after_item};
 ghost use Rattle.xns_c.specs.Talks.{HasDone, Refuses};

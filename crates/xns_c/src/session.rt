@@ -2,12 +2,12 @@
 
 ghost use Rattle.std.specs.Prelude.{◌≡◌, ◌≢◌, ◌<◌, ◌≤◌, ℕ, List, [], ◌∷◌, length, true, false, OnErr, IfOk, Some, None, Ok};
 ghost use Rattle.xns_spp.specs.declared.item.Item.{Item};
-ghost use Rattle.courier_calls.specs.declared.message.Message.{Message};
-ghost use Rattle.courier_calls.specs.Calls.{words_call};
-ghost use Rattle.courier_calls.specs.Cutting.{call_message};
-ghost use Rattle.courier_calls.specs.Head.{with_words};
-ghost use Rattle.courier_calls.specs.Message.{message_words};
-ghost use Rattle.courier_calls.specs.Refusal.{Follows};
+ghost use Rattle.courier_messages.specs.declared.message.Message.{Message};
+ghost use Rattle.courier_messages.specs.RawCalls.{words_call};
+ghost use Rattle.courier_messages.specs.RawCalls.{call_message};
+ghost use Rattle.courier_messages.specs.Head.{with_words};
+ghost use Rattle.courier_messages.specs.Message.{message_words};
+ghost use Rattle.courier_messages.specs.Refusal.{Follows};
 ghost use Rattle.xns_c.specs.Courier.{message_given, words_in};
 ghost use Rattle.xns_c.specs.Given.{GivesItem, IsPut};
 ghost use Rattle.xns_c.specs.Results.{ok, nothing, no_memory, short_buffer, stopped};
@@ -20,7 +20,7 @@ use crate::front::put_front;
 use crate::item::XnsItem;
 use crate::message::XnsMessage;
 use crate::results::{BUSY, NO_MEMORY, NOTHING, OK, STOPPED, TOO_LONG};
-use courier_calls::{Head, Incoming, Message, SessionFault, cut};
+use courier_messages::{Head, Incoming, Message, SessionFault, cut};
 use std::alloc::{AllocError, Global};
 use std::collections::VecDeque;
 use std::marker::Model;

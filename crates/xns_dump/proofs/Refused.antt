@@ -8,10 +8,10 @@ use Rattle.std.proofs.lemmas.Bool.Decides.{nat_tests}
 use Rattle.hex.specs.Hex.{decode_of, encode_lower, encode_with, lower_digits}
 use Rattle.hex.specs.declared.error.FromHexError.{FromHexError}
 use Rattle.hex.specs.declared.error.FromHexError.TheVariants as hex_error
-use Rattle.courier_calls.specs.Message.{message_of}
-use Rattle.courier_calls.specs.declared.fault.MessageFault.{MessageFault}
-use Rattle.courier_calls.specs.declared.message.Message.{Message}
-use Rattle.courier_calls.specs.declared.message.Message.TheVariants.{Call, Reject, Return, Abort}
+use Rattle.courier_messages.specs.Message.{message_of}
+use Rattle.courier_messages.specs.declared.fault.MessageFault.{MessageFault}
+use Rattle.courier_messages.specs.declared.message.Message.{Message}
+use Rattle.courier_messages.specs.declared.message.Message.TheVariants.{Call, Reject, Return, Abort}
 use Rattle.xns_idp.specs.Packet.{PacketModel}
 use Rattle.xns_idp.specs.Reading.{packet_of, word_at}
 use Rattle.xns_idp.specs.declared.address.Address.{Address}

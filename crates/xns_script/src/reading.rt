@@ -6,7 +6,8 @@ ghost use Rattle.xns_script.specs.Word.{hex_bytes_of, number_of, raw_words_of, s
 
 use crate::command::Command;
 use crate::words::{cut_word, is, read_hex_bytes, read_number, read_raw_words, read_side};
-use courier_calls::{Arguments, Call, Words};
+use courier_calls::{Arguments, Call};
+use courier_messages::Words;
 use courier_types::Value;
 use std::alloc::{AllocError, Global};
 use xns_world::Event;

@@ -3,7 +3,8 @@ use Rattle.std.proofs.Common.{◌≡◌, ◌∙◌, ap, sym, refl, subst, ℕ, L
 use Rattle.std.specs.Prelude.{IfNone, OnOk}
 use Rattle.std.specs.Fmt.{decimal}
 use Rattle.std.proofs.lemmas.List.{length-map}
-use Rattle.courier_calls.specs.Calls.{CallModel, RawCall, call_model, raw, raw_call, seen_model}
+use Rattle.courier_calls.specs.Calls.{CallModel, call_model, raw, raw_call, seen_model}
+use Rattle.courier_messages.specs.RawCalls.{RawCall}
 use Rattle.courier_calls.specs.Server.{call_of}
 use Rattle.courier_calls.specs.Tally.{tally}
 use Rattle.courier_calls.specs.declared.call.Call.{Call}

@@ -5,9 +5,11 @@ use Rattle.std.proofs.lemmas.Bool.{ltb-true, and_parts}
 use Rattle.std.proofs.lemmas.List.Elements.{All-take, All-weaker}
 use Rattle.std.proofs.lemmas.List.{take_all, take-append-le}
 use Rattle.std.proofs.lemmas.Option.{slice_get_within, get_or_from_slice_get}
-use Rattle.courier_calls.specs.Calls.{RawCall, SeenModel, IsFitting}
+use Rattle.courier_messages.specs.RawCalls.{RawCall}
+use Rattle.courier_calls.specs.Calls.{SeenModel, IsFitting}
 use Rattle.courier_calls.specs.Caller.{answers}
-use Rattle.courier_calls.specs.Laws.{SidesAgree, IsSendableItem}
+use Rattle.courier_calls.specs.Laws.{SidesAgree}
+use Rattle.courier_messages.specs.Laws.{IsSendableItem}
 use Rattle.courier_calls.specs.Server.{server_items}
 use Rattle.xns_spp.specs.Item.{IsItem, IsShortItem}
 use Rattle.xns_spp.specs.Sending.{send_answer, take_answer}

@@ -4,7 +4,8 @@ use Rattle.std.specs.Prelude.{slice_get, nat_lt, ◌==◌, ◌&&◌, if◌then�
 use Rattle.std.specs.Option.{option_to_list}
 use Rattle.std.proofs.lemmas.Bool.{le-ltb, lt-ltb, ltb-true, ltb-false, eq-eqb, ne_eqb}
 use Rattle.std.proofs.lemmas.List.{take_all, take-append-le, length-take-le, map-append, length-map}
-use Rattle.courier_calls.specs.Calls.{RawCall, SeenModel, seen_model, raw_call}
+use Rattle.courier_messages.specs.RawCalls.{RawCall}
+use Rattle.courier_calls.specs.Calls.{SeenModel, seen_model, raw_call}
 use Rattle.courier_calls.specs.Caller as caller
 use Rattle.courier_calls.specs.Caller.{answers}
 use Rattle.courier_calls.specs.declared.call.Call.{Call}

@@ -3,7 +3,8 @@ use Rattle.std.proofs.Common.{◌≡◌, ℕ, zero, suc, Bool, true, false, List
 use Rattle.std.specs.Option.{option_to_list}
 use Rattle.std.specs.Prelude.{nat_lt, if◌then◌else◌}
 use Rattle.std.proofs.lemmas.List.{length-map}
-use Rattle.courier_calls.specs.Calls.{RawCall, SeenModel, Serving, last_state, outcomes, seen_model, raw_call}
+use Rattle.courier_messages.specs.RawCalls.{RawCall}
+use Rattle.courier_calls.specs.Calls.{SeenModel, Serving, last_state, outcomes, seen_model, raw_call}
 use Rattle.courier_calls.specs.Caller as caller
 use Rattle.courier_calls.specs.Caller.{answers}
 use Rattle.courier_calls.specs.Server.{call_of}

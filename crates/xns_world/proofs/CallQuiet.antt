@@ -4,7 +4,7 @@ use Rattle.std.specs.Option.{option_to_list}
 use Rattle.std.specs.Prelude.{slice_get, is_ok}
 use Rattle.std.proofs.lemmas.List.{take_more}
 use Rattle.std.proofs.lemmas.Option.{slice_get_within, get_or_from_slice_get}
-use Rattle.courier_calls.specs.Laws.{IsSendableItem}
+use Rattle.courier_messages.specs.Laws.{IsSendableItem}
 use Rattle.xns_spp.specs.Receiving.{receive_answer, after_receive}
 use Rattle.xns_spp.specs.Sending.{after_send, take_answer, after_take, flush_answer, after_flush, tick_answer, after_tick, is_full, send_answer}
 use Rattle.xns_spp.specs.State.{State}

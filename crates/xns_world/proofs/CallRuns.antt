@@ -3,7 +3,8 @@ use Rattle.std.proofs.Common.{◌≡◌, ℕ, zero, suc, ◌≤◌, Bool, true, 
 use Rattle.std.specs.Prelude.{nat_lt, if◌then◌else◌}
 use Rattle.std.proofs.lemmas.Bool.{ltb-false}
 use Rattle.std.proofs.lemmas.List.Elements.{All-nil}
-use Rattle.courier_calls.specs.Calls.{RawCall, SeenModel, Serving, decision, after_decision, outcomes, IsFitting}
+use Rattle.courier_messages.specs.RawCalls.{RawCall}
+use Rattle.courier_calls.specs.Calls.{SeenModel, Serving, decision, after_decision, outcomes, IsFitting}
 use Rattle.courier_calls.specs.Caller.{answers}
 use Rattle.courier_calls.specs.Server.{decided}
 use Rattle.xns_spp.specs.Sending.{is_full, waiting_count, after_send, after_take}

@@ -5,11 +5,11 @@ use Rattle.std.proofs.lemmas.List.{take_all, take-append-le}
 use Rattle.std.proofs.lemmas.List.Elements.{All-head, All-tail, All-take, All-weaker}
 use Rattle.xns_idp.specs.Packet.{AreBytes}
 use Rattle.courier_calls.specs.Calls.{Serving}
-use Rattle.courier_calls.specs.Conversation.{Phase, conversation, ending}
+use Rattle.courier_messages.specs.Conversation.{Phase, conversation, ending}
 use Rattle.courier_calls.specs.Laws.{AnItemBringsAtMostOneAnswer}
 use Rattle.courier_calls.specs.Server.{all_calls, server_ending}
-use Rattle.courier_calls.specs.declared.fault.SessionFault.{SessionFault}
-use Rattle.courier_calls.specs.declared.fault.SessionFault.TheVariants.{BadReply}
+use Rattle.courier_messages.specs.declared.fault.SessionFault.{SessionFault}
+use Rattle.courier_messages.specs.declared.fault.SessionFault.TheVariants.{BadReply}
 use Rattle.xns_spp.specs.Growth.{Begins}
 use Rattle.xns_spp.specs.Item.{IsItem, IsShortItem}
 use Rattle.xns_spp.specs.Receiving.{after_receive}

@@ -3,9 +3,10 @@ use Rattle.std.proofs.Common.{◌≡◌, ℕ, zero, suc, ◌+◌, ◌≤◌, Boo
 use Rattle.std.specs.Prelude.{All, nat_lt, slice_get, if◌then◌else◌}
 use Rattle.std.proofs.lemmas.List.Elements.{All-take}
 use Rattle.courier_calls.specs.Calls.{Serving}
-use Rattle.courier_calls.specs.Conversation.{conversation}
-use Rattle.courier_calls.specs.Bounds.{bytes_in}
-use Rattle.courier_calls.specs.Laws.{IsSendableItem, AnItemBringsAtMostOneAnswer, BringsAtMostOne, next_answer}
+use Rattle.courier_messages.specs.Conversation.{conversation}
+use Rattle.courier_messages.specs.Bounds.{bytes_in}
+use Rattle.courier_messages.specs.Laws.{IsSendableItem}
+use Rattle.courier_calls.specs.Laws.{AnItemBringsAtMostOneAnswer, BringsAtMostOne, next_answer}
 use Rattle.courier_calls.specs.Server.{answer_items, calls_of, server_items}
 use Rattle.xns_spp.specs.Item.{IsItem}
 use Rattle.xns_spp.specs.Sending.{is_full, waiting_count, after_send, after_take}

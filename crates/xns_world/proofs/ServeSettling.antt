@@ -3,7 +3,7 @@ use Rattle.std.proofs.Common.{◌≡◌, ℕ, ◌+◌, ◌≤◌, Bool, true, fa
 use Rattle.std.specs.Prelude.{All, nat_lt, if◌then◌else◌}
 use Rattle.std.proofs.lemmas.List.Elements.{All-take}
 use Rattle.courier_calls.specs.Calls.{Serving}
-use Rattle.courier_calls.specs.Laws.{IsSendableItem}
+use Rattle.courier_messages.specs.Laws.{IsSendableItem}
 use Rattle.courier_calls.specs.Server.{server_items}
 use Rattle.xns_spp.specs.Item.{IsItem}
 use Rattle.xns_spp.specs.Sending.{is_full, waiting_count, after_send, after_take}

@@ -2,7 +2,7 @@
 use Rattle.std.specs.Prelude.{◌≡◌, ◌≤◌, length, None}
 use Rattle.courier_calls.specs.Calls.{last_state, outcomes}
 use Rattle.courier_calls.specs.Caller.{caller_ending}
-use Rattle.courier_calls.specs.Laws.{IsFaultless}
+use Rattle.courier_messages.specs.Laws.{IsFaultless}
 use Rattle.courier_calls.specs.Server.{server_ending}
 use Rattle.xns_world.specs.declared.side.Side.{Side}
 use Rattle.xns_world.specs.declared.side.Side.TheVariants.{A, B}

@@ -1,11 +1,12 @@
 -- What bounds a server's end and its session, whatever packets come.
 use Rattle.std.specs.Prelude.{◌≡◌, ◌≤◌, ℕ, List, length, drop, Ok, Some, None, if◌then◌else◌}
-use Rattle.courier_calls.specs.Calls.{RawCall, Serving, decision, HasWords}
-use Rattle.courier_calls.specs.Conversation.{Phase}
-use Rattle.courier_calls.specs.Cutting.{answer_message}
-use Rattle.courier_calls.specs.Message.{most_bytes}
-use Rattle.courier_calls.specs.Bounds.{IsBounded, bytes_in}
-use Rattle.courier_calls.specs.Laws.{IsShort}
+use Rattle.courier_messages.specs.RawCalls.{RawCall}
+use Rattle.courier_calls.specs.Calls.{Serving, decision, HasWords}
+use Rattle.courier_messages.specs.Conversation.{Phase}
+use Rattle.courier_calls.specs.Answers.{answer_message}
+use Rattle.courier_messages.specs.Message.{most_bytes}
+use Rattle.courier_messages.specs.Bounds.{IsBounded, bytes_in}
+use Rattle.courier_messages.specs.Laws.{IsShort}
 use Rattle.courier_calls.specs.Server.{server_ending, server_items, server_state}
 use Rattle.xns_spp.specs.Sending.{is_full, after_send}
 use Rattle.xns_spp.specs.State.{State, IsState}

@@ -3,8 +3,8 @@ use Rattle.std.specs.Prelude.{◌≡◌, List, length, map, slice_get, Option, S
 use Rattle.courier_calls.specs.Calls.{Serving}
 use Rattle.courier_calls.specs.Server as server
 use Rattle.courier_calls.specs.Server.{decided, server_ending, server_items, call_of}
-use Rattle.courier_calls.specs.declared.fault.SessionFault.{SessionFault}
-use Rattle.courier_calls.specs.declared.fault.SessionFault.TheVariants.{NoMemory, Failed}
+use Rattle.courier_messages.specs.declared.fault.SessionFault.{SessionFault}
+use Rattle.courier_messages.specs.declared.fault.SessionFault.TheVariants.{NoMemory, Failed}
 use Rattle.xns_spp.specs.Held.{StandsFor}
 use Rattle.xns_spp.specs.Item.{IsItem}
 use Rattle.xns_spp.specs.State.{State}

@@ -1,6 +1,6 @@
 ghost use Rattle.std.specs.Prelude.{◌≡◌, ◌++◌, ◌∷◌, List, nat_lt, [], OnOk, IfOk, Some, None, true, false, if◌then◌else◌};
 ghost use Rattle.courier_calls.specs.Table.{table_model, IsCheckedTable};
-ghost use Rattle.courier_calls.specs.declared.fault.SessionFault.{SessionFault};
+ghost use Rattle.courier_messages.specs.declared.fault.SessionFault.{SessionFault};
 ghost use Rattle.xns_spp.specs.Sending.{is_full, waiting_count, after_send, after_take};
 ghost use Rattle.xns_spp.specs.State.{State};
 ghost use Rattle.xns_spp.specs.declared.item.Item.{Item};
@@ -16,7 +16,8 @@ use crate::items::Items;
 use crate::participant::copied;
 use crate::setup::Setup;
 use crate::side::Side;
-use courier_calls::{Call, Server, Service, SessionFault, Table};
+use courier_calls::{Call, Server, Service, Table};
+use courier_messages::SessionFault;
 use std::alloc::{AllocError, Global};
 use xns_spp::{Endpoint, Item};
 

@@ -1,10 +1,10 @@
 -- The lines of Courier messages (XSIS 038112, Courier, Message stream).
 use Rattle.std.specs.Prelude.{ℕ, List, ◌++◌, codes, Result, Ok, Err}
 use Rattle.std.specs.Fmt.{decimal}
-use Rattle.courier_calls.specs.Message.{message_of}
-use Rattle.courier_calls.specs.declared.fault.MessageFault.{MessageFault}
-use Rattle.courier_calls.specs.declared.message.Message.{Message}
-use Rattle.courier_calls.specs.declared.message.Message.TheVariants.{Call, Reject, Return, Abort}
+use Rattle.courier_messages.specs.Message.{message_of}
+use Rattle.courier_messages.specs.declared.fault.MessageFault.{MessageFault}
+use Rattle.courier_messages.specs.declared.message.Message.{Message}
+use Rattle.courier_messages.specs.declared.message.Message.TheVariants.{Call, Reject, Return, Abort}
 use Rattle.xns_dump.specs.Layers.Text.{words_line}
 use Rattle.xns_lines.specs.Text.{words_text}
 

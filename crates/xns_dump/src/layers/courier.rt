@@ -6,7 +6,7 @@ ghost use Rattle.xns_lines.specs.Text.{words_text};
 ghost use Rattle.xns_lines.specs.Report.{Adds};
 
 use crate::layers::text::{append_named, append_words_line};
-use courier_calls::{Message, MessageRefusal, Words, read_message};
+use courier_messages::{Message, MessageRefusal, Words, read_message};
 use std::alloc::{AllocError, Global};
 use xns_lines::Report;
 use xns_lines::numbers::{append_decimal, append_decimal_u64, append_word_list};

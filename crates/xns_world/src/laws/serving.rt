@@ -14,8 +14,8 @@ use crate::laws::calls::server_laws_are_given;
 use courier_calls::Service;
 use courier_calls::laws::{
     an_item_brings_at_most_one_answer, answers_are_short, service_stays_in_its_states,
-    what_is_kept_is_bounded,
 };
+use courier_messages::laws::what_is_kept_is_bounded;
 use xns_spp::laws::bounds_hold_after_each_step;
 
 /// However its peer behaves, a server's end that settles comes to where no step applies.

@@ -2,11 +2,11 @@ use Rattle.std.proofs.lemmas.List.Elements.{All-from_recursion, recursion_from_A
 use Rattle.std.specs.Prelude.{List}
 use Rattle.xns_spp.specs.Item.{IsItem}
 use Rattle.xns_spp.specs.declared.item.Item.{Item}
-use Rattle.courier_calls.specs.Conversation.{conversation}
+use Rattle.courier_messages.specs.Conversation.{conversation}
 use Rattle.courier_calls.specs.Calls.{IsFitting}
 use Rattle.courier_calls.specs.Server.{calls_of, server_items}
-use Rattle.courier_calls.specs.Caller.{caller_items}
-use Rattle.courier_calls.specs.Laws.{IsSendableItem}
+use Rattle.courier_messages.specs.RawCalls.{caller_items}
+use Rattle.courier_messages.specs.Laws.{IsSendableItem}
 use Rattle.courier_calls.proofs.Numbers.{heard_numbers}
 use Rattle.courier_calls.proofs.Sent.{server_sent, caller_sent, front_bytes}
 use Rattle.courier_calls.proofs.laws.session_items_can_be_sent.Goals as goal

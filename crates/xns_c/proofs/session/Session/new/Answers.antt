@@ -1,6 +1,6 @@
 use Rattle.std.proofs.Common.{◌≡◌, ◌∙◌, [], ◌∷◌, false, None, arith}
-use Rattle.courier_calls.specs.Cutting.{versions_item}
-use Rattle.courier_calls.proofs.Cuts.{last_item}
+use Rattle.courier_messages.specs.Cutting.{versions_item}
+use Rattle.courier_messages.proofs.Cuts.{last_item}
 use Rattle.xns_c.proofs.session.Session.new.Goals as goal
 
 pub returns : goal.returns

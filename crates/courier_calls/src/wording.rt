@@ -1,0 +1,93 @@
+//! The words of messages that go out.
+ghost use Rattle.std.specs.Prelude.{◌≡◌, [], ◌≤◌, ◌*◌, length, IfOk, Ok};
+ghost use Rattle.courier_messages.specs.Message.{message_words};
+ghost use Rattle.courier_calls.specs.Table.{entry_model, procedure_model, table_model};
+ghost use Rattle.courier_calls.specs.Calls.{AllowsOutcome, outcome_model, seen_of, unlisted_model, HasGoodArguments, call_model, raw_call, SeenModel};
+ghost use Rattle.courier_calls.specs.Answers.{answer_message};
+ghost use Rattle.courier_messages.specs.RawCalls.{call_message};
+
+use crate::call::{Arguments, Call, Outcome};
+use crate::table::{Entry, Procedure, Table, Unlisted};
+use courier_messages::Spare;
+use courier_types::write;
+use std::alloc::{AllocError, Global};
+
+/// The words of the answer to a call that was carried out, in the spare room.
+pub fn outcome_words(
+    alloc: Global,
+    entry: &Entry,
+    procedure: &Procedure,
+    transaction: u16,
+    outcome: &Outcome,
+    spare: &mut Spare,
+) -> Result<Vec<u16>, AllocError>
+    requires { AllowsOutcome (Ok (entry_model entry.now, procedure_model procedure.now)) (outcome_model outcome.now) }
+    ensures words { IfOk result (λ w. w.items ≡ message_words (answer_message transaction (seen_of (outcome_model outcome.now)))) }
+    ensures short { IfOk result (λ w. length w.items ≤ 65536) }
+{
+    let mut words = spare.take(alloc)?;
+    match outcome {
+        Outcome::Returned(value) => {
+            words.extend_from_slice(&[2, transaction])?;
+            write(alloc, &procedure.results, value, &mut words)?;
+        }
+        Outcome::Aborted(error, value) => {
+            words.extend_from_slice(&[3, transaction, *error])?;
+            if let Some(listed) = entry.error(*error) {
+                write(alloc, &listed.arguments, value, &mut words)?;
+            }
+        }
+    }
+    Ok(words)
+}
+
+/// The words of the reject of a call that isn't listed.
+pub fn unlisted_words(
+    alloc: Global,
+    transaction: u16,
+    unlisted: Unlisted,
+) -> Result<Vec<u16>, AllocError>
+    ensures words { IfOk result (λ w. w.items ≡ message_words (answer_message transaction (unlisted_model unlisted))) }
+    ensures short { IfOk result (λ w. length w.items ≤ 65536) }
+{
+    match unlisted {
+        Unlisted::Program => Vec::from_slice(alloc, &[1, transaction, 0]),
+        Unlisted::Version { low, high } => Vec::from_slice(alloc, &[1, transaction, 1, low, high]),
+        Unlisted::Procedure => Vec::from_slice(alloc, &[1, transaction, 2]),
+    }
+}
+
+/// The words of the reject of a call whose arguments were not read.
+pub fn unread_words(alloc: Global, transaction: u16) -> Result<Vec<u16>, AllocError>
+    ensures words { IfOk result (λ w. w.items ≡ message_words (answer_message transaction (SeenModel.rejected 3 []))) }
+    ensures short { IfOk result (λ w. length w.items ≤ 65536) }
+{
+    Vec::from_slice(alloc, &[1, transaction, 3])
+}
+
+/// The words of a call's message, in the spare room.
+#[tactic(auto, unfolding(crate::specs::Calls::found))]
+pub fn call_words(
+    alloc: Global,
+    table: &Table,
+    transaction: u16,
+    call: &Call,
+    spare: &mut Spare,
+) -> Result<Vec<u16>, AllocError>
+    requires { HasGoodArguments (table_model table.now) (call_model call.now) }
+    ensures { IfOk result (λ w. w.items ≡ message_words (call_message transaction (raw_call call.now))) }
+{
+    let high = (call.program / 65536) as u16;
+    let low = (call.program % 65536) as u16;
+    let mut words = spare.take(alloc)?;
+    words.extend_from_slice(&[0, transaction, high, low, call.version, call.procedure])?;
+    match &call.arguments {
+        Arguments::Raw(given) => words.extend_from_slice(given.as_slice())?,
+        Arguments::Typed(value) => {
+            if let Ok((_, listed)) = table.find(call.program, call.version, call.procedure) {
+                write(alloc, &listed.arguments, value, &mut words)?;
+            }
+        }
+    }
+    Ok(words)
+}

@@ -1,0 +1,15 @@
+pub mod Runs
+pub mod Signs
+pub mod Ranges
+pub mod Joins
+pub mod Cuts
+pub mod Says
+pub mod Talks
+pub mod Written
+pub mod Wholes
+pub mod Bounds
+pub mod Shorts
+pub mod Numbers
+pub mod Heads
+pub mod Puts
+pub mod More

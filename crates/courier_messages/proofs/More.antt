@@ -1,0 +1,80 @@
+-- What a conversation comes to with one more item, and what goes out with one more call.
+use Rattle.std.proofs.Common.{◌≡◌, ◌∙◌, ap, sym, subst, ℕ, List, [], ◌∷◌, ◌++◌, Bool, true, false, append_assoc, append-nil, Ok, Err, ◌≤◌, length, Result, arith, ◌+◌, ◌%◌, map}
+use Rattle.std.specs.Prelude.{if◌then◌else◌, ◌==◌}
+use Rattle.xns_spp.specs.declared.item.Item.{Item}
+use Rattle.courier_messages.specs.declared.fault.SessionFault.{SessionFault}
+use Rattle.courier_messages.specs.declared.message.Message.{Message}
+use Rattle.courier_messages.specs.Text.{Sign, written, signs, byte, mark, foreign, end_of}
+use Rattle.courier_messages.specs.Conversation.{Phase, opening, conversation, ending, fresh, inside}
+use Rattle.courier_messages.specs.Phases.{run, said, onwards, ◌then◌, ended, good}
+use Rattle.courier_messages.specs.RawCalls.{RawCall}
+use Rattle.courier_messages.specs.Cutting.{cut}
+use Rattle.courier_messages.specs.RawCalls.{call_message}
+use Rattle.courier_messages.proofs.Runs.{run_append, said_append, said_bytes, said_mark, said_stream}
+use Rattle.courier_messages.proofs.Signs.{conversation_is, ending_is}
+use Rattle.courier_messages.specs.declared.fault.MessageFault.{MessageFault}
+use Rattle.courier_messages.specs.Message.{message_of}
+use Rattle.courier_messages.specs.RawCalls.{call_items}
+
+-- ---- the conversation goes on
+
+written_more : (items : List Item) (x : Item) → written (items ++ x ∷ []) ≡ written items ++ signs x
+written_more [] x = append-nil (signs x)
+written_more (y ∷ items) x = ap (λ (ss : List Sign). signs y ++ ss) (written_more items x) ∙ sym (append_assoc (signs y) (written items) (signs x))
+
+pub conversation_more : (items : List Item) (x : Item) → conversation (items ++ x ∷ []) ≡ conversation items ++ onwards (ending items) (λ p. said p (signs x))
+conversation_more items x =
+    conversation_is (items ++ x ∷ [])
+    ∙ ap (λ (ss : List Sign). said (opening []) ss) (written_more items x) ∙ said_append (opening []) (written items) (signs x)
+    ∙ ap (λ (ms : List Message). ms ++ onwards (run (opening []) (written items)) (λ p. said p (signs x))) (sym (conversation_is items))
+    ∙ ap (λ (r : Result Phase SessionFault). conversation items ++ onwards r (λ p. said p (signs x))) (sym (ending_is items))
+
+pub ending_more : (items : List Item) (x : Item) → ending (items ++ x ∷ []) ≡ (ending items then λ p. run p (signs x))
+ending_more items x =
+    ending_is (items ++ x ∷ [])
+    ∙ ap (λ (ss : List Sign). run (opening []) ss) (written_more items x) ∙ run_append (opening []) (written items) (signs x)
+    ∙ ap (λ (r : Result Phase SessionFault). r then λ p. run p (signs x)) (sym (ending_is items))
+
+-- ---- one item ends at most one message
+
+good_one : (r : Result Message MessageFault) → length (good r) ≤ 1
+good_one (Ok m) = omega arith
+good_one (Err e) = omega arith
+
+ended_one : (p : Phase) → length (ended p mark) ≤ 1
+ended_one (opening bytes) = omega arith
+ended_one fresh = omega arith
+ended_one (inside bytes) = good_one (message_of bytes)
+
+last_one : (last : Bool) (p : Phase) → length (said p (end_of last)) ≤ 1
+unfolding said
+last_one true p = subst (λ (ms : List Message). length ms ≤ 1) (sym (said_mark p)) (ended_one p)
+last_one false p = omega arith
+
+pub onwards_one : (r : Result Phase SessionFault) (f : Phase → List Message) → ((p : Phase) → length (f p) ≤ 1) → length (onwards r f) ≤ 1
+onwards_one (Ok p) f h = h p
+onwards_one (Err e) f h = omega arith
+
+signs_one : (ours : Bool) (x : Item) (p : Phase) → length (said p (if ours then map byte x.body ++ end_of x.last else foreign x.stream ∷ [])) ≤ 1
+signs_one true x p =
+    subst (λ (ms : List Message). length ms ≤ 1)
+    (sym (said_append p (map byte x.body) (end_of x.last) ∙ ap (λ (ms : List Message). ms ++ onwards (run p (map byte x.body)) (λ q. said q (end_of x.last))) (said_bytes p x.body)))
+    (onwards_one (run p (map byte x.body)) (λ q. said q (end_of x.last)) (λ q. last_one x.last q))
+signs_one false x p = subst (λ (ms : List Message). length ms ≤ 1) (sym (said_stream p x.stream)) (omega arith)
+
+pub item_one : (x : Item) (p : Phase) → length (said p (signs x)) ≤ 1
+item_one x p = signs_one (x.stream == 0) x p
+
+-- ---- one more call
+
+pub items_more : (k : ℕ) (cs : List RawCall) (c : RawCall) → call_items k (cs ++ c ∷ []) ≡ call_items k cs ++ cut (call_message ((k + length cs) % 65536) c)
+unfolding call_items
+items_more k [] c = append-nil (cut (call_message (k % 65536) c)) ∙ ap (λ (n : ℕ). cut (call_message (n % 65536) c)) (let e : k ≡ k + 0 = omega arith in e)
+items_more k (d ∷ cs) c =
+    let first : List Item = cut (call_message (k % 65536) d) in
+    let e : k + 1 + length cs ≡ k + length (d ∷ cs) = omega arith in
+    ap (λ (xs : List Item). first ++ xs) (items_more (k + 1) cs c ∙ ap (λ (n : ℕ). call_items (k + 1) cs ++ cut (call_message (n % 65536) c)) e)
+    ∙ sym (append_assoc first (call_items (k + 1) cs) (cut (call_message ((k + length (d ∷ cs)) % 65536) c)))
+
+pub next_number : (t n : ℕ) → t ≡ n % 65536 → (t + 1) % 65536 ≡ (1 + n) % 65536
+next_number t n h = omega (arith, h)

@@ -1,0 +1,91 @@
+-- The items that a session puts out.
+use Rattle.std.proofs.Common.{ℕ, zero, suc, ◌+◌, ◌*◌, ◌-◌, ◌/◌, ◌%◌, ◌^◌, ◌<◌, ◌≤◌, Bool, true, false, List, [], ◌∷◌, length, take, drop, arith, refl, length-drop}
+use Rattle.std.specs.List.{AllByRecursion}
+use Rattle.courier_types.specs.Spelling.{AreBytes, AreWords}
+use Rattle.courier_messages.specs.declared.message.Message.{Message}
+use Rattle.courier_messages.specs.declared.message.Message.TheVariants.{Call, Reject, Return, Abort}
+use Rattle.courier_types.specs.Source.{bytes_of}
+use Rattle.courier_messages.specs.Message.{message_words, message_bytes, IsMessage}
+use Rattle.courier_messages.specs.Cutting.{message_item, cut_items, cut_bytes, cut, versions_item}
+use Rattle.courier_messages.specs.Laws.{IsSendableItem}
+
+head_word : (w : ℕ) (ws : List ℕ) → AreWords (w ∷ ws) → w < 2 ^ 16
+head_word w ws h = h 0 0 (omega arith)
+
+tail_words : (w : ℕ) (ws : List ℕ) → AreWords (w ∷ ws) → AreWords ws
+tail_words w ws h i d lt = h (suc i) d (omega arith)
+
+cons_words : (w : ℕ) (ws : List ℕ) → w < 2 ^ 16 → AreWords ws → AreWords (w ∷ ws)
+cons_words w ws h k zero d lt = h
+cons_words w ws h k (suc i) d lt = k i d (omega arith)
+
+no_bytes : AreBytes []
+no_bytes i d lt = absurd (omega arith)
+
+cons_bytes : (b : ℕ) (bs : List ℕ) → b < 2 ^ 8 → AreBytes bs → AreBytes (b ∷ bs)
+cons_bytes b bs h k zero d lt = h
+cons_bytes b bs h k (suc i) d lt = k i d (omega arith)
+
+tail_bytes : (b : ℕ) (bs : List ℕ) → AreBytes (b ∷ bs) → AreBytes bs
+tail_bytes b bs h i d lt = h (suc i) d (omega arith)
+
+head_byte : (b : ℕ) (bs : List ℕ) → AreBytes (b ∷ bs) → b < 2 ^ 8
+head_byte b bs h = h 0 0 (omega arith)
+
+words_bytes : (ws : List ℕ) → AreWords ws → AreBytes (bytes_of ws)
+words_bytes [] h = no_bytes
+words_bytes (w ∷ ws) h = let lt = head_word w ws h in cons_bytes (w / 256) (w % 256 ∷ bytes_of ws) (omega arith) (cons_bytes (w % 256) (bytes_of ws) (omega arith) (words_bytes ws (tail_words w ws h)))
+
+front_bytes : (n : ℕ) (bs : List ℕ) → AreBytes bs → AreBytes (take n bs)
+front_bytes zero bs h = no_bytes
+front_bytes (suc n) [] h = no_bytes
+front_bytes (suc n) (b ∷ bs) h = cons_bytes b (take n bs) (head_byte b bs h) (front_bytes n bs (tail_bytes b bs h))
+
+back_bytes : (n : ℕ) (bs : List ℕ) → AreBytes bs → AreBytes (drop n bs)
+back_bytes zero bs h = h
+back_bytes (suc n) [] h = h
+back_bytes (suc n) (b ∷ bs) h = back_bytes n bs (tail_bytes b bs h)
+
+front_short : (n : ℕ) (bs : List ℕ) → length (take n bs) ≤ n
+front_short zero bs = omega arith
+front_short (suc n) [] = omega arith
+front_short (suc n) (b ∷ bs) = let h = front_short n bs in omega (arith, h)
+
+part_short : (last : Bool) (body : List ℕ) → AreBytes body → length body ≤ 534 → IsSendableItem (message_item last body)
+part_short last body h k = record { short = record { fits = record { stream = omega arith; body = h }; size = k }; plain = refl }
+
+parts_short : (n : ℕ) (bytes : List ℕ) → AreBytes bytes → length bytes ≤ 534 * n + 534 → AllByRecursion IsSendableItem (cut_items n bytes)
+unfolding cut_items
+parts_short zero bytes h k = (part_short true bytes h (omega arith), tt)
+parts_short (suc n) bytes h k =
+    let less = length-drop 534 bytes in
+    (part_short false (take 534 bytes) (front_bytes 534 bytes h) (front_short 534 bytes), parts_short n (drop 534 bytes) (back_bytes 534 bytes h) (omega (arith, less)))
+
+cut_bytes_short : (bytes : List ℕ) → AreBytes bytes → AllByRecursion IsSendableItem (cut_bytes bytes)
+unfolding cut_bytes
+cut_bytes_short bytes h = parts_short ((length bytes - 1) / 534) bytes h (omega arith)
+
+message_in_words : (m : Message) → IsMessage m → AreWords (message_words m)
+message_in_words (Call t p v q ws) h =
+    let lt = h.1 in
+    cons_words 0 (t ∷ p / 65536 ∷ p % 65536 ∷ v ∷ q ∷ ws) (omega arith)
+    (cons_words t (p / 65536 ∷ p % 65536 ∷ v ∷ q ∷ ws) h.0
+    (cons_words (p / 65536) (p % 65536 ∷ v ∷ q ∷ ws) (omega (arith, lt))
+    (cons_words (p % 65536) (v ∷ q ∷ ws) (omega arith)
+    (cons_words v (q ∷ ws) h.2 (cons_words q ws h.3 h.4)))))
+message_in_words (Reject t r ws) h = cons_words 1 (t ∷ r ∷ ws) (omega arith) (cons_words t (r ∷ ws) h.0 (cons_words r ws h.1 h.2))
+message_in_words (Return t ws) h = cons_words 2 (t ∷ ws) (omega arith) (cons_words t ws h.0 h.1)
+message_in_words (Abort t e ws) h = cons_words 3 (t ∷ e ∷ ws) (omega arith) (cons_words t (e ∷ ws) h.0 (cons_words e ws h.1 h.2))
+
+pub cut_short : (m : Message) → IsMessage m → AllByRecursion IsSendableItem (cut m)
+cut_short m h = cut_bytes_short (message_bytes m) (words_bytes (message_words m) (message_in_words m h))
+
+pub versions_short : IsSendableItem versions_item
+versions_short = part_short true (0 ∷ 3 ∷ 0 ∷ 3 ∷ []) (cons_bytes 0 (3 ∷ 0 ∷ 3 ∷ []) (omega arith) (cons_bytes 3 (0 ∷ 3 ∷ []) (omega arith) (cons_bytes 0 (3 ∷ []) (omega arith) (cons_bytes 3 [] (omega arith) no_bytes)))) (omega arith)
+
+no_words : AreWords []
+no_words i d lt = absurd (omega arith)
+
+-- no words, or two
+pub few_words : AreWords [] × ((a b : ℕ) → a < 2 ^ 16 → b < 2 ^ 16 → AreWords (a ∷ b ∷ []))
+few_words = (no_words, λ a b h k. cons_words a (b ∷ []) h (cons_words b [] k no_words))

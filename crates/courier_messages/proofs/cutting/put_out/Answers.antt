@@ -1,0 +1,16 @@
+use Rattle.std.proofs.Common.{◌≡◌, ◌∙◌, ◌++◌, ◌∷◌, [], ap, sym, List, length}
+use Rattle.xns_spp.specs.declared.item.Item.{Item}
+use Rattle.courier_types.specs.Source.{bytes_of}
+use Rattle.courier_messages.specs.Bounds.{bytes_in}
+use Rattle.courier_messages.specs.Cutting.{cut_bytes}
+use Rattle.courier_messages.proofs.Cuts.{last_item, put_length}
+use Rattle.courier_messages.proofs.cutting.put_out.Goals as goal
+
+pub returns-clause-size : goal.returns-clause-size
+returns-clause-size c =
+    let before : List Item = c.args.out.now.items in
+    let words = c.args.words.now in
+    let all : c.push_back.new.self.items ≡ before ++ cut_bytes (bytes_of words) =
+    c.in_ok-push_back.ensures.items
+    ∙ (ap (λ (x : Item). before ++ x ∷ []) c.in_ok-item.ensures ∙ ap (λ (xs : List Item). before ++ xs) (sym (last_item words c.if-words-gt-WORDS_AN_ITEM.false))) in
+    ap (λ (xs : List Item). length (bytes_in xs)) all ∙ put_length before words

@@ -1,0 +1,22 @@
+-- How much a session holds.
+use Rattle.std.specs.Prelude.{◌<◌, ◌≤◌, ℕ, List, length}
+use Rattle.std.specs.Coded.{le_prop, Unit-prop}
+use Rattle.std.specs.List.{flat_map}
+use Rattle.xns_spp.specs.declared.item.Item.{Item}
+use Rattle.courier_messages.specs.Message.{most_bytes}
+use Rattle.courier_messages.specs.Conversation.{Phase, opening, fresh, inside}
+
+-- what a session keeps of the text: fewer than four bytes of the version range, or at most a message
+abbrev pub IsBounded : Phase → Type 0
+IsBounded (opening bytes) = length bytes < 4
+IsBounded fresh = Unit {0}
+IsBounded (inside bytes) = length bytes ≤ most_bytes
+
+pub IsBounded-prop : (p : Phase) → IsProp (IsBounded p)
+IsBounded-prop (opening bytes) = le_prop
+IsBounded-prop fresh = Unit-prop
+IsBounded-prop (inside bytes) = le_prop
+
+-- the bytes of items, one body behind the other
+abbrev pub bytes_in : List Item → List ℕ
+bytes_in items = flat_map (λ x. x.body) items

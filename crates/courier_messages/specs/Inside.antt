@@ -1,0 +1,28 @@
+-- What the pieces of a session hold.
+use Rattle.std.specs.Prelude.{◌≡◌, ◌⊎◌, ◌+◌, ◌<◌, ◌≤◌, ℕ, List, [], length}
+use Rattle.courier_types.specs.Pieces.{joined}
+use Rattle.courier_messages.specs.declared.pieces.Kept.{Kept}
+use Rattle.courier_messages.specs.declared.pieces.Kept.TheVariants.{One, Several}
+use Rattle.courier_messages.specs.Message.{most_bytes}
+use Rattle.courier_messages.specs.Conversation.{Phase, opening, fresh, inside}
+use Rattle.courier_messages.specs.declared.incoming.Stage.{Stage}
+use Rattle.courier_messages.specs.declared.incoming.Stage.TheVariants.{Opening, Fresh, Inside}
+
+-- the bytes of what is kept
+abbrev pub bytes_kept : Kept → List ℕ
+bytes_kept (One only) = only.items
+bytes_kept (Several several) = joined several.items
+
+abbrev pub phase_in : Stage → List ℕ → Phase
+phase_in Opening bytes = opening bytes
+phase_in Fresh bytes = fresh
+phase_in Inside bytes = inside bytes
+
+-- nothing is skipped, or the version range
+abbrev pub IsSkipped : ℕ → List ℕ → Type 0
+IsSkipped skipped bytes = (skipped ≡ 0) ⊎ ((skipped ≡ 4) × (4 ≤ length bytes))
+
+abbrev pub IsHeld : Stage → ℕ → List ℕ → Type 0
+IsHeld Opening skipped bytes = (skipped ≡ 0) × (length bytes < 4)
+IsHeld Fresh skipped bytes = (skipped ≡ 0) × (bytes ≡ [])
+IsHeld Inside skipped bytes = IsSkipped skipped bytes × (length bytes ≤ most_bytes + skipped)

@@ -1,0 +1,12 @@
+pub mod Message
+pub mod Head
+pub mod Refusal
+pub mod Text
+pub mod Conversation
+pub mod Phases
+pub mod Bounds
+pub mod Inside
+pub mod Cutting
+pub mod RawCalls
+pub mod Whole
+pub mod Laws

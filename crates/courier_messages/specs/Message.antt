@@ -1,0 +1,70 @@
+-- Messages as words and as bytes (XSIS 038112, Courier, Message stream).
+use Rattle.std.specs.Prelude.{◌≡◌, ℕ, ◌+◌, ◌*◌, ◌/◌, ◌%◌, ◌^◌, ◌<◌, ◌≤◌, List, [], ◌∷◌, length, ◌==◌, nat_lt, if◌then◌else◌, Result, Ok, Err}
+use Rattle.courier_types.specs.Pieces.{words_of}
+use Rattle.courier_types.specs.Source.{bytes_of}
+use Rattle.courier_types.specs.Spelling.{AreWords}
+use Rattle.courier_messages.specs.declared.fault.MessageFault.{MessageFault}
+use Rattle.courier_messages.specs.declared.fault.MessageFault.TheVariants.{OddLength, ShortMessage, UnknownKind, TooLong}
+use Rattle.courier_messages.specs.declared.message.Message.{Message}
+use Rattle.courier_messages.specs.declared.message.Message.TheVariants.{Call, Reject, Return, Abort}
+
+-- a message has at most so many words, and so many bytes
+abbrev pub most_words : ℕ
+most_words = 65536
+
+abbrev pub most_bytes : ℕ
+most_bytes = 131072
+
+-- the words that are written for a message
+abbrev pub message_words : Message → List ℕ
+message_words (Call transaction program version procedure words) =
+    0 ∷ transaction ∷ program / 65536 ∷ program % 65536 ∷ version ∷ procedure ∷ words
+message_words (Reject transaction reason words) = 1 ∷ transaction ∷ reason ∷ words
+message_words (Return transaction words) = 2 ∷ transaction ∷ words
+message_words (Abort transaction error words) = 3 ∷ transaction ∷ error ∷ words
+
+abbrev pub message_bytes : Message → List ℕ
+message_bytes m = bytes_of (message_words m)
+
+-- the message's numbers are within their types' bounds
+abbrev pub IsMessage : Message → Type 0
+IsMessage (Call transaction program version procedure words) = (transaction < 2 ^ 16) × (program < 2 ^ 32) × (version < 2 ^ 16) × (procedure < 2 ^ 16) × AreWords words
+IsMessage (Reject transaction reason words) = (transaction < 2 ^ 16) × (reason < 2 ^ 16) × AreWords words
+IsMessage (Return transaction words) = (transaction < 2 ^ 16) × AreWords words
+IsMessage (Abort transaction error words) = (transaction < 2 ^ 16) × (error < 2 ^ 16) × AreWords words
+
+-- these words, all of them, say the message
+pub record SpellsMessage (m : Message) (words : List ℕ) : Type 0 where
+  pub spells : words ≡ message_words m
+  pub numbers : IsMessage m
+  pub size : length words ≤ most_words
+
+abbrev pub call_in : ℕ → List ℕ → Result Message MessageFault
+call_in transaction (high ∷ low ∷ version ∷ procedure ∷ words) = Ok (Call transaction (high * 65536 + low) version procedure words)
+call_in transaction ws = Err ShortMessage
+
+abbrev pub reject_in : ℕ → List ℕ → Result Message MessageFault
+reject_in transaction (reason ∷ words) = Ok (Reject transaction reason words)
+reject_in transaction [] = Err ShortMessage
+
+abbrev pub abort_in : ℕ → List ℕ → Result Message MessageFault
+abort_in transaction (error ∷ words) = Ok (Abort transaction error words)
+abort_in transaction [] = Err ShortMessage
+
+-- the message that the words are, whatever their number
+abbrev pub message_in : List ℕ → Result Message MessageFault
+message_in (kind ∷ transaction ∷ ws) =
+    if kind == 0 then call_in transaction ws
+    else if kind == 1 then reject_in transaction ws
+    else if kind == 2 then Ok (Return transaction ws)
+    else if kind == 3 then abort_in transaction ws
+    else Err (UnknownKind kind)
+message_in ws = Err ShortMessage
+
+abbrev pub unless_long : List ℕ → Result Message MessageFault → Result Message MessageFault
+unless_long bytes (Ok m) = if nat_lt most_bytes (length bytes) then Err TooLong else Ok m
+unless_long bytes (Err e) = Err e
+
+-- the message that the bytes are, or the first fault
+unfoldable pub message_of : List ℕ → Result Message MessageFault
+message_of bytes = if length bytes % 2 == 1 then Err OddLength else unless_long bytes (message_in (words_of bytes))

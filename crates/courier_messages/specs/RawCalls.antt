@@ -1,0 +1,31 @@
+-- Calls by their words, and the messages that they go out in (XSIS 038112, Courier, Remote procedures and errors). How calls are
+-- numbered is this project's rule.
+use Rattle.std.specs.Prelude.{ℕ, ◌+◌, ◌%◌, List, [], ◌∷◌, ◌++◌}
+use Rattle.xns_spp.specs.declared.item.Item.{Item}
+use Rattle.courier_messages.specs.declared.message.Message.{Message}
+use Rattle.courier_messages.specs.declared.message.Message.TheVariants.{Call}
+use Rattle.courier_messages.specs.Cutting.{cut, versions_item}
+
+-- a call whose arguments are words
+pub record RawCall : Type 0 where
+  pub program : ℕ
+  pub version : ℕ
+  pub procedure : ℕ
+  pub words : List ℕ
+
+abbrev pub words_call : ℕ → ℕ → ℕ → List ℕ → RawCall
+words_call program version procedure words = record { program = program; version = version; procedure = procedure; words = words }
+
+abbrev pub call_message : ℕ → RawCall → Message
+call_message transaction c = Call transaction c.program c.version c.procedure c.words
+
+-- what goes out
+
+-- the k-th call and those after it, with their transactions
+unfoldable pub call_items : ℕ → List RawCall → List Item
+call_items k [] = []
+call_items k (c ∷ cs) = cut (call_message (k % 65536) c) ++ call_items (k + 1) cs
+
+-- all that the caller puts out
+abbrev pub caller_items : List RawCall → List Item
+caller_items calls = versions_item ∷ call_items 1 calls

@@ -1,0 +1,56 @@
+-- Faults, and wants of memory in their stead.
+use Rattle.std.specs.Prelude.{◌≡◌, ◌<◌, List, [], length, Option, Result, Ok, Err}
+use Rattle.std.specs.Option.{option_to_list}
+use Rattle.courier_messages.specs.declared.fault.MessageFault.{MessageFault}
+use Rattle.courier_messages.specs.declared.fault.MessageRefusal.{MessageRefusal}
+use Rattle.courier_messages.specs.declared.fault.MessageRefusal.TheVariants as refusals
+use Rattle.courier_messages.specs.declared.fault.SessionFault.{SessionFault}
+use Rattle.courier_messages.specs.declared.fault.SessionFault.TheVariants.{NoCommonVersion, BadVersions, BadMessage, WrongTransaction, BadReply, Stream, NoMemory, Failed}
+use Rattle.courier_messages.specs.declared.message.Message.{Message}
+use Rattle.courier_messages.specs.Head.{words_in}
+
+abbrev pub session_fault : MessageRefusal → SessionFault
+session_fault (refusals.Fault e) = BadMessage e
+session_fault refusals.NoMemory = NoMemory
+
+-- what reading a message answers, unless memory ran out
+abbrev pub Reads : Result Message MessageRefusal → Result Message MessageFault → Type 0
+Reads (Ok m) read = read ≡ Ok m
+Reads (Err (refusals.Fault e)) read = read ≡ Err e
+Reads (Err refusals.NoMemory) read = Unit {0}
+
+-- P holds where memory was refused
+abbrev pub IfNoMemory : Result Message MessageRefusal → Type 0 → Type 0
+IfNoMemory (Ok m) P = Unit {0}
+IfNoMemory (Err (refusals.Fault e)) P = Unit {0}
+IfNoMemory (Err refusals.NoMemory) P = P
+
+-- a message that has words behind its head
+abbrev pub HasOwnWords : Result Message MessageFault → Type 0
+HasOwnWords (Ok m) = 0 < length (words_in m)
+HasOwnWords (Err e) = ⊥
+
+-- one of the faults that a peer makes, of which P holds, or a want of memory, of which M holds
+abbrev pub Stops : SessionFault → Type 0 → Type 0 → Type 0
+Stops NoMemory M P = M
+Stops NoCommonVersion M P = P
+Stops BadVersions M P = P
+Stops (BadMessage e) M P = P
+Stops WrongTransaction M P = P
+Stops BadReply M P = P
+Stops (Stream kind) M P = P
+Stops Failed M P = ⊥
+
+-- the same, where a want of memory says nothing
+abbrev pub UnlessMemory : SessionFault → Type 0 → Type 0
+UnlessMemory e P = Stops e (Unit {0}) P
+
+-- a call that ends at new, or with a fault
+abbrev pub Follows : {X A : Type 0} → Result X SessionFault → Result A SessionFault → A → Type 0
+Follows (Ok x) q new = q ≡ Ok new
+Follows (Err e) q new = UnlessMemory e (q ≡ Err e)
+
+-- which also gives the messages
+abbrev pub Takes : {A : Type 0} → Result (Option Message) SessionFault → Result A SessionFault → List Message → A → Type 0
+Takes (Ok m) q ms new = (q ≡ Ok new) × (ms ≡ option_to_list m)
+Takes (Err e) q ms new = UnlessMemory e ((q ≡ Err e) × (ms ≡ []))

@@ -1,0 +1,62 @@
+//! Messages on their way out.
+ghost use Rattle.std.specs.Prelude.{◌≡◌, ◌++◌, ◌≤◌, ◌+◌, ◌*◌, length, IfOk, OnOk, OnErr, Ok};
+ghost use Rattle.courier_types.specs.Source.{bytes_of};
+ghost use Rattle.courier_messages.specs.Bounds.{bytes_in};
+ghost use Rattle.courier_messages.specs.Cutting.{message_item, cut_bytes};
+
+use crate::writing::put_words;
+use std::alloc::{AllocError, Global};
+use std::collections::VecDeque;
+use xns_spp::{Bytes, Item};
+
+/// How many words the body of an item has at most.
+const WORDS_AN_ITEM: usize = 267;
+
+#[tactic(auto, using(crate::proofs::Cuts::bytes_length))]
+fn make_item(alloc: Global, last: bool, words: &[u16]) -> Result<Item, AllocError>
+    requires { length words.now ≤ 267 }
+    ensures { IfOk result (λ x. x ≡ message_item last (bytes_of words.now)) }
+{
+    let mut body = Vec::with_capacity(alloc, 2 * words.len())?;
+    put_words(words, &mut body);
+    Ok(Item {
+        stream: 0,
+        attention: false,
+        last,
+        body: Bytes::new(body),
+    })
+}
+
+/// The items that the words of a message go out in.
+#[tactic(auto, using(crate::proofs::Cuts::last_item, crate::proofs::Cuts::one_more_item))]
+pub fn cut(alloc: Global, words: &[u16]) -> Result<VecDeque<Item>, AllocError>
+    ensures items { IfOk result (λ q. q.items ≡ cut_bytes (bytes_of words.now)) }
+    ensures size { IfOk result (λ q. length (bytes_in q.items) ≡ 2 * length words.now) }
+{
+    let mut items = VecDeque::with_capacity(alloc, words.len() / WORDS_AN_ITEM + 1)?;
+    let mut rest = words;
+    while rest.len() > WORDS_AN_ITEM {
+        let (front, others) = rest.split_at(WORDS_AN_ITEM);
+        items.push_back(make_item(alloc, false, front)?)?;
+        rest = others;
+    }
+    items.push_back(make_item(alloc, true, rest)?)?;
+    Ok(items)
+}
+
+/// Puts the items that the words of a message go out in behind those that are out. The only error is want of
+/// memory, after which `out` holds what it held.
+#[tactic(auto, using(crate::proofs::Cuts::last_item))]
+pub fn put_out(alloc: Global, words: &[u16], out: &mut VecDeque<Item>) -> Result<(), AllocError>
+    ensures ok { OnOk result (out.new.items ≡ out.old.items ++ cut_bytes (bytes_of words.now)) }
+    ensures size { OnOk result (length (bytes_in out.new.items) ≡ length (bytes_in out.old.items) + 2 * length words.now) }
+    ensures err { OnErr result (out.new.items ≡ out.old.items) }
+{
+    if words.len() > WORDS_AN_ITEM {
+        let mut items = cut(alloc, words)?;
+        return out.append(&mut items);
+    }
+    let item = make_item(alloc, true, words)?;
+    out.push_back(item)?;
+    Ok(())
+}

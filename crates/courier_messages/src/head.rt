@@ -1,0 +1,143 @@
+//! A message without its words.
+ghost use Rattle.std.specs.Prelude.{◌≡◌, ◌+◌, ◌++◌, length, vec_len, vec_capacity};
+ghost use Rattle.courier_types.specs.Writing.{HasRoom};
+ghost use Rattle.courier_messages.specs.Head.{with_words, words_in, head_size, head_words};
+ghost use Rattle.courier_types.specs.Source.{bytes_of};
+
+use crate::message::Message;
+use crate::words::Words;
+use crate::writing::put_words;
+
+/// A message without its words.
+#[derive(Clone, Copy, Debug)]
+pub enum Head {
+    Call {
+        transaction: u16,
+        program: u32,
+        version: u16,
+        procedure: u16,
+    },
+    Reject {
+        transaction: u16,
+        reason: u16,
+    },
+    Return {
+        transaction: u16,
+    },
+    Abort {
+        transaction: u16,
+        error: u16,
+    },
+}
+
+impl Head {
+    /// A message's head.
+    pub fn of(message: &Message) -> Head
+        ensures { message.now ≡ with_words result (words_in message.now) }
+    {
+        match message {
+            Message::Call {
+                transaction,
+                program,
+                version,
+                procedure,
+                ..
+            } => Head::Call {
+                transaction: *transaction,
+                program: *program,
+                version: *version,
+                procedure: *procedure,
+            },
+            Message::Reject {
+                transaction,
+                reason,
+                ..
+            } => Head::Reject {
+                transaction: *transaction,
+                reason: *reason,
+            },
+            Message::Return { transaction, .. } => Head::Return {
+                transaction: *transaction,
+            },
+            Message::Abort {
+                transaction,
+                error,
+                ..
+            } => Head::Abort {
+                transaction: *transaction,
+                error: *error,
+            },
+        }
+    }
+
+    /// How many words it has.
+    pub fn size(self) -> usize
+        ensures { result ≡ head_size self }
+    {
+        match self {
+            Head::Call { .. } => 6,
+            Head::Reject { .. } | Head::Abort { .. } => 3,
+            Head::Return { .. } => 2,
+        }
+    }
+
+    pub fn with_words(self, words: Words) -> Message
+        ensures { result ≡ with_words self words }
+    {
+        match self {
+            Head::Call {
+                transaction,
+                program,
+                version,
+                procedure,
+            } => Message::Call {
+                transaction,
+                program,
+                version,
+                procedure,
+                words,
+            },
+            Head::Reject {
+                transaction,
+                reason,
+            } => Message::Reject {
+                transaction,
+                reason,
+                words,
+            },
+            Head::Return { transaction } => Message::Return { transaction, words },
+            Head::Abort { transaction, error } => Message::Abort {
+                transaction,
+                error,
+                words,
+            },
+        }
+    }
+
+    /// Appends its words, two bytes each, for which there is room.
+    pub fn put(self, out: &mut Vec<u8>)
+        requires { HasRoom out.old (length (bytes_of (head_words self))) }
+        ensures items { out.new.items ≡ out.old.items ++ bytes_of (head_words self) }
+        ensures len { vec_len out.new ≡ vec_len out.old + length (bytes_of (head_words self)) }
+        ensures capacity { vec_capacity out.new ≡ vec_capacity out.old }
+    {
+        match self {
+            Head::Call {
+                transaction,
+                program,
+                version,
+                procedure,
+            } => {
+                let high = (program / 65536) as u16;
+                let low = (program % 65536) as u16;
+                put_words(&[0, transaction, high, low, version, procedure], out)
+            }
+            Head::Reject {
+                transaction,
+                reason,
+            } => put_words(&[1, transaction, reason], out),
+            Head::Return { transaction } => put_words(&[2, transaction], out),
+            Head::Abort { transaction, error } => put_words(&[3, transaction, error], out),
+        }
+    }
+}

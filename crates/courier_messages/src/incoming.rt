@@ -1,0 +1,249 @@
+//! The message that is coming in.
+ghost use Rattle.std.specs.Prelude.{◌≡◌, ◌<◌, ◌≤◌, ◌+◌, ◌/◌, Ok, Err, [], map, length, drop, IfOk, IfErr, OnOk, OnErr};
+ghost use Rattle.courier_messages.specs.declared.incoming.Stage.TheVariants.{Inside};
+ghost use Rattle.courier_types.specs.Pieces.{words_of};
+ghost use Rattle.courier_messages.specs.Text.{byte, mark, signs};
+ghost use Rattle.courier_messages.specs.Conversation.{Phase, opening, fresh, inside};
+ghost use Rattle.courier_messages.specs.Message.{most_bytes, message_of};
+ghost use Rattle.courier_messages.specs.Phases.{step, ended, run, said, agreement, opened};
+ghost use Rattle.courier_messages.specs.Bounds.{IsBounded};
+ghost use Rattle.courier_messages.specs.Inside.{phase_in, IsHeld, IsSkipped};
+ghost use Rattle.courier_messages.specs.Refusal.{Follows, Takes, UnlessMemory};
+ghost use Rattle.courier_messages.specs.Head.{ReadsHead, size_of};
+
+use crate::fault::{MessageFault, SessionFault};
+use crate::head::Head;
+use crate::pieced_message::PiecedMessage;
+use crate::pieces::Pieces;
+use crate::reading::{MOST_BYTES, read_head, take_word};
+use courier_types::PieceWords;
+use std::alloc::Global;
+use std::marker::Model;
+use xns_spp::Item;
+
+/// The version of Courier that both sides speak.
+pub const VERSION: u16 = 3;
+
+/// How many bytes the version range has.
+const RANGE_BYTES: usize = 4;
+
+/// Where in a conversation one is: in the version range, directly behind it, or in a message.
+#[derive(Clone, Copy, Debug)]
+pub enum Stage {
+    Opening,
+    Fresh,
+    Inside,
+}
+
+/// What came since the last message.
+///
+/// The first message may begin in the piece that the version range ends in: the range then stands in front of it, and
+/// is skipped.
+#[derive(Debug, Drop)]
+pub struct Incoming {
+    stage: Stage,
+    pieces: Pieces,
+    skipped: usize,
+}
+
+impl Model for Incoming {
+    ghost Value = { Phase };
+
+    ghost view = { λ a. phase_in a.stage (drop a.skipped a.pieces) };
+
+    ghost invariant = { λ a. IsHeld a.stage a.skipped a.pieces };
+}
+
+fn agree(low: u16, high: u16) -> Result<(), SessionFault>
+    ensures { Follows result (agreement low high) fresh }
+{
+    if low > high {
+        Err(SessionFault::BadVersions)
+    } else if low > VERSION || high < VERSION {
+        Err(SessionFault::NoCommonVersion)
+    } else {
+        Ok(())
+    }
+}
+
+/// Whether the versions that the pieces begin with are agreed on.
+#[tactic(auto, using(crate::proofs::Ranges::range_words))]
+fn agree_on(pieces: &Pieces) -> Result<(), SessionFault>
+    requires { 4 ≤ length pieces.now }
+    ensures { Follows result (opened pieces.now) fresh }
+{
+    let _count = pieces.len();
+    let mut words = PieceWords::new(pieces.as_slice());
+    let low = take_word(&mut words);
+    let high = take_word(&mut words);
+    agree(low, high)
+}
+
+/// The words of the pieces behind those that are skipped.
+#[tactic(auto, using(crate::proofs::Ranges::words_skipped))]
+fn words_behind(pieces: &Pieces, skipped: usize) -> PieceWords<'_>
+    requires { IsSkipped skipped pieces.now }
+    ensures { result ≡ words_of (drop skipped pieces.now) }
+{
+    let _count = pieces.len();
+    let mut words = PieceWords::new(pieces.as_slice());
+    if skipped == RANGE_BYTES {
+        take_word(&mut words);
+        take_word(&mut words);
+    }
+    words
+}
+
+/// What the message begins with that the pieces are.
+fn read_head_in(pieces: &Pieces, skipped: usize) -> Result<Head, MessageFault>
+    requires skipped { IsSkipped skipped pieces.now }
+    requires size { length pieces.now ≤ most_bytes + skipped }
+    ensures { ReadsHead result (drop (skipped / 2 + size_of result) (words_of pieces.now)) (message_of (drop skipped pieces.now)) }
+{
+    if (pieces.len() - skipped) % 2 == 1 {
+        return Err(MessageFault::OddLength);
+    }
+    let mut words = words_behind(pieces, skipped);
+    read_head(&mut words)
+}
+
+/// More bytes of the version range, and of what comes behind it: where one is then, and how much is to be skipped.
+#[tactic(auto, using(crate::proofs::Ranges::still_opening, crate::proofs::Ranges::range_refused, crate::proofs::Ranges::range_alone, crate::proofs::Ranges::range_and_more, crate::proofs::Ranges::range_and_too_much))]
+fn take_range(pieces: &mut Pieces, body: Vec<u8>) -> Result<(Stage, usize), SessionFault>
+    requires { length pieces.old < 4 }
+    ensures runs { IfOk result (λ x. run (opening pieces.old) (map byte body.items) ≡ Ok (phase_in x.0 (drop x.1 pieces.new))) }
+    ensures held { IfOk result (λ x. IsHeld x.0 x.1 pieces.new) }
+    ensures stops { IfErr result (λ e. UnlessMemory e (run (opening pieces.old) (map byte body.items) ≡ Err e)) }
+    ensures few { OnErr result (length pieces.new < 4) }
+{
+    pieces.push(body)?;
+    let count = pieces.len();
+    if count < RANGE_BYTES {
+        return Ok((Stage::Opening, 0));
+    }
+    if let Err(fault) = agree_on(pieces) {
+        pieces.clear();
+        return Err(fault);
+    }
+    if count == RANGE_BYTES {
+        pieces.clear();
+        return Ok((Stage::Fresh, 0));
+    }
+    if count > RANGE_BYTES + MOST_BYTES {
+        pieces.clear();
+        return Err(SessionFault::BadMessage(MessageFault::TooLong));
+    }
+    Ok((Stage::Inside, RANGE_BYTES))
+}
+
+/// More bytes of a message.
+#[tactic(auto, using(crate::proofs::Ranges::more_bytes, crate::proofs::Ranges::too_many_bytes))]
+fn take_more(pieces: &mut Pieces, skipped: usize, body: Vec<u8>) -> Result<(), SessionFault>
+    requires skipped { IsSkipped skipped pieces.old }
+    requires size { length pieces.old ≤ most_bytes + skipped }
+    ensures runs { OnOk result (run (inside (drop skipped pieces.old)) (map byte body.items) ≡ Ok (inside (drop skipped pieces.new))) }
+    ensures held { OnOk result (IsHeld Inside skipped pieces.new) }
+    ensures stops { IfErr result (λ e. UnlessMemory e (run (inside (drop skipped pieces.old)) (map byte body.items) ≡ Err e)) }
+    ensures same { OnErr result (pieces.new ≡ pieces.old) }
+{
+    if body.len() > MOST_BYTES + skipped - pieces.len() {
+        return Err(SessionFault::BadMessage(MessageFault::TooLong));
+    }
+    pieces.push(body)?;
+    Ok(())
+}
+
+/// The first bytes behind the version range, if there are any: where one is then.
+#[tactic(auto, using(crate::proofs::Ranges::fresh_bytes, crate::proofs::Ranges::no_more_bytes))]
+fn take_first(pieces: &mut Pieces, body: Vec<u8>) -> Result<Stage, SessionFault>
+    requires { pieces.old ≡ [] }
+    ensures runs { IfOk result (λ stage. run fresh (map byte body.items) ≡ Ok (phase_in stage pieces.new)) }
+    ensures held { IfOk result (λ stage. IsHeld stage 0 pieces.new) }
+    ensures stops { IfErr result (λ e. UnlessMemory e (run fresh (map byte body.items) ≡ Err e)) }
+    ensures same { OnErr result (pieces.new ≡ []) }
+{
+    let more = body.len();
+    if more == 0 {
+        return Ok(Stage::Fresh);
+    }
+    take_more(pieces, 0, body)?;
+    Ok(Stage::Inside)
+}
+
+impl Incoming {
+    pub fn new(alloc: Global) -> Incoming
+        ensures { result ≡ opening [] }
+    {
+        Incoming {
+            stage: Stage::Opening,
+            pieces: Pieces::new(alloc),
+            skipped: 0,
+        }
+    }
+
+    /// Does nothing: what is kept is bounded.
+    #[tactic(auto, using(crate::proofs::Bounds::held_bound))]
+    pub fn known(&self)
+        ensures { IsBounded self.now }
+    {
+        let _stage = self.stage;
+    }
+
+    /// More bytes.
+    fn take_body(&mut self, body: Vec<u8>) -> Result<(), SessionFault>
+        ensures { Follows result (run self.old (map byte body.items)) self.new }
+    {
+        match self.stage {
+            Stage::Opening => {
+                let (stage, skipped) = take_range(&mut self.pieces, body)?;
+                self.stage = stage;
+                self.skipped = skipped;
+                Ok(())
+            }
+            Stage::Fresh => {
+                self.stage = take_first(&mut self.pieces, body)?;
+                Ok(())
+            }
+            Stage::Inside => take_more(&mut self.pieces, self.skipped, body),
+        }
+    }
+
+    /// A mark, which may end a message.
+    fn take_mark(&mut self, alloc: Global) -> Result<Option<PiecedMessage>, SessionFault>
+        ensures { Takes result (step self.old mark) (ended self.old mark) self.new }
+    {
+        match self.stage {
+            Stage::Opening => Err(SessionFault::BadVersions),
+            Stage::Fresh => {
+                self.stage = Stage::Inside;
+                Ok(None)
+            }
+            Stage::Inside => {
+                let head = match read_head_in(&self.pieces, self.skipped) {
+                    Ok(head) => head,
+                    Err(fault) => return Err(SessionFault::BadMessage(fault)),
+                };
+                let before = self.skipped / 2 + head.size();
+                self.skipped = 0;
+                Ok(Some(PiecedMessage::new(head, self.pieces.take(alloc), before)))
+            }
+        }
+    }
+
+    /// One more item, which may end a message.
+    #[tactic(auto, using(crate::proofs::Runs::run_append, crate::proofs::Runs::said_append, crate::proofs::Runs::run_mark, crate::proofs::Runs::said_mark, crate::proofs::Runs::said_bytes))]
+    pub fn take(&mut self, alloc: Global, item: Item) -> Result<Option<PiecedMessage>, SessionFault>
+        ensures { Takes result (run self.old (signs item)) (said self.old (signs item)) self.new }
+    {
+        if item.stream != 0 {
+            return Err(SessionFault::Stream { kind: item.stream });
+        }
+        let last = item.last;
+        self.take_body(item.body.into_vec())?;
+        if last {
+            self.take_mark(alloc)
+        } else {
+            Ok(None)
+        }
+    }
+}

@@ -1,0 +1,27 @@
+//! Courier's messages: how they are written and read, how they are cut into items, and what items say by them
+//! (XSIS 038112, Courier, Message stream). What can be called is not looked at.
+#![tactic(auto)]
+
+mod cutting;
+mod fault;
+mod head;
+mod incoming;
+pub mod laws;
+mod message;
+mod pieced_message;
+mod pieces;
+mod reading;
+mod spare;
+mod words;
+mod writing;
+
+pub use cutting::{cut, put_out};
+pub use fault::{MessageFault, MessageRefusal, SessionFault};
+pub use head::Head;
+pub use incoming::{Incoming, VERSION};
+pub use message::Message;
+pub use pieced_message::PiecedMessage;
+pub use reading::{MOST_BYTES, read_message};
+pub use spare::Spare;
+pub use words::Words;
+pub use writing::write_message;

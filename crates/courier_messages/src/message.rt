@@ -1,0 +1,45 @@
+//! Courier's four messages.
+ghost use Rattle.std.specs.Prelude.{◌≡◌};
+ghost use Rattle.courier_messages.specs.Head.{words_in};
+
+use crate::words::Words;
+
+/// A whole message.
+#[derive(Debug, Drop)]
+pub enum Message {
+    Call {
+        transaction: u16,
+        program: u32,
+        version: u16,
+        procedure: u16,
+        words: Words,
+    },
+    Reject {
+        transaction: u16,
+        reason: u16,
+        words: Words,
+    },
+    Return {
+        transaction: u16,
+        words: Words,
+    },
+    Abort {
+        transaction: u16,
+        error: u16,
+        words: Words,
+    },
+}
+
+impl Message {
+    /// What stands behind the message's head: arguments, results, or what a reject or an error tells.
+    pub fn words(&self) -> &[u16]
+        ensures { result.now ≡ words_in self.now }
+    {
+        match self {
+            Message::Call { words, .. }
+            | Message::Reject { words, .. }
+            | Message::Return { words, .. }
+            | Message::Abort { words, .. } => words.as_slice(),
+        }
+    }
+}

@@ -1,0 +1,130 @@
+//! Bytes that came in pieces.
+ghost use Rattle.std.specs.Prelude.{ℕ, List, ◌≡◌, ◌+◌, ◌<◌, ◌^◌, ◌++◌, [], length, OnOk, OnErr};
+ghost use Rattle.courier_types.specs.Pieces.{joined};
+ghost use Rattle.courier_messages.specs.Inside.{bytes_kept};
+
+use std::alloc::{AllocError, Global};
+use std::marker::Model;
+use std::mem::replace;
+use std::slice::from_ref;
+
+/// How much room is made where a second piece comes, in pieces.
+const FEW: usize = 4;
+
+/// The pieces that are kept. Most messages come in one, which needs no vector around it.
+#[derive(Debug, Drop)]
+pub enum Kept {
+    /// The only piece, or no bytes.
+    One(Vec<u8>),
+    Several(Vec<Vec<u8>>),
+}
+
+impl Kept {
+    fn new(alloc: Global) -> Kept
+        ensures { bytes_kept result ≡ [] }
+    {
+        Kept::One(Vec::new(alloc))
+    }
+
+    fn as_slice(&self) -> &[Vec<u8>]
+        ensures { joined result.now ≡ bytes_kept self.now }
+    {
+        match self {
+            Kept::One(only) => from_ref(only),
+            Kept::Several(several) => several.as_slice(),
+        }
+    }
+
+    /// One more piece.
+    #[tactic(auto, using(crate::proofs::Joins::joined_push))]
+    fn push(&mut self, alloc: Global, piece: Vec<u8>) -> Result<(), AllocError>
+        ensures ok { OnOk result (bytes_kept self.new ≡ bytes_kept self.old ++ piece.items) }
+        ensures err { OnErr result (bytes_kept self.new ≡ bytes_kept self.old) }
+    {
+        match self {
+            Kept::Several(several) => several.push(piece)?,
+            Kept::One(only) => {
+                if only.is_empty() {
+                    *only = piece;
+                    return Ok(());
+                }
+                let mut several = Vec::with_capacity(alloc, FEW)?;
+                several.push(replace(only, Vec::new(alloc)))?;
+                several.push(piece)?;
+                *self = Kept::Several(several);
+            }
+        }
+        Ok(())
+    }
+}
+
+/// Bytes that came in pieces and are kept as they came, but for pieces of no bytes. Contracts see all the bytes as one list.
+#[derive(Debug, Drop)]
+pub struct Pieces {
+    kept: Kept,
+    count: usize,
+    alloc: Global,
+}
+
+impl Model for Pieces {
+    ghost Value = { List ℕ };
+
+    ghost view = { λ p. bytes_kept p.kept };
+
+    ghost invariant = { λ p. p.count ≡ length (bytes_kept p.kept) };
+}
+
+impl Pieces {
+    pub fn new(alloc: Global) -> Pieces
+        ensures { result ≡ [] }
+    {
+        Pieces {
+            kept: Kept::new(alloc),
+            count: 0,
+            alloc,
+        }
+    }
+
+    /// How many bytes there are.
+    pub fn len(&self) -> usize
+        ensures { result ≡ length self.now }
+    {
+        self.count
+    }
+
+    pub fn as_slice(&self) -> &[Vec<u8>]
+        ensures { joined result.now ≡ self.now }
+    {
+        self.kept.as_slice()
+    }
+
+    /// The pieces; none are left behind.
+    pub fn take(&mut self, alloc: Global) -> Pieces
+        ensures taken { result ≡ self.old }
+        ensures left { self.new ≡ [] }
+    {
+        replace(self, Pieces::new(alloc))
+    }
+
+    pub fn clear(&mut self)
+        ensures { self.new ≡ [] }
+    {
+        self.kept = Kept::new(self.alloc);
+        self.count = 0;
+    }
+
+    /// One more piece.
+    pub fn push(&mut self, piece: Vec<u8>) -> Result<(), AllocError>
+        requires { length self.old + length piece.items < 2 ^ 64 }
+        ensures ok { OnOk result (self.new ≡ self.old ++ piece.items) }
+        ensures err { OnErr result (self.new ≡ self.old) }
+    {
+        let more = piece.len();
+        if more == 0 {
+            return Ok(());
+        }
+        self.kept.push(self.alloc, piece)?;
+        self.count += more;
+        Ok(())
+    }
+}

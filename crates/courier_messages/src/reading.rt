@@ -1,0 +1,130 @@
+//! Reading messages, from words wherever they lie.
+ghost use Rattle.std.specs.Prelude.{◌≡◌, ◌<◌, ◌∷◌, length, IfOk, OnErr, Ok, Err};
+ghost use Rattle.courier_types.specs.Pieces.{words_of};
+ghost use Rattle.courier_messages.specs.Head.{ReadsHead};
+ghost use Rattle.courier_messages.specs.Message.{message_in, call_in, reject_in, abort_in, message_of, SpellsMessage};
+ghost use Rattle.courier_messages.specs.Refusal.{Reads, IfNoMemory, HasOwnWords};
+
+use crate::fault::{MessageFault, MessageRefusal};
+use crate::head::Head;
+use crate::message::Message;
+use crate::words::Words;
+use courier_types::known::known_bytes;
+use courier_types::{PieceWords, WordSource};
+use std::alloc::{AllocError, Global};
+
+/// A message has at most so many bytes.
+pub const MOST_BYTES: usize = 131_072;
+
+/// The next word, where there is one.
+pub fn take_word<S: WordSource>(source: &mut S) -> u16
+    requires { 0 < length (S.words_left source.old) }
+    ensures { S.words_left source.old ≡ result ∷ S.words_left source.new }
+{
+    match source.next_word() {
+        Some(word) => word,
+        None => 0,
+    }
+}
+
+fn read_call_head<S: WordSource>(transaction: u16, source: &mut S) -> Result<Head, MessageFault>
+    ensures { ReadsHead result (S.words_left source.new) (call_in transaction (S.words_left source.old)) }
+{
+    if source.left() < 4 {
+        return Err(MessageFault::ShortMessage);
+    }
+    let high = take_word(source);
+    let low = take_word(source);
+    let version = take_word(source);
+    let procedure = take_word(source);
+    Ok(Head::Call {
+        transaction,
+        program: u32::from(high) * 65536 + u32::from(low),
+        version,
+        procedure,
+    })
+}
+
+fn read_reject_head<S: WordSource>(transaction: u16, source: &mut S) -> Result<Head, MessageFault>
+    ensures { ReadsHead result (S.words_left source.new) (reject_in transaction (S.words_left source.old)) }
+{
+    match source.next_word() {
+        Some(reason) => Ok(Head::Reject {
+            transaction,
+            reason,
+        }),
+        None => Err(MessageFault::ShortMessage),
+    }
+}
+
+fn read_abort_head<S: WordSource>(transaction: u16, source: &mut S) -> Result<Head, MessageFault>
+    ensures { ReadsHead result (S.words_left source.new) (abort_in transaction (S.words_left source.old)) }
+{
+    match source.next_word() {
+        Some(error) => Ok(Head::Abort { transaction, error }),
+        None => Err(MessageFault::ShortMessage),
+    }
+}
+
+/// What comes before a message's words.
+pub fn read_head<S: WordSource>(source: &mut S) -> Result<Head, MessageFault>
+    ensures { ReadsHead result (S.words_left source.new) (message_in (S.words_left source.old)) }
+{
+    if source.left() < 2 {
+        return Err(MessageFault::ShortMessage);
+    }
+    let kind = take_word(source);
+    let transaction = take_word(source);
+    match kind {
+        0 => read_call_head(transaction, source),
+        1 => read_reject_head(transaction, source),
+        2 => Ok(Head::Return { transaction }),
+        3 => read_abort_head(transaction, source),
+        found => Err(MessageFault::UnknownKind { found }),
+    }
+}
+
+/// The words that are left, written out once. It is refused memory only where there are some.
+pub fn words_left<S: WordSource>(alloc: Global, source: &mut S) -> Result<Words, AllocError>
+    ensures words { IfOk result (λ w. w ≡ S.words_left source.old) }
+    ensures memory { OnErr result (0 < length (S.words_left source.old)) }
+{
+    let mut words = Vec::with_capacity(alloc, source.left())?;
+    while let Some(word) = source.next_word() {
+        words.push_reserved(word);
+    }
+    Ok(Words::new(words))
+}
+
+#[tactic(auto, unfolding(crate::specs::Message::message_of))]
+fn read_exactly(alloc: Global, bytes: &[u8]) -> Result<Message, MessageRefusal>
+    ensures exact { Reads result (message_of bytes.now) }
+    ensures memory { IfNoMemory result (HasOwnWords (message_of bytes.now)) }
+{
+    if bytes.len() % 2 == 1 {
+        return Err(MessageRefusal::Fault(MessageFault::OddLength));
+    }
+    let mut source = PieceWords::of_bytes(bytes);
+    let head = match read_head(&mut source) {
+        Ok(head) => head,
+        Err(fault) => return Err(MessageRefusal::Fault(fault)),
+    };
+    if bytes.len() > MOST_BYTES {
+        return Err(MessageRefusal::Fault(MessageFault::TooLong));
+    }
+    Ok(head.with_words(words_left(alloc, &mut source)?))
+}
+
+/// The message that the bytes are.
+///
+/// The first fault is told: `OddLength`; `ShortMessage` under 2 words; `UnknownKind`; `ShortMessage` where there are
+/// fewer than the kind needs; `TooLong` over 131,072 bytes. `NoMemory` comes only where the bytes are a message that has
+/// words of its own, for which room is made once.
+pub fn read_message(alloc: Global, bytes: &[u8]) -> Result<Message, MessageRefusal>
+    ensures exact { Reads result (message_of bytes.now) }
+    ensures spells { IfOk result (λ m. SpellsMessage m (words_of bytes.now)) }
+    ensures memory { IfNoMemory result (HasOwnWords (message_of bytes.now)) }
+{
+    known_bytes(bytes);
+    read_exactly(alloc, bytes)
+}
