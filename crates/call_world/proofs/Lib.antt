@@ -1,0 +1,13 @@
+pub mod Stepping
+pub mod CallGiven
+pub mod CallQuiet
+pub mod CallCarries
+pub mod CallSettling
+pub mod CallRuns
+pub mod CallEnds
+pub mod ServeEnds
+pub mod CallPlays
+pub mod Serves
+pub mod ServeSettling
+pub mod ServeBounds
+pub mod ServeOuts

@@ -1,0 +1,10 @@
+pub mod Settling
+pub mod CallWorld
+pub mod CallOrder
+pub mod CallLaws
+pub mod CallPromises
+pub mod Serve
+pub mod ServeEnd
+pub mod ServePlay
+pub mod ServeBounds
+pub mod CallPlay
