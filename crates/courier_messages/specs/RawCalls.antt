@@ -13,6 +13,10 @@ pub record RawCall : Type 0 where
   pub procedure : ℕ
   pub words : List ℕ
 
+-- a call's message has at most 131,072 bytes, twelve of them before the arguments
+abbrev pub most_call_words : ℕ
+most_call_words = 65530
+
 abbrev pub words_call : ℕ → ℕ → ℕ → List ℕ → RawCall
 words_call program version procedure words = record { program = program; version = version; procedure = procedure; words = words }
 

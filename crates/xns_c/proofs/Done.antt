@@ -6,7 +6,7 @@ use Rattle.xns_spp.specs.declared.item.Item.{Item}
 use Rattle.courier_messages.specs.declared.fault.SessionFault.{SessionFault}
 use Rattle.courier_messages.specs.declared.message.Message.{Message}
 use Rattle.courier_messages.specs.declared.message.Message.TheVariants.{Call, Reject, Return, Abort}
-use Rattle.courier_messages.specs.RawCalls.{RawCall}
+use Rattle.courier_messages.specs.RawCalls.{RawCall, most_call_words}
 use Rattle.courier_messages.specs.RawCalls.{caller_items, call_items}
 use Rattle.courier_messages.specs.Conversation.{Phase, conversation, conversation_fault, ending}
 use Rattle.courier_messages.specs.Cutting.{cut, versions_item}
@@ -40,7 +40,7 @@ none_there (Some m) h = absurd cc
 
 pub calls : (made : List RawCall) (fed given : List Item) (handed : List Message) (t : Talk) (c : RawCall) → HasDone made fed given handed t → call_number t c ≡ ok → HasDone (made ++ c ∷ []) fed given handed (called t c)
 calls made fed given handed t c h free =
-    let f = free_by t.failed t.waiting (is_there t.outcome) (nat_lt 65530 (length c.words)) free in
+    let f = free_by t.failed t.waiting (is_there t.outcome) (nat_lt most_call_words (length c.words)) free in
     let none : t.outcome ≡ None = none_there t.outcome f.1 in
     let last : List Item = cut (call_message (next_transaction t) c) in
     let next : next_transaction t ≡ (1 + length made) % 65536 = next_number t.transaction (length made) h.transaction in

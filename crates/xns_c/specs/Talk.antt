@@ -5,7 +5,7 @@ use Rattle.courier_messages.specs.declared.fault.SessionFault.{SessionFault}
 use Rattle.courier_messages.specs.declared.fault.SessionFault.TheVariants.{NoCommonVersion, BadVersions, BadMessage, WrongTransaction, BadReply, Stream, NoMemory, Failed}
 use Rattle.courier_messages.specs.declared.message.Message.{Message}
 use Rattle.courier_messages.specs.declared.message.Message.TheVariants.{Call, Reject, Return, Abort}
-use Rattle.courier_messages.specs.RawCalls.{RawCall}
+use Rattle.courier_messages.specs.RawCalls.{RawCall, most_call_words}
 use Rattle.courier_messages.specs.Conversation.{Phase, opening}
 use Rattle.courier_messages.specs.Cutting.{cut, versions_item}
 use Rattle.courier_messages.specs.RawCalls.{call_message}
@@ -47,7 +47,7 @@ abbrev pub call_number : Talk → RawCall → ℕ
 call_number t c =
     if t.failed then stopped
     else if t.waiting || is_there t.outcome then busy
-    else if nat_lt 65530 (length c.words) then too_long
+    else if nat_lt most_call_words (length c.words) then too_long
     else ok
 
 abbrev pub wrong_unless : Bool → Option SessionFault

@@ -1,8 +1,9 @@
 //! An endpoint that C holds by its handle.
 
 ghost use Rattle.std.specs.Prelude.{◌≡◌, ◌≢◌, ◌⊎◌, ◌<◌, ◌≤◌, ℕ, List, [], ◌∷◌, length, false, All, IfSome, Some, None};
-ghost use Rattle.xns_spp.specs.Ends.{is_open};
+ghost use Rattle.xns_spp.specs.Ends.{is_open, most_pending};
 ghost use Rattle.xns_spp.specs.Held.{StandsFor};
+ghost use Rattle.xns_spp.specs.Packet.{most_body};
 ghost use Rattle.xns_spp.specs.Receiving.{receive_answer, after_receive, NeedsMemory};
 ghost use Rattle.xns_spp.specs.Sending.{send_answer, after_send, take_answer, after_take, is_full, waiting_count, flush_answer, after_flush, tick_answer, after_tick};
 ghost use Rattle.xns_spp.specs.State.{State, initiator_state, responder_state};
@@ -25,7 +26,7 @@ use crate::results::{
     BAD_ARGUMENT, NO_ENDPOINT, NO_MEMORY, NOTHING, OK, SHORT_BUFFER, dropped_number,
 };
 use std::alloc::Global;
-use xns_spp::{Bytes, Endpoint, Item, MOST_BODY};
+use xns_spp::{Bytes, Endpoint, Item, MOST_BODY, MOST_PENDING};
 
 /// A reply has so many bytes.
 const REPLY: usize = 42;
@@ -63,12 +64,12 @@ pub extern "C" fn xns_endpoint_new_initiator(
 ) -> u32
     ensures made { result ≡ ok → Keeps (line_of handle.new) (initiator_state (address_in own.now) id (address_in peer.now) window backlog) }
     ensures packets { packets_of (line_of handle.new) ≡ [] }
-    ensures bad { (id ≡ 0) ⊎ ((window < 1) ⊎ ((64 < window) ⊎ ((backlog < 1) ⊎ (64 < backlog)))) → result ≡ bad_argument }
-    ensures good { 0 < id → (1 ≤ window) × (window ≤ 64) → (1 ≤ backlog) × (backlog ≤ 64) → result ≢ ok → result ≡ no_memory }
+    ensures bad { (id ≡ 0) ⊎ ((window < 1) ⊎ ((most_pending < window) ⊎ ((backlog < 1) ⊎ (most_pending < backlog)))) → result ≡ bad_argument }
+    ensures good { 0 < id → (1 ≤ window) × (window ≤ most_pending) → (1 ≤ backlog) × (backlog ≤ most_pending) → result ≢ ok → result ≡ no_memory }
     ensures none { result ≢ ok → line_of handle.new ≡ None }
 {
     let _ = handle.take(alloc);
-    if id == 0 || window == 0 || window > 64 || backlog == 0 || backlog > 64 {
+    if id == 0 || window == 0 || window > MOST_PENDING || backlog == 0 || backlog > MOST_PENDING {
         return BAD_ARGUMENT;
     }
     match Endpoint::initiator(alloc, own.address(), id, peer.address(), window, backlog) {
@@ -93,12 +94,12 @@ pub extern "C" fn xns_endpoint_new_responder(
 ) -> u32
     ensures made { result ≡ ok → Keeps (line_of handle.new) (responder_state (address_in own.now) id (address_in peer.now) peer_id window backlog) }
     ensures packets { packets_of (line_of handle.new) ≡ [] }
-    ensures bad { (id ≡ 0) ⊎ ((peer_id ≡ 0) ⊎ ((window < 1) ⊎ ((64 < window) ⊎ ((backlog < 1) ⊎ (64 < backlog))))) → result ≡ bad_argument }
-    ensures good { 0 < id → 0 < peer_id → (1 ≤ window) × (window ≤ 64) → (1 ≤ backlog) × (backlog ≤ 64) → result ≢ ok → result ≡ no_memory }
+    ensures bad { (id ≡ 0) ⊎ ((peer_id ≡ 0) ⊎ ((window < 1) ⊎ ((most_pending < window) ⊎ ((backlog < 1) ⊎ (most_pending < backlog))))) → result ≡ bad_argument }
+    ensures good { 0 < id → 0 < peer_id → (1 ≤ window) × (window ≤ most_pending) → (1 ≤ backlog) × (backlog ≤ most_pending) → result ≢ ok → result ≡ no_memory }
     ensures none { result ≢ ok → line_of handle.new ≡ None }
 {
     let _ = handle.take(alloc);
-    if id == 0 || peer_id == 0 || window == 0 || window > 64 || backlog == 0 || backlog > 64 {
+    if id == 0 || peer_id == 0 || window == 0 || window > MOST_PENDING || backlog == 0 || backlog > MOST_PENDING {
         return BAD_ARGUMENT;
     }
     match Endpoint::responder(
@@ -213,13 +214,13 @@ pub extern "C" fn xns_endpoint_take(
     item: &mut XnsItem,
     buffer: &mut [u8],
 ) -> u32
-    ensures stands { (s : State) → Keeps (line_of handle.old) s → 534 ≤ length buffer.old → Keeps (line_of handle.new) (after_take s) }
+    ensures stands { (s : State) → Keeps (line_of handle.old) s → most_body ≤ length buffer.old → Keeps (line_of handle.new) (after_take s) }
     ensures packets { packets_of (line_of handle.new) ≡ packets_of (line_of handle.old) }
-    ensures nothing { (s : State) → Keeps (line_of handle.old) s → 534 ≤ length buffer.old → take_answer s ≡ None → result ≡ nothing }
-    ensures some { (s : State) (x : Item) → Keeps (line_of handle.old) s → 534 ≤ length buffer.old → take_answer s ≡ Some x → (result ≡ ok) × GivesItem x item.new }
-    ensures bytes { (s : State) (x : Item) → Keeps (line_of handle.old) s → 534 ≤ length buffer.old → take_answer s ≡ Some x → IsPut x.body buffer.old buffer.new item.new.length }
-    ensures short { length buffer.old < 534 → (result ≡ short_buffer) × (line_of handle.new ≡ line_of handle.old) }
-    ensures none { line_of handle.old ≡ None → 534 ≤ length buffer.old → (result ≡ no_endpoint) × (line_of handle.new ≡ None) }
+    ensures nothing { (s : State) → Keeps (line_of handle.old) s → most_body ≤ length buffer.old → take_answer s ≡ None → result ≡ nothing }
+    ensures some { (s : State) (x : Item) → Keeps (line_of handle.old) s → most_body ≤ length buffer.old → take_answer s ≡ Some x → (result ≡ ok) × GivesItem x item.new }
+    ensures bytes { (s : State) (x : Item) → Keeps (line_of handle.old) s → most_body ≤ length buffer.old → take_answer s ≡ Some x → IsPut x.body buffer.old buffer.new item.new.length }
+    ensures short { length buffer.old < most_body → (result ≡ short_buffer) × (line_of handle.new ≡ line_of handle.old) }
+    ensures none { line_of handle.old ≡ None → most_body ≤ length buffer.old → (result ≡ no_endpoint) × (line_of handle.new ≡ None) }
     ensures unchanged { result ≢ ok → (item.new ≡ item.old) × (buffer.new ≡ buffer.old) }
 {
     if buffer.len() < MOST_BODY {

@@ -20,7 +20,7 @@ use crate::front::put_front;
 use crate::item::XnsItem;
 use crate::message::XnsMessage;
 use crate::results::{BUSY, NO_MEMORY, NOTHING, OK, STOPPED, TOO_LONG};
-use courier_messages::{Head, Incoming, Message, SessionFault, cut};
+use courier_messages::{VERSION, Head, Incoming, Message, SessionFault, cut};
 use std::alloc::{AllocError, Global};
 use std::collections::VecDeque;
 use std::marker::Model;
@@ -122,7 +122,7 @@ impl Session {
     {
         Ok(Session {
             incoming: Incoming::new(alloc),
-            out: cut(alloc, &[3, 3])?,
+            out: cut(alloc, &[VERSION, VERSION])?,
             failed: false,
             transaction: 0,
             waiting: false,

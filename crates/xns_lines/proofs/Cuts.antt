@@ -9,7 +9,7 @@ use Rattle.std.proofs.lemmas.List.{take-append-drop, length-take, get_or-take}
 use Rattle.std.proofs.lemmas.List.Folds.{list_any-append}
 use Rattle.memchr.specs.Find.{Passes, is_byte}
 use Rattle.xns_lines.specs.Lines.Cutter.{HasNoNewline}
-use Rattle.xns_lines.specs.Lines.{AreWithinLimits, BeginsLong, closed_lines, split_at_newlines, is_long, line_if_any, lines_of, open_line, with_first, with_first_plain}
+use Rattle.xns_lines.specs.Lines.{AreWithinLimits, BeginsLong, closed_lines, split_at_newlines, is_long, line_if_any, lines_of, open_line, with_first, with_first_plain, most_line_bytes, most_lines}
 
 abbrev Parts : Type 0
 Parts = List (List ℕ) × List ℕ
@@ -56,7 +56,7 @@ open-nothing = refl
 
 -- ---- counts and lengths
 
-pub long_if_any : (rest : List ℕ) → list_any is_long (line_if_any rest) ≡ nat_lt 4096 (length rest)
+pub long_if_any : (rest : List ℕ) → list_any is_long (line_if_any rest) ≡ nat_lt most_line_bytes (length rest)
 long_if_any [] = refl
 long_if_any (b ∷ rest) = search rules
 
@@ -73,10 +73,10 @@ count_if_any-run (y ∷ rest) run lt = refl
 pub line_count-parts : (xs : List ℕ) → length (lines_of xs) ≡ length (closed_lines xs) + length (line_if_any (open_line xs))
 line_count-parts xs = length-append (closed_lines xs) (line_if_any (open_line xs))
 
-pub few_closed : (xs : List ℕ) → length (lines_of xs) ≤ 65536 → length (closed_lines xs) ≤ 65536
+pub few_closed : (xs : List ℕ) → length (lines_of xs) ≤ most_lines → length (closed_lines xs) ≤ most_lines
 few_closed xs few = omega (arith, few, line_count-parts xs)
 
-pub few_more : (xs ys : List ℕ) → length (closed_lines xs) < 65536 → closed_lines ys ≡ closed_lines xs → length (lines_of ys) ≤ 65536
+pub few_more : (xs ys : List ℕ) → length (closed_lines xs) < most_lines → closed_lines ys ≡ closed_lines xs → length (lines_of ys) ≤ most_lines
 few_more xs ys lt same = omega (arith, lt, line_count-parts ys, ap length same, count_if_any (open_line ys))
 
 pub one_line : (rest : List ℕ) → 0 < length rest → line_if_any rest ≡ rest ∷ []
@@ -87,7 +87,7 @@ pub no_line : (rest : List ℕ) → length rest ≡ 0 → rest ≡ []
 no_line [] e = refl
 no_line (b ∷ rest) e = absurd (omega arith)
 
-pub not_long : (n : ℕ) → n ≤ 4096 → nat_lt 4096 n ≡ false
+pub not_long : (n : ℕ) → n ≤ most_line_bytes → nat_lt most_line_bytes n ≡ false
 not_long n le = grind (arith, nat_tests)
 
 pub or_false : (b : Bool) → (b || false) ≡ b
@@ -95,7 +95,7 @@ or_false true = refl
 or_false false = refl
 
 -- lines over and a line that is not, none of which is too long
-pub all_within : (xs : List ℕ) → list_any is_long (closed_lines xs) ≡ false → length (open_line xs) ≤ 4096 → length (lines_of xs) ≤ 65536 → AreWithinLimits (lines_of xs)
+pub all_within : (xs : List ℕ) → list_any is_long (closed_lines xs) ≡ false → length (open_line xs) ≤ most_line_bytes → length (lines_of xs) ≤ most_lines → AreWithinLimits (lines_of xs)
 all_within xs closed rest few = record {
   short = list_any-append is_long (closed_lines xs) (line_if_any (open_line xs)) ∙ ap (λ b. b || list_any is_long (line_if_any (open_line xs))) closed
       ∙ long_if_any (open_line xs) ∙ not_long (length (open_line xs)) rest;
@@ -168,14 +168,14 @@ first_longer (b ∷ u) more h =
     subst (λ q. length (b ∷ u) ≤ length (first_of (put_with q b (split_at_newlines (u ++ more))).0 (put_with q b (split_at_newlines (u ++ more))).1)) (sym parts.0)
     (rw first (omega (arith, rest)))
 
-begins_long : (lines : List (List ℕ)) (rest : List ℕ) → 4096 < length (first_of lines rest) → BeginsLong (lines ++ line_if_any rest)
+begins_long : (lines : List (List ℕ)) (rest : List ℕ) → most_line_bytes < length (first_of lines rest) → BeginsLong (lines ++ line_if_any rest)
 unfolding first_of
 begins_long [] [] lt = absurd (omega arith)
 begins_long [] (b ∷ rest) lt = lt
 begins_long (line ∷ lines) rest lt = lt
 
 -- a line that is too long stays so
-pub long_stays : (xs more : List ℕ) → 4096 < length (open_line xs) → BeginsLong (lines_of (open_line xs ++ more))
+pub long_stays : (xs more : List ℕ) → most_line_bytes < length (open_line xs) → BeginsLong (lines_of (open_line xs ++ more))
 long_stays xs more lt =
     let rest = first_longer (open_line xs) more (open_unclosed xs) in
     begins_long (closed_lines (open_line xs ++ more)) (open_line (open_line xs ++ more)) (omega (arith, rest, lt))

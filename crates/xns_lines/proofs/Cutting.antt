@@ -6,7 +6,7 @@ use Rattle.std.specs.Io.KnownBytes.{Consumes, IsAtEnd}
 use Rattle.std.proofs.lemmas.List.Folds.{list_any-append}
 use Rattle.xns_lines.specs.Lines.Cutter.{HasCut, HasNoNewline, HasTaken, IsCutShort, IsJustifiedAt, StandsAfter, StandsAfterLine, IsOwn, Says, StopsShort}
 use Rattle.xns_lines.specs.Faults.{IsJustified}
-use Rattle.xns_lines.specs.Lines.{AreWithinLimits, IsWithinLimits, closed_lines, is_long, line_if_any, lines_of, open_line}
+use Rattle.xns_lines.specs.Lines.{AreWithinLimits, IsWithinLimits, closed_lines, is_long, line_if_any, lines_of, open_line, most_line_bytes, most_lines}
 use Rattle.xns_lines.specs.declared.cutter.Cutter.{Cutter}
 use Rattle.xns_lines.specs.declared.fault.RunFault.{RunFault}
 use Rattle.xns_lines.specs.declared.fault.RunFault.TheVariants as fault
@@ -28,7 +28,7 @@ cut_nothing c line count =
 record IsShort (count : ℕ) (taken : List ℕ) : Type 0 where
   count_is : count ≡ length (closed_lines taken)
   closed_short : list_any is_long (closed_lines taken) ≡ false
-  open_short : length (open_line taken) ≤ 4096
+  open_short : length (open_line taken) ≤ most_line_bytes
 
 short_cut : (c : Cutter) (taken : List ℕ) → HasCut c taken → IsShort c.count taken
 short_cut c taken h = record { count_is = h.count; closed_short = h.closed_short; open_short = h.open_short }
@@ -39,7 +39,7 @@ short_newline n taken h =
     ∙ ap (λ r. r || (is_long (open_line taken) || false)) h.closed_short
     ∙ or_false (is_long (open_line taken)) ∙ not_long (length (open_line taken)) h.open_short
 
-cut_end : (c' : Cutter) (n : ℕ) (taken : List ℕ) → n < 65536 → c'.line.items ≡ [] → c'.count ≡ n + 1 → IsShort n taken → HasCut c' (taken ++ 10 ∷ [])
+cut_end : (c' : Cutter) (n : ℕ) (taken : List ℕ) → n < most_lines → c'.line.items ≡ [] → c'.count ≡ n + 1 → IsShort n taken → HasCut c' (taken ++ 10 ∷ [])
 cut_end c' n taken small line count h =
     let closed = closed-newline taken in
     let rest = open-newline taken in
@@ -52,11 +52,11 @@ cut_end c' n taken small line count h =
       few = rw (line_count-parts (taken ++ 10 ∷ []), closed, rest, size) (omega (arith, small, h.count_is));
     }
 
-pub cut_newline : (c c' : Cutter) (taken : List ℕ) → c.count < 65536 → c'.line.items ≡ [] → c'.count ≡ c.count + 1 → HasCut c taken → HasCut c' (taken ++ 10 ∷ [])
+pub cut_newline : (c c' : Cutter) (taken : List ℕ) → c.count < most_lines → c'.line.items ≡ [] → c'.count ≡ c.count + 1 → HasCut c taken → HasCut c' (taken ++ 10 ∷ [])
 cut_newline c c' taken small line count h = cut_end c' c.count taken small line count (short_cut c taken h)
 
 pub cut_run : (c c' : Cutter) (taken run : List ℕ) → HasNoNewline run
-    → c.count < 65536 → length c.line.items + length run ≤ 4096 → c'.line.items ≡ c.line.items ++ run → c'.count ≡ c.count → HasCut c taken → HasCut c' (taken ++ run)
+    → c.count < most_lines → length c.line.items + length run ≤ most_line_bytes → c'.line.items ≡ c.line.items ++ run → c'.count ≡ c.count → HasCut c taken → HasCut c' (taken ++ run)
 cut_run c c' taken run plain small short line count h =
     let closed = closed-run taken run plain in
     let rest = open-run taken run plain in
@@ -72,7 +72,7 @@ cut_run c c' taken run plain small short line count h =
 open_whole : (c : Cutter) (taken run : List ℕ) → HasNoNewline run → length c.line.items ≡ 0 → HasCut c taken → open_line (taken ++ run) ≡ run
 open_whole c taken run plain none h = open-run taken run plain ∙ ap (λ l. l ++ run) (sym h.line ∙ no_line c.line.items none)
 
-short_whole : (c : Cutter) (taken run : List ℕ) → HasNoNewline run → length c.line.items ≡ 0 → length run ≤ 4096 → HasCut c taken → IsShort c.count (taken ++ run)
+short_whole : (c : Cutter) (taken run : List ℕ) → HasNoNewline run → length c.line.items ≡ 0 → length run ≤ most_line_bytes → HasCut c taken → IsShort c.count (taken ++ run)
 short_whole c taken run plain none short h =
     let closed = closed-run taken run plain in
     record {
@@ -81,7 +81,7 @@ short_whole c taken run plain none short h =
       open_short = rw (open_whole c taken run plain none h) short;
     }
 
-pub cut_whole : (c c' : Cutter) (taken run : List ℕ) → HasNoNewline run → c.count < 65536 → length c.line.items ≡ 0 → length run ≤ 4096
+pub cut_whole : (c c' : Cutter) (taken run : List ℕ) → HasNoNewline run → c.count < most_lines → length c.line.items ≡ 0 → length run ≤ most_line_bytes
     → c'.line.items ≡ c.line.items → c'.count ≡ c.count + 1 → HasCut c taken → HasCut c' ((taken ++ run) ++ 10 ∷ [])
 cut_whole c c' taken run plain small none short line count h = cut_end c' c.count (taken ++ run) small (line ∙ no_line c.line.items none) count (short_whole c taken run plain none short h)
 
@@ -98,7 +98,7 @@ cut_as c xs ys e h = subst (λ (zs : List ℕ). HasCut c zs) e h
 pub takes_as : (c : Cutter) (stands : Says) (xs ys : List ℕ) → xs ≡ ys → HasTaken c stands xs → HasTaken c stands ys
 takes_as c stands xs ys e h = subst (λ (zs : List ℕ). HasTaken c stands zs) e h
 
-pub few_lines : (c : Cutter) (taken : List ℕ) → HasCut c taken → 0 < length c.line.items → c.count < 65536
+pub few_lines : (c : Cutter) (taken : List ℕ) → HasCut c taken → 0 < length c.line.items → c.count < most_lines
 few_lines c taken h some =
     let lt : 0 < length (open_line taken) = omega (arith, ap length h.line) in
     let one : length (line_if_any (open_line taken)) ≡ 1 = ap length (one_line (open_line taken) lt) in
@@ -113,7 +113,7 @@ closed_within c taken h = record { short = h.closed_short; few = few_closed take
 abbrev pub IsStill : RunFault → List ℕ → Says
 IsStill f taken lines = IsOwn f × (lines ≡ closed_lines taken)
 
-pub short_long : (c : Cutter) (taken run : List ℕ) → HasNoNewline run → c.count < 65536 → 4096 < length c.line.items + length run → HasCut c taken
+pub short_long : (c : Cutter) (taken run : List ℕ) → HasNoNewline run → c.count < most_lines → most_line_bytes < length c.line.items + length run → HasCut c taken
     → IsCutShort fault.LineTooLong (taken ++ run) (IsStill fault.LineTooLong taken)
 short_long c taken run plain small long h =
     let closed = closed-run taken run plain in record {
@@ -125,7 +125,7 @@ short_long c taken run plain small long h =
       is_left = (tt, closed);
     }
 
-pub short_many : (c : Cutter) (taken run : List ℕ) → 65536 ≤ c.count → 0 < length run → HasCut c taken → IsCutShort fault.TooManyLines (taken ++ run) (IsStill fault.TooManyLines taken)
+pub short_many : (c : Cutter) (taken run : List ℕ) → most_lines ≤ c.count → 0 < length run → HasCut c taken → IsCutShort fault.TooManyLines (taken ++ run) (IsStill fault.TooManyLines taken)
 short_many c taken run many some h = record {
   front = taken;
   more = run;
@@ -163,11 +163,11 @@ short_own f stands fails taken xs said h = record {
   is_left = own_left f stands fails (closed_lines h.front) h.is_left.0 (subst stands (sym h.is_left.1) said);
 }
 
-end_within : (n : ℕ) (taken : List ℕ) → n < 65536 → IsShort n taken → AreWithinLimits (closed_lines taken)
+end_within : (n : ℕ) (taken : List ℕ) → n < most_lines → IsShort n taken → AreWithinLimits (closed_lines taken)
 end_within n taken small h = record { short = h.closed_short; few = omega (arith, small, h.count_is) }
 
 -- the taker stopped at the line that a byte 10 ends
-short_end : (f : RunFault) (stands fails : Says) (n : ℕ) (taken : List ℕ) → n < 65536 → IsShort n taken → StandsAfterLine f stands fails (closed_lines taken) (open_line taken)
+short_end : (f : RunFault) (stands fails : Says) (n : ℕ) (taken : List ℕ) → n < most_lines → IsShort n taken → StandsAfterLine f stands fails (closed_lines taken) (open_line taken)
     → IsCutShort f (taken ++ 10 ∷ []) (StandsAfter f stands fails)
 short_end fault.Read stands fails n taken small h at = absurd at
 short_end fault.LineTooLong stands fails n taken small h at = absurd at
@@ -192,11 +192,11 @@ short_end fault.Write stands fails n taken small h at =
       is_left = subst fails (sym closed) at;
     }
 
-pub short_at : (c : Cutter) (f : RunFault) (stands fails : Says) (taken : List ℕ) → c.count < 65536 → HasCut c taken → StandsAfterLine f stands fails (closed_lines taken) (open_line taken)
+pub short_at : (c : Cutter) (f : RunFault) (stands fails : Says) (taken : List ℕ) → c.count < most_lines → HasCut c taken → StandsAfterLine f stands fails (closed_lines taken) (open_line taken)
     → IsCutShort f (taken ++ 10 ∷ []) (StandsAfter f stands fails)
 short_at c f stands fails taken small h at = short_end f stands fails c.count taken small (short_cut c taken h) at
 
-pub short_at_whole : (c : Cutter) (f : RunFault) (stands fails : Says) (taken run : List ℕ) → HasNoNewline run → c.count < 65536 → length c.line.items ≡ 0 → length run ≤ 4096 → HasCut c taken
+pub short_at_whole : (c : Cutter) (f : RunFault) (stands fails : Says) (taken run : List ℕ) → HasNoNewline run → c.count < most_lines → length c.line.items ≡ 0 → length run ≤ most_line_bytes → HasCut c taken
     → StandsAfterLine f stands fails (closed_lines taken) run → IsCutShort f ((taken ++ run) ++ 10 ∷ []) (StandsAfter f stands fails)
 short_at_whole c f stands fails taken run plain small none short h at =
     short_end f stands fails c.count (taken ++ run) small (short_whole c taken run plain none short h)
@@ -312,12 +312,12 @@ finished_closed c said taken none h =
     let rest : open_line taken ≡ [] = sym h.0.line ∙ no_line c.line.items none in
     subst said (sym (ap (λ r. closed_lines taken ++ line_if_any r) rest ∙ append-nil (closed_lines taken))) h.1
 
-pub takes_newline : (c c' : Cutter) (said : Says) (taken line : List ℕ) → c.count < 65536 → c'.line.items ≡ [] → c'.count ≡ c.count + 1 → line ≡ c.line.items → HasCut c taken
+pub takes_newline : (c c' : Cutter) (said : Says) (taken line : List ℕ) → c.count < most_lines → c'.line.items ≡ [] → c'.count ≡ c.count + 1 → line ≡ c.line.items → HasCut c taken
     → said (closed_lines taken ++ line ∷ []) → HasTaken c' said (taken ++ 10 ∷ [])
 takes_newline c c' said taken line small none count e h at =
     (cut_newline c c' taken small none count h, subst said (ap (λ l. closed_lines taken ++ l ∷ []) (e ∙ h.line) ∙ sym (closed-newline taken)) at)
 
-pub takes_whole : (c c' : Cutter) (said : Says) (taken run : List ℕ) → HasNoNewline run → c.count < 65536 → length c.line.items ≡ 0 → length run ≤ 4096
+pub takes_whole : (c c' : Cutter) (said : Says) (taken run : List ℕ) → HasNoNewline run → c.count < most_lines → length c.line.items ≡ 0 → length run ≤ most_line_bytes
     → c'.line.items ≡ c.line.items → c'.count ≡ c.count + 1 → HasCut c taken → said (closed_lines taken ++ run ∷ []) → HasTaken c' said ((taken ++ run) ++ 10 ∷ [])
 takes_whole c c' said taken run plain small none short line count h at = (
   cut_whole c c' taken run plain small none short line count h,

@@ -1,6 +1,6 @@
 //! Cuts an input into lines, and finds the faults of limits.
 ghost use Rattle.std.specs.Prelude.{◌≡◌, ◌<◌, ◌≤◌, ◌+◌, ◌++◌, ℕ, List, [], ◌∷◌, Option, IfErr, IfOk, OnOk, length};
-ghost use Rattle.xns_lines.specs.Lines.{IsWithinLimits, closed_lines, lines_of};
+ghost use Rattle.xns_lines.specs.Lines.{IsWithinLimits, closed_lines, lines_of, most_line_bytes, most_lines};
 
 use crate::fault::RunFault;
 use crate::taker::LineTaker;
@@ -21,7 +21,7 @@ pub(crate) struct Cutter {
     line: Vec<u8>,
     /// How many lines are over.
     count: usize,
-    ghost short: { length line.items ≤ 4096 },
+    ghost short: { length line.items ≤ most_line_bytes },
 }
 
 impl Cutter {
@@ -151,8 +151,8 @@ impl Cutter {
 
     /// The number of the line that is not over, or of the next one where there is none.
     fn next_number(&self) -> Result<usize, RunFault>
-        ensures ok { IfOk result (λ number. (number ≡ self.now.count + 1) × (self.now.count < 65536)) }
-        ensures err { IfErr result (λ fault. (fault ≡ RunFault.TooManyLines) × (65536 ≤ self.now.count)) }
+        ensures ok { IfOk result (λ number. (number ≡ self.now.count + 1) × (self.now.count < most_lines)) }
+        ensures err { IfErr result (λ fault. (fault ≡ RunFault.TooManyLines) × (most_lines ≤ self.now.count)) }
     {
         if self.count >= MOST_LINES {
             return Err(RunFault::TooManyLines);
@@ -166,7 +166,7 @@ impl Cutter {
         taker: &mut T,
         writer: &mut W,
     ) -> Result<(), RunFault>
-        requires few { 0 < length self.line.items → self.count < 65536 }
+        requires few { 0 < length self.line.items → self.count < most_lines }
         ensures limits { OnOk result ((taken : List ℕ) → HasCut self taken → IsWithinLimits taken) }
         ensures ok { OnOk result ((taken : List ℕ) (before : Option (List ℕ)) → HasTaken self (T.stands taker.old before (W.contents writer.old)) taken
             → T.stands taker.new before (W.contents writer.new) (lines_of taken)) }

@@ -8,6 +8,7 @@ use std::io::Write;
 /// `fails`, what is left of that after a failed write.
 pub trait LineTaker {
     ghost use Rattle.std.specs.Prelude.{◌≡◌, ◌≤◌, ◌+◌, ◌++◌, ℕ, List, [], ◌∷◌, Option, IfErr, OnOk, length};
+    ghost use Rattle.xns_lines.specs.Lines.{most_line_bytes, most_lines};
     ghost use Rattle.xns_lines.specs.Lines.Cutter.{StandsAfterLine};
 
     // The taker has taken these lines, and the writer, which held the first bytes, holds the second.
@@ -26,8 +27,8 @@ pub trait LineTaker {
         line: &[u8],
         writer: &mut W,
     ) -> Result<(), RunFault>
-        requires few { number ≤ 65536 }
-        requires short { length line.now ≤ 4096 }
+        requires few { number ≤ most_lines }
+        requires short { length line.now ≤ most_line_bytes }
         ensures ok { OnOk result ((before : Option (List ℕ)) (lines : List (List ℕ)) → number ≡ length lines + 1 → stands self.old before (W.contents writer.old) lines
             → stands self.new before (W.contents writer.new) (lines ++ line.now ∷ [])) }
         ensures err { IfErr result (λ fault. (before : Option (List ℕ)) (lines : List (List ℕ)) → number ≡ length lines + 1 → stands self.old before (W.contents writer.old) lines

@@ -5,6 +5,7 @@ use Rattle.std.specs.List.{All}
 use Rattle.std.proofs.lemmas.Bool.{eqb-true}
 use Rattle.std.proofs.lemmas.Bool.Decides.{nat_tests}
 use Rattle.std.proofs.lemmas.List.Sums.{AllPass-from_list_all}
+use Rattle.courier_messages.specs.RawCalls.{most_call_words}
 use Rattle.courier_types.specs.Fits.{has_shape}
 use Rattle.courier_types.specs.Value.{ValueModel, no_values}
 use Rattle.courier_calls.specs.Calls.{ArgumentsModel, CallFits, CallModel, found, raw_words, typed}
@@ -53,7 +54,7 @@ typed_fits p v q x h =
 
 fits : (p v q : ℕ) (arguments : ArgumentsModel) → is_said (record { program = p; version = v; procedure = q; arguments = arguments }) ≡ true → Fitting p v q arguments
 fits p v q (typed x) h = typed_fits p v q x h
-fits p v q (raw_words words) h = record { arguments = tt; size = le_of (length words) 65530 h }
+fits p v q (raw_words words) h = record { arguments = tt; size = le_of (length words) most_call_words h }
 
 pub all_fit : (calls : List CallModel) → are_said calls ≡ true → All (CallFits tally.table) calls
 all_fit calls e = λ k d lt.

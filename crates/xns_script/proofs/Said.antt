@@ -5,6 +5,7 @@ use Rattle.std.specs.Str.{bytes_eq}
 use Rattle.std.proofs.lemmas.Bool.Decides.{nat_tests}
 use Rattle.std.proofs.lemmas.List.Folds.{list_all-append}
 use Rattle.std.proofs.lemmas.List.{map-append}
+use Rattle.courier_messages.specs.RawCalls.{most_call_words}
 use Rattle.courier_calls.specs.declared.call.Call.{Call}
 use Rattle.courier_calls.specs.Calls.{call_model}
 use Rattle.xns_world.specs.declared.event.Event.{Event}
@@ -89,18 +90,18 @@ foreign_said None bs = refl
 foreign_said (Some s) None = refl
 foreign_said (Some s) (Some bs) = refl
 
-raw_said : (p v q : Option ℕ) (ws : Option (List ℕ)) → IfSome ws (λ xs. length xs ≤ 65530) → is_said_command (raw_call_of p v q ws) ≡ true
+raw_said : (p v q : Option ℕ) (ws : Option (List ℕ)) → IfSome ws (λ xs. length xs ≤ most_call_words) → is_said_command (raw_call_of p v q ws) ≡ true
 raw_said None v q ws h = refl
 raw_said (Some p) None q ws h = refl
 raw_said (Some p) (Some v) None ws h = refl
 raw_said (Some p) (Some v) (Some q) None h = refl
-raw_said (Some p) (Some v) (Some q) (Some ws) h = le_is (length ws) 65530 h
+raw_said (Some p) (Some v) (Some q) (Some ws) h = le_is (length ws) most_call_words h
 
 weaker : (o : Option (List ℕ)) (m n : ℕ) → m ≤ n → IfSome o (λ ws. length ws ≤ m) → IfSome o (λ ws. length ws ≤ n)
 weaker None m n le h = tt
 weaker (Some ws) m n le h = omega arith
 
-words_said : (words : List (List ℕ)) → length words ≤ 65530 → is_said_command (command_in words) ≡ true
+words_said : (words : List (List ℕ)) → length words ≤ most_call_words → is_said_command (command_in words) ≡ true
 words_said [] le = refl
 words_said (a ∷ []) le = either (bytes_eq a (codes "rest")) _ _ refl refl
 words_said (a ∷ b ∷ []) le =
@@ -112,7 +113,7 @@ words_said (a ∷ b ∷ c ∷ []) le =
 words_said (a ∷ b ∷ c ∷ d ∷ []) le = refl
 words_said (a ∷ b ∷ p ∷ v ∷ q ∷ words) le =
     either (bytes_eq a (codes "call") && bytes_eq b (codes "raw")) _ _
-    (raw_said (number_of 4294967295 p) (number_of 65535 v) (number_of 65535 q) (raw_words_of words) (weaker (raw_words_of words) (length words) 65530 (omega arith) (raw_count words))) refl
+    (raw_said (number_of 4294967295 p) (number_of 65535 v) (number_of 65535 q) (raw_words_of words) (weaker (raw_words_of words) (length words) most_call_words (omega arith) (raw_count words))) refl
 
 pub line_said : (line : List ℕ) → length line ≤ 4096 → is_said_command (command_of line) ≡ true
 unfolding command_of

@@ -1,6 +1,7 @@
 -- Calls that a line can make may be made of the tally.
 use Rattle.std.specs.Prelude.{◌==◌, ◌&&◌, Bool, true, false, if◌then◌else◌, nat_le, nat_lt, List, length}
 use Rattle.std.specs.List.{list_all}
+use Rattle.courier_messages.specs.RawCalls.{most_call_words}
 use Rattle.courier_types.specs.Value.{ValueModel, no_values}
 use Rattle.courier_calls.specs.Calls.{ArgumentsModel, CallModel, raw_words, typed}
 
@@ -14,7 +15,7 @@ is_no_fields _ = false
 
 abbrev pub is_said_with : CallModel → ArgumentsModel → Bool
 is_said_with c (typed v) = c.program == 7 && (c.version == 2 && (if c.procedure == 1 then is_cardinal v else c.procedure == 2 && is_no_fields v))
-is_said_with c (raw_words words) = nat_le (length words) 65530
+is_said_with c (raw_words words) = nat_le (length words) most_call_words
 
 -- an Add, a Total, or words that fit in a message
 abbrev pub is_said : CallModel → Bool

@@ -3,7 +3,7 @@ use Rattle.std.specs.Prelude.{◌≡◌, ℕ, ◌≤◌, ◌<◌, ◌+◌, ◌-�
 use Rattle.std.specs.List.{list_any}
 use Rattle.memchr.specs.Find.{Nowhere, Passes, is_byte}
 use Rattle.xns_lines.specs.Faults.{IsJustified}
-use Rattle.xns_lines.specs.Lines.{AreWithinLimits, closed_lines, is_long, lines_of, open_line}
+use Rattle.xns_lines.specs.Lines.{AreWithinLimits, closed_lines, is_long, lines_of, open_line, most_line_bytes, most_lines}
 use Rattle.xns_lines.specs.declared.cutter.Cutter.{Cutter}
 use Rattle.xns_lines.specs.declared.fault.RunFault.{RunFault}
 use Rattle.xns_lines.specs.declared.fault.RunFault.TheVariants as fault
@@ -17,8 +17,8 @@ pub record HasCut (cutter : Cutter) (taken : List ℕ) : Type 0 where
   pub line : cutter.line.items ≡ open_line taken
   pub count : cutter.count ≡ length (closed_lines taken)
   pub closed_short : list_any is_long (closed_lines taken) ≡ false
-  pub open_short : length (open_line taken) ≤ 4096
-  pub few : length (lines_of taken) ≤ 65536
+  pub open_short : length (open_line taken) ≤ most_line_bytes
+  pub few : length (lines_of taken) ≤ most_lines
 
 -- and the taker stands for the lines that are over
 abbrev pub HasTaken : Cutter → Says → List ℕ → Type 0
@@ -28,8 +28,8 @@ HasTaken cutter stands taken = HasCut cutter taken × stands (closed_lines taken
 abbrev pub IsJustifiedAt : RunFault → List ℕ → List ℕ → Type 0
 IsJustifiedAt fault.Read front more = ⊥
 IsJustifiedAt fault.Write front more = Unit {0}
-IsJustifiedAt fault.LineTooLong front more = (length (closed_lines front) < 65536) × (4096 < length (open_line front))
-IsJustifiedAt fault.TooManyLines front more = (length (closed_lines front) ≡ 65536) × (0 < length more)
+IsJustifiedAt fault.LineTooLong front more = (length (closed_lines front) < most_lines) × (most_line_bytes < length (open_line front))
+IsJustifiedAt fault.TooManyLines front more = (length (closed_lines front) ≡ most_lines) × (0 < length more)
 IsJustifiedAt fault.NoMemory front more = Unit {0}
 
 -- the cutter's own faults, at which the taker is as it was
@@ -69,7 +69,7 @@ pub record StopsShort (f : RunFault) (read : List ℕ) (left : Says) : Type 0 wh
 
 -- how many bytes the limits still allow, at most
 abbrev pub room_of : Cutter → ℕ
-room_of cutter = (65536 - cutter.count) * 4097 + (4096 - length cutter.line.items)
+room_of cutter = (most_lines - cutter.count) * (most_line_bytes + 1) + (most_line_bytes - length cutter.line.items)
 
 -- no byte of the run is 10
 abbrev pub HasNoNewline : List ℕ → Type 0
