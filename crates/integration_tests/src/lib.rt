@@ -1,4 +1,4 @@
-//! Tests of `courier_calls` and `xns_world` over their public calls, and of what faults say. They stand in a crate of their own, since whoever
+//! Tests of `courier_calls` and `item_world` over their public calls, and of what faults say. They stand in a crate of their own, since whoever
 //! tests a crate proves it anew.
 #![tactic(auto)]
 

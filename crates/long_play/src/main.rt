@@ -4,7 +4,7 @@
 use std::alloc::{AllocError, Global};
 use xns_idp::Address;
 use xns_spp::{Bytes, Item};
-use xns_world::{Event, Items, Setup, Side, play_items};
+use item_world::{Event, Items, Setup, Side, play_items};
 
 const SETUP: Setup = Setup {
     a: Address {

@@ -2,7 +2,7 @@
 use crate::SETUP;
 use std::alloc::{AllocError, Global};
 use xns_spp::{Bytes, Item};
-use xns_world::{Event, Side, play_items};
+use item_world::{Event, Side, play_items};
 
 /// So many items go out each way before packets are delivered.
 const ROUND: u32 = 16;

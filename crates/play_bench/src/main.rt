@@ -7,7 +7,7 @@ mod items;
 
 use std::env;
 use xns_idp::Address;
-use xns_world::Setup;
+use item_world::Setup;
 
 const SETUP: Setup = Setup {
     a: Address {

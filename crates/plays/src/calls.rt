@@ -3,11 +3,11 @@ use crate::items::put_bag;
 use crate::lines::Lines;
 use crate::steps::unfold;
 use crate::telling::{call_text, seen_text};
-use call_world::{CallTrace, play_calls};
+use xns_world::{CallTrace, play_calls};
 use courier_calls::{Call, Tally, tally_table};
 use std::alloc::{AllocError, Global};
 use xns_script::Script;
-use xns_world::Setup;
+use item_world::Setup;
 
 /// A step has at most so many bytes.
 const MOST_BYTES: usize = 4_096;

@@ -6,7 +6,7 @@ use crate::telling::{item_text, packet_text};
 use std::alloc::{AllocError, Global};
 use xns_script::{Command, read_command};
 use xns_spp::{Bytes, Item};
-use xns_world::{Bag, Event, Items, Setup, Side, play_items};
+use item_world::{Bag, Event, Items, Setup, Side, play_items};
 
 /// Of a play with more packets they are only counted.
 const MOST_PACKETS: usize = 40;

@@ -5,7 +5,7 @@ use crate::setting::{A, B};
 use crate::telling::{dropped_text, packet_text};
 use std::alloc::{AllocError, Global};
 use xns_spp::{Bytes, Endpoint, Header, Item, Received};
-use xns_world::{Setup, Side};
+use item_world::{Setup, Side};
 
 /// The numbers that each field is given.
 const NUMBERS: [u16; 5] = [0, 1, 32_767, 32_768, 65_535];

@@ -1,6 +1,6 @@
 //! The two ends of every play.
 use xns_idp::Address;
-use xns_world::Setup;
+use item_world::Setup;
 
 /// The initiator and caller.
 pub const A: Address = Address {

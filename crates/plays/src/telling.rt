@@ -7,7 +7,7 @@ use std::alloc::{AllocError, Global};
 use std::fmt;
 use xns_idp::{Address, decode, packet_type};
 use xns_spp::{Dropped, Header, Item, read_header};
-use xns_world::Side;
+use item_world::Side;
 
 /// More bytes or words are told by their number.
 const MOST_SHOWN: usize = 40;

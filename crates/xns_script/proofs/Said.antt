@@ -8,8 +8,8 @@ use Rattle.std.proofs.lemmas.List.{map-append}
 use Rattle.courier_messages.specs.RawCalls.{most_call_words}
 use Rattle.courier_calls.specs.declared.call.Call.{Call}
 use Rattle.courier_calls.specs.Calls.{call_model}
-use Rattle.xns_world.specs.declared.event.Event.{Event}
-use Rattle.xns_world.specs.declared.side.Side.{Side}
+use Rattle.item_world.specs.declared.event.Event.{Event}
+use Rattle.item_world.specs.declared.side.Side.{Side}
 use Rattle.xns_script.specs.Command.{CommandModel, add_call, calls, command_in, command_of, foreign_of, happens, raw_call_of, skips}
 use Rattle.xns_script.specs.Saying.{are_said, is_said}
 use Rattle.xns_script.specs.Word.{all_hex_words, and_more, digits_from, hex_word_of, is_dash, number_of, put_byte, raw_words_of, words_of_line}

@@ -4,7 +4,7 @@ use Rattle.std.specs.Prelude.{IfNone, is_some}
 use Rattle.std.specs.List.{flat_map}
 use Rattle.std.proofs.lemmas.Grind.{flat_map-append}
 use Rattle.courier_calls.specs.Calls.{CallModel}
-use Rattle.xns_world.specs.declared.event.Event.{Event}
+use Rattle.item_world.specs.declared.event.Event.{Event}
 use Rattle.xns_script.specs.Command.{CommandModel, calls, command_of, happens, skips}
 use Rattle.xns_script.specs.Script.{call_in, calls_in, event_in, events_in, first_refused, refused_from, refused_or}
 

@@ -3,9 +3,9 @@ use Rattle.std.specs.Prelude.{ℕ, ◌==◌, ◌&&◌, if◌then◌else◌, List
 use Rattle.std.specs.Str.{bytes_eq}
 use Rattle.courier_types.specs.Value.{ValueModel, no_values}
 use Rattle.courier_calls.specs.Calls.{CallModel, call_model, typed, raw_words}
-use Rattle.xns_world.specs.declared.event.Event.{Event}
-use Rattle.xns_world.specs.declared.event.Event.TheVariants.{Deliver, Rest, Tick, Foreign}
-use Rattle.xns_world.specs.declared.side.Side.{Side}
+use Rattle.item_world.specs.declared.event.Event.{Event}
+use Rattle.item_world.specs.declared.event.Event.TheVariants.{Deliver, Rest, Tick, Foreign}
+use Rattle.item_world.specs.declared.side.Side.{Side}
 use Rattle.xns_script.specs.declared.command.Command.{Command}
 use Rattle.xns_script.specs.declared.command.Command.TheVariants as command
 use Rattle.xns_script.specs.Word.{hex_bytes_of, number_of, raw_words_of, side_of, words_of_line}

@@ -2,7 +2,7 @@
 use Rattle.std.specs.Prelude.{ℕ, ◌+◌, List, [], ◌∷◌, Option, Some, None}
 use Rattle.std.specs.List.{flat_map}
 use Rattle.courier_calls.specs.Calls.{CallModel}
-use Rattle.xns_world.specs.declared.event.Event.{Event}
+use Rattle.item_world.specs.declared.event.Event.{Event}
 use Rattle.xns_script.specs.Command.{CommandModel, calls, command_of, happens, skips}
 
 abbrev pub call_in : Option CommandModel → List CallModel

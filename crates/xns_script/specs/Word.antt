@@ -5,8 +5,8 @@ use Rattle.std.specs.Int.{IsInRange, from_be_bytes, w16}
 use Rattle.std.specs.Str.{bytes_eq}
 use Rattle.hex.specs.Hex.{decode_of, decode_sized}
 use Rattle.hex.specs.declared.error.FromHexError.{FromHexError}
-use Rattle.xns_world.specs.declared.side.Side.{Side}
-use Rattle.xns_world.specs.declared.side.Side.TheVariants.{A, B}
+use Rattle.item_world.specs.declared.side.Side.{Side}
+use Rattle.item_world.specs.declared.side.Side.TheVariants.{A, B}
 
 -- ---- words
 

@@ -1,5 +1,5 @@
 use courier_calls::Call;
-use xns_world::Event;
+use item_world::Event;
 
 /// What a line of a simulation says.
 #[derive(Debug, Drop)]

@@ -10,7 +10,7 @@ use courier_calls::{Arguments, Call};
 use courier_messages::Words;
 use courier_types::Value;
 use std::alloc::{AllocError, Global};
-use xns_world::Event;
+use item_world::Event;
 
 const MOST_WORD: u32 = 65_535;
 

@@ -7,7 +7,7 @@ use crate::command::Command;
 use crate::reading::read_command;
 use courier_calls::Call;
 use std::alloc::{AllocError, Global};
-use xns_world::Event;
+use item_world::Event;
 
 /// The calls and events of lines, in order, up to the first line that is refused.
 #[derive(Drop)]

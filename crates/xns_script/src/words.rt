@@ -8,7 +8,7 @@ use hex::FromHexError;
 use memchr::memchr;
 use std::alloc::{AllocError, Global};
 use xns_spp::Bytes;
-use xns_world::Side;
+use item_world::Side;
 
 /// The decimal of a number of 32 bits has at most so many digits.
 const MOST_DIGITS: usize = 10;

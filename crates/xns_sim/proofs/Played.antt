@@ -13,11 +13,11 @@ use Rattle.xns_lines.specs.Report.{ReportModel, whole}
 use Rattle.xns_script.specs.Reading.{HasRead}
 use Rattle.xns_script.specs.Script.{calls_in, events_in}
 use Rattle.xns_script.specs.declared.script.Script.{Script}
-use Rattle.call_world.specs.CallPlay.{IsCallTrace, parties}
-use Rattle.call_world.specs.CallWorld.{CallWorld, Parties, carried_at, run_calls, seen_at, service_at}
-use Rattle.call_world.specs.declared.call_trace.CallTrace.{CallTrace}
-use Rattle.xns_world.specs.declared.event.Event.{Event}
-use Rattle.xns_world.specs.declared.setup.Setup.{Setup}
+use Rattle.xns_world.specs.CallPlay.{IsCallTrace, parties}
+use Rattle.xns_world.specs.CallWorld.{CallWorld, Parties, carried_at, run_calls, seen_at, service_at}
+use Rattle.xns_world.specs.declared.call_trace.CallTrace.{CallTrace}
+use Rattle.item_world.specs.declared.event.Event.{Event}
+use Rattle.item_world.specs.declared.setup.Setup.{Setup}
 use Rattle.xns_sim.specs.Sim.{refusal_or_play, script_text}
 use Rattle.xns_sim.specs.Sim.Play.{play_text, script_parties, script_setup, world_text}
 use Rattle.xns_sim.specs.Sim.Trace.{trace_text}

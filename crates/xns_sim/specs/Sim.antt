@@ -7,7 +7,7 @@ use Rattle.std.specs.Fmt.{decimal}
 use Rattle.std.specs.Io.KnownBytes.{Consumes}
 use Rattle.courier_calls.specs.Calls.{CallModel}
 use Rattle.xns_script.specs.Script.{calls_in, events_in, first_refused}
-use Rattle.xns_world.specs.declared.event.Event.{Event}
+use Rattle.item_world.specs.declared.event.Event.{Event}
 use Rattle.xns_lines.specs.Faults.{AppendsFront, IsJustified}
 use Rattle.xns_lines.specs.Lines.{AreWithinLimits, lines_of, without_return}
 use Rattle.xns_sim.specs.Sim.Play.{play_text}

@@ -5,19 +5,19 @@ ghost use Rattle.courier_calls.specs.Calls.{CallFits, call_model};
 ghost use Rattle.courier_calls.specs.Tally.{tally};
 ghost use Rattle.xns_lines.specs.Report.{Adds, whole};
 ghost use Rattle.xns_script.specs.Reading.{HasRead};
-ghost use Rattle.xns_world.specs.Setup.{IsGood};
+ghost use Rattle.item_world.specs.Setup.{IsGood};
 ghost use Rattle.xns_sim.specs.Sim.Play.{play_text, script_setup};
 ghost use Rattle.xns_sim.specs.Sim.{script_text};
 
 use crate::trace::{Played, append_trace};
-use call_world::play_calls;
+use xns_world::play_calls;
 use courier_calls::{Call, Tally, tally_table};
 use std::alloc::{AllocError, Global};
 use xns_idp::Address;
 use xns_lines::Report;
 use xns_lines::numbers::append_decimal;
 use xns_script::Script;
-use xns_world::{Event, Setup};
+use item_world::{Event, Setup};
 
 /// The text of what the script comes to: its first refused line, or its play.
 pub(crate) fn play_script(alloc: Global, script: &Script) -> Result<Report, AllocError>

@@ -3,10 +3,10 @@ use Rattle.std.specs.Prelude.{ℕ, List, [], ◌∷◌, length, map}
 use Rattle.courier_calls.specs.Calls.{CallModel, raw}
 use Rattle.courier_calls.specs.Tally.{tally}
 use Rattle.xns_idp.specs.declared.address.Address.{Address}
-use Rattle.call_world.specs.CallWorld.{CallWorld, Parties, carried_at, run_calls, seen_at, service_at}
-use Rattle.xns_world.specs.World.{packets_of}
-use Rattle.xns_world.specs.declared.event.Event.{Event}
-use Rattle.xns_world.specs.declared.setup.Setup.{Setup}
+use Rattle.xns_world.specs.CallWorld.{CallWorld, Parties, carried_at, run_calls, seen_at, service_at}
+use Rattle.item_world.specs.World.{packets_of}
+use Rattle.item_world.specs.declared.event.Event.{Event}
+use Rattle.item_world.specs.declared.setup.Setup.{Setup}
 use Rattle.xns_sim.specs.Sim.Trace.{trace_text}
 
 -- the caller: 00000001.0000aa000304.0400

@@ -1,6 +1,0 @@
-use Rattle.call_world.proofs.CallEnds.{stepped_feed}
-use Rattle.call_world.proofs.calling.CallingEnd.hear.Goals as goal
-use Rattle.call_world.specs.CallPlay.{IsCalling}
-
-pub returns-then-branch : goal.returns-then-branch
-returns-then-branch g c p w given holds are h = stepped_feed p w c.in_ok-feed.field-0 (IsCalling p c.feed.new.self) c.if-branch.true (c.in_ok-feed.ensures p w given holds h)

@@ -1,5 +1,0 @@
-use Rattle.call_world.proofs.ServeSettling.{settled}
-use Rattle.call_world.proofs.laws.serving.served_ends_settle.Goals as goal
-
-pub returns : goal.returns
-returns g c s v can fits items = settled g.S.Service.serving s v (c.server_laws_are_given.ensures s can) (record { fits = fits; items = items })

@@ -1,0 +1,236 @@
+-- What the program's network stands for as packets join it and are delivered.
+use Rattle.std.proofs.Common.{◌≡◌, ℕ, zero, suc, ◌+◌, ◌<◌, ◌≤◌, Bool, true, false, List, [], ◌∷◌, ◌++◌, length, map, take, drop, set, get_or, Option, Some, None, refl, sym, ◌∙◌, ap, subst, arith, append_assoc, append-nil, length-append, length-set}
+use Rattle.std.specs.Option.{option_to_list}
+use Rattle.std.specs.Prelude.{if◌then◌else◌}
+use Rattle.xns_spp.specs.Held.{Held, StandsFor}
+use Rattle.xns_spp.specs.Receiving.{receive_answer, after_receive}
+use Rattle.item_world.specs.Landing.{answered, landed, landing}
+use Rattle.item_world.specs.Network.{IsEnd}
+use Rattle.item_world.specs.World.{receives}
+use Rattle.std.proofs.lemmas.List.{take-append-le}
+use Rattle.std.proofs.lemmas.List.Elements.{All-set, All-more, All-head, All-tail, All-weaker}
+use Rattle.std.proofs.lemmas.Option.{get_or_from_slice_get, slice_get_within}
+use Rattle.std.specs.Prelude.{All, slice_get, slice_set}
+use Rattle.xns_spp.specs.State.{State}
+use Rattle.item_world.proofs.Later.{settled_later, moved_later, marked_later}
+use Rattle.item_world.proofs.Sides.{each_end, same_end, same_marked}
+use Rattle.item_world.specs.Network.{count_of, with_count, moment_of, is_settled, AreRested, unsettled, IsNetwork}
+use Rattle.item_world.specs.Side.{other}
+use Rattle.item_world.specs.World.{World, end_of, moment, emitted, joined, moved, marked, has_passed}
+use Rattle.item_world.specs.declared.counts.Counts.{Counts}
+use Rattle.item_world.specs.declared.emitted.Emitted.{Emitted}
+use Rattle.item_world.specs.declared.moment.Moment.{Moment}
+use Rattle.item_world.specs.declared.network.Network.{Network}
+use Rattle.item_world.specs.declared.side.Side.{Side}
+use Rattle.item_world.specs.declared.side.Side.TheVariants.{A, B}
+
+-- ---- the packets that are settled
+
+abbrev IsSettled : World → Emitted → Type 0
+IsSettled w x = is_settled w x ≡ true
+
+rested_moved : (n : ℕ) (w : World) (side : Side) (s : State) (bs : List (List ℕ)) → length (end_of w side).taken ≤ length s.taken → AreRested n w → AreRested n (moved w side s bs)
+rested_moved n w side s bs l h =
+    let v : World = moved w side s bs in
+    let new : List Emitted = map (emitted side (moment s (end_of w (other side)))) bs in
+    record {
+      within = omega (arith, h.within, length-append w.bag new);
+      settled = subst (All (IsSettled v)) (sym (take-append-le n w.bag new h.within))
+          (All-weaker (IsSettled w) (IsSettled v) (λ x. settled_later w v x (moved_later w side s bs l)) (take n w.bag) h.settled);
+    }
+
+take-set_any : (n : ℕ) (xs : List Emitted) (k : ℕ) (y : Emitted) → take n (set xs k y) ≡ set (take n xs) k y
+take-set_any zero xs k y = refl
+take-set_any (suc n) [] k y = refl
+take-set_any (suc n) (x ∷ xs) zero y = refl
+take-set_any (suc n) (x ∷ xs) (suc k) y = ap (λ (l : List Emitted). x ∷ l) (take-set_any n xs k y)
+
+rested_marked : (n : ℕ) (w : World) (k : ℕ) (x : Emitted) → slice_get w.bag k ≡ Some x → AreRested n w → AreRested n (marked w k x)
+rested_marked n w k x is h =
+    let y : Emitted = record x { delivered = true } in
+    let v : World = marked w k x in
+    let before : All (IsSettled v) (take n w.bag) = All-weaker (IsSettled w) (IsSettled v) (λ z. settled_later w v z (marked_later w k x is)) (take n w.bag) h.settled in
+    record {
+      within = omega (arith, h.within, length-set w.bag k y);
+      settled = subst (All (IsSettled v)) (sym (take-set_any n w.bag k y)) (All-set (IsSettled v) (take n w.bag) k y refl before);
+    }
+
+-- one packet more
+pub rested_more : (n : ℕ) (w : World) (x : Emitted) → slice_get w.bag n ≡ Some x → is_settled w x ≡ true → AreRested n w → AreRested (n + 1) w
+rested_more n w x is h r =
+    let l : n < length w.bag = slice_get_within w.bag n x is in
+    record {
+      within = omega arith;
+      settled = All-more (IsSettled w) w.bag n x l r.settled (subst (IsSettled w) (sym (get_or_from_slice_get w.bag n x x is)) h);
+    }
+
+-- ---- the counts
+
+counted_same : (c : Counts) (side : Side) (n : ℕ) → count_of (with_count c side n) side ≡ n
+counted_same c A n = refl
+counted_same c B n = refl
+
+counted_other : (c : Counts) (side : Side) (n : ℕ) → count_of (with_count c side n) (other side) ≡ count_of c (other side)
+counted_other c A n = refl
+counted_other c B n = refl
+
+-- the counts are those of the ends
+abbrev AreCounts : Counts → World → Type 0
+AreCounts c w = (side : Side) → count_of c side ≡ length (end_of w side).taken
+
+counted : (c : Counts) (w : World) (side : Side) (s : State) (bs : List (List ℕ)) (n : ℕ) → n ≡ length s.taken → AreCounts c w → AreCounts (with_count c side n) (moved w side s bs)
+counted c w A s bs n is h A = is
+counted c w A s bs n is h B = h B
+counted c w B s bs n is h A = h A
+counted c w B s bs n is h B = is
+
+-- an end moves that takes nothing
+counted_on : (c : Counts) (w : World) (side : Side) (s : State) (bs : List (List ℕ)) → length s.taken ≡ length (end_of w side).taken → AreCounts c w → AreCounts c (moved w side s bs)
+counted_on c w side s bs is h = λ t. each_end w side s bs (λ u v. count_of c u ≡ length v.taken) (h side ∙ sym is) t (h t)
+
+-- ---- packets join
+
+moments_are : (c : Counts) (w : World) (side : Side) (s : State) → count_of c side ≡ length s.taken → count_of c (other side) ≡ length (end_of w (other side)).taken → moment_of c side ≡ moment s (end_of w (other side))
+moments_are c w side s here there =
+    let at : ℕ → ℕ → Moment = λ m n. record { sender = m; receiver = n } in
+    ap (λ (m : ℕ). at m (count_of c (other side))) here ∙ ap (at (length s.taken)) there
+
+pub emits : (n m : Network) (w : World) (side : Side) (s : State) (at : Moment) (bs : List (List ℕ)) → IsNetwork n w → length s.taken ≡ length (end_of w side).taken → at ≡ moment_of n.taken side
+    → m.packets.items ≡ joined n.packets.items side at bs → m.taken ≡ n.taken → m.rested ≡ n.rested → IsNetwork m (moved w side s bs)
+emits n m w side s at bs h is at_is joins taken rested =
+    let v : World = moved w side s bs in
+    let now : at ≡ moment s (end_of w (other side)) = at_is ∙ moments_are n.taken w side s (h.taken side ∙ sym is) (h.taken (other side)) in
+    record {
+      bag = joins ∙ (ap (λ (l : List Emitted). joined l side at bs) h.bag ∙ ap (λ (a : Moment). joined w.bag side a bs) now);
+      taken = subst (λ (c : Counts). AreCounts c v) (sym taken) (counted_on n.taken w side s bs is h.taken);
+      rested = subst (λ (k : ℕ). AreRested k v) (sym rested) (rested_moved n.rested w side s bs (omega (arith, is)) h.rested);
+    }
+
+-- a move that sends and takes nothing
+pub quiet : (n : Network) (w : World) (side : Side) (s : State) → IsNetwork n w → length s.taken ≡ length (end_of w side).taken → IsNetwork n (moved w side s [])
+quiet n w side s h is = record {
+  bag = h.bag ∙ sym (append-nil w.bag);
+  taken = counted_on n.taken w side s [] is h.taken;
+  rested = rested_moved n.rested w side s [] (omega (arith, is)) h.rested;
+}
+
+-- ---- a packet is delivered
+
+pub delivers_it : (n m : Network) (w : World) (side : Side) (k : ℕ) (x : Emitted) (s : State) (took : ℕ) (at : Moment) (counts : Counts) (bs : List (List ℕ)) → IsNetwork n w → slice_get w.bag k ≡ Some x → length (end_of w side).taken + took ≡ length s.taken
+    → counts ≡ with_count n.taken side (length s.taken) → at ≡ moment_of counts side
+    → m.packets.items ≡ joined (slice_set w.bag k (record x { delivered = true })) side at bs → m.taken ≡ counts → m.rested ≡ n.rested → IsNetwork m (moved (marked w k x) side s bs)
+delivers_it n m w side k x s took at counts bs h is more counts_are at_is joins taken rested =
+    let u : World = marked w k x in
+    let v : World = moved u side s bs in
+    let c : Counts = with_count n.taken side (length s.taken) in
+    let before : AreCounts n.taken u = λ t. h.taken t ∙ ap (λ (q : State). length q.taken) (sym (same_marked w k x t)) in
+    let now : at ≡ moment s (end_of u (other side)) =
+    at_is ∙ (ap (λ (d : Counts). moment_of d side) counts_are
+    ∙ moments_are c u side s (counted_same n.taken side (length s.taken)) (counted_other n.taken side (length s.taken) ∙ before (other side))) in
+    record {
+      bag = joins ∙ ap (λ (a : Moment). joined u.bag side a bs) now;
+      taken = subst (λ (d : Counts). AreCounts d v) (sym (taken ∙ counts_are)) (counted n.taken u side s bs (length s.taken) refl before);
+      rested = subst (λ (j : ℕ). AreRested j v) (sym rested)
+          (rested_moved n.rested u side s bs (omega (arith, more, ap (λ (q : State). length q.taken) (same_marked w k x side))) (rested_marked n.rested w k x is h.rested));
+    }
+
+-- what is read from a place is what stands there
+pub read_from : (bag : List Emitted) (k : ℕ) (x y : Emitted) → slice_get bag k ≡ Some x → y ≡ get_or bag k y → y ≡ x
+read_from bag k x y h is = is ∙ get_or_from_slice_get bag k x y h
+
+-- ---- the numbers of the packets that are not settled
+
+drop_at : (bag : List Emitted) (k : ℕ) (x : Emitted) → slice_get bag k ≡ Some x → drop k bag ≡ x ∷ drop (suc k) bag
+drop_at [] k x h = absurd (cc)
+drop_at (y ∷ bag) zero x h = let is : y ≡ x = cc in ap (λ (z : Emitted). z ∷ bag) is
+drop_at (y ∷ bag) (suc k) x h = drop_at bag k x h
+
+drop_all : (bag : List Emitted) (n : ℕ) → length bag ≤ n → drop n bag ≡ []
+drop_all [] zero h = refl
+drop_all [] (suc n) h = refl
+drop_all (x ∷ bag) zero h = absurd (omega (arith, h))
+drop_all (x ∷ bag) (suc n) h = drop_all bag n (omega (arith, h))
+
+-- where the first n from number i on are settled
+unsettled_rested : (w : World) (n i : ℕ) (bag : List Emitted) → n ≤ length bag → All (IsSettled w) (take n bag) → unsettled w i bag ≡ unsettled w (i + n) (drop n bag)
+unsettled_rested w zero i bag l h = ap (λ (k : ℕ). unsettled w k bag) (omega arith)
+unsettled_rested w (suc n) i [] l h = absurd (omega arith)
+unsettled_rested w (suc n) i (x ∷ bag) l h =
+    let count : i + 1 + n ≡ i + suc n = omega arith in
+    ap (λ (b : Bool). if b then unsettled w (i + 1) bag else i ∷ unsettled w (i + 1) bag) (All-head (IsSettled w) x (take n bag) h)
+    ∙ (unsettled_rested w n (i + 1) bag (omega (arith, l)) (All-tail (IsSettled w) x (take n bag) h)
+    ∙ ap (λ (k : ℕ). unsettled w k (drop n bag)) count)
+
+-- the numbers listed so far, and those from number k on
+abbrev pub AreListed : World → List ℕ → ℕ → ℕ → Type 0
+AreListed w ns r k = ns ++ unsettled w k (drop k w.bag) ≡ unsettled w r (drop r w.bag)
+
+pub listed_more : (w : World) (ns : List ℕ) (r k : ℕ) (x : Emitted) → slice_get w.bag k ≡ Some x → AreListed w ns r k → AreListed w (ns ++ (if is_settled w x then [] else k ∷ [])) r (k + 1)
+listed_more w ns r k x is before =
+    let next : suc k ≡ k + 1 = omega arith in
+    let rest : List Emitted = drop (k + 1) w.bag in
+    let at : drop k w.bag ≡ x ∷ rest = drop_at w.bag k x is ∙ ap (λ (n : ℕ). x ∷ drop n w.bag) next in
+    append_assoc ns (if is_settled w x then [] else k ∷ []) (unsettled w (k + 1) rest)
+    ∙ (ap (λ (l : List ℕ). ns ++ l) (elim (is_settled w x) as (λ b. (if b then [] else k ∷ []) ++ unsettled w (k + 1) rest ≡ (if b then unsettled w (k + 1) rest else k ∷ unsettled w (k + 1) rest)) [ true ↦ refl | false ↦ refl ])
+    ∙ (sym (ap (λ (l : List Emitted). ns ++ unsettled w k l) at) ∙ before))
+
+pub listed_all : (w : World) (ns : List ℕ) (r k : ℕ) → length w.bag ≤ k → AreRested r w → AreListed w ns r k → ns ≡ unsettled w 0 w.bag
+listed_all w ns r k l rested h =
+    let from : 0 + r ≡ r = omega arith in
+    sym (append-nil ns)
+    ∙ (ap (λ (t : List Emitted). ns ++ unsettled w k t) (sym (drop_all w.bag k l))
+    ∙ (h
+    ∙ (ap (λ (i : ℕ). unsettled w i (drop r w.bag)) (sym from)
+    ∙ sym (unsettled_rested w r 0 w.bag rested.within rested.settled))))
+
+-- ---- an end and the network
+
+-- an end that moves
+pub end_moved : (w : World) (side : Side) (t : State) (bs cs : List (List ℕ)) (e : Held) (n : Network) → StandsFor e t → cs ≡ bs → IsNetwork n (moved w side t cs) → IsEnd e n (moved w side t bs) side
+end_moved w side t bs cs e n stands is net = record {
+  stands = subst (λ (s : State). StandsFor e s) (sym (same_end w side t bs)) stands;
+  network = subst (λ (l : List (List ℕ)). IsNetwork n (moved w side t l)) is net;
+}
+
+-- what a packet is that comes to an end
+pub record Lands (w : World) (k : ℕ) (side : Side) (v : World) : Type 0 where
+  pub packet : Emitted
+  pub is : slice_get w.bag k ≡ Some packet
+  pub world : moved (marked w k packet) side (after_receive (end_of w side) packet.bytes) (option_to_list (receive_answer (end_of w side) packet.bytes).reply) ≡ v
+
+nowhere : (l : Side × World) → None ≡ Some l → ⊥
+nowhere l h = absurd (cc)
+
+same_landing : (l m : Side × World) → Some l ≡ Some m → l ≡ m
+same_landing l m h = cc
+
+landed_as : (w : World) (k : ℕ) (side : Side) (v : World) (o : Option Emitted) → slice_get w.bag k ≡ o → landed w k o ≡ Some (side, v) → Lands w k side v
+landed_as w k side v None is e = absurd (cc)
+landed_as w k side v (Some x) is e =
+    let l : Side × World = (other x.side, answered w k x) in
+    let m : Side × World = (side, v) in
+    let marks : World = marked w k x in
+    let there : l ≡ m → Lands w k side v = λ pair.
+    let on : other x.side ≡ side = ap (λ (q : Side × World). q.0) pair in
+    record {
+      packet = x;
+      is = is;
+      world = ap (λ (s : State). moved marks side (after_receive s x.bytes) (option_to_list (receive_answer s x.bytes).reply)) (sym (same_marked w k x side))
+          ∙ (ap (λ (t : Side). receives marks t x.bytes) (sym on) ∙ ap (λ (q : Side × World). q.1) pair);
+    } in
+    elim (has_passed w x) as (λ b. (if b then None else Some l) ≡ Some m → Lands w k side v) [
+      | true ↦ λ f. absurd (nowhere m f)
+      | false ↦ λ f. there (same_landing l m f)
+    ] e
+
+pub lands_as : (w : World) (k : ℕ) (side : Side) (v : World) → landing w k ≡ Some (side, v) → Lands w k side v
+lands_as w k side v e = landed_as w k side v (slice_get w.bag k) refl e
+
+-- a packet came to an end, and the network has it
+pub end_reached_by : (w v : World) (k : ℕ) (side : Side) (l : Lands w k side v) (e : Held) (n : Network) (reply : Option (List ℕ)) → StandsFor e (after_receive (end_of w side) l.packet.bytes) → reply ≡ (receive_answer (end_of w side) l.packet.bytes).reply
+    → IsNetwork n (moved (marked w k l.packet) side (after_receive (end_of w side) l.packet.bytes) (option_to_list reply)) → IsEnd e n v side
+end_reached_by w v k side l e n reply stands is net =
+    let s : State = end_of w side in
+    let b : List ℕ = l.packet.bytes in
+    subst (λ (u : World). IsEnd e n u side) l.world
+    (end_moved (marked w k l.packet) side (after_receive s b) (option_to_list (receive_answer s b).reply) (option_to_list reply) e n stands (ap option_to_list is) net)

@@ -1,0 +1,134 @@
+-- What a play stands for after each event.
+use Rattle.std.proofs.Common.{◌≡◌, ℕ, ◌+◌, ◌<◌, ◌≤◌, List, [], ◌∷◌, ◌++◌, length, map, take, get_or, Option, Some, None, refl, sym, ◌∙◌, ap, subst}
+use Rattle.std.proofs.lemmas.List.{take_more, take_all}
+use Rattle.std.proofs.lemmas.List.Elements.{All-nil, All-push}
+use Rattle.std.proofs.lemmas.List.Sums.{fold-append}
+use Rattle.std.specs.Prelude.{All}
+use Rattle.xns_spp.specs.Held.{Held, StandsFor}
+use Rattle.xns_spp.specs.State.{State}
+use Rattle.xns_spp.specs.declared.item.Item.{Item}
+use Rattle.std.specs.Option.{option_to_list}
+use Rattle.xns_spp.specs.Receiving.{receive_answer, after_receive}
+use Rattle.item_world.proofs.Continues.{Continues, went_on, receive_continues}
+use Rattle.item_world.proofs.Networks.{quiet, lands_as}
+use Rattle.item_world.proofs.Sides.{same_end, same_other, same_marked}
+use Rattle.item_world.proofs.Later.{Later, later_itself, later_then, flushes_later, landing_later}
+use Rattle.item_world.proofs.Resting.{Delivering}
+use Rattle.item_world.proofs.Runs.{delivers_lands}
+use Rattle.item_world.specs.declared.event.Event.{Event}
+use Rattle.item_world.specs.declared.item_trace.ItemTrace.{ItemTrace}
+use Rattle.item_world.specs.declared.network.Network.{Network}
+use Rattle.item_world.specs.declared.pair.Pair.{Pair}
+use Rattle.item_world.specs.declared.participant.Participant.{Participant}
+use Rattle.item_world.specs.declared.play.Play.{Play}
+use Rattle.item_world.specs.declared.setup.Setup.{Setup}
+use Rattle.item_world.specs.declared.side.Side.{Side}
+use Rattle.item_world.specs.declared.side.Side.TheVariants.{A, B}
+use Rattle.item_world.specs.EndLaws.{EndLaws}
+use Rattle.item_world.specs.Events.{happens, delivers, run, IsEvent}
+use Rattle.xns_spp.specs.Growth.{Begins}
+use Rattle.item_world.specs.Landing.{landing, flushed, end_reached}
+use Rattle.item_world.specs.Network.{IsNetwork, IsEnd}
+use Rattle.item_world.specs.Play.{at_side, with_side, IsParticipant, IsPlaying, IsPlayed}
+use Rattle.item_world.specs.Side.{other}
+use Rattle.item_world.specs.Trace.{item_trace}
+use Rattle.item_world.specs.World.{World, start, end_of, moved, marked, sender_and_bytes, packets_of}
+
+-- an end acts, and the other one stays
+pub acts : (pair : Pair) (n : Network) (w v : World) (side : Side) (q : Participant) → ((t : Side) → IsParticipant (at_side pair t) (end_of w t)) → end_of v (other side) ≡ end_of w (other side)
+    → IsParticipant q (end_of v side) → IsNetwork n v → IsPlaying (record { ends = with_side pair side q; network = n }) v
+acts pair n w v A q h same here net = record { ends = λ t. elim t as (λ t. IsParticipant (at_side (with_side pair A q) t) (end_of v t)) [ A ↦ here | B ↦ subst (λ (s : State). IsParticipant pair.b s) (sym same) (h B) ]; network = net }
+acts pair n w v B q h same here net = record { ends = λ t. elim t as (λ t. IsParticipant (at_side (with_side pair B q) t) (end_of v t)) [ A ↦ subst (λ (s : State). IsParticipant pair.a s) (sym same) (h A) | B ↦ here ]; network = net }
+
+-- an endpoint acts, which accepts and hands up nothing
+pub acts_quietly : (pair : Pair) (n : Network) (w : World) (side : Side) (p : Participant) (e : Held) (t : State) (bs : List (List ℕ)) → ((u : Side) → IsParticipant (at_side pair u) (end_of w u)) → p ≡ at_side pair side → Continues (end_of w side) t
+    → IsEnd e n (moved w side t bs) side → IsPlaying (record { ends = with_side pair side (record p { endpoint = e }); network = n }) (moved w side t bs)
+acts_quietly pair n w side p e t bs h is c end =
+    let before : IsParticipant p (end_of w side) = subst (λ (q : Participant). IsParticipant q (end_of w side)) (sym is) (h side) in
+    let same = same_end w side t bs in
+    let after = went_on p (end_of w side) t e before c (subst (λ (s : State). StandsFor e s) same end.stands) in
+    acts pair n w (moved w side t bs) side (record p { endpoint = e }) h (same_other w side t bs) (subst (λ (s : State). IsParticipant (record p { endpoint = e }) s) (sym same) after) end.network
+
+-- an end accepts an item or hands one up, which sends and takes nothing
+pub acts_alone : (pair : Pair) (n : Network) (w : World) (side : Side) (q : Participant) (t : State) → ((u : Side) → IsParticipant (at_side pair u) (end_of w u)) → IsParticipant q t → IsNetwork n w → t.taken ≡ (end_of w side).taken
+    → IsPlaying (record { ends = with_side pair side q; network = n }) (moved w side t [])
+acts_alone pair n w side q t h here net is =
+    acts pair n w (moved w side t []) side q h (same_other w side t []) (subst (λ (s : State). IsParticipant q s) (sym (same_end w side t [])) here) (quiet n w side t net (ap length is))
+
+-- a packet came to an end
+pub lands_there : EndLaws → (pair : Pair) (n : Network) (w v : World) (k : ℕ) (side : Side) (p : Participant) (e : Held) → ((u : Side) → IsParticipant (at_side pair u) (end_of w u)) → p ≡ at_side pair side → landing w k ≡ Some (side, v)
+    → IsEnd e n v side → IsPlaying (record { ends = with_side pair side (record p { endpoint = e }); network = n }) v
+lands_there laws pair n w v k side p e h is lands end =
+    let l = lands_as w k side v lands in
+    let u : World = marked w k l.packet in
+    let s : State = end_of w side in
+    let b : List ℕ = l.packet.bytes in
+    let unmarked : (t : Side) → IsParticipant (at_side pair t) (end_of u t) = λ t. subst (λ (q : State). IsParticipant (at_side pair t) q) (sym (same_marked w k l.packet t)) (h t) in
+    let on : Continues (end_of u side) (after_receive s b) = subst (λ (q : State). Continues q (after_receive s b)) (sym (same_marked w k l.packet side)) (receive_continues laws s b) in
+    subst (λ (x : World). IsPlaying (record { ends = with_side pair side (record p { endpoint = e }); network = n }) x) l.world
+    (acts_quietly pair n u side p e (after_receive s b) (option_to_list (receive_answer s b).reply) unmarked is on (subst (λ (x : World). IsEnd e n x side) (sym l.world) end))
+
+-- an end that is lent out and comes back as it was
+pub lent : (pair : Pair) (side : Side) → with_side pair side (at_side pair side) ≡ pair
+lent pair A = refl
+lent pair B = refl
+
+pub some_landing : (o : Option (Side × World)) (side : Side) → Some side ≡ end_reached o → (v : World) × (o ≡ Some (side, v))
+some_landing None side h = absurd (cc)
+some_landing (Some l) side h = let same : side ≡ l.0 = cc in (l.1, ap (λ (t : Side). Some (t, l.1)) (sym same))
+
+pub no_landing : (o : Option (Side × World)) → None ≡ end_reached o → o ≡ None
+no_landing None h = refl
+no_landing (Some l) h = absurd (cc)
+
+-- an end whose endpoint stands for what it stood for
+pub stays_there : (play : Play) (w : World) (side : Side) (p : Participant) (e : Held) → IsPlaying play w → IsParticipant p (end_of w side) → StandsFor e (end_of w side)
+    → IsPlaying (record play { ends = with_side play.ends side (record p { endpoint = e }) }) w
+stays_there play w side p e h here stands =
+    acts play.ends play.network w w side (record p { endpoint = e }) h.ends refl (record { stands = stands; sent = here.sent; handed = here.handed }) h.network
+
+-- ---- deliveries
+
+flushed_later : EndLaws → (w : World) (k : ℕ) (o : Option (Side × World)) → landing w k ≡ o → Later w (flushed w o)
+flushed_later laws w k None e = later_itself w
+flushed_later laws w k (Some l) e = later_then w l.1 (flushed w (Some l)) (landing_later laws w k l e) (flushes_later laws l.1 l.0)
+
+delivers_later : EndLaws → (w : World) (k : ℕ) → Later w (delivers w k)
+delivers_later laws w k = subst (λ (v : World). Later w v) (sym (delivers_lands w k)) (flushed_later laws w k (landing w k) refl)
+
+pub delivers_nowhere : (w : World) (k : ℕ) → landing w k ≡ None → delivers w k ≡ w
+delivers_nowhere w k none = delivers_lands w k ∙ ap (flushed w) none
+
+pub delivering : EndLaws → Delivering {W = World} (λ w. w) delivers
+delivering laws = record { later = delivers_later laws; nowhere = delivers_nowhere }
+
+-- ---- a list of events
+
+pub played_none : (p : Play) (setup : Setup) → IsPlaying p (start setup) → IsPlayed p setup []
+played_none p setup h = record { stands = h; fits = All-nil IsEvent }
+
+-- after one event more
+pub played_more : (q : Play) (setup : Setup) (events : List Event) (k : ℕ) (e : Event) → k < length events → e ≡ get_or events k e
+    → IsPlaying q (happens (run (start setup) (take k events)) e) → IsEvent e → All IsEvent (take k events) → IsPlayed q setup (take (k + 1) events)
+played_more q setup events k e l is goes fits before =
+    let more : take (k + 1) events ≡ take k events ++ e ∷ [] = take_more events k e l ∙ ap (λ (d : Event). take k events ++ d ∷ []) (sym is) in
+    subst (IsPlayed q setup) (sym more) (record {
+      stands = subst (IsPlaying q) (sym (fold-append happens (start setup) (take k events) (e ∷ []))) goes;
+      fits = All-push IsEvent (take k events) e before fits;
+    })
+
+pub played_all : (p : Play) (setup : Setup) (events : List Event) (n : ℕ) → length events ≤ n → IsPlayed p setup (take n events) → IsPlayed p setup events
+played_all p setup events n l h = subst (IsPlayed p setup) (take_all n events l) h
+
+-- what the play hands over is the trace
+pub trace_of : (p : Play) (w : World) (bag : List (Side × List ℕ)) → IsPlaying p w → bag ≡ map sender_and_bytes p.network.packets.items
+    → ◌≡◌ {A = ItemTrace} (record { a_sent = p.ends.a.sent; b_sent = p.ends.b.sent; a_handed = p.ends.a.handed; b_handed = p.ends.b.handed; bag = bag }) (item_trace w)
+trace_of p w bag h is =
+    let t : ItemTrace = item_trace w in
+    let a = h.ends A in
+    let b = h.ends B in
+    let bags : bag ≡ packets_of w = is ∙ ap (map sender_and_bytes) h.network.bag in
+    rw (a.sent, b.sent, a.handed, b.handed, bags) refl
+
+pub begins_along : (xs xs' ys ys' : List Item) → xs ≡ xs' → ys ≡ ys' → Begins xs' ys' → Begins xs ys
+begins_along xs xs' ys ys' p q b = (b.0, ap (λ (l : List Item). l ++ b.0) p ∙ (b.1 ∙ sym q))

@@ -1,0 +1,78 @@
+-- What may happen, as a list of small steps.
+use Rattle.std.specs.Prelude.{ℕ, ◌+◌, List, [], ◌∷◌, ◌++◌, fold, Option, Some, None, if◌then◌else◌}
+use Rattle.xns_spp.specs.Item.{IsItem}
+use Rattle.xns_spp.specs.Receiving.{is_ours}
+use Rattle.xns_spp.specs.declared.item.Item.{Item}
+use Rattle.item_world.specs.declared.emitted.Emitted.{Emitted}
+use Rattle.item_world.specs.declared.event.Event.{Event}
+use Rattle.item_world.specs.declared.event.Event.TheVariants.{Deliver, Rest, Tick, Foreign, Send, Take}
+use Rattle.item_world.specs.declared.side.Side.{Side}
+use Rattle.item_world.specs.Landing.{landing, reached}
+use Rattle.item_world.specs.World.{World, end_of, flushes, ticks, receives, sends, takes}
+
+-- packet k comes to an end, which answers it; bytes from elsewhere come to an end; an end is given an item, hands one up, flushes, or ticks
+pub data Step : Type 0 where
+  arrival : ℕ → Step
+  noise : Side → List ℕ → Step
+  sending : Side → Item → Step
+  taking : Side → Step
+  flushing : Side → Step
+  ticking : Side → Step
+
+-- bytes from elsewhere that would pass for a packet of the connection are passed over
+abbrev pub stepped : World → Step → World
+stepped w (arrival k) = reached w (landing w k)
+stepped w (noise side bytes) = if is_ours (end_of w side) bytes then w else receives w side bytes
+stepped w (sending side x) = sends w side x
+stepped w (taking side) = takes w side
+stepped w (flushing side) = flushes w side
+stepped w (ticking side) = ticks w side
+
+abbrev pub all_stepped : World → List Step → World
+all_stepped w steps = fold stepped w steps
+
+-- ---- the steps of an event
+
+-- packet k is answered, and then the end that it came to flushes; nothing happens where it comes to none
+abbrev pub arrival_steps : ℕ → Option (Side × World) → List Step
+arrival_steps k None = []
+arrival_steps k (Some l) = arrival k ∷ flushing l.0 ∷ []
+
+abbrev pub delivery_steps : World → ℕ → List Step
+delivery_steps w k = arrival_steps k (landing w k)
+
+abbrev pub delivers : World → ℕ → World
+delivers w k = all_stepped w (delivery_steps w k)
+
+-- these packets are delivered in turn
+abbrev pub delivery_steps_of : World → List ℕ → List Step
+delivery_steps_of w [] = []
+delivery_steps_of w (k ∷ ks) = delivery_steps w k ++ delivery_steps_of (delivers w k) ks
+
+-- the numbers of the packets that were never delivered, in order; the first packet of the list has number i
+abbrev pub undelivered : ℕ → List Emitted → List ℕ
+undelivered i [] = []
+undelivered i (x ∷ xs) = if x.delivered then undelivered (i + 1) xs else i ∷ undelivered (i + 1) xs
+
+abbrev pub steps_of : World → Event → List Step
+steps_of w (Deliver k) = delivery_steps w k
+steps_of w Rest = delivery_steps_of w (undelivered 0 w.bag)
+steps_of w (Tick side) = ticking side ∷ []
+steps_of w (Foreign side bytes) = noise side bytes ∷ []
+steps_of w (Send side x) = sending side x ∷ flushing side ∷ []
+steps_of w (Take side) = taking side ∷ []
+
+abbrev pub happens : World → Event → World
+happens w e = all_stepped w (steps_of w e)
+
+abbrev pub run : World → List Event → World
+run w events = fold happens w events
+
+-- the numbers of an event's item are within their types' bounds
+abbrev pub IsEvent : Event → Type 0
+IsEvent (Deliver k) = Unit {0}
+IsEvent Rest = Unit {0}
+IsEvent (Tick side) = Unit {0}
+IsEvent (Foreign side bytes) = Unit {0}
+IsEvent (Send side x) = IsItem x
+IsEvent (Take side) = Unit {0}

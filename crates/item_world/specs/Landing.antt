@@ -1,0 +1,33 @@
+-- A packet comes to an end, which answers it; what that end does then is left to its user.
+use Rattle.std.specs.Prelude.{ℕ, slice_get, Option, Some, None, if◌then◌else◌}
+use Rattle.item_world.specs.declared.emitted.Emitted.{Emitted}
+use Rattle.item_world.specs.declared.side.Side.{Side}
+use Rattle.item_world.specs.Side.{other}
+use Rattle.item_world.specs.World.{World, has_passed, receives, marked, flushes}
+
+-- packet k, which is x, comes to the other end, which answers it
+abbrev pub answered : World → ℕ → Emitted → World
+answered w k x = receives (marked w k x) (other x.side) x.bytes
+
+abbrev pub landed : World → ℕ → Option Emitted → Option (Side × World)
+landed w k None = None
+landed w k (Some x) = if has_passed w x then None else Some (other x.side, answered w k x)
+
+-- the end that packet k comes to, and the world once that end has answered it; none where there is no packet k, or where it lives no longer
+abbrev pub landing : World → ℕ → Option (Side × World)
+landing w k = landed w k (slice_get w.bag k)
+
+-- the end alone
+abbrev pub end_reached : Option (Side × World) → Option Side
+end_reached None = None
+end_reached (Some l) = Some l.0
+
+-- the world once it has answered
+abbrev pub reached : World → Option (Side × World) → World
+reached w None = w
+reached w (Some l) = l.1
+
+-- and once it has flushed then
+abbrev pub flushed : World → Option (Side × World) → World
+flushed w None = w
+flushed w (Some l) = flushes l.1 l.0

@@ -1,0 +1,47 @@
+-- What the definitions imply: the statements of the laws, each under the name of its law.
+use Rattle.std.specs.Prelude.{◌≡◌, ℕ, false, List, take, fold, All, Some}
+use Rattle.xns_spp.specs.Item.{IsItem}
+use Rattle.xns_spp.specs.Meant.{as_meant}
+use Rattle.xns_spp.specs.Receiving.{numbers_in}
+use Rattle.xns_spp.specs.declared.item.Item.{Item}
+use Rattle.item_world.specs.declared.emitted.Emitted.{Emitted}
+use Rattle.item_world.specs.declared.event.Event.{Event}
+use Rattle.item_world.specs.declared.event.Event.TheVariants.{Foreign, Rest}
+use Rattle.item_world.specs.declared.setup.Setup.{Setup}
+use Rattle.item_world.specs.declared.side.Side.{Side}
+use Rattle.item_world.specs.Side.{other}
+use Rattle.item_world.specs.Setup.{IsSetup, IsGood}
+use Rattle.item_world.specs.Events.{IsEvent, steps_of, all_stepped, delivers, undelivered, happens, run}
+use Rattle.item_world.specs.Landing.{landing, flushed}
+use Rattle.item_world.specs.World.{World, start, end_of, has_passed, flushes, ticks, sends, takes, packets_of, sent_at, handed_at}
+use Rattle.xns_spp.specs.Growth.{Begins}
+use Rattle.item_world.specs.Invariant.{Holds, IsSoundSpelling}
+
+pub record EachStepKeepsTheOrder : Type 0 where
+  pub start : (setup : Setup) → IsSetup setup → IsGood setup → Holds (start setup)
+  pub flush : (w : World) (side : Side) → Holds w → Holds (flushes w side)
+  pub tick : (w : World) (side : Side) → Holds w → Holds (ticks w side)
+  pub send : (w : World) (side : Side) (x : Item) → IsItem x → Holds w → Holds (sends w side x)
+  pub take : (w : World) (side : Side) → Holds w → Holds (takes w side)
+  pub land : (w : World) (k : ℕ) (l : Side × World) → Holds w → landing w k ≡ Some l → Holds l.1
+  pub order : (w : World) (side : Side) → Holds w → Begins (handed_at w side) (sent_at w (other side))
+  pub read : (w : World) (x : Emitted) → Holds w → has_passed w x ≡ false → (i : IsSoundSpelling (end_of w x.side) (end_of w (other x.side)) x) →
+      numbers_in (end_of w (other x.side)) i.packet ≡ as_meant i.meant
+  pub deliver : (w : World) (k : ℕ) → delivers w k ≡ flushed w (landing w k)
+
+pub record ItemsComeInOrder : Type 0 where
+  pub begins : (setup : Setup) (events : List Event) (side : Side) → IsSetup setup → IsGood setup → All IsEvent events →
+      Begins (handed_at (run (start setup) events) side) (sent_at (run (start setup) events) (other side))
+  pub holds : (setup : Setup) (events : List Event) → IsSetup setup → IsGood setup → All IsEvent events →
+      Holds (run (start setup) events)
+  pub within : (setup : Setup) (events : List Event) (event : Event) (n : ℕ) → IsSetup setup → IsGood setup → All IsEvent events → IsEvent event →
+      Holds (all_stepped (run (start setup) events) (take n (steps_of (run (start setup) events) event)))
+
+abbrev pub ForeignBytesChangeNothing : Type 0
+ForeignBytesChangeNothing = (w : World) (side : Side) (bytes : List ℕ) → happens w (Foreign side bytes) ≡ w
+
+abbrev pub ARestDeliversWhatNeverWas : Type 0
+ARestDeliversWhatNeverWas = (w : World) → happens w Rest ≡ fold delivers w (undelivered 0 w.bag)
+
+abbrev pub TheBagNeverShrinks : Type 0
+TheBagNeverShrinks = (w : World) (events : List Event) → Begins (packets_of w) (packets_of (run w events))

@@ -1,0 +1,11 @@
+pub mod Side
+pub mod EndLaws
+pub mod Setup
+pub mod World
+pub mod Landing
+pub mod Events
+pub mod Trace
+pub mod Invariant
+pub mod Network
+pub mod Play
+pub mod Laws

@@ -1,0 +1,48 @@
+-- What the program's network stands for.
+use Rattle.std.specs.Prelude.{◌≡◌, ◌≤◌, ℕ, ◌+◌, Bool, true, ◌||◌, if◌then◌else◌, List, [], ◌∷◌, length, take, All}
+use Rattle.xns_spp.specs.Held.{Held, StandsFor}
+use Rattle.item_world.specs.declared.counts.Counts.{Counts}
+use Rattle.item_world.specs.declared.emitted.Emitted.{Emitted}
+use Rattle.item_world.specs.declared.moment.Moment.{Moment}
+use Rattle.item_world.specs.declared.network.Network.{Network}
+use Rattle.item_world.specs.declared.side.Side.{Side}
+use Rattle.item_world.specs.declared.side.Side.TheVariants.{A, B}
+use Rattle.item_world.specs.Side.{other}
+use Rattle.item_world.specs.World.{World, end_of, has_passed}
+
+abbrev pub count_of : Counts → Side → ℕ
+count_of c A = c.a
+count_of c B = c.b
+
+abbrev pub with_count : Counts → Side → ℕ → Counts
+with_count c A n = record c { a = n }
+with_count c B n = record c { b = n }
+
+-- this moment, as the end at this side sends
+abbrev pub moment_of : Counts → Side → Moment
+moment_of c side = record { sender = count_of c side; receiver = count_of c (other side) }
+
+-- nothing is left to be done with a packet: it was delivered, or it lives no longer
+abbrev pub is_settled : World → Emitted → Bool
+is_settled w x = x.delivered || has_passed w x
+
+-- of the packets the first n are all settled
+pub record AreRested (n : ℕ) (w : World) : Type 0 where
+  pub within : n ≤ length w.bag
+  pub settled : All (λ x. is_settled w x ≡ true) (take n w.bag)
+
+-- the numbers of the packets that are not settled, in order; the first packet of the list has number i
+abbrev pub unsettled : World → ℕ → List Emitted → List ℕ
+unsettled w i [] = []
+unsettled w i (x ∷ xs) = if is_settled w x then unsettled w (i + 1) xs else i ∷ unsettled w (i + 1) xs
+
+-- the packets are those of the world, and so are the counts of what its ends have taken
+pub record IsNetwork (n : Network) (w : World) : Type 0 where
+  pub bag : n.packets.items ≡ w.bag
+  pub taken : (side : Side) → count_of n.taken side ≡ length (end_of w side).taken
+  pub rested : AreRested n.rested w
+
+-- an endpoint stands for the end at this side of the world, and the network for its packets
+pub record IsEnd (e : Held) (n : Network) (w : World) (side : Side) : Type 0 where
+  pub stands : StandsFor e (end_of w side)
+  pub network : IsNetwork n w

@@ -1,0 +1,54 @@
+-- What the program's play stands for.
+use Rattle.std.specs.Prelude.{◌≡◌, List, take, All}
+use Rattle.std.specs.Borrow.{Lends, MutBor, Fml}
+use Rattle.xns_spp.specs.Held.{StandsFor}
+use Rattle.xns_spp.specs.State.{State}
+use Rattle.item_world.specs.contracts.pair.Pair as pair
+use Rattle.item_world.specs.contracts.participant.Participant as participant
+use Rattle.item_world.specs.declared.event.Event.{Event}
+use Rattle.item_world.specs.declared.pair.Pair.{Pair}
+use Rattle.item_world.specs.declared.participant.Participant.{Participant}
+use Rattle.item_world.specs.declared.play.Play.{Play}
+use Rattle.item_world.specs.declared.setup.Setup.{Setup}
+use Rattle.item_world.specs.declared.side.Side.{Side}
+use Rattle.item_world.specs.declared.side.Side.TheVariants.{A, B}
+use Rattle.item_world.specs.EndLaws.{EndLaws}
+use Rattle.item_world.specs.Events.{run, IsEvent}
+use Rattle.item_world.specs.Network.{IsNetwork}
+use Rattle.item_world.specs.World.{World, start, end_of}
+
+abbrev pub at_side : Pair → Side → Participant
+at_side p A = p.a
+at_side p B = p.b
+
+abbrev pub with_side : Pair → Side → Participant → Pair
+with_side p A e = record p { a = e }
+with_side p B e = record p { b = e }
+
+-- the pair ends with what is left behind the reference at this side
+abbrev pub LendsSide : MutBor Pair → Side → MutBor Participant → Fml
+LendsSide s side r = Lends pair.the_row participant.the_row s r (with_side s.now side)
+
+-- a participant stands for an end, with the items that it accepted and those that it handed up
+pub record IsParticipant (p : Participant) (s : State) : Type 0 where
+  pub stands : StandsFor p.endpoint s
+  pub sent : p.sent ≡ s.accepted
+  pub handed : p.handed ≡ take s.handed s.taken
+
+-- under the laws of an end: where it stood for s, it then stands for what f makes of s
+abbrev pub Becomes : Participant → Participant → (State → State) → Type 0
+Becomes p q f = EndLaws → (s : State) → IsParticipant p s → IsParticipant q (f s)
+
+-- a play stands for a world
+pub record IsPlaying (p : Play) (w : World) : Type 0 where
+  pub ends : (side : Side) → IsParticipant (at_side p.ends side) (end_of w side)
+  pub network : IsNetwork p.network w
+
+-- under the laws of an end: where it stood for w, it then stands for what f makes of w
+abbrev pub Goes : Play → Play → (World → World) → Type 0
+Goes p q f = EndLaws → (w : World) → IsPlaying p w → IsPlaying q (f w)
+
+-- a play from this setup, after these events
+pub record IsPlayed (p : Play) (setup : Setup) (events : List Event) : Type 0 where
+  pub stands : IsPlaying p (run (start setup) events)
+  pub fits : All IsEvent events

@@ -1,0 +1,104 @@
+-- Two ends of a connection, every packet ever sent between them, and the small steps that change them.
+use Rattle.std.specs.Prelude.{ℕ, ◌-◌, Bool, false, true, nat_lt, ◌||◌, length, List, [], ◌++◌, map, take, slice_set}
+use Rattle.std.specs.Option.{option_to_list}
+use Rattle.xns_spp.specs.Receiving.{receive_answer, after_receive}
+use Rattle.xns_spp.specs.Sending.{after_send, flush_answer, after_flush, tick_answer, after_tick, after_take}
+use Rattle.xns_spp.specs.State.{State, initiator_state, responder_state}
+use Rattle.xns_spp.specs.declared.item.Item.{Item}
+use Rattle.item_world.specs.declared.emitted.Emitted.{Emitted}
+use Rattle.item_world.specs.declared.moment.Moment.{Moment}
+use Rattle.item_world.specs.declared.setup.Setup.{Setup}
+use Rattle.item_world.specs.declared.side.Side.{Side}
+use Rattle.item_world.specs.declared.side.Side.TheVariants.{A, B}
+use Rattle.item_world.specs.Side.{other}
+
+-- both ends with all their history, and every packet ever sent
+pub record World : Type 0 where
+  pub a : State
+  pub b : State
+  pub bag : List Emitted
+
+abbrev pub end_of : World → Side → State
+end_of w A = w.a
+end_of w B = w.b
+
+abbrev pub with_end : World → Side → State → World
+with_end w A s = record w { a = s }
+with_end w B s = record w { b = s }
+
+-- both ends are there, the responder with the initiator's address and identifier, and nothing was sent
+abbrev pub start : Setup → World
+start s = record {
+  a = initiator_state s.a s.a_id s.b s.window s.backlog;
+  b = responder_state s.b s.b_id s.a s.a_id s.window s.backlog;
+  bag = [];
+}
+
+-- ---- packets
+
+-- what both ends have taken as the first sends to the second
+abbrev pub moment : (sender receiver : State) → Moment
+moment s peer = record { sender = length s.taken; receiver = length peer.taken }
+
+-- bytes as they are sent
+abbrev pub emitted : Side → Moment → List ℕ → Emitted
+emitted side at bytes = record { side = side; bytes = bytes; at = at; delivered = false }
+
+-- these bytes are sent
+abbrev pub joined : List Emitted → Side → Moment → List (List ℕ) → List Emitted
+joined bag side at packets = bag ++ map (emitted side at) packets
+
+-- an end goes on as s, and these bytes are sent
+abbrev pub moved : World → Side → State → List (List ℕ) → World
+moved w side s packets = record (with_end w side s) { bag = joined w.bag side (moment s (end_of w (other side))) packets }
+
+-- packet k was delivered
+abbrev pub marked : World → ℕ → Emitted → World
+marked w k x = record w { bag = slice_set w.bag k (record x { delivered = true }) }
+
+-- while a packet lives, an end takes at most so many items
+abbrev pub lifetime : ℕ
+lifetime = 30000
+
+-- a packet of this moment lives no longer: an end has taken more items since
+abbrev pub is_past : Moment → (sender receiver : ℕ) → Bool
+is_past at sender receiver = nat_lt lifetime (sender - at.sender) || nat_lt lifetime (receiver - at.receiver)
+
+abbrev pub has_passed : World → Emitted → Bool
+has_passed w x = is_past x.at (length (end_of w x.side).taken) (length (end_of w (other x.side)).taken)
+
+-- ---- what an end does
+
+abbrev pub flushes : World → Side → World
+flushes w side = moved w side (after_flush (end_of w side)) (flush_answer (end_of w side))
+
+abbrev pub ticks : World → Side → World
+ticks w side = moved w side (after_tick (end_of w side)) (tick_answer (end_of w side))
+
+-- bytes come, and are answered
+abbrev pub receives : World → Side → List ℕ → World
+receives w side bytes = moved w side (after_receive (end_of w side) bytes) (option_to_list (receive_answer (end_of w side) bytes).reply)
+
+-- a refused item is dropped
+abbrev pub sends : World → Side → Item → World
+sends w side x = moved w side (after_send (end_of w side) x) []
+
+abbrev pub takes : World → Side → World
+takes w side = moved w side (after_take (end_of w side)) []
+
+-- ---- what it comes to
+
+-- the items that an end was given to send and accepted
+abbrev pub sent_at : World → Side → List Item
+sent_at w side = (end_of w side).accepted
+
+-- the items that an end handed up
+abbrev pub handed_at : World → Side → List Item
+handed_at w side = take (end_of w side).handed (end_of w side).taken
+
+abbrev pub sender_and_bytes : Emitted → Side × List ℕ
+sender_and_bytes x = (x.side, x.bytes)
+
+-- every packet, with its sender
+abbrev pub packets_of : World → List (Side × List ℕ)
+packets_of w = map sender_and_bytes w.bag

@@ -1,0 +1,46 @@
+ghost use Rattle.std.specs.Prelude.{◌≡◌, ◌≤◌, ◌+◌, ℕ};
+ghost use Rattle.xns_spp.specs.Numbers.{most_items};
+ghost use Rattle.item_world.specs.Network.{count_of, moment_of, with_count};
+
+use crate::moment::Moment;
+use crate::side::Side;
+
+/// How many items each end has taken from packets.
+#[derive(Clone, Copy, Debug, PartialEq, Eq)]
+pub struct Counts {
+    pub a: u64,
+    pub b: u64,
+}
+
+impl Counts {
+    /// That of one end.
+    pub fn of(self, side: Side) -> u64
+        ensures { result ≡ count_of self side }
+    {
+        match side {
+            Side::A => self.a,
+            Side::B => self.b,
+        }
+    }
+
+    /// This moment, as an end sends a packet to the other one.
+    pub fn moment(self, side: Side) -> Moment
+        ensures { result ≡ moment_of self side }
+    {
+        Moment {
+            sender: self.of(side),
+            receiver: self.of(side.other()),
+        }
+    }
+
+    /// An end has taken so many items more.
+    pub fn add(&mut self, side: Side, more: usize)
+        ensures { (n : ℕ) → n ≤ most_items → count_of self.old side + more ≡ n → self.new ≡ with_count self.old side n }
+    {
+        let count = self.of(side).saturating_add(more as u64);
+        match side {
+            Side::A => self.a = count,
+            Side::B => self.b = count,
+        }
+    }
+}

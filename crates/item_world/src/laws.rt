@@ -1,0 +1,79 @@
+//! What the definitions imply, each as the contract of a function that does nothing.
+
+ghost use Rattle.item_world.specs.EndLaws.{EndLaws};
+ghost use Rattle.item_world.specs.Laws.{EachStepKeepsTheOrder, ItemsComeInOrder, ForeignBytesChangeNothing, ARestDeliversWhatNeverWas, TheBagNeverShrinks};
+
+use xns_spp::laws::{
+    accepted_items_go_out, an_end_only_grows, bounds_hold_after_each_step,
+    items_are_accepted_or_change_nothing, items_are_taken_from_the_next_number_on,
+    nearest_number_is_read_back, new_ends_are_fresh, other_steps_accept_and_hand_up_nothing,
+    other_steps_hear_nothing, own_packets_are_packets, own_packets_say_what_is_meant,
+    packets_acknowledge_what_they_say, room_is_near_what_was_taken, the_next_item_is_handed_up,
+    written_packet_is_read_again,
+};
+
+/// The laws of an end, as the proofs take them.
+pub fn end_laws_are_given()
+    ensures { EndLaws }
+{
+    nearest_number_is_read_back();
+    written_packet_is_read_again();
+    own_packets_are_packets();
+    own_packets_say_what_is_meant();
+    room_is_near_what_was_taken();
+    new_ends_are_fresh();
+    bounds_hold_after_each_step();
+    an_end_only_grows();
+    other_steps_accept_and_hand_up_nothing();
+    other_steps_hear_nothing();
+    items_are_accepted_or_change_nothing();
+    the_next_item_is_handed_up();
+    accepted_items_go_out();
+    items_are_taken_from_the_next_number_on();
+    packets_acknowledge_what_they_say();
+    xns_spp::laws::foreign_bytes_change_nothing();
+}
+
+/// What is true at every moment is true at the start, and is kept by each small step of an end and by each packet that comes,
+/// in whatever order they are taken.
+///
+/// Where it is true, what either end has handed up begins what the other sent, and a packet that still lives is read as the
+/// numbers that its fields were made of. To deliver a packet is to let it land, and then to flush the end that it came to.
+pub fn each_step_keeps_the_order()
+    ensures { EachStepKeepsTheOrder }
+{
+    end_laws_are_given();
+}
+
+/// Over every list of deliveries, losses, repeats and reorderings, what either end has handed up begins what the other sent,
+/// where no packet is delivered once an end has taken more than 30,000 further items since it was sent.
+///
+/// At every moment, within an event too, each packet ever sent is sound: its fields were made of numbers within 64 of what the
+/// end that they count had taken then; a data packet carries the item of its number, which went out by now, and no packet
+/// acknowledges or allows more than its sender does now. What an end has taken begins what went out at the other, and holds what
+/// is acknowledged there; each of its early items is the item of its number there, which went out.
+pub fn items_come_in_order()
+    ensures { ItemsComeInOrder }
+{
+    each_step_keeps_the_order();
+    foreign_bytes_change_nothing();
+}
+
+/// Bytes from elsewhere change nothing: those of the connection are passed over, and all others are dropped.
+pub fn foreign_bytes_change_nothing()
+    ensures { ForeignBytesChangeNothing }
+{
+    end_laws_are_given();
+}
+
+/// A rest delivers in turn each packet that was never delivered and is there as it begins.
+pub fn a_rest_delivers_what_never_was()
+    ensures { ARestDeliversWhatNeverWas }
+{}
+
+/// A packet that was sent stays in the bag, in its place.
+pub fn the_bag_never_shrinks()
+    ensures { TheBagNeverShrinks }
+{
+    end_laws_are_given();
+}

@@ -1,0 +1,188 @@
+ghost use Rattle.std.specs.Prelude.{◌≡◌, ◌≤◌, ◌<◌, ◌+◌, ◌^◌, ◌∷◌, ◌++◌, if◌then◌else◌, ℕ, [], map, length, Some, OnOk, IfOk, IfSome, slice_get};
+ghost use Rattle.std.specs.Option.{option_to_list};
+ghost use Rattle.xns_spp.specs.Numbers.{most_items};
+ghost use Rattle.xns_spp.specs.State.{State};
+ghost use Rattle.item_world.specs.declared.emitted.Emitted.{Emitted};
+ghost use Rattle.item_world.specs.Landing.{landing, end_reached};
+ghost use Rattle.item_world.specs.Network.{count_of, with_count, moment_of, is_settled, AreRested, unsettled, IsNetwork};
+ghost use Rattle.item_world.specs.World.{World, end_of, joined, moved, marked, has_passed, sender_and_bytes};
+
+use crate::bag::Bag;
+use crate::counts::Counts;
+use crate::emitted::Emitted;
+use crate::moment::Moment;
+use crate::side::Side;
+use std::alloc::{AllocError, Global};
+use xns_spp::Bytes;
+
+/// Every packet that was ever sent between two ends, in order, and how many items both have taken from them.
+#[derive(Drop)]
+pub struct Network {
+    packets: Vec<Emitted>,
+    taken: Counts,
+    /// Of the packets, how many first ones were surely all delivered, or live no longer.
+    rested: usize,
+}
+
+impl Network {
+    /// Nothing was sent yet.
+    pub fn new(alloc: Global) -> Network
+        ensures { (result.packets.items ≡ []) × (result.taken ≡ record { a = 0; b = 0 }) × (result.rested ≡ 0) }
+    {
+        Network {
+            packets: Vec::new(alloc),
+            taken: Counts { a: 0, b: 0 },
+            rested: 0,
+        }
+    }
+
+    /// Whether the packet of this number lives no longer.
+    fn has_passed(&self, number: usize) -> bool
+        requires { number < length self.now.packets.items }
+        ensures { (w : World) (x : Emitted) → IsNetwork self.now w → slice_get w.bag number ≡ Some x → result ≡ has_passed w x }
+    {
+        let packet = &self.packets[number];
+        let now = self.taken.moment(packet.side);
+        packet.at.is_past(now.sender, now.receiver)
+    }
+
+    /// The end that the packet of this number comes to. `None` where there is no such packet, or where it lives no longer.
+    pub fn lands_at(&self, number: usize) -> Option<Side>
+        ensures lands { (w : World) → IsNetwork self.now w → result ≡ end_reached (landing w number) }
+        ensures there { IfSome result (λ side. number < length self.now.packets.items) }
+    {
+        if number >= self.packets.len() || self.has_passed(number) {
+            return None;
+        }
+        Some(self.packets[number].side.other())
+    }
+
+    /// The bytes of a packet.
+    pub fn bytes(&self, number: usize) -> &[u8]
+        requires { number < length self.now.packets.items }
+        ensures { (x : Emitted) → slice_get self.now.packets.items number ≡ Some x → result.now ≡ x.bytes }
+    {
+        self.packets[number].bytes.as_slice()
+    }
+
+    /// An end sends these packets.
+    pub fn emit(&mut self, side: Side, packets: Vec<Bytes>) -> Result<(), AllocError>
+        ensures { OnOk result ((w : World) (s : State) → IsNetwork self.old w → length s.taken ≡ length (end_of w side).taken → IsNetwork self.new (moved w side s packets.items)) }
+    {
+        let at = self.taken.moment(side);
+        join_all(&mut self.packets, side, at, packets)
+    }
+
+    /// A packet was delivered to an end, which took so many items from it, and perhaps replies.
+    pub fn deliver(
+        &mut self,
+        side: Side,
+        number: usize,
+        took: usize,
+        reply: Option<Bytes>,
+    ) -> Result<(), AllocError>
+        requires { number < length self.old.packets.items }
+        ensures { OnOk result ((w : World) (x : Emitted) (s : State) → IsNetwork self.old w → slice_get w.bag number ≡ Some x → length s.taken ≤ most_items → length (end_of w side).taken + took ≡ length s.taken →
+            IsNetwork self.new (moved (marked w number x) side s (option_to_list reply))) }
+    {
+        self.packets[number].delivered = true;
+        self.taken.add(side, took);
+        let at = self.taken.moment(side);
+        join(&mut self.packets, side, at, reply)
+    }
+
+    /// Whether nothing is left to be done with a packet: it was delivered, or it lives no longer.
+    fn is_settled(&self, number: usize) -> bool
+        requires { number < length self.now.packets.items }
+        ensures { (w : World) (x : Emitted) → IsNetwork self.now w → slice_get w.bag number ≡ Some x → result ≡ is_settled w x }
+    {
+        self.packets[number].delivered || self.has_passed(number)
+    }
+
+    /// A packet before which all are settled, as far on as can be seen.
+    fn first_unsettled(&self) -> usize
+        ensures { (w : World) → IsNetwork self.now w → AreRested result w }
+    {
+        for number in self.rested..self.packets.len() {
+            if !self.is_settled(number) {
+                return number;
+            }
+        }
+        self.packets.len()
+    }
+
+    /// Lists the number of a packet, where it is not settled.
+    fn list(&self, numbers: &mut Vec<usize>, number: usize) -> Result<(), AllocError>
+        requires { number < length self.now.packets.items }
+        ensures { OnOk result ((w : World) (x : Emitted) → IsNetwork self.now w → slice_get w.bag number ≡ Some x → numbers.new.items ≡ numbers.old.items ++ (if is_settled w x then [] else number ∷ [])) }
+    {
+        if !self.is_settled(number) {
+            numbers.push(number)?;
+        }
+        Ok(())
+    }
+
+    /// The numbers of the packets that are not settled, in order.
+    pub fn unsettled(&mut self, alloc: Global) -> Result<Vec<usize>, AllocError>
+        ensures network { OnOk result ((w : World) → IsNetwork self.old w → IsNetwork self.new w) }
+        ensures numbers { IfOk result (λ v. (w : World) → IsNetwork self.old w → v.items ≡ unsettled w 0 w.bag) }
+    {
+        self.rested = self.first_unsettled();
+        let mut numbers = Vec::new(alloc);
+        for number in self.rested..self.packets.len() {
+            self.list(&mut numbers, number)?;
+        }
+        Ok(numbers)
+    }
+
+    /// Every packet with its sender.
+    pub fn into_bag(self, alloc: Global) -> Result<Bag, AllocError>
+        ensures { IfOk result (λ b. b ≡ map sender_and_bytes self.packets.items) }
+    {
+        let Network { packets, .. } = self;
+        let packets = packets
+            .into_iter()
+            .map(|packet| (packet.side, packet.bytes));
+        Ok(Bag::new(packets.collect(alloc)?))
+    }
+}
+
+/// Packets of one moment join those before.
+fn join_all(
+    before: &mut Vec<Emitted>,
+    side: Side,
+    at: Moment,
+    packets: Vec<Bytes>,
+) -> Result<(), AllocError>
+    ensures { OnOk result (before.new.items ≡ joined before.old.items side at packets.items) }
+{
+    for bytes in packets {
+        before.push(Emitted {
+            side,
+            bytes,
+            at,
+            delivered: false,
+        })?;
+    }
+    Ok(())
+}
+
+/// A reply joins the packets before, where there is one.
+fn join(
+    before: &mut Vec<Emitted>,
+    side: Side,
+    at: Moment,
+    reply: Option<Bytes>,
+) -> Result<(), AllocError>
+    ensures { OnOk result (before.new.items ≡ joined before.old.items side at (option_to_list reply)) }
+{
+    if let Some(bytes) = reply {
+        before.push(Emitted {
+            side,
+            bytes,
+            at,
+            delivered: false,
+        })?;
+    }
+    Ok(())
+}

@@ -1,0 +1,275 @@
+-- What a play of calls stands for after each event.
+use Rattle.std.proofs.Common.{◌≡◌, ℕ, zero, suc, Bool, true, false, List, [], ◌∷◌, length, map, take, Option, Some, None, refl, sym, ◌∙◌, ap, subst, arith}
+use Rattle.std.specs.Option.{option_to_list}
+use Rattle.std.specs.Prelude.{nat_lt, if◌then◌else◌}
+use Rattle.std.proofs.lemmas.List.{length-map}
+use Rattle.courier_messages.specs.RawCalls.{RawCall}
+use Rattle.courier_calls.specs.Calls.{SeenModel, Serving, last_state, outcomes, seen_model, raw_call}
+use Rattle.courier_calls.specs.Caller as caller
+use Rattle.courier_calls.specs.Caller.{answers}
+use Rattle.courier_calls.specs.Server.{call_of}
+use Rattle.courier_calls.specs.declared.call.Call.{Call}
+use Rattle.courier_calls.specs.declared.caller.Caller.{Caller}
+use Rattle.xns_spp.specs.Held.{Held, StandsFor}
+use Rattle.xns_spp.specs.Receiving.{receive_answer, after_receive}
+use Rattle.xns_spp.specs.Sending.{is_full, waiting_count, after_send, after_take, flush_answer, after_flush, tick_answer, after_tick}
+use Rattle.xns_spp.specs.State.{State}
+use Rattle.xns_spp.specs.declared.item.Item.{Item}
+use Rattle.xns_world.proofs.CallQuiet.{IsQuiet, flush_quiet, tick_quiet, land_quiet}
+use Rattle.xns_world.proofs.CallRuns.{LeavesCaller, server_steps, quiet_between}
+use Rattle.xns_world.proofs.CallSettling.{steps_hold}
+use Rattle.item_world.proofs.Later.{Later, later_itself, later_then, moved_later, flushes_later, landing_later}
+use Rattle.item_world.proofs.Networks.{quiet, lands_as}
+use Rattle.item_world.proofs.Plays.{no_landing}
+use Rattle.item_world.proofs.Resting.{Delivering}
+use Rattle.xns_world.proofs.ServeEnds.{served_on}
+use Rattle.item_world.proofs.Sides.{same_other, same_marked}
+use Rattle.xns_world.specs.declared.call_trace.CallTrace.{CallTrace}
+use Rattle.xns_world.specs.declared.calling.CallingEnd.{CallingEnd}
+use Rattle.xns_world.specs.declared.call_pair.CallPair.{CallPair}
+use Rattle.xns_world.specs.declared.call_play.CallPlay.{CallPlay}
+use Rattle.item_world.specs.declared.emitted.Emitted.{Emitted}
+use Rattle.item_world.specs.declared.network.Network.{Network}
+use Rattle.xns_world.specs.declared.serving.ServingEnd.{ServingEnd}
+use Rattle.item_world.specs.declared.side.Side.{Side}
+use Rattle.item_world.specs.declared.side.Side.TheVariants.{A, B}
+use Rattle.xns_spp.specs.Growth.{Begins}
+use Rattle.item_world.specs.Invariant.{Holds}
+use Rattle.item_world.specs.Landing.{landing, end_reached}
+use Rattle.item_world.specs.Network.{IsNetwork, IsEnd}
+use Rattle.item_world.specs.Side.{other}
+use Rattle.xns_world.specs.CallLaws.{Given}
+use Rattle.xns_world.specs.CallOrder.{IsBetween, AreOnceInOrder}
+use Rattle.xns_world.specs.CallPlay.{endpoint_at, with_endpoint, Acts, IsCalling, IsServing, IsAtSide, IsCallPair, IsCallPlaying, IsReady, IsCallTrace, IsOnceInOrder, parties}
+use Rattle.xns_world.specs.CallWorld.{Parties, CallWorld, or_caller, calls_made, next_out, outcomes_read, in_world, lists, makes, has_outcome, may_call, caller_step, step_with, settles, arrived, delivers, seen_at, carried_at, step}
+use Rattle.xns_world.specs.Settling.{most_steps, onward, steps, stepped_out}
+use Rattle.xns_world.specs.ServeEnd.{IsServed}
+use Rattle.item_world.specs.World.{World, end_of, moved, flushes, ticks, marked, handed_at, sent_at}
+use Rattle.item_world.specs.EndLaws.{EndLaws}
+
+-- ---- what the steps of a side leave
+
+-- the other end, and the network
+pub record Leaves (side : Side) (w v : CallWorld) : Type 0 where
+  pub there : end_of v.world (other side) ≡ end_of w.world (other side)
+  pub network : (n : Network) → IsNetwork n w.world → IsNetwork n v.world
+  pub later : Later w.world v.world
+
+leaves_same : (side : Side) (w v : CallWorld) → v.world ≡ w.world → Leaves side w v
+leaves_same side w v same = record {
+  there = ap (λ (u : World). end_of u (other side)) same;
+  network = λ n h. subst (λ (u : World). IsNetwork n u) (sym same) h;
+  later = subst (λ (u : World). Later w.world u) (sym same) (later_itself w.world);
+}
+
+-- an end moves that sends and takes nothing
+leaves_moved : (side : Side) (w : CallWorld) (t : State) → t.taken ≡ (end_of w.world side).taken → Leaves side w (in_world w (moved w.world side t []))
+leaves_moved side w t same = record {
+  there = same_other w.world side t [];
+  network = λ n h. quiet n w.world side t h (ap length same);
+  later = moved_later w.world side t [] (omega (arith, ap length same));
+}
+
+calling_leaves : {S : Type 0} (p : Parties S) (w : CallWorld) (b c : Bool) → Leaves A w (onward w (if b then Some (lists w) else if c then Some (makes w) else None))
+calling_leaves p w true c = leaves_same A w (lists w) refl
+calling_leaves p w false true = leaves_same A w (makes w) refl
+calling_leaves p w false false = leaves_same A w w refl
+
+caller_leaves : {S : Type 0} (p : Parties S) (side : Side) (w : CallWorld) → Leaves side w (onward w (caller_step p w side))
+caller_leaves p A w = calling_leaves p w (has_outcome p w) (may_call p w)
+caller_leaves p B w = leaves_same B w w refl
+
+send_leaves : {S : Type 0} → EndLaws → (p : Parties S) (side : Side) (w : CallWorld) (x : Item) (b : Bool) → Leaves side w (onward w (or_caller p w side (if b then None else Some (after_send (end_of w.world side) x))))
+send_leaves laws p side w x true = caller_leaves p side w
+send_leaves laws p side w x false = leaves_moved side w (after_send (end_of w.world side) x) (laws.hears.send (end_of w.world side) x).taken
+
+feed_leaves : {S : Type 0} → EndLaws → (p : Parties S) (side : Side) (w : CallWorld) (b : Bool) → Leaves side w (onward w (or_caller p w side (if b then Some (after_take (end_of w.world side)) else None)))
+feed_leaves laws p side w true = leaves_moved side w (after_take (end_of w.world side)) (laws.hears.take (end_of w.world side)).taken
+feed_leaves laws p side w false = caller_leaves p side w
+
+step_leaves : {S : Type 0} → EndLaws → (p : Parties S) (side : Side) (w : CallWorld) (o : Option Item) → Leaves side w (onward w (step_with p w side o))
+step_leaves laws p side w (Some x) = send_leaves laws p side w x (is_full (end_of w.world side))
+step_leaves laws p side w None = feed_leaves laws p side w (nat_lt 0 (waiting_count (end_of w.world side)))
+
+pub steps_leave : {S : Type 0} → EndLaws → (p : Parties S) (side : Side) (w : CallWorld) (n : ℕ) → Leaves side w (steps (step p side) w n)
+steps_leave laws p side w zero = leaves_same side w w refl
+steps_leave laws p side w (suc n) =
+    let v = steps (step p side) w n in
+    let u = onward v (step_with p v side (next_out p v side)) in
+    let before = steps_leave laws p side w n in
+    let now = step_leaves laws p side v (next_out p v side) in
+    record { there = now.there ∙ before.there; network = λ m h. now.network m (before.network m h); later = later_then w.world v.world u.world before.later now.later }
+
+-- ---- an end whose world goes on elsewhere
+
+abbrev Session : {S : Type 0} → Parties S → Caller → State → ℕ → ℕ → Type 0
+Session p c s made listed = caller.StandsFor p.serving.table (caller.held c) (take made p.calls) (take s.handed s.taken) s.accepted (take listed (answers p.serving.table (take made p.calls) (take s.handed s.taken)))
+
+pub other_calling : {S : Type 0} (p : Parties S) (e : CallingEnd) (w v : CallWorld) → LeavesCaller w v → IsCalling p e w → IsCalling p e v
+other_calling p e w v l h =
+    let same : seen_at p w ≡ seen_at p v =
+    ap (λ (s : State). take w.listed (answers p.serving.table (take w.made p.calls) (take s.handed s.taken))) (sym l.world)
+    ∙ (ap (λ (n : ℕ). take w.listed (answers p.serving.table (take n p.calls) (take v.world.a.handed v.world.a.taken))) (sym l.made)
+    ∙ ap (λ (n : ℕ). take n (outcomes_read p v)) (sym l.listed)) in
+    let one : Session p e.caller v.world.a w.made w.listed = subst (λ (s : State). Session p e.caller s w.made w.listed) (sym l.world) h.session in
+    let two : Session p e.caller v.world.a v.made w.listed = subst (λ (n : ℕ). Session p e.caller v.world.a n w.listed) (sym l.made) one in
+    record {
+      stands = subst (λ (s : State). StandsFor e.endpoint s) (sym l.world) h.stands;
+      session = subst (λ (n : ℕ). Session p e.caller v.world.a v.made n) (sym l.listed) two;
+      made = h.made ∙ sym l.made;
+      seen = h.seen ∙ same;
+    }
+
+pub other_serving : {S : Type 0} (p : Parties S) (e : ServingEnd S) (w v : CallWorld) → v.world.b ≡ w.world.b → IsServing p e w → IsServing p e v
+other_serving p e w v same h = subst (λ (s : State). IsServed p.serving p.service e s) (sym same) h
+
+-- ---- an end that accepts and hands up nothing
+
+pub quiet_calling : {S : Type 0} (p : Parties S) (e : CallingEnd) (w : CallWorld) (u : World) (endpoint : Held) → IsQuiet w.world u → StandsFor endpoint u.a → IsCalling p e w → IsCalling p (record e { endpoint = endpoint }) (in_world w u)
+quiet_calling p e w u endpoint q stands h =
+    let fed : caller.StandsFor p.serving.table (caller.held e.caller) (calls_made p w) (handed_at u A) (sent_at w.world A) (take w.listed (answers p.serving.table (calls_made p w) (handed_at u A))) =
+    subst (λ (l : List Item). caller.StandsFor p.serving.table (caller.held e.caller) (calls_made p w) l (sent_at w.world A) (take w.listed (answers p.serving.table (calls_made p w) l))) (sym (q.handed A)) h.session in
+    record {
+      stands = stands;
+      session = subst (λ (l : List Item). caller.StandsFor p.serving.table (caller.held e.caller) (calls_made p w) (handed_at u A) l (take w.listed (answers p.serving.table (calls_made p w) (handed_at u A)))) (sym (q.accepted A)) fed;
+      made = h.made;
+      seen = h.seen ∙ ap (λ (l : List Item). take w.listed (answers p.serving.table (calls_made p w) l)) (sym (q.handed A));
+    }
+
+pub quiet_serving : {S : Type 0} (p : Parties S) (e : ServingEnd S) (w : CallWorld) (u : World) (endpoint : Held) → IsQuiet w.world u → StandsFor endpoint u.b → IsServing p e w → IsServing p (record e { endpoint = endpoint }) (in_world w u)
+quiet_serving p e w u endpoint q stands h = served_on p.serving p.service e w.world.b u.b endpoint h stands (q.accepted B) (q.handed B)
+
+-- ---- both ends
+
+pub pair_of : {S : Type 0} (p : Parties S) (e : CallPair S) (w : CallWorld) → IsCalling p e.a w → IsServing p e.b w → IsCallPair p e w
+pair_of p e w a b = λ side. elim side as (λ t. IsAtSide p e w t) [ A ↦ a | B ↦ b ]
+
+-- the end at a side takes its steps, and the other one stays
+pub caller_stepped : {S : Type 0} → EndLaws → (p : Parties S) (e : CallPair S) (w : CallWorld) (a : CallingEnd) → IsCallPair p e w → IsCalling p a (stepped_out (step p A) w) → IsCallPair p (record e { a = a }) (stepped_out (step p A) w)
+caller_stepped laws p e w a h i =
+    let v = stepped_out (step p A) w in
+    pair_of p (record e { a = a }) v i (other_serving p e.b w v (steps_leave laws p A w most_steps).there (h B))
+
+pub server_stepped : {S : Type 0} (p : Parties S) (e : CallPair S) (w : CallWorld) (b : ServingEnd S) → IsCallPair p e w → IsServing p b (stepped_out (step p B) w) → IsCallPair p (record e { b = b }) (stepped_out (step p B) w)
+server_stepped p e w b h i =
+    let v = stepped_out (step p B) w in
+    pair_of p (record e { b = b }) v (other_calling p e.a w v (server_steps p w most_steps) (h A)) i
+
+-- an endpoint goes on that accepts and hands up nothing, and the other end stays
+quiet_pair : {S : Type 0} (p : Parties S) (e : CallPair S) (w : CallWorld) (u : World) (side : Side) (endpoint : Held) → IsQuiet w.world u → end_of u (other side) ≡ end_of w.world (other side) → StandsFor endpoint (end_of u side) → IsCallPair p e w → IsCallPair p (with_endpoint e side endpoint) (in_world w u)
+quiet_pair p e w u A endpoint q same stands h = pair_of p (with_endpoint e A endpoint) (in_world w u) (quiet_calling p e.a w u endpoint q stands (h A)) (other_serving p e.b w (in_world w u) same (h B))
+quiet_pair p e w u B endpoint q same stands h = pair_of p (with_endpoint e B endpoint) (in_world w u) (other_calling p e.a w (in_world w u) (record { world = same; made = refl; listed = refl }) (h A)) (quiet_serving p e.b w u endpoint q stands (h B))
+
+stands_at : {S : Type 0} (p : Parties S) (e : CallPair S) (w : CallWorld) (side : Side) → IsCallPair p e w → StandsFor (endpoint_at e side) (end_of w.world side)
+stands_at p e w A h = (h A).stands
+stands_at p e w B h = (h B).stands
+
+acts : {S : Type 0} (e : CallPair S) (side : Side) (endpoint : Held) (n m : Network) (leads : World → World → Type 0) → (EndLaws → (w v : World) → leads w v → IsEnd (endpoint_at e side) n w side → IsEnd endpoint m v side)
+    → Acts e (with_endpoint e side endpoint) n m side leads
+acts e A endpoint n m leads h = record { pair = refl; stands = h }
+acts e B endpoint n m leads h = record { pair = refl; stands = h }
+
+-- the endpoint at a side acts
+pub acts_at : {S : Type 0} (leads : Side → World → World → Type 0) (e : CallPair S) (side t : Side) (endpoint : Held) (n m : Network) → side ≡ t
+    → (EndLaws → (w v : World) → leads t w v → IsEnd (endpoint_at e t) n w t → IsEnd endpoint m v t) → Acts e (with_endpoint e t endpoint) n m side (leads side)
+acts_at leads e side t endpoint n m is h = subst (λ (s : Side). Acts e (with_endpoint e t endpoint) n m s (leads s)) (sym is) (acts e t endpoint n m (leads t) h)
+
+-- it accepts and hands up nothing
+acted : {S : Type 0} → EndLaws → (p : Parties S) (e f : CallPair S) (n m : Network) (w : CallWorld) (u : World) (side : Side) (leads : World → World → Type 0) → Acts e f n m side leads → leads w.world u → IsQuiet w.world u
+    → end_of u (other side) ≡ end_of w.world (other side) → IsCallPair p e w → IsNetwork n w.world → IsCallPlaying p (record { ends = f; network = m }) (in_world w u)
+acted {S} laws p e f n m w u side leads a led q same h network =
+    let end = a.stands laws w.world u led (record { stands = stands_at p e w side h; network = network }) in
+    record {
+      ends = subst (λ (x : CallPair S). IsCallPair p x (in_world w u)) (sym a.pair) (quiet_pair p e w u side (endpoint_at f side) q same end.stands h);
+      network = end.network;
+    }
+
+-- ---- a side settles
+
+pub settled : {S : Type 0} (p : Parties S) (e f : CallPair S) (n m : Network) (w : CallWorld) (side : Side) → Given p → IsBetween p w → IsCallPair p e (stepped_out (step p side) w) → IsNetwork n w.world
+    → Acts e f n m side (λ v u. flushes v side ≡ u) → IsCallPlaying p (record { ends = f; network = m }) (settles p side w)
+settled p e f n m w side g b h network a =
+    let laws = g.answering.ends in
+    let v = stepped_out (step p side) w in
+    let s : State = end_of v.world side in
+    let holds = (steps_hold p side w most_steps g b.holds).holds in
+    acted laws p e f n m v (flushes v.world side) side (λ v u. flushes v side ≡ u) a refl (flush_quiet laws v.world side holds) (same_other v.world side (after_flush s) (flush_answer s)) h ((steps_leave laws p side w most_steps).network n network)
+
+-- ---- a packet is delivered
+
+landed_other : (w v : World) (side : Side) (k : ℕ) → landing w k ≡ Some (side, v) → end_of v (other side) ≡ end_of w (other side)
+landed_other w v side k e =
+    let l = lands_as w k side v e in
+    let x : Emitted = l.packet in
+    let s : State = end_of w side in
+    ap (λ (u : World). end_of u (other side)) (sym l.world)
+    ∙ (same_other (marked w k x) side (after_receive s x.bytes) (option_to_list (receive_answer s x.bytes).reply) ∙ same_marked w k x (other side))
+
+-- the world as an end has heard a packet, or has ticked
+pub record Heard {S : Type 0} (serving : Serving S) (cs : List Call) (p : Parties S) (play : CallPlay S) (w : CallWorld) : Type 0 where
+  pub ready : IsReady serving cs p w
+  pub playing : IsCallPlaying p play w
+
+ready_on : {S : Type 0} (serving : Serving S) (cs : List Call) (p : Parties S) (w : CallWorld) (u : World) → IsReady serving cs p w → Holds u → IsQuiet w.world u → IsReady serving cs p (in_world w u)
+ready_on serving cs p w u r holds q = record { given = r.given; between = quiet_between p w u r.between holds q; serving_is = r.serving_is; calls_are = r.calls_are }
+
+heard : {S : Type 0} (serving : Serving S) (cs : List Call) (p : Parties S) (e f : CallPair S) (n m : Network) (w : CallWorld) (u : World) (side : Side) (leads : World → World → Type 0) → IsReady serving cs p w → IsCallPlaying p (record { ends = e; network = n }) w
+    → Acts e f n m side leads → leads w.world u → Holds u → IsQuiet w.world u → end_of u (other side) ≡ end_of w.world (other side) → Heard serving cs p (record { ends = f; network = m }) (in_world w u)
+heard serving cs p e f n m w u side leads r h a led holds q same = record {
+  ready = ready_on serving cs p w u r holds q;
+  playing = acted r.given.answering.ends p e f n m w u side leads a led q same h.ends h.network;
+}
+
+pub landed : {S : Type 0} (serving : Serving S) (cs : List Call) (p : Parties S) (e f : CallPair S) (n m : Network) (w : CallWorld) (k : ℕ) (u : World) (side : Side) → IsReady serving cs p w → IsCallPlaying p (record { ends = e; network = n }) w
+    → landing w.world k ≡ Some (side, u) → Acts e f n m side (λ w v. landing w k ≡ Some (side, v)) → Heard serving cs p (record { ends = f; network = m }) (in_world w u)
+landed serving cs p e f n m w k u side r h came a =
+    let holds = r.between.holds.holds in
+    heard serving cs p e f n m w u side (λ w v. landing w k ≡ Some (side, v)) r h a came (r.given.world.land w.world k (side, u) holds came) (land_quiet r.given.answering.ends w.world k (side, u) holds came) (landed_other w.world u side k came)
+
+pub delivers_to : {S : Type 0} (p : Parties S) (w : CallWorld) (k : ℕ) (side : Side) (u : World) → landing w.world k ≡ Some (side, u) → settles p side (in_world w u) ≡ delivers p w k
+delivers_to p w k side u lands = sym (ap (λ (o : Option (Side × World)). arrived p w o) lands)
+
+pub delivers_none : {S : Type 0} (p : Parties S) (w : CallWorld) (k : ℕ) → landing w.world k ≡ None → delivers p w k ≡ w
+delivers_none p w k none = ap (λ (o : Option (Side × World)). arrived p w o) none
+
+pub delivers_nowhere : {S : Type 0} (p : Parties S) (w : CallWorld) (k : ℕ) → None ≡ end_reached (landing w.world k) → w ≡ delivers p w k
+delivers_nowhere p w k none = sym (delivers_none p w k (no_landing (landing w.world k) none))
+
+-- ---- time passes
+
+pub ticked : {S : Type 0} (serving : Serving S) (cs : List Call) (p : Parties S) (e f : CallPair S) (n m : Network) (w : CallWorld) (side : Side) → IsReady serving cs p w → IsCallPlaying p (record { ends = e; network = n }) w
+    → Acts e f n m side (λ w v. ticks w side ≡ v) → Heard serving cs p (record { ends = f; network = m }) (in_world w (ticks w.world side))
+ticked serving cs p e f n m w side r h a =
+    let holds = r.between.holds.holds in
+    let s : State = end_of w.world side in
+    heard serving cs p e f n m w (ticks w.world side) side (λ w v. ticks w side ≡ v) r h a refl (r.given.world.tick w.world side holds) (tick_quiet r.given.answering.ends w.world side holds) (same_other w.world side (after_tick s) (tick_answer s))
+
+-- ---- deliveries in turn
+
+settles_later : {S : Type 0} → EndLaws → (p : Parties S) (side : Side) (w : CallWorld) → Later w.world (settles p side w).world
+settles_later laws p side w =
+    let v = stepped_out (step p side) w in
+    later_then w.world v.world (flushes v.world side) (steps_leave laws p side w most_steps).later (flushes_later laws v.world side)
+
+arrived_later : {S : Type 0} → EndLaws → (p : Parties S) (w : CallWorld) (k : ℕ) (o : Option (Side × World)) → landing w.world k ≡ o → Later w.world (arrived p w o).world
+arrived_later laws p w k None e = later_itself w.world
+arrived_later laws p w k (Some l) e = later_then w.world l.1 (arrived p w (Some l)).world (landing_later laws w.world k l e) (settles_later laws p l.0 (in_world w l.1))
+
+pub delivering : {S : Type 0} (p : Parties S) → EndLaws → Delivering {W = CallWorld} (λ w. w.world) (delivers p)
+delivering p laws = record { later = λ w k. arrived_later laws p w k (landing w.world k) refl; nowhere = delivers_none p }
+
+-- ---- the headline, of what the play hands over
+
+pub raw_again : (cs : List RawCall) → map raw_call (map call_of cs) ≡ cs
+raw_again [] = refl
+raw_again (c ∷ cs) = ap (λ (l : List RawCall). c ∷ l) (raw_again cs)
+
+pub once_along : {S : Type 0} (serving : Serving S) (service : S) (cs : List Call) (t : CallTrace S) (w : CallWorld) → IsCallTrace (parties serving service cs) t w → AreOnceInOrder (parties serving service cs) w → IsOnceInOrder serving service cs t
+once_along serving service cs t w is once =
+    let carried : map raw_call t.carried.items ≡ carried_at w = ap (map raw_call) is.carried ∙ raw_again (carried_at w) in
+    record {
+      carried_once = subst (λ (l : List RawCall). Begins l (map raw_call cs)) (sym carried) once.carried;
+      service_after = is.service ∙ (once.service ∙ ap (λ (l : List RawCall). last_state serving service l) (sym carried));
+      seen_first = subst (λ (l : List SeenModel). Begins l (outcomes serving service (map raw_call cs))) (sym is.seen) once.seen;
+      fewer = omega (arith, once.fewer, ap (length {A = SeenModel}) is.seen, ap (length {A = RawCall}) carried, length-map t.seen.items seen_model, length-map t.carried.items raw_call);
+    }

@@ -1,0 +1,101 @@
+-- Steps that are taken until none applies.
+use Rattle.std.proofs.Common.{◌≡◌, ℕ, zero, suc, ◌+◌, ◌-◌, ◌<◌, ◌≤◌, true, false, Option, Some, None, refl, sym, ◌∙◌, ap, subst, arith}
+use Rattle.xns_world.specs.Settling.{most_steps, onward, steps, stepped_out, Stepped}
+
+-- the number itself
+pub steps_are : most_steps ≡ 257
+unfolding most_steps
+steps_are = refl
+
+-- ---- what is kept
+
+-- K is kept, and fewer steps are left
+pub record GoesOn {X : Type 0} (K : X → Type 0) (left : X → ℕ) (x y : X) : Type 0 where
+  pub keeps : K y
+  pub fewer : left y < left x
+
+unfoldable pub IfGoesOn : {X : Type 0} → (X → Type 0) → (X → ℕ) → X → Option X → Type 0
+IfGoesOn K left x None = Unit {0}
+IfGoesOn K left x (Some y) = GoesOn K left x y
+
+-- wherever K holds a step keeps it, and leaves fewer
+abbrev pub Goes : {X : Type 0} → (X → Option X) → (X → Type 0) → (X → ℕ) → Type 0
+Goes {X} step K left = (x : X) → K x → IfGoesOn K left x (step x)
+
+onward_keeps : {X : Type 0} (K : X → Type 0) (left : X → ℕ) (x : X) (o : Option X) → K x → IfGoesOn K left x o → K (onward x o)
+unfolding IfGoesOn
+onward_keeps K left x None k i = k
+onward_keeps K left x (Some y) k i = i.keeps
+
+pub steps_keep : {X : Type 0} (step : X → Option X) (K : X → Type 0) (left : X → ℕ) → Goes step K left → (x : X) (n : ℕ) → K x → K (steps step x n)
+steps_keep step K left go x zero k = k
+steps_keep step K left go x (suc n) k =
+    let y = steps step x n in
+    let here = steps_keep step K left go x n k in
+    onward_keeps K left y (step y) here (go y here)
+
+-- ---- when none applies
+
+-- where a step applies still, n fewer are left than at first
+Below : {X : Type 0} → (X → ℕ) → ℕ → ℕ → X → Option X → Type 0
+Below left n most x None = Unit {0}
+Below left n most x (Some y) = left x + n ≤ most
+
+below : {X : Type 0} (left : X → ℕ) (n most : ℕ) (x : X) (o : Option X) → left x + n ≤ most → Below left n most x o
+unfolding Below
+below left n most x None h = tt
+below left n most x (Some y) h = h
+
+below_onward : {X : Type 0} (step : X → Option X) (K : X → Type 0) (left : X → ℕ) (n most : ℕ) (x : X) (o : Option X) → step x ≡ o → IfGoesOn K left x o → Below left n most x o → Below left (suc n) most (onward x o) (step (onward x o))
+unfolding IfGoesOn Below
+below_onward step K left n most x None is i b = subst (Below left (suc n) most x) (sym is) tt
+below_onward step K left n most x (Some y) is i b = below left (suc n) most y (step y) (omega (arith, b, i.fewer))
+
+steps_below : {X : Type 0} (step : X → Option X) (K : X → Type 0) (left : X → ℕ) → Goes step K left → (x : X) (n : ℕ) → K x → Below left n (left x) (steps step x n) (step (steps step x n))
+steps_below step K left go x zero k = below left 0 (left x) x (step x) (omega arith)
+steps_below step K left go x (suc n) k =
+    let y = steps step x n in
+    below_onward step K left n (left x) y (step y) refl (go y (steps_keep step K left go x n k)) (steps_below step K left go x n k)
+
+none_below : {X : Type 0} (K : X → Type 0) (left : X → ℕ) (n most : ℕ) (x : X) (o : Option X) → most ≤ n → IfGoesOn K left x o → Below left n most x o → o ≡ None
+unfolding IfGoesOn Below
+none_below K left n most x None h i b = refl
+none_below K left n most x (Some y) h i b = absurd (omega (arith, h, b, i.fewer))
+
+-- after as many steps as were left none applies
+pub steps_end : {X : Type 0} (step : X → Option X) (K : X → Type 0) (left : X → ℕ) → Goes step K left → (x : X) → K x → left x ≤ most_steps → step (stepped_out step x) ≡ None
+steps_end step K left go x k few =
+    let y = stepped_out step x in
+    none_below K left most_steps (left x) y (step y) few (go y (steps_keep step K left go x most_steps k)) (steps_below step K left go x most_steps k)
+
+-- ---- where a program stops
+
+pub stepped_on : {X : Type 0} (x : X) (o : Option X) (P : X → Type 0) → Stepped true x o P → P (onward x o)
+stepped_on x None P h = absurd h
+stepped_on x (Some y) P h = h
+
+pub record Stopped {X : Type 0} (x : X) (o : Option X) (P : X → Type 0) : Type 0 where
+  pub none : o ≡ None
+  pub here : P x
+
+pub stepped_not : {X : Type 0} (x : X) (o : Option X) (P : X → Type 0) → Stepped false x o P → Stopped x o P
+stepped_not x None P h = record { none = refl; here = h }
+stepped_not x (Some y) P h = absurd h
+
+-- where no step applies nothing goes on
+steps_stay : {X : Type 0} (step : X → Option X) (x : X) (n k m : ℕ) → m ≡ k + n → step (steps step x n) ≡ None → steps step x m ≡ steps step x n
+steps_stay step x n zero m is none = let e : m ≡ n = omega arith in ap (λ (i : ℕ). steps step x i) e
+steps_stay {X} step x n (suc k) m is none =
+    let e : m ≡ suc (k + n) = omega arith in
+    let same = steps_stay step x n k (k + n) refl none in
+    ap (λ (i : ℕ). steps step x i) e
+    ∙ (ap (λ (y : X). onward y (step y)) same
+    ∙ ap (λ (o : Option X). onward (steps step x n) o) none)
+
+pub stepped_all : {X : Type 0} (step : X → Option X) (x : X) (n : ℕ) → n ≤ most_steps → step (steps step x n) ≡ None → steps step x n ≡ stepped_out step x
+stepped_all step x n h none =
+    let count : most_steps ≡ (most_steps - n) + n = omega arith in
+    sym (steps_stay step x n (most_steps - n) most_steps count none)
+
+pub stepped_end : {X : Type 0} (step : X → Option X) (x : X) (n : ℕ) → n ≡ most_steps → steps step x n ≡ stepped_out step x
+stepped_end step x n is = ap (λ (k : ℕ). steps step x k) is

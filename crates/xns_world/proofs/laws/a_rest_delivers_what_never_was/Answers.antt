@@ -1,6 +1,0 @@
-use Rattle.xns_world.proofs.Runs.{deliveries}
-use Rattle.xns_world.proofs.laws.a_rest_delivers_what_never_was.Goals as goal
-use Rattle.xns_world.specs.Events.{undelivered}
-
-pub returns : goal.returns
-returns c w = deliveries w (undelivered 0 w.bag)

@@ -1,8 +1,0 @@
-use Rattle.std.proofs.Common.{take, fold}
-use Rattle.xns_world.proofs.play.Play.deliver_all.Given as goal
-use Rattle.xns_world.specs.Events.{delivers}
-use Rattle.xns_world.specs.Play.{Goes}
-
--- the packets so far are delivered
-abbrev pub invariant-loop-number : goal.invariant-loop-number
-invariant-loop-number l = Goes l.fn.self l.self (λ w. fold delivers w (take l.number-index l.numbers))

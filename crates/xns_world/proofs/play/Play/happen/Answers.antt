@@ -1,9 +1,0 @@
-use Rattle.std.proofs.Common.{sym, subst}
-use Rattle.xns_world.proofs.Continues.{ok_then}
-use Rattle.xns_world.proofs.play.Play.happen.Goals as goal
-use Rattle.xns_world.specs.declared.event.Event.{Event}
-use Rattle.xns_world.specs.Events.{happens}
-use Rattle.xns_world.specs.Play.{IsPlaying}
-
-pub returns-in-Send-clause-goes : goal.returns-in-Send-clause-goes
-returns-in-Send-clause-goes c = ok_then c.send.result c.send.ensures (λ goes laws w h. subst (λ (e : Event). IsPlaying c.send.new.self (happens w e)) (sym c.in-Send.is) (goes laws w h))

@@ -1,0 +1,41 @@
+use Rattle.xns_world.proofs.ServeBounds.{begun_bytes}
+use Rattle.xns_world.proofs.Serves.{heard_along, within}
+use Rattle.xns_world.specs.Serve.{serve, serve_start, serve_settles}
+use Rattle.xns_world.proofs.serve.serve_bytes.Goals as goal
+
+trace : goal.returns-clause-trace
+trace g c =
+    let serving = g.S.Service.serving in
+    let s = c.args.service in
+    let answering = c.server_laws_are_given.ensures s c.requires.state in
+    let w = serve_start c.args.setup.now in
+    let settled = c.in_ok-settle.ensures s w answering c.in_ok-play.ensures in
+    let h = c.in_ok-hear_all.ensures s (serve_settles serving s w) answering settled in
+    record {
+      handed = h.b.listed;
+      carried = h.b.hearing.carried;
+      fault = h.b.hearing.fault;
+      replies = h.replies;
+      service = c.into_service.ensures.stands s _ _ h.b.hearing.session;
+    }
+
+pub returns-clause-trace : goal.returns-clause-trace
+returns-clause-trace g c = trace g c
+
+pub returns-clause-heard : goal.returns-clause-heard
+returns-clause-heard g c = heard_along g.S.Service.serving c.args.service _ (serve g.S.Service.serving c.args.service c.args.setup.now c.args.packets.now) (trace g c)
+
+pub returns-clause-within : goal.returns-clause-within
+returns-clause-within g c =
+    let serving = g.S.Service.serving in
+    let s = c.args.service in
+    let answering = c.server_laws_are_given.ensures s c.requires.state in
+    let w = serve_start c.args.setup.now in
+    let settled = c.in_ok-settle.ensures s w answering c.in_ok-play.ensures in
+    let h = c.in_ok-hear_all.ensures s (serve_settles serving s w) answering settled in
+    within serving s _ (serve serving s c.args.setup.now c.args.packets.now) _ (trace g c) h.b.stands
+
+pub returns-clause-always : goal.returns-clause-always
+returns-clause-always g c come begins =
+    let s = c.args.service in
+    c.served_ends_stay_within_bounds.ensures.ends s c.args.setup.now come c.requires.state c.known.ensures c.requires.good (begun_bytes come c.args.packets.now begins c.known_packets.ensures)

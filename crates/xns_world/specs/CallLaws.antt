@@ -1,0 +1,21 @@
+-- The laws that the proofs stand on, as the layers below state them.
+use Rattle.std.specs.Prelude.{All}
+use Rattle.courier_calls.specs.Calls.{Serving, IsFitting}
+use Rattle.courier_calls.specs.Laws.{WhatIsHeardStays, BothSidesAgree, SessionItemsCanBeSent, FirstFaultStays}
+use Rattle.xns_world.specs.CallWorld.{Parties}
+use Rattle.item_world.specs.EndLaws.{EndLaws}
+use Rattle.item_world.specs.Laws.{EachStepKeepsTheOrder}
+
+-- of an end, and of a server's session that began in the state s
+pub record Answering {S : Type 0} (serving : Serving S) (s : S) : Type 0 where
+  pub ends : EndLaws
+  pub pieces : SessionItemsCanBeSent serving s
+  pub faults : FirstFaultStays
+
+-- of an end, of the network and of these parties' sessions
+pub record Given {S : Type 0} (p : Parties S) : Type 0 where
+  pub world : EachStepKeepsTheOrder
+  pub heard : WhatIsHeardStays p.serving
+  pub agree : BothSidesAgree p.serving p.service
+  pub answering : Answering p.serving p.service
+  pub fitting : All IsFitting p.calls

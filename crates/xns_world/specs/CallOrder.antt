@@ -1,0 +1,45 @@
+-- The headline for calls.
+use Rattle.std.specs.Prelude.{◌≡◌, ◌≤◌, length, None}
+use Rattle.courier_calls.specs.Calls.{last_state, outcomes}
+use Rattle.courier_calls.specs.Caller.{caller_ending}
+use Rattle.courier_messages.specs.Laws.{IsFaultless}
+use Rattle.courier_calls.specs.Server.{server_ending}
+use Rattle.item_world.specs.declared.side.Side.{Side}
+use Rattle.item_world.specs.declared.side.Side.TheVariants.{A, B}
+use Rattle.xns_spp.specs.Growth.{Begins}
+use Rattle.item_world.specs.Invariant.{Holds}
+use Rattle.item_world.specs.World.{sent_at, handed_at}
+use Rattle.xns_world.specs.CallWorld.{Parties, CallWorld, calls_made, put_out, outcomes_read, carried_at, seen_at, service_at, step}
+use Rattle.xns_world.specs.Settling.{stepped_out}
+
+-- each call is carried out at most once and in order, and the k-th outcome that the caller sees is the server's to its k-th call
+pub record AreOnceInOrder {S : Type 0} (p : Parties S) (w : CallWorld) : Type 0 where
+  pub carried : Begins (carried_at w) p.calls
+  pub service : service_at p w ≡ last_state p.serving p.service (carried_at w)
+  pub seen : Begins (seen_at p w) (outcomes p.serving p.service p.calls)
+  pub fewer : length (seen_at p w) ≤ length (carried_at w)
+
+-- neither session meets a fault
+pub record MeetNoFault {S : Type 0} (p : Parties S) (w : CallWorld) : Type 0 where
+  pub server : IsFaultless (server_ending (handed_at w.world B))
+  pub caller : IsFaultless (caller_ending p.serving.table (calls_made p w) (handed_at w.world A))
+
+-- what is true at every moment: each end accepted a front of what its session puts out, and the network keeps the order
+pub record CallsHold {S : Type 0} (p : Parties S) (w : CallWorld) : Type 0 where
+  pub holds : Holds w.world
+  pub out : (side : Side) → Begins (sent_at w.world side) (put_out p w side)
+  pub made : w.made ≤ length p.calls
+  pub listed : w.listed ≤ length (outcomes_read p w)
+
+-- between events no outcome is left unlisted
+abbrev pub AllListed : {S : Type 0} → Parties S → CallWorld → Type 0
+AllListed p w = length (outcomes_read p w) ≤ w.listed
+
+-- what is true between events
+pub record IsBetween {S : Type 0} (p : Parties S) (w : CallWorld) : Type 0 where
+  pub holds : CallsHold p w
+  pub listed : AllListed p w
+
+-- a side that settles comes to where no step applies
+abbrev pub Settles : {S : Type 0} → Parties S → Side → CallWorld → Type 0
+Settles p side w = step p side (stepped_out (step p side) w) ≡ None

@@ -1,0 +1,89 @@
+-- What the program's play of calls stands for.
+use Rattle.std.specs.Prelude.{◌≡◌, ◌≤◌, List, map, length}
+use Rattle.courier_calls.specs.Calls.{Serving, last_state, outcomes, seen_model, raw_call}
+use Rattle.courier_calls.specs.declared.call.Call.{Call}
+use Rattle.courier_calls.specs.Caller as caller
+use Rattle.courier_calls.specs.Server.{call_of}
+use Rattle.xns_spp.specs.Held.{Held, StandsFor}
+use Rattle.xns_world.specs.CallLaws.{Given}
+use Rattle.xns_world.specs.CallOrder.{IsBetween}
+use Rattle.xns_spp.specs.Growth.{Begins}
+use Rattle.item_world.specs.EndLaws.{EndLaws}
+use Rattle.item_world.specs.Network.{IsNetwork, IsEnd}
+use Rattle.xns_world.specs.ServeEnd.{IsServed}
+use Rattle.xns_world.specs.declared.call_pair.CallPair.{CallPair}
+use Rattle.xns_world.specs.declared.call_play.CallPlay.{CallPlay}
+use Rattle.xns_world.specs.declared.call_trace.CallTrace.{CallTrace}
+use Rattle.xns_world.specs.declared.calling.CallingEnd.{CallingEnd}
+use Rattle.item_world.specs.declared.network.Network.{Network}
+use Rattle.xns_world.specs.declared.serving.ServingEnd.{ServingEnd}
+use Rattle.item_world.specs.declared.side.Side.{Side}
+use Rattle.item_world.specs.declared.side.Side.TheVariants.{A, B}
+use Rattle.xns_world.specs.CallWorld.{Parties, CallWorld, calls_made, seen_at, carried_at, service_at}
+use Rattle.item_world.specs.World.{World, handed_at, sent_at, packets_of}
+
+-- the caller's end, with its session, the calls made and the outcomes listed
+pub record IsCalling {S : Type 0} (p : Parties S) (e : CallingEnd) (w : CallWorld) : Type 0 where
+  pub stands : StandsFor e.endpoint w.world.a
+  pub session : caller.StandsFor p.serving.table (caller.held e.caller) (calls_made p w) (handed_at w.world A) (sent_at w.world A) (seen_at p w)
+  pub made : e.made ≡ w.made
+  pub seen : map seen_model e.seen.items ≡ seen_at p w
+
+-- the server's end, with its session and the calls that it decided
+abbrev pub IsServing : {S : Type 0} → Parties S → ServingEnd S → CallWorld → Type 0
+IsServing p e w = IsServed p.serving p.service e w.world.b
+
+-- what the play hands over is what the world came to
+pub record IsCallTrace {S : Type 0} (p : Parties S) (t : CallTrace S) (w : CallWorld) : Type 0 where
+  pub carried : t.carried.items ≡ map call_of (carried_at w)
+  pub seen : map seen_model t.seen.items ≡ seen_at p w
+  pub service : t.service ≡ service_at p w
+  pub bag : t.bag ≡ packets_of w.world
+
+abbrev pub endpoint_at : {S : Type 0} → CallPair S → Side → Held
+endpoint_at e A = e.a.endpoint
+endpoint_at e B = e.b.endpoint
+
+abbrev pub with_endpoint : {S : Type 0} → CallPair S → Side → Held → CallPair S
+with_endpoint e A x = record e { a = record e.a { endpoint = x } }
+with_endpoint e B x = record e { b = record e.b { endpoint = x } }
+
+-- an endpoint of the pair acts on the network, and nothing else of the pair changes; under the laws of an end: where both stood for w,
+-- they then stand for what w leads to
+pub record Acts {S : Type 0} (e f : CallPair S) (n m : Network) (side : Side) (leads : World → World → Type 0) : Type 0 where
+  pub pair : f ≡ with_endpoint e side (endpoint_at f side)
+  pub stands : EndLaws → (w v : World) → leads w v → IsEnd (endpoint_at e side) n w side → IsEnd (endpoint_at f side) m v side
+
+-- the end at this side
+abbrev pub IsAtSide : {S : Type 0} → Parties S → CallPair S → CallWorld → Side → Type 0
+IsAtSide p e w A = IsCalling p e.a w
+IsAtSide p e w B = IsServing p e.b w
+
+abbrev pub IsCallPair : {S : Type 0} → Parties S → CallPair S → CallWorld → Type 0
+IsCallPair p e w = (side : Side) → IsAtSide p e w side
+
+-- a play stands for a world of calls
+pub record IsCallPlaying {S : Type 0} (p : Parties S) (play : CallPlay S) (w : CallWorld) : Type 0 where
+  pub ends : IsCallPair p play.ends w
+  pub network : IsNetwork play.network w.world
+
+-- these are the parties of the play, and the world is one between events
+pub record IsReady {S : Type 0} (serving : Serving S) (calls : List Call) (p : Parties S) (w : CallWorld) : Type 0 where
+  pub given : Given p
+  pub between : IsBetween p w
+  pub serving_is : p.serving ≡ serving
+  pub calls_are : p.calls ≡ map raw_call calls
+
+-- where it stood for w, it then stands for what f makes of w
+abbrev pub Goes : {S : Type 0} → Serving S → List Call → CallPlay S → CallPlay S → (Parties S → CallWorld → CallWorld) → Type 0
+Goes {S} serving calls before after f = (p : Parties S) (w : CallWorld) → IsReady serving calls p w → IsCallPlaying p before w → IsCallPlaying p after (f p w)
+
+abbrev pub parties : {S : Type 0} → Serving S → S → List Call → Parties S
+parties serving service calls = record { serving = serving; service = service; calls = map raw_call calls }
+
+-- each call is carried out at most once and in order, and the k-th outcome that the caller saw is the server's to its k-th call
+pub record IsOnceInOrder {S : Type 0} (serving : Serving S) (service : S) (calls : List Call) (t : CallTrace S) : Type 0 where
+  pub carried_once : Begins (map raw_call t.carried.items) (map raw_call calls)
+  pub service_after : t.service ≡ last_state serving service (map raw_call t.carried.items)
+  pub seen_first : Begins (map seen_model t.seen.items) (outcomes serving service (map raw_call calls))
+  pub fewer : length t.seen.items ≤ length t.carried.items

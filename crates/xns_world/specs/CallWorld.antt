@@ -1,0 +1,140 @@
+-- A connection whose two ends carry calls: the caller at A, the server at B.
+use Rattle.std.specs.Prelude.{ℕ, ◌+◌, Bool, ◌==◌, ◌&&◌, nat_lt, if◌then◌else◌, List, [], length, take, fold, slice_get, Option, Some, None}
+use Rattle.courier_messages.specs.RawCalls.{RawCall}
+use Rattle.courier_calls.specs.Calls.{SeenModel, Serving}
+use Rattle.courier_messages.specs.RawCalls.{caller_items}
+use Rattle.courier_calls.specs.Caller.{answers}
+use Rattle.courier_calls.specs.Server.{server_items, server_state, decided}
+use Rattle.xns_spp.specs.State.{State}
+use Rattle.xns_spp.specs.declared.item.Item.{Item}
+use Rattle.item_world.specs.declared.event.Event.{Event}
+use Rattle.item_world.specs.declared.event.Event.TheVariants.{Deliver, Rest, Tick, Foreign, Send, Take}
+use Rattle.item_world.specs.declared.setup.Setup.{Setup}
+use Rattle.item_world.specs.declared.side.Side.{Side}
+use Rattle.item_world.specs.declared.side.Side.TheVariants.{A, B}
+use Rattle.item_world.specs.Events.{happens, undelivered}
+use Rattle.item_world.specs.Landing.{landing}
+use Rattle.xns_world.specs.Settling.{end_step_with, stepped_out}
+use Rattle.item_world.specs.World.{World, start, end_of, moved, flushes, ticks, sends, takes, sent_at, handed_at}
+
+-- the service with its table, the state that it begins in, and the calls that are to be made
+pub record Parties (S : Type 0) : Type 0 where
+  pub serving : Serving S
+  pub service : S
+  pub calls : List RawCall
+
+-- the connection, how many of the calls were made, and how many outcomes were listed; the sessions are functions of these
+pub record CallWorld : Type 0 where
+  pub world : World
+  pub made : ℕ
+  pub listed : ℕ
+
+-- ---- the sessions, as the connection's history has them
+
+abbrev pub calls_made : {S : Type 0} → Parties S → CallWorld → List RawCall
+calls_made p w = take w.made p.calls
+
+-- all that a side's session has put out by now
+abbrev pub put_out : {S : Type 0} → Parties S → CallWorld → Side → List Item
+put_out p w A = caller_items (calls_made p w)
+put_out p w B = server_items p.serving p.service (handed_at w.world B)
+
+-- the first of these that the side's end has not yet accepted
+abbrev pub next_out : {S : Type 0} → Parties S → CallWorld → Side → Option Item
+next_out p w side = slice_get (put_out p w side) (length (sent_at w.world side))
+
+-- the outcomes that the caller has read by now
+abbrev pub outcomes_read : {S : Type 0} → Parties S → CallWorld → List SeenModel
+outcomes_read p w = answers p.serving.table (calls_made p w) (handed_at w.world A)
+
+-- ---- a side settles
+
+abbrev pub in_world : CallWorld → World → CallWorld
+in_world w v = record w { world = v }
+
+-- the session's next item is sent
+abbrev pub sends_next : CallWorld → Side → Item → CallWorld
+sends_next w side x = in_world w (sends w.world side x)
+
+-- the session is fed the next item that waits
+abbrev pub feeds : CallWorld → Side → CallWorld
+feeds w side = in_world w (takes w.world side)
+
+-- an outcome is listed
+abbrev pub lists : CallWorld → CallWorld
+lists w = record w { listed = w.listed + 1 }
+
+-- the next call is made
+abbrev pub makes : CallWorld → CallWorld
+makes w = record w { made = w.made + 1 }
+
+-- an outcome is there
+abbrev pub has_outcome : {S : Type 0} → Parties S → CallWorld → Bool
+has_outcome p w = nat_lt w.listed (length (outcomes_read p w))
+
+-- no call is unanswered, and calls remain
+abbrev pub may_call : {S : Type 0} → Parties S → CallWorld → Bool
+may_call p w = length (outcomes_read p w) == w.made && nat_lt w.made (length p.calls)
+
+-- the third and fourth step, which the caller alone takes
+abbrev pub caller_step : {S : Type 0} → Parties S → CallWorld → Side → Option CallWorld
+caller_step p w A = if has_outcome p w then Some (lists w) else if may_call p w then Some (makes w) else None
+caller_step p w B = None
+
+abbrev pub or_caller : {S : Type 0} → Parties S → CallWorld → Side → Option State → Option CallWorld
+or_caller p w side (Some v) = Some (in_world w (moved w.world side v []))
+or_caller p w side None = caller_step p w side
+
+abbrev pub step_with : {S : Type 0} → Parties S → CallWorld → Side → Option Item → Option CallWorld
+step_with p w side o = or_caller p w side (end_step_with (end_of w.world side) o)
+
+-- the first of these that applies: the session has an item out and the end isn't full, and it is sent; the session has none out and
+-- an item waits, and it is fed to the session; an outcome is there, and it is listed; no call is unanswered, and the next is made
+abbrev pub step : {S : Type 0} → Parties S → Side → CallWorld → Option CallWorld
+step p side w = step_with p w side (next_out p w side)
+
+-- a side takes these steps until none applies, and then flushes
+abbrev pub settles : {S : Type 0} → Parties S → Side → CallWorld → CallWorld
+settles p side w = in_world (stepped_out (step p side) w) (flushes (stepped_out (step p side) w).world side)
+
+-- ---- what happens
+
+-- packet k came to an end, which answered it and then settles
+abbrev pub arrived : {S : Type 0} → Parties S → CallWorld → Option (Side × World) → CallWorld
+arrived p w None = w
+arrived p w (Some l) = settles p l.0 (in_world w l.1)
+
+abbrev pub delivers : {S : Type 0} → Parties S → CallWorld → ℕ → CallWorld
+delivers p w k = arrived p w (landing w.world k)
+
+-- items are sent and taken by the sessions alone
+abbrev pub call_happens : {S : Type 0} → Parties S → CallWorld → Event → CallWorld
+call_happens p w (Deliver k) = delivers p w k
+call_happens p w Rest = fold (delivers p) w (undelivered 0 w.world.bag)
+call_happens p w (Tick side) = settles p side (in_world w (ticks w.world side))
+call_happens p w (Foreign side bytes) = in_world w (happens w.world (Foreign side bytes))
+call_happens p w (Send side x) = w
+call_happens p w (Take side) = w
+
+abbrev pub call_start : Setup → CallWorld
+call_start setup = record { world = start setup; made = 0; listed = 0 }
+
+-- both sides settle before the first event
+abbrev pub begun : {S : Type 0} → Parties S → Setup → CallWorld
+begun p setup = settles p B (settles p A (call_start setup))
+
+abbrev pub run_calls : {S : Type 0} → Parties S → Setup → List Event → CallWorld
+run_calls p setup events = fold (call_happens p) (begun p setup) events
+
+-- ---- what it comes to
+
+-- the calls that the server decided
+abbrev pub carried_at : CallWorld → List RawCall
+carried_at w = decided (handed_at w.world B)
+
+-- the outcomes that the caller saw
+abbrev pub seen_at : {S : Type 0} → Parties S → CallWorld → List SeenModel
+seen_at p w = take w.listed (outcomes_read p w)
+
+abbrev pub service_at : {S : Type 0} → Parties S → CallWorld → S
+service_at p w = server_state p.serving p.service (handed_at w.world B)

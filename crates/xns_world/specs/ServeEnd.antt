@@ -1,0 +1,37 @@
+-- What a server's end in the program stands for.
+use Rattle.std.specs.Prelude.{◌≡◌, List, length, map, slice_get, Option, Some, All}
+use Rattle.courier_calls.specs.Calls.{Serving}
+use Rattle.courier_calls.specs.Server as server
+use Rattle.courier_calls.specs.Server.{decided, server_items, call_of}
+use Rattle.courier_messages.specs.declared.fault.SessionFault.{SessionFault}
+use Rattle.courier_messages.specs.declared.fault.SessionFault.TheVariants.{NoMemory, Failed}
+use Rattle.xns_spp.specs.Held.{StandsFor}
+use Rattle.xns_spp.specs.Item.{IsItem}
+use Rattle.xns_spp.specs.State.{State}
+use Rattle.xns_spp.specs.declared.item.Item.{Item}
+use Rattle.xns_world.specs.Serve.{first_fault}
+use Rattle.xns_world.specs.Settling.{handed_by}
+use Rattle.xns_world.specs.declared.serving.ServingEnd.{ServingEnd}
+
+-- the first of the session's items that the end has not yet accepted
+abbrev pub next_of : {S : Type 0} → Serving S → S → State → Option Item
+next_of serving s v = slice_get (server_items serving s (handed_by v)) (length v.accepted)
+
+-- the session was fed the items F and has handed out the items P; the calls decided and the first fault were noted
+pub record IsHearing {S : Type 0} (serving : Serving S) (s : S) (e : ServingEnd S) (F P : List Item) : Type 0 where
+  pub session : server.StandsFor serving e.server s F P
+  pub carried : e.carried.items ≡ map call_of (decided F)
+  pub fault : e.fault ≡ first_fault F
+
+-- a server's end that began with its service in the state s stands for v
+pub record IsServed {S : Type 0} (serving : Serving S) (s : S) (e : ServingEnd S) (v : State) : Type 0 where
+  pub stands : StandsFor e.endpoint v
+  pub hearing : IsHearing serving s e (handed_by v) v.accepted
+  pub listed : e.handed ≡ handed_by v
+  pub items : All IsItem (handed_by v)
+
+-- how a fault that a session answers is noted
+abbrev pub noted : SessionFault → Option SessionFault → Option SessionFault → Type 0
+noted Failed before after = after ≡ before
+noted NoMemory before after = ⊥
+noted e before after = after ≡ Some e

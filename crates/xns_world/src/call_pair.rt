@@ -1,0 +1,80 @@
+ghost use Rattle.std.specs.Prelude.{◌≡◌, ◌<◌, length, OnOk, Some};
+ghost use Rattle.xns_world.specs.CallPlay.{Acts, IsCallPair, IsReady};
+ghost use Rattle.xns_world.specs.CallWorld.{Parties, CallWorld, step};
+ghost use Rattle.item_world.specs.Landing.{landing};
+ghost use Rattle.xns_world.specs.Settling.{stepped_out};
+ghost use Rattle.item_world.specs.World.{flushes, ticks};
+
+use crate::calling::CallingEnd;
+use crate::serving::ServingEnd;
+use courier_calls::{Call, Service};
+use std::alloc::{AllocError, Global};
+use item_world::{Network, Side, flush_end, land, tick_end};
+
+/// Both ends of a play of calls, the caller at A and the server at B.
+///
+/// They are of two types, so each method here chooses between them; what uses these is written once for either side.
+#[derive(Drop)]
+pub struct CallPair<'a, S: Service> {
+    pub a: CallingEnd<'a>,
+    pub b: ServingEnd<'a, S>,
+}
+
+impl<'a, S: Service> CallPair<'a, S> {
+    /// The end at this side takes steps until none applies.
+    pub fn step_out(&mut self, alloc: Global, calls: &[Call], side: Side) -> Result<(), AllocError>
+        ensures { OnOk result ((p : Parties S) (w : CallWorld) → IsReady S.serving calls.now p w → IsCallPair p self.old w → IsCallPair p self.new (stepped_out (step p side) w)) }
+    {
+        match side {
+            Side::A => self.a.step_out::<S>(alloc, calls),
+            Side::B => self.b.step_out(alloc),
+        }
+    }
+
+    /// Sends what may go out at this side.
+    pub fn flush(
+        &mut self,
+        alloc: Global,
+        side: Side,
+        network: &mut Network,
+    ) -> Result<(), AllocError>
+        ensures { OnOk result (Acts self.old self.new network.old network.new side (λ w v. flushes w side ≡ v)) }
+    {
+        match side {
+            Side::A => flush_end(alloc, Side::A, &mut self.a.endpoint, network),
+            Side::B => flush_end(alloc, Side::B, &mut self.b.endpoint, network),
+        }
+    }
+
+    /// Sends again what isn't acknowledged at this side, or asks.
+    pub fn tick(
+        &mut self,
+        alloc: Global,
+        side: Side,
+        network: &mut Network,
+    ) -> Result<(), AllocError>
+        ensures { OnOk result (Acts self.old self.new network.old network.new side (λ w v. ticks w side ≡ v)) }
+    {
+        match side {
+            Side::A => tick_end(alloc, Side::A, &mut self.a.endpoint, network),
+            Side::B => tick_end(alloc, Side::B, &mut self.b.endpoint, network),
+        }
+    }
+
+    /// Takes in a packet of the network at this side and answers it.
+    pub fn land(
+        &mut self,
+        alloc: Global,
+        side: Side,
+        network: &mut Network,
+        number: usize,
+    ) -> Result<(), AllocError>
+        requires { number < length network.old.packets.items }
+        ensures { OnOk result (Acts self.old self.new network.old network.new side (λ w v. landing w number ≡ Some (side, v))) }
+    {
+        match side {
+            Side::A => land(alloc, Side::A, &mut self.a.endpoint, network, number),
+            Side::B => land(alloc, Side::B, &mut self.b.endpoint, network, number),
+        }
+    }
+}

@@ -1,0 +1,176 @@
+ghost use Rattle.std.specs.Prelude.{◌≡◌, map, All, OnOk, IfOk, fold};
+ghost use Rattle.courier_calls.specs.Table.{table_model, IsCheckedTable};
+ghost use Rattle.courier_calls.specs.Calls.{call_model, CallFits};
+ghost use Rattle.item_world.specs.declared.side.Side.{Side};
+ghost use Rattle.item_world.specs.declared.side.Side.TheVariants.{A, B};
+ghost use Rattle.item_world.specs.declared.event.Event.TheVariants.{Deliver, Rest, Tick, Foreign, Send, Take};
+ghost use Rattle.xns_world.specs.CallPlay.{IsCallPlaying, Goes, IsCallTrace, IsOnceInOrder, parties};
+ghost use Rattle.xns_world.specs.CallWorld.{Parties, call_happens, call_start, run_calls, delivers, settles};
+ghost use Rattle.item_world.specs.Setup.{IsGood};
+
+use crate::call_pair::CallPair;
+use crate::call_trace::CallTrace;
+use crate::calling::CallingEnd;
+use crate::laws::calls::laws_are_given;
+use crate::serving::ServingEnd;
+use courier_calls::{Call, Caller, Service, Table, known_calls};
+use std::alloc::{AllocError, Global};
+use item_world::{Event, Network, Setup, Side};
+
+/// Two ends whose sessions carry calls, and the network between them.
+#[derive(Drop)]
+pub struct CallPlay<'a, S: Service> {
+    ends: CallPair<'a, S>,
+    network: Network,
+}
+
+impl<'a, S: Service> CallPlay<'a, S> {
+    /// Both ends, before anything has happened; neither has settled.
+    fn new(
+        alloc: Global,
+        setup: &Setup,
+        table: &'a Table,
+        service: S,
+    ) -> Result<CallPlay<'a, S>, AllocError>
+        requires good { IsGood setup.now }
+        requires listed { table_model table.now ≡ S.serving.table }
+        requires checked { IsCheckedTable (table_model table.now) }
+        requires state { S.IsServiceState service }
+        ensures { IfOk result (λ play. (p : Parties S) → p.serving ≡ S.serving → p.service ≡ service → IsCallPlaying p play (call_start setup.now)) }
+    {
+        let endpoint = setup.end(alloc, Side::A)?;
+        let caller = Caller::new(alloc, table)?;
+        let b = ServingEnd::new(alloc, setup, table, service)?;
+        Ok(CallPlay {
+            ends: CallPair {
+                a: CallingEnd {
+                    endpoint,
+                    caller,
+                    made: 0,
+                    seen: Vec::new(alloc),
+                },
+                b,
+            },
+            network: Network::new(alloc),
+        })
+    }
+
+    /// The end at this side settles.
+    fn settle(&mut self, alloc: Global, calls: &[Call], side: Side) -> Result<(), AllocError>
+        ensures { OnOk result (Goes S.serving calls.now self.old self.new (λ p w. settles p side w)) }
+    {
+        self.ends.step_out(alloc, calls, side)?;
+        self.ends.flush(alloc, side, &mut self.network)
+    }
+
+    /// Delivers the packet of this number, where there is one that still lives.
+    fn deliver(&mut self, alloc: Global, calls: &[Call], number: usize) -> Result<(), AllocError>
+        ensures { OnOk result (Goes S.serving calls.now self.old self.new (λ p w. delivers p w number)) }
+    {
+        let Some(side) = self.network.lands_at(number) else {
+            return Ok(());
+        };
+        self.ends.land(alloc, side, &mut self.network, number)?;
+        self.settle(alloc, calls, side)
+    }
+
+    /// Delivers these packets in turn.
+    fn deliver_all(
+        &mut self,
+        alloc: Global,
+        calls: &[Call],
+        numbers: &[usize],
+    ) -> Result<(), AllocError>
+        ensures { OnOk result (Goes S.serving calls.now self.old self.new (λ p w. fold (delivers p) w numbers.now)) }
+    {
+        for number in numbers {
+            self.deliver(alloc, calls, *number)?;
+        }
+        Ok(())
+    }
+
+    /// Delivers each packet that was never delivered and is there as this begins, in order.
+    fn rest(&mut self, alloc: Global, calls: &[Call]) -> Result<(), AllocError>
+        ensures { OnOk result (Goes S.serving calls.now self.old self.new (λ p w. call_happens p w Rest)) }
+    {
+        let numbers = self.network.unsettled(alloc)?;
+        self.deliver_all(alloc, calls, numbers.as_slice())
+    }
+
+    fn tick(&mut self, alloc: Global, calls: &[Call], side: Side) -> Result<(), AllocError>
+        ensures { OnOk result (Goes S.serving calls.now self.old self.new (λ p w. call_happens p w (Tick side))) }
+    {
+        self.ends.tick(alloc, side, &mut self.network)?;
+        self.settle(alloc, calls, side)
+    }
+
+    /// Bytes from elsewhere change nothing: those of the connection are passed over, and all others are dropped. Items are sent and taken
+    /// by the sessions alone.
+    fn happen(&mut self, alloc: Global, calls: &[Call], event: &Event) -> Result<(), AllocError>
+        ensures { OnOk result (Goes S.serving calls.now self.old self.new (λ p w. call_happens p w event.now)) }
+    {
+        match event {
+            Event::Deliver(number) => self.deliver(alloc, calls, *number),
+            Event::Rest => self.rest(alloc, calls),
+            Event::Tick(side) => self.tick(alloc, calls, *side),
+            Event::Foreign(_, _) => Ok(()),
+            Event::Send(_, _) => Ok(()),
+            Event::Take(_) => Ok(()),
+        }
+    }
+
+    /// All these events in turn.
+    fn happen_all(
+        &mut self,
+        alloc: Global,
+        calls: &[Call],
+        events: &[Event],
+    ) -> Result<(), AllocError>
+        ensures { OnOk result (Goes S.serving calls.now self.old self.new (λ p w. fold (call_happens p) w events.now)) }
+    {
+        for event in events {
+            self.happen(alloc, calls, event)?;
+        }
+        Ok(())
+    }
+}
+
+/// The play of these calls between two ends, the caller at A and the server at B.
+///
+/// Over every list of deliveries, losses, repeats and reorderings each call is carried out at most once and in order, and the k-th outcome
+/// that the caller sees is the server's to its k-th call. No packet is delivered once an end has taken more than 30,000 further items
+/// since it was sent. That any call is answered is not promised. An `Err` says that memory was refused, and gives no trace.
+pub fn play_calls<S: Service>(
+    alloc: Global,
+    setup: &Setup,
+    table: &Table,
+    service: S,
+    calls: &[Call],
+    events: &[Event],
+) -> Result<CallTrace<S>, AllocError>
+    requires good { IsGood setup.now }
+    requires listed { table_model table.now ≡ S.serving.table }
+    requires checked { IsCheckedTable (table_model table.now) }
+    requires state { S.IsServiceState service }
+    requires fit { All (CallFits (table_model table.now)) (map call_model calls.now) }
+    ensures trace { IfOk result (λ t. IsCallTrace (parties S.serving service calls.now) t (run_calls (parties S.serving service calls.now) setup.now events.now)) }
+    ensures once { IfOk result (λ t. IsOnceInOrder S.serving service calls.now t) }
+{
+    setup.known();
+    known_calls(table, calls);
+    laws_are_given::<S>();
+    let mut play = CallPlay::new(alloc, setup, table, service)?;
+    play.settle(alloc, calls, Side::A)?;
+    play.settle(alloc, calls, Side::B)?;
+    play.happen_all(alloc, calls, events)?;
+    let CallPlay {
+        ends: CallPair { a, b },
+        network,
+    } = play;
+    Ok(CallTrace {
+        carried: b.carried,
+        seen: a.seen,
+        service: b.server.into_service(),
+        bag: network.into_bag(alloc)?,
+    })
+}

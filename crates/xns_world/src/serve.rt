@@ -1,0 +1,158 @@
+ghost use Rattle.std.specs.Prelude.{◌≡◌, ◌<◌, ◌++◌, ℕ, List, fold, All, OnOk, IfOk};
+ghost use Rattle.std.specs.Option.{option_to_list};
+ghost use Rattle.xns_idp.specs.Packet.{AreBytes};
+ghost use Rattle.courier_calls.specs.Table.{table_model, IsCheckedTable};
+ghost use Rattle.xns_spp.specs.Growth.{Begins};
+ghost use Rattle.xns_world.specs.Serve.{serve, serve_start, serve_settles, serve_receives, serve_hears, IsServeTrace, IsHeard};
+ghost use Rattle.xns_world.specs.ServeBounds.{IsServedWithin};
+ghost use Rattle.xns_world.specs.ServePlay.{IsServePlaying, GoesOn, IsWithin};
+ghost use Rattle.item_world.specs.Setup.{IsGood};
+
+use crate::laws::calls::server_laws_are_given;
+use crate::laws::serving::served_ends_stay_within_bounds;
+use crate::serve_trace::ServeTrace;
+use crate::serving::ServingEnd;
+use courier_calls::{Service, Table};
+use std::alloc::{AllocError, Global};
+use xns_idp::known::known_bytes;
+use xns_spp::Bytes;
+use item_world::Setup;
+
+/// A server's end, and every packet that it sent.
+#[derive(Drop)]
+pub struct ServePlay<'a, S: Service> {
+    b: ServingEnd<'a, S>,
+    replies: Vec<Bytes>,
+}
+
+impl<'a, S: Service> ServePlay<'a, S> {
+    /// The end before any packet came; it hasn't settled.
+    fn new(
+        alloc: Global,
+        setup: &Setup,
+        table: &'a Table,
+        service: S,
+    ) -> Result<ServePlay<'a, S>, AllocError>
+        requires good { IsGood setup.now }
+        requires listed { table_model table.now ≡ S.serving.table }
+        requires checked { IsCheckedTable (table_model table.now) }
+        requires state { S.IsServiceState service }
+        ensures { IfOk result (λ play. IsServePlaying S.serving service play (serve_start setup.now)) }
+    {
+        let b = ServingEnd::new(alloc, setup, table, service)?;
+        Ok(ServePlay {
+            b,
+            replies: Vec::new(alloc),
+        })
+    }
+
+    /// The end settles, and what it then sends joins the replies.
+    fn settle(&mut self, alloc: Global) -> Result<(), AllocError>
+        ensures { OnOk result (GoesOn S.serving self.old self.new (serve_settles S.serving)) }
+    {
+        self.b.step_out(alloc)?;
+        let packets = self.b.endpoint.flush(alloc)?;
+        join(&mut self.replies, packets)
+    }
+
+    /// A packet comes, ours or not, and the end answers it.
+    fn receive(&mut self, alloc: Global, bytes: &[u8]) -> Result<(), AllocError>
+        ensures { OnOk result (GoesOn S.serving self.old self.new (λ s w. serve_receives w bytes.now)) }
+    {
+        let reply = self.b.endpoint.receive(alloc, bytes)?.reply;
+        join_reply(&mut self.replies, reply)
+    }
+
+    /// A packet comes, the end answers it and settles.
+    fn hear(&mut self, alloc: Global, bytes: &[u8]) -> Result<(), AllocError>
+        ensures { OnOk result (GoesOn S.serving self.old self.new (λ s w. serve_hears S.serving s w bytes.now)) }
+    {
+        self.receive(alloc, bytes)?;
+        self.settle(alloc)
+    }
+
+    /// All these packets in turn.
+    fn hear_all(&mut self, alloc: Global, packets: &[Bytes]) -> Result<(), AllocError>
+        ensures { OnOk result (GoesOn S.serving self.old self.new (λ s w. fold (serve_hears S.serving s) w packets.now)) }
+    {
+        for packet in packets {
+            self.hear(alloc, packet.as_slice())?;
+        }
+        Ok(())
+    }
+}
+
+/// A reply joins those before, where there is one.
+fn join_reply(replies: &mut Vec<Bytes>, reply: Option<Bytes>) -> Result<(), AllocError>
+    ensures { OnOk result (replies.new.items ≡ replies.old.items ++ option_to_list reply) }
+{
+    if let Some(packet) = reply {
+        replies.push(packet)?;
+    }
+    Ok(())
+}
+
+/// Packets join those before.
+fn join(replies: &mut Vec<Bytes>, packets: Vec<Bytes>) -> Result<(), AllocError>
+    ensures { OnOk result (replies.new.items ≡ replies.old.items ++ packets.items) }
+{
+    for packet in packets {
+        replies.push(packet)?;
+    }
+    Ok(())
+}
+
+/// Changes nothing; says to a proof that packets are of bytes.
+fn known_packets(packets: &[Bytes])
+    ensures { All AreBytes packets.now }
+{
+    for packet in packets {
+        known_bytes(packet.as_slice());
+    }
+}
+
+/// What a server makes of these packets, which may be anything.
+///
+/// Whatever the peer sends, the calls carried are those that the items handed up spell, in order and before the first fault, and each
+/// is carried out once; and after each packet the windows, what the session keeps of an incoming message, the next answer and all that
+/// is out are within their bounds. An `Err` says that memory was refused, and gives no trace.
+pub fn serve_bytes<S: Service>(
+    alloc: Global,
+    setup: &Setup,
+    table: &Table,
+    service: S,
+    packets: &[Bytes],
+) -> Result<ServeTrace<S>, AllocError>
+    requires good { IsGood setup.now }
+    requires listed { table_model table.now ≡ S.serving.table }
+    requires checked { IsCheckedTable (table_model table.now) }
+    requires state { S.IsServiceState service }
+    ensures trace { IfOk result (λ t. IsServeTrace S.serving service t (serve S.serving service setup.now packets.now)) }
+    ensures heard { IfOk result (λ t. IsHeard S.serving service t) }
+    ensures within { IfOk result (λ t. IsWithin t (serve S.serving service setup.now packets.now)) }
+    // After each of the packets.
+    ensures always { IfOk result (λ t. (come : List (List ℕ)) → Begins come packets.now → IsServedWithin S.serving service (serve S.serving service setup.now come)) }
+{
+    setup.known();
+    known_packets(packets);
+    served_ends_stay_within_bounds::<S>();
+    server_laws_are_given::<S>();
+    let mut play = ServePlay::new(alloc, setup, table, service)?;
+    play.settle(alloc)?;
+    play.hear_all(alloc, packets)?;
+    let ServePlay { b, replies } = play;
+    let ServingEnd {
+        server,
+        carried,
+        fault,
+        handed,
+        ..
+    } = b;
+    Ok(ServeTrace {
+        handed,
+        carried,
+        fault,
+        replies,
+        service: server.into_service(),
+    })
+}
