@@ -181,6 +181,17 @@ impl Incoming {
         }
     }
 
+    /// A message of which no byte came yet, as behind a mark.
+    pub fn behind_mark(alloc: Global) -> Incoming
+        ensures { result ≡ inside [] }
+    {
+        Incoming {
+            stage: Stage::Inside,
+            pieces: Pieces::new(alloc),
+            skipped: 0,
+        }
+    }
+
     /// Does nothing: what is kept is bounded.
     #[tactic(auto, using(crate::proofs::Bounds::held_bound))]
     pub fn known(&self)

@@ -33,17 +33,17 @@ use Rattle.xns_dump.specs.Layers.Small.{echo_line, echo_text, error_fields, erro
 use Rattle.xns_dump.specs.Layers.Text.{address_text, data_line, words_line}
 use Rattle.xns_lines.specs.Text.{bytes_or_dash, hex_word, words_in_hex, words_or_dash, words_text}
 
-abbrev refused : List ℕ → Bool
+abbrev pub refused : List ℕ → Bool
 refused text = has_word (codes "refused") text
 
 -- the word does not begin in these bytes, whatever follows them
-record IsQuiet (xs : List ℕ) : Type 0 where
-  skips : (ys : List ℕ) → refused (xs ++ ys) ≡ refused ys
+pub record IsQuiet (xs : List ℕ) : Type 0 where
+  pub skips : (ys : List ℕ) → refused (xs ++ ys) ≡ refused ys
 
-both : (xs ys : List ℕ) → IsQuiet xs → IsQuiet ys → IsQuiet (xs ++ ys)
+pub both : (xs ys : List ℕ) → IsQuiet xs → IsQuiet ys → IsQuiet (xs ++ ys)
 both xs ys h k = record { skips = λ zs. ap refused (append_assoc xs ys zs) ∙ h.skips (ys ++ zs) ∙ k.skips zs }
 
-either : (p : Bool) (xs ys : List ℕ) → IsQuiet xs → IsQuiet ys → IsQuiet (cond p xs ys)
+pub either : (p : Bool) (xs ys : List ℕ) → IsQuiet xs → IsQuiet ys → IsQuiet (cond p xs ys)
 either true xs ys h k = h
 either false xs ys h k = k
 
@@ -51,20 +51,20 @@ either false xs ys h k = k
 before : (xs ys : List ℕ) (b : Bool) → IsQuiet xs → refused ys ≡ b → refused (xs ++ ys) ≡ b
 before xs ys b h k = h.skips ys ∙ k
 
-alone : (xs : List ℕ) → IsQuiet xs → refused xs ≡ false
+pub alone : (xs : List ℕ) → IsQuiet xs → refused xs ≡ false
 alone xs h = ap refused (sym (append-nil xs)) ∙ h.skips []
 
 -- the word stands in these bytes, whatever follows them
-record IsLoud (xs : List ℕ) : Type 0 where
-  says : (ys : List ℕ) → refused (xs ++ ys) ≡ true
+pub record IsLoud (xs : List ℕ) : Type 0 where
+  pub says : (ys : List ℕ) → refused (xs ++ ys) ≡ true
 
-loud : (xs ys : List ℕ) → IsQuiet xs → IsLoud ys → IsLoud (xs ++ ys)
+pub loud : (xs ys : List ℕ) → IsQuiet xs → IsLoud ys → IsLoud (xs ++ ys)
 loud xs ys h k = record { says = λ zs. ap refused (append_assoc xs ys zs) ∙ h.skips (ys ++ zs) ∙ k.says zs }
 
-longer : (xs ys : List ℕ) → IsLoud xs → IsLoud (xs ++ ys)
+pub longer : (xs ys : List ℕ) → IsLoud xs → IsLoud (xs ++ ys)
 longer xs ys h = record { says = λ zs. ap refused (append_assoc xs ys zs) ∙ h.says (ys ++ zs) }
 
-said : (xs : List ℕ) → IsLoud xs → refused xs ≡ true
+pub said : (xs : List ℕ) → IsLoud xs → refused xs ≡ true
 said xs h = ap refused (sym (append-nil xs)) ∙ h.says []
 
 -- ---- bytes
@@ -83,7 +83,7 @@ onto (suc k) n xs h =
     let more : IsQuiet (digit_glyph false (n % 10) ∷ xs) = first (digit_glyph false (n % 10)) xs digit h in
     either (n / 10 == 0) (digit_glyph false (n % 10) ∷ xs) (digits_onto k 10 false (n / 10) (digit_glyph false (n % 10) ∷ xs)) more (onto k (n / 10) (digit_glyph false (n % 10) ∷ xs) more)
 
-number : (n : ℕ) → IsQuiet (decimal n)
+pub number : (n : ℕ) → IsQuiet (decimal n)
 unfolding digits
 number n = onto 64 n [] (record { skips = λ ys. refl })
 
@@ -113,7 +113,7 @@ hex (b ∷ bytes) = first (slice_index lower_digits (b / 16)) (slice_index lower
 
 -- ---- texts
 
-word : (w : ℕ) → IsQuiet (hex_word w)
+pub word : (w : ℕ) → IsQuiet (hex_word w)
 word w = hex (to_be_bytes w16 w)
 
 bytes : (xs : List ℕ) → IsQuiet (bytes_or_dash xs)
@@ -135,11 +135,11 @@ more_words : (xs : List ℕ) → IsQuiet (flat_map (λ next. codes " " ++ hex_wo
 more_words [] = record { skips = λ ys. refl }
 more_words (x ∷ xs) = both (codes " " ++ hex_word x) (flat_map (λ next. codes " " ++ hex_word next) xs) (both (codes " ") (hex_word x) (record { skips = λ ys. refl }) (word x)) (more_words xs)
 
-word_list : (xs : List ℕ) → IsQuiet (words_text xs)
+pub word_list : (xs : List ℕ) → IsQuiet (words_text xs)
 word_list [] = record { skips = λ ys. refl }
 word_list (x ∷ xs) = both (hex_word x) (flat_map (λ next. codes " " ++ hex_word next) xs) (word x) (more_words xs)
 
-address : (a : Address) → IsQuiet (address_text a)
+pub address : (a : Address) → IsQuiet (address_text a)
 unfolding address_text
 address a = both _ _ (both _ _ (both _ _ (both _ _ (hex (to_be_bytes w32 a.network)) (record { skips = λ ys. refl })) (hex a.host)) (record { skips = λ ys. refl })) (word a.socket)
 
@@ -221,7 +221,7 @@ exchange_is n body = line_or exchange_line n (exchange_of body) (exchange n)
 
 -- ---- Courier
 
-callee : (program version procedure : ℕ) → IsQuiet (callee_text program version procedure)
+pub callee : (program version procedure : ℕ) → IsQuiet (callee_text program version procedure)
 unfolding callee_text
 callee program version procedure = both _ _ (both _ _ (both _ _ (both _ _ (both (codes " program ") _ (record { skips = λ ys. refl }) (number program)) (record { skips = λ ys. refl })) (number version)) (record { skips = λ ys. refl })) (number procedure)
 
@@ -269,6 +269,13 @@ item n numbers (Some packet) = item_number_is n (numbers packet)
 content : (n : ℕ) (f : Header) (xs : List ℕ) → IsQuiet (content_text n f xs)
 unfolding content_text
 content n f xs = either (is_system f) [] _ (record { skips = λ ys. refl }) (either _ _ _ (data_is n xs) (either _ _ _ (courier n xs) (words_is n xs)))
+
+inner_loud : (n : ℕ) (fault : SmallFault) → IsLoud (inner_refusal n fault)
+unfolding inner_refusal
+inner_loud n fault = longer _ _ (longer _ _ (loud _ _ (number n) (record { says = λ ys. refl })))
+
+pub header_loud : (n : ℕ) (fault : SppFault) → IsLoud (header_refusal n fault)
+header_loud n (spp.Short have) = inner_loud n _
 
 no_header : (n : ℕ) (fault : SppFault) → refused (header_refusal n fault) ≡ true
 no_header n (spp.Short have) = inner n _

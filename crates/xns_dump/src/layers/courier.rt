@@ -85,7 +85,7 @@ fn append_message(report: &mut Report, message: &Message) -> Result<(), AllocErr
 }
 
 /// Appends a name and a word as a number.
-fn append_field(report: &mut Report, name: &[u8], word: u16) -> Result<(), AllocError>
+pub fn append_field(report: &mut Report, name: &[u8], word: u16) -> Result<(), AllocError>
     ensures { Adds result report.old report.new (name.now ++ decimal word) }
 {
     append_named(report, name, usize::from(word))
@@ -101,7 +101,7 @@ fn append_words(report: &mut Report, name: &[u8], words: &Words) -> Result<(), A
 
 /// Appends what is called.
 #[tactic(auto, unfolding(crate::specs::Layers::Courier::callee_text))]
-fn append_callee(
+pub fn append_callee(
     report: &mut Report,
     program: u32,
     version: u16,

@@ -1,0 +1,134 @@
+-- What a packet does to the two flows of its connection.
+use Rattle.std.specs.Prelude.{ℕ, ◌+◌, min, ◌-◌, ◌==◌, ◌||◌, nat_lt, not, Bool, if◌then◌else◌, List, [], ◌++◌, Option, Some, None}
+use Rattle.std.specs.List.{list_any}
+use Rattle.xns_idp.specs.Packet.{PacketModel}
+use Rattle.xns_spp.specs.declared.item.Item.{Item}
+use Rattle.xns_spp.specs.declared.header.Header.{Header}
+use Rattle.xns_spp.specs.Header.{attention_bit, has_bit, is_system, message_end_bit}
+use Rattle.courier_messages.specs.Conversation.{opening}
+use Rattle.xns_calls.specs.declared.heading.Heading.{Heading}
+use Rattle.xns_calls.specs.declared.page.Page.{Page}
+use Rattle.xns_calls.specs.declared.side.Side.{Side}
+use Rattle.xns_calls.specs.declared.speech.Speech.TheVariants.{Hearing, Waiting}
+use Rattle.xns_calls.specs.declared.track.Track.{Track}
+use Rattle.xns_calls.specs.Numbers.{near}
+use Rattle.xns_calls.specs.Queue.{kept, last_number}
+use Rattle.xns_calls.specs.Reading.{Told, brought}
+use Rattle.xns_calls.specs.Texts.{flow_line}
+
+-- a flow and the one behind it, the text of the input's line, and whether something was refused
+pub record Scene : Type 0 where
+  pub own : Side
+  pub other : Side
+  pub text : List ℕ
+  pub is_refused : Bool
+
+abbrev pub scene : Side → Side → Page → Scene
+scene own other page = record { own = own; other = other; text = page.text.line; is_refused = page.is_refused }
+
+-- the same, seen from the flow behind
+abbrev pub seen_from_other : Scene → Scene
+seen_from_other s = record s { own = s.other; other = s.own }
+
+abbrev pub told_of : Track → Scene → Told
+told_of track s = record { track = track; calls = record { own = s.own.call; asked = s.other.call }; text = s.text; is_refused = s.is_refused }
+
+abbrev pub after_told : Told → Scene → Scene
+after_told t s = record {
+  own = record { track = Some t.track; call = t.calls.own };
+  other = record s.other { call = t.calls.asked };
+  text = t.text;
+  is_refused = t.is_refused;
+}
+
+abbrev pub advance_track : Heading → ℕ → Option Track → Scene → Scene
+advance_track heading number None s = s
+advance_track heading number (Some track) s = after_told (brought heading number (told_of track s)) s
+
+-- the flow is brought to the number, if it has begun
+unfoldable pub advanced : Heading → ℕ → Scene → Scene
+advanced heading number s = advance_track heading number s.own.track s
+
+-- the lesser of what is acknowledged and the number behind the last item that is kept; none where one of them isn't there
+abbrev pub up_to : Option ℕ → Option ℕ → Option ℕ
+up_to (Some last) (Some number) = Some (min number (last + 1))
+up_to None number = None
+up_to (Some last) None = None
+
+-- the number to which a flow is brought by what a field acknowledges: what lies behind the last item that is kept may still come
+abbrev pub acknowledged_track : Option Track → ℕ → Option ℕ
+acknowledged_track None field = None
+acknowledged_track (Some track) field = up_to (last_number track.early) (near track.next field)
+
+abbrev pub acknowledged : Side → ℕ → Option ℕ
+acknowledged side field = acknowledged_track side.track field
+
+-- the same for the other flow of the connection
+abbrev pub of_other : Heading → Heading
+of_other heading = record heading { is_behind = not heading.is_behind }
+
+abbrev pub advance_other : Heading → Option ℕ → Scene → Scene
+advance_other heading None s = s
+advance_other heading (Some number) s = seen_from_other (advanced (of_other heading) number (seen_from_other s))
+
+-- the flow behind is brought to what the field acknowledges of it
+unfoldable pub after_acknowledge : Heading → ℕ → Scene → Scene
+after_acknowledge heading field s = advance_other heading (acknowledged s.other field) s
+
+-- a flow whose first field is under 64 begins with number 0 and its version range, and another one in the middle
+abbrev pub first_track : ℕ → Track
+first_track field =
+    if nat_lt field 64 then record { next = 0; early = []; speech = Hearing (opening []) }
+    else record { next = field; early = []; speech = Waiting }
+
+abbrev pub begin_track : Heading → PacketModel → Header → Option Track → Scene → Scene
+begin_track heading packet f (Some track) s = s
+begin_track heading packet f None s = record s { own = record s.own { track = Some (first_track f.sequence) }; text = s.text ++ flow_line heading packet f }
+
+-- the flow begins, if it has not begun
+unfoldable pub begun : Heading → PacketModel → Header → Scene → Scene
+begun heading packet f s = begin_track heading packet f s.own.track s
+
+abbrev pub unless_repeat : Track → Option ℕ → Option ℕ
+unless_repeat track None = None
+unless_repeat track (Some number) = if nat_lt number track.next || list_any (λ early. early.number == number) track.early then None else Some number
+
+-- the number of an item, where it is no repeat
+abbrev pub new_number : Option Track → ℕ → Option ℕ
+new_number None field = None
+new_number (Some track) field = unless_repeat track (near track.next field)
+
+-- the item that a packet brings
+abbrev pub item_in : Header → List ℕ → Item
+item_in f content = record { stream = f.stream; attention = has_bit f.control attention_bit; last = has_bit f.control message_end_bit; body = content }
+
+abbrev pub keep_track : ℕ → Item → Option Track → Option Track
+keep_track number item None = None
+keep_track number item (Some track) = Some (record track { early = kept number item track.early })
+
+abbrev pub with_kept : ℕ → Item → Side → Side
+with_kept number item side = record side { track = keep_track number item side.track }
+
+abbrev pub keep_own : ℕ → Item → Scene → Scene
+keep_own number item s = record s { own = with_kept number item s.own }
+
+-- a new item moves the flow on so far that no more than 63 numbers stand before its own; it is kept, and read where it is the next one
+unfoldable pub after_new : Heading → ℕ → Item → Scene → Scene
+after_new heading number item s = advanced heading 0 (keep_own number item (advanced heading (number - 63) s))
+
+abbrev pub after_number : Heading → Option ℕ → Item → Scene → Scene
+after_number heading None item s = s
+after_number heading (Some number) item s = after_new heading number item s
+
+abbrev pub take_number : Heading → Header → Item → Scene → Scene
+take_number heading f item s = after_number heading (new_number s.own.track f.sequence) item s
+
+-- what the item of a data packet does
+unfoldable pub after_data : Heading → PacketModel → Header → List ℕ → Scene → Scene
+after_data heading packet f content s = take_number heading f (item_in f content) (begun heading packet f s)
+
+-- what a packet does: first what it acknowledges of the flow behind, and then its item, if it brings one
+unfoldable pub after_packet : Heading → PacketModel → Header → List ℕ → Scene → Scene
+after_packet heading packet f content s =
+    let known = after_acknowledge heading f.acknowledge s in
+    if is_system f then known else after_data heading packet f content known

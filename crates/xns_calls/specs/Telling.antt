@@ -1,0 +1,60 @@
+-- What is printed of what is heard.
+use Rattle.std.specs.Prelude.{ℕ, ◌==◌, Bool, true, false, if◌then◌else◌, List, [], ◌++◌, codes, Option, Some, None}
+use Rattle.std.specs.Fmt.{decimal}
+use Rattle.courier_messages.specs.declared.message.Message.{Message}
+use Rattle.courier_messages.specs.declared.message.Message.TheVariants.{Call, Reject, Return, Abort}
+use Rattle.xns_calls.specs.declared.unanswered.Calls.{Calls}
+use Rattle.xns_calls.specs.declared.heading.Heading.{Heading}
+use Rattle.xns_calls.specs.declared.heard.Heard.{Heard}
+use Rattle.xns_calls.specs.declared.heard.Heard.TheVariants as heard
+use Rattle.xns_calls.specs.declared.waiting.Waiting.{Waiting}
+use Rattle.xns_calls.specs.Texts.{answer_text, call_line, refused_line, words_end}
+
+abbrev pub line_if : ℕ → Waiting → Option ℕ
+line_if transaction waiting = if waiting.transaction == transaction then Some waiting.line else None
+
+-- the line of the call that an answer of this transaction is for, if one waits
+abbrev pub line_of_call : Option Waiting → ℕ → Option ℕ
+line_of_call None transaction = None
+line_of_call (Some waiting) transaction = line_if transaction waiting
+
+-- the call has its answer then
+abbrev pub call_left : Option Waiting → ℕ → Option Waiting
+call_left None transaction = None
+call_left (Some waiting) transaction = if waiting.transaction == transaction then None else Some waiting
+
+-- the line of a message
+abbrev pub message_line : Heading → Calls → Message → List ℕ
+message_line heading calls (Call transaction program version procedure words) = call_line heading transaction program version procedure words
+message_line heading calls (Reject transaction reason words) =
+    answer_text heading (codes " reject ") transaction (line_of_call calls.asked transaction) ++ (codes " reason " ++ decimal reason) ++ words_end (codes " words ") words
+message_line heading calls (Return transaction words) =
+    answer_text heading (codes " return ") transaction (line_of_call calls.asked transaction) ++ words_end (codes " results ") words
+message_line heading calls (Abort transaction error words) =
+    answer_text heading (codes " abort ") transaction (line_of_call calls.asked transaction) ++ (codes " error " ++ decimal error) ++ words_end (codes " args ") words
+
+abbrev pub after_answer : Calls → ℕ → Calls
+after_answer calls transaction = record calls { asked = call_left calls.asked transaction }
+
+-- a call is the flow's call without an answer, and an answer answers that of the flow behind
+abbrev pub after_message : Heading → Calls → Message → Calls
+after_message heading calls (Call transaction program version procedure words) = record calls { own = Some (record { transaction = transaction; line = heading.number }) }
+after_message heading calls (Reject transaction reason words) = after_answer calls transaction
+after_message heading calls (Return transaction words) = after_answer calls transaction
+after_message heading calls (Abort transaction error words) = after_answer calls transaction
+
+-- the line of what is heard
+abbrev pub heard_text : Heading → Calls → Heard → List ℕ
+heard_text heading calls heard.Nothing = []
+heard_text heading calls (heard.Message message) = message_line heading calls message
+heard_text heading calls (heard.Fault fault) = refused_line heading fault
+
+abbrev pub calls_after : Heading → Calls → Heard → Calls
+calls_after heading calls heard.Nothing = calls
+calls_after heading calls (heard.Message message) = after_message heading calls message
+calls_after heading calls (heard.Fault fault) = calls
+
+abbrev pub is_fault : Heard → Bool
+is_fault heard.Nothing = false
+is_fault (heard.Message message) = false
+is_fault (heard.Fault fault) = true

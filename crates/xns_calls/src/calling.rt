@@ -1,0 +1,55 @@
+//! `calls`: the calls that a capture has, and what came back.
+ghost use Rattle.std.specs.Prelude.{◌≡◌, IfErr, IfOk, IfSome, OnOk};
+ghost use Rattle.std.specs.Io.KnownBytes.{Appends};
+ghost use Rattle.xns_lines.specs.Lines.{IsWithinLimits};
+ghost use Rattle.xns_calls.specs.Calls.{StopsIn, calls_text, has_refusal};
+
+use crate::printer::Printer;
+use std::alloc::Global;
+use std::io::{Read, Write};
+use xns_lines::{RunFault, take_lines};
+
+/// Reads lines of hex, each an internet packet, and prints the Courier calls that they carry, and what came back. The
+/// answer is whether something was refused: whether the output has the word `refused`.
+///
+/// Lines and limits are those of `xns_dump::dump`. A flow is the data packets with equal hosts, sockets and identifiers of
+/// source and target, of which the target's identifier is not 0. Its items are read in the order of their numbers
+/// (XSIS 028112, Sequenced Packet Protocol): those that come early, with numbers up to 63 above the next, are kept until
+/// those before them come, and repeats are passed over. What the items of datastream 0 say is read as the messages of a
+/// session (XSIS 038112, Courier, Message stream), however it is cut.
+///
+/// A line is printed of each flow that begins, each message that is whole, each stretch of items that the capture lacks,
+/// each text that is no message or no version range, and each line of the input that is no packet. Of an answer it says at
+/// which line its call was whole. `docs/FORMATS.md` has the lines.
+///
+/// # Errors
+/// `Read` where a read fails, for whatever reason; `Write` where a write fails or takes no byte; `LineTooLong` where a
+/// line has over 4,096 bytes, its byte 13 among them and its byte 10 not; `TooManyLines` where there are over 65,536
+/// lines; `NoMemory` where a growth is refused. Of the limits' faults the one that comes first in the input is
+/// answered. The text of all lines before the fault is written first, but for a write that fails.
+///
+/// It holds what `dump` holds, and of each flow a record of some 500 bytes, at most 63 items that came early, and at most
+/// 131,072 bytes of a message that is not whole, with four more while a version range stands before it.
+pub fn calls<R: Read, W: Write>(
+    alloc: Global,
+    reader: &mut R,
+    writer: &mut W,
+) -> Result<bool, RunFault>
+    // Without a fault the text of the whole input is written, which is within the limits.
+    ensures text { IfOk result (λ refused. IfSome (R.remaining reader.old) (λ input.
+        Appends (W.contents writer.old) (W.contents writer.new) (calls_text input))) }
+    ensures refused { IfOk result (λ refused. IfSome (R.remaining reader.old) (λ input. refused ≡ has_refusal input)) }
+    ensures limits { OnOk result (IfSome (R.remaining reader.old) IsWithinLimits) }
+
+    // After a fault the text of the lines before it is written, and what was read shows a limit that was passed.
+    ensures fault { IfErr result (λ fault. IfSome (R.remaining reader.old) (λ input.
+        StopsIn input (R.remaining reader.new) (W.contents writer.old) (W.contents writer.new) fault)) }
+{
+    let mut printer = Printer::new(alloc);
+    let taken = take_lines(alloc, reader, &mut printer, writer);
+    printer.flush(writer)?;
+    match taken {
+        Ok(()) => Ok(printer.page.is_refused),
+        Err(fault) => Err(fault),
+    }
+}

@@ -1,0 +1,229 @@
+//! What a packet does to the flows of its connection.
+ghost use Rattle.std.specs.Prelude.{◌≡◌, ◌<◌, IfOk, IfSome, OnOk};
+ghost use Rattle.xns_idp.specs.Packet.{packet_model};
+ghost use Rattle.xns_calls.specs.Exchange.{acknowledged as acknowledged_of, advanced, after_acknowledge, after_data, after_new, after_packet, begun as begun_of, first_track, item_in as item_of, new_number as new_number_of, scene, with_kept};
+ghost use Rattle.xns_calls.specs.Numbers.{most_numbers};
+
+use crate::bringing::bring;
+use crate::heading::Heading;
+use crate::item_number::ItemNumber;
+use crate::near::near;
+use crate::page::Page;
+use crate::queue::Queue;
+use crate::side::Side;
+use crate::speech::Speech;
+use crate::texts::append_flow_line;
+use crate::track::Track;
+use crate::unanswered::Calls;
+use courier_messages::Incoming;
+use std::alloc::{AllocError, Global};
+use xns_idp::Packet;
+use xns_spp::control::{ATTENTION, END_OF_MESSAGE, SYSTEM};
+use xns_spp::{Bytes, Header, Item};
+
+/// So many numbers are looked for at once.
+const KEPT: u64 = 64;
+
+/// Brings a flow to a number, if it has begun.
+#[tactic(auto, unfolding(crate::specs::Exchange::advanced))]
+fn advance(
+    alloc: Global,
+    page: &mut Page,
+    heading: Heading,
+    own: &mut Side,
+    other: &mut Side,
+    number: u64,
+) -> Result<(), AllocError>
+    ensures front { page.new.text.front ≡ page.old.text.front }
+    ensures scene { OnOk result (scene own.new other.new page.new ≡ advanced heading number (scene own.old other.old page.old)) }
+{
+    let Some(track) = &mut own.track else {
+        return Ok(());
+    };
+    let mut calls = Calls {
+        own: own.call,
+        asked: other.call,
+    };
+    bring(alloc, page, heading, track, &mut calls, number)?;
+    own.call = calls.own;
+    other.call = calls.asked;
+    Ok(())
+}
+
+/// The number to which the flow is brought by what a field acknowledges of it, where it keeps items that came early.
+fn acknowledged(side: &Side, field: u16) -> Option<u64>
+    ensures value { result ≡ acknowledged_of side.now field }
+{
+    let track = side.track.as_ref()?;
+    let last = track.early.last_number()?;
+    let number = near(track.next, field)?;
+    Some(number.min(last + 1))
+}
+
+/// What is kept of a flow whose first item has this field.
+fn begun(alloc: Global, field: u16) -> Track
+    ensures { result ≡ first_track field }
+{
+    if u64::from(field) < KEPT {
+        Track {
+            next: 0,
+            early: Queue::new(alloc),
+            speech: Speech::Hearing(Incoming::new(alloc)),
+        }
+    } else {
+        Track {
+            next: u64::from(field),
+            early: Queue::new(alloc),
+            speech: Speech::Waiting,
+        }
+    }
+}
+
+/// Begins a flow that has not begun, with its line.
+#[tactic(auto, unfolding(crate::specs::Exchange::begun))]
+fn begin(
+    alloc: Global,
+    page: &mut Page,
+    heading: Heading,
+    own: &mut Side,
+    packet: &Packet<'_>,
+    header: &Header,
+) -> Result<(), AllocError>
+    ensures front { page.new.text.front ≡ page.old.text.front }
+    ensures scene { OnOk result ((other : Side) → scene own.new other page.new ≡ begun_of heading (packet_model packet.now) header.now (scene own.old other page.old)) }
+{
+    if own.track.is_none() {
+        append_flow_line(&mut page.text, heading, packet, header)?;
+        own.track = Some(begun(alloc, header.sequence));
+    }
+    Ok(())
+}
+
+/// The number of an item, where it is no repeat.
+fn new_number(side: &Side, field: u16) -> Option<u64>
+    ensures value { result ≡ new_number_of side.now.track field }
+    ensures bound { IfSome result (λ number. number < most_numbers) }
+{
+    let track = side.track.as_ref()?;
+    let number = near(track.next, field)?;
+    if number < track.next || track.early.has(number) {
+        return None;
+    }
+    Some(number)
+}
+
+/// The item that a packet brings.
+fn item_in(alloc: Global, header: &Header, content: &[u8]) -> Result<Item, AllocError>
+    ensures { IfOk result (λ item. item ≡ item_of header.now content.now) }
+{
+    Ok(Item {
+        stream: header.stream,
+        attention: header.control & ATTENTION != 0,
+        last: header.control & END_OF_MESSAGE != 0,
+        body: Bytes::new(Vec::from_slice(alloc, content)?),
+    })
+}
+
+/// Keeps an item under its number, if the flow has begun.
+fn keep(side: &mut Side, number: u64, item: Item) -> Result<(), AllocError>
+    requires { number < most_numbers }
+    ensures { OnOk result (side.new ≡ with_kept number item side.old) }
+{
+    let Some(mut track) = side.track.take() else {
+        return Ok(());
+    };
+    track.early.keep(ItemNumber::new(number), item)?;
+    side.track = Some(track);
+    Ok(())
+}
+
+/// Takes an item of a number that is no repeat.
+#[tactic(auto, unfolding(crate::specs::Exchange::after_new))]
+fn take_new(
+    alloc: Global,
+    page: &mut Page,
+    heading: Heading,
+    own: &mut Side,
+    other: &mut Side,
+    number: u64,
+    item: Item,
+) -> Result<(), AllocError>
+    requires { number < most_numbers }
+    ensures front { page.new.text.front ≡ page.old.text.front }
+    ensures scene { OnOk result (scene own.new other.new page.new ≡ after_new heading number item (scene own.old other.old page.old)) }
+{
+    advance(
+        alloc,
+        page,
+        heading,
+        own,
+        other,
+        number.saturating_sub(KEPT - 1),
+    )?;
+    keep(own, number, item)?;
+    advance(alloc, page, heading, own, other, 0)
+}
+
+/// Takes the item of a data packet.
+#[tactic(auto, unfolding(crate::specs::Exchange::after_data))]
+fn take_item(
+    alloc: Global,
+    page: &mut Page,
+    heading: Heading,
+    own: &mut Side,
+    other: &mut Side,
+    packet: &Packet<'_>,
+    header: &Header,
+    content: &[u8],
+) -> Result<(), AllocError>
+    ensures front { page.new.text.front ≡ page.old.text.front }
+    ensures scene { OnOk result (scene own.new other.new page.new ≡ after_data heading (packet_model packet.now) header.now content.now (scene own.old other.old page.old)) }
+{
+    begin(alloc, page, heading, own, packet, header)?;
+    let Some(number) = new_number(own, header.sequence) else {
+        return Ok(());
+    };
+    let item = item_in(alloc, header, content)?;
+    take_new(alloc, page, heading, own, other, number, item)
+}
+
+/// Takes what a packet acknowledges of the flow behind its own.
+#[tactic(auto, unfolding(crate::specs::Exchange::after_acknowledge))]
+fn take_acknowledge(
+    alloc: Global,
+    page: &mut Page,
+    heading: Heading,
+    own: &mut Side,
+    other: &mut Side,
+    field: u16,
+) -> Result<(), AllocError>
+    ensures front { page.new.text.front ≡ page.old.text.front }
+    ensures scene { OnOk result (scene own.new other.new page.new ≡ after_acknowledge heading field (scene own.old other.old page.old)) }
+{
+    let Some(number) = acknowledged(other, field) else {
+        return Ok(());
+    };
+    advance(alloc, page, heading.of_other(), other, own, number)
+}
+
+/// Takes a packet of a flow: what it acknowledges, and then its item, if it brings one.
+#[tactic(auto, unfolding(crate::specs::Exchange::after_packet))]
+pub fn take_packet(
+    alloc: Global,
+    page: &mut Page,
+    heading: Heading,
+    own: &mut Side,
+    other: &mut Side,
+    packet: &Packet<'_>,
+    header: &Header,
+    content: &[u8],
+) -> Result<(), AllocError>
+    ensures front { page.new.text.front ≡ page.old.text.front }
+    ensures scene { OnOk result (scene own.new other.new page.new ≡ after_packet heading (packet_model packet.now) header.now content.now (scene own.old other.old page.old)) }
+{
+    take_acknowledge(alloc, page, heading, own, other, header.acknowledge)?;
+    if header.control & SYSTEM != 0 {
+        return Ok(());
+    }
+    take_item(alloc, page, heading, own, other, packet, header, content)
+}

@@ -1,0 +1,27 @@
+//! `calls`: the Courier calls that a capture has, and what came back.
+#![tactic(auto)]
+
+mod bringing;
+mod calling;
+mod capture;
+mod connection;
+mod early;
+mod exchange;
+mod heading;
+mod heard;
+mod item_number;
+pub mod laws;
+mod near;
+mod packet_lines;
+mod page;
+mod printer;
+mod queue;
+mod side;
+mod speech;
+mod telling;
+mod texts;
+mod track;
+mod unanswered;
+mod waiting;
+
+pub use calling::calls;

@@ -1,0 +1,53 @@
+//! What a flow says.
+ghost use Rattle.std.specs.Prelude.{◌≡◌, IfOk};
+ghost use Rattle.xns_calls.specs.Speech.{after_item, behind as behind_of, heard_of};
+
+use crate::heard::Heard;
+use courier_messages::{Incoming, SessionFault};
+use std::alloc::{AllocError, Global};
+use xns_spp::Item;
+
+/// What a flow has said of what is not whole.
+#[derive(Debug, Drop)]
+pub enum Speech {
+    /// All up to the next mark is lost.
+    Waiting,
+    /// The front of a version range, what stands behind it, or the front of a message.
+    Hearing(Incoming),
+}
+
+impl Speech {
+    /// A message with no bytes behind a mark, or else a wait for one.
+    fn behind(alloc: Global, is_last: bool) -> Speech
+        ensures { result ≡ behind_of is_last }
+    {
+        if is_last {
+            Speech::Hearing(Incoming::behind_mark(alloc))
+        } else {
+            Speech::Waiting
+        }
+    }
+
+    /// Hears one more item of datastream 0.
+    pub fn hear(&mut self, alloc: Global, item: Item) -> Result<Heard, AllocError>
+        ensures speech { IfOk result (λ heard. self.new ≡ after_item self.old item) }
+        ensures heard { IfOk result (λ heard. heard ≡ heard_of self.old item) }
+    {
+        let is_last = item.last;
+        match self {
+            Speech::Waiting => {
+                *self = Speech::behind(alloc, is_last);
+                Ok(Heard::Nothing)
+            }
+            Speech::Hearing(incoming) => match incoming.take(alloc, item) {
+                Ok(None) => Ok(Heard::Nothing),
+                Ok(Some(message)) => Ok(Heard::Message(message)),
+                Err(SessionFault::NoMemory) => Err(AllocError),
+                Err(fault) => {
+                    *self = Speech::behind(alloc, is_last);
+                    Ok(Heard::Fault(fault))
+                }
+            },
+        }
+    }
+}

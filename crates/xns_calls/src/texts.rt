@@ -1,0 +1,162 @@
+//! The lines of the output, a function for each.
+ghost use Rattle.std.specs.Prelude.{◌++◌};
+ghost use Rattle.xns_idp.specs.Packet.{packet_model};
+ghost use Rattle.xns_lines.specs.Report.{Adds};
+ghost use Rattle.xns_calls.specs.Texts.{answer_text, call_line, end_text, flow_line, heading_text, missing_line, reason_text, refused_line, words_end};
+
+use crate::heading::Heading;
+use courier_messages::{MessageFault, SessionFault, Words};
+use std::alloc::AllocError;
+use xns_dump::layers::courier::{append_callee, append_field};
+use xns_dump::layers::text::append_address;
+use xns_idp::{Address, Packet};
+use xns_lines::Report;
+use xns_lines::numbers::{append_decimal, append_decimal_u64, append_word, append_word_list};
+use xns_spp::Header;
+
+/// Appends the number of the line and the name of the flow.
+#[tactic(auto, unfolding(crate::specs::Texts::heading_text))]
+fn append_heading(report: &mut Report, heading: Heading) -> Result<(), AllocError>
+    ensures { Adds result report.old report.new (heading_text heading) }
+{
+    append_decimal(report, heading.number)?;
+    report.append(b" ")?;
+    append_decimal(report, heading.connection)?;
+    if heading.is_behind {
+        report.append(b"b")
+    } else {
+        report.append(b"a")
+    }
+}
+
+/// Appends an end of a flow.
+#[tactic(auto, unfolding(crate::specs::Texts::end_text))]
+fn append_end(
+    report: &mut Report,
+    name: &[u8],
+    address: &Address,
+    identifier: u16,
+) -> Result<(), AllocError>
+    ensures { Adds result report.old report.new (end_text name.now address.now identifier) }
+{
+    report.append(name)?;
+    append_address(report, address)?;
+    report.append(b" id ")?;
+    append_word(report, identifier)
+}
+
+/// Appends the line of a flow that begins.
+#[tactic(auto, unfolding(crate::specs::Texts::flow_line))]
+pub fn append_flow_line(
+    report: &mut Report,
+    heading: Heading,
+    packet: &Packet<'_>,
+    header: &Header,
+) -> Result<(), AllocError>
+    ensures { Adds result report.old report.new (flow_line heading (packet_model packet.now) header.now) }
+{
+    append_heading(report, heading)?;
+    append_end(report, b" flow to ", &packet.target, header.target_id)?;
+    append_end(report, b" from ", &packet.source, header.source_id)?;
+    report.append(b"\n")
+}
+
+/// Appends the line of items that the capture hasn't, from the first up to that before the second.
+#[tactic(auto, unfolding(crate::specs::Texts::missing_line))]
+pub fn append_missing_line(
+    report: &mut Report,
+    heading: Heading,
+    first: u64,
+    behind: u64,
+) -> Result<(), AllocError>
+    ensures { Adds result report.old report.new (missing_line heading first behind) }
+{
+    append_heading(report, heading)?;
+    report.append(b" missing ")?;
+    append_decimal_u64(report, first)?;
+    report.append(b" to ")?;
+    append_decimal_u64(report, behind.saturating_sub(1))?;
+    report.append(b"\n")
+}
+
+/// Appends the line of a call.
+#[tactic(auto, unfolding(crate::specs::Texts::call_line))]
+pub fn append_call_line(
+    report: &mut Report,
+    heading: Heading,
+    transaction: u16,
+    program: u32,
+    version: u16,
+    procedure: u16,
+    words: &Words,
+) -> Result<(), AllocError>
+    ensures { Adds result report.old report.new (call_line heading transaction program version procedure words.now) }
+{
+    append_heading(report, heading)?;
+    append_field(report, b" call ", transaction)?;
+    append_callee(report, program, version, procedure)?;
+    append_words(report, b" args ", words)
+}
+
+/// Appends words behind what they are, and ends the line.
+#[tactic(auto, unfolding(crate::specs::Texts::words_end))]
+pub fn append_words(report: &mut Report, name: &[u8], words: &Words) -> Result<(), AllocError>
+    ensures { Adds result report.old report.new (words_end name.now words.now) }
+{
+    report.append(name)?;
+    append_word_list(report, words.as_slice())?;
+    report.append(b"\n")
+}
+
+/// Appends what an answer begins with: the number of the line of its call stands behind its transaction, or a dash.
+#[tactic(auto, unfolding(crate::specs::Texts::answer_text))]
+pub fn append_answer(
+    report: &mut Report,
+    heading: Heading,
+    name: &[u8],
+    transaction: u16,
+    of: Option<usize>,
+) -> Result<(), AllocError>
+    ensures { Adds result report.old report.new (answer_text heading name.now transaction of) }
+{
+    append_heading(report, heading)?;
+    append_field(report, name, transaction)?;
+    report.append(b" of ")?;
+    match of {
+        Some(line) => append_decimal(report, line),
+        None => report.append(b"-"),
+    }
+}
+
+/// Appends the line of what is no message or no version range.
+#[tactic(auto, unfolding(crate::specs::Texts::refused_line))]
+pub fn append_refused_line(
+    report: &mut Report,
+    heading: Heading,
+    fault: SessionFault,
+) -> Result<(), AllocError>
+    ensures { Adds result report.old report.new (refused_line heading fault) }
+{
+    append_heading(report, heading)?;
+    report.append(b" refused ")?;
+    append_reason(report, fault)?;
+    report.append(b"\n")
+}
+
+/// Appends why; no other fault comes of items of datastream 0.
+#[tactic(auto, unfolding(crate::specs::Texts::reason_text))]
+fn append_reason(report: &mut Report, fault: SessionFault) -> Result<(), AllocError>
+    ensures { Adds result report.old report.new (reason_text fault) }
+{
+    match fault {
+        SessionFault::BadVersions => report.append(b"BadVersions"),
+        SessionFault::NoCommonVersion => report.append(b"NoCommonVersion"),
+        SessionFault::BadMessage(MessageFault::OddLength) => report.append(b"OddLength"),
+        SessionFault::BadMessage(MessageFault::ShortMessage) => report.append(b"ShortMessage"),
+        SessionFault::BadMessage(MessageFault::UnknownKind { found }) => {
+            append_field(report, b"UnknownKind ", found)
+        }
+        SessionFault::BadMessage(MessageFault::TooLong) => report.append(b"TooLong"),
+        _ => Ok(()),
+    }
+}
