@@ -1,11 +1,12 @@
 -- What each small step of the world keeps.
-use Rattle.std.proofs.Common.{append-nil, ◌≡◌, ℕ, ◌+◌, ◌-◌, ◌≤◌, true, List, [], ◌++◌, length, length-take, map, take, Option, Some, None, Ok, refl, sym, ◌∙◌, ap, subst, arith}
+use Rattle.std.proofs.Common.{append-nil, ◌≡◌, ℕ, ◌+◌, ◌-◌, ◌≤◌, Bool, true, List, [], ◌++◌, length, length-take, map, take, Option, Some, None, Ok, refl, sym, ◌∙◌, ap, subst, arith}
 use Rattle.item_world.specs.World.{World, end_of, start, moment, emitted, moved, is_past, has_passed, flushes, receives, ticks, sends, takes, marked, sent_at, handed_at}
+use Rattle.item_world.specs.Telling.{resends, tells}
 use Rattle.item_world.specs.Landing.{answered, landed, landing}
 use Rattle.xns_spp.specs.Growth.{Begins, IsFresh, Grows}
 use Rattle.item_world.proofs.Sound.{IsProper, stays_sound}
 use Rattle.item_world.proofs.Sides.{each_side, placed}
-use Rattle.item_world.proofs.Moves.{Keeps, Goes, silent, flush_moves, tick_moves, take_goes, send_goes}
+use Rattle.item_world.proofs.Moves.{Keeps, Goes, silent, flush_moves, tick_moves, resend_moves, told_moves, take_goes, send_goes}
 use Rattle.item_world.proofs.Fronts.{begins_then, begins_get, begins_length, front_begins}
 use Rattle.std.proofs.lemmas.List.{length-append}
 use Rattle.xns_spp.specs.Item.{IsItem}
@@ -15,10 +16,11 @@ use Rattle.std.proofs.Math.Seq.{take-append-add}
 use Rattle.std.proofs.lemmas.List.Elements.{All-nil, All-append, All-map, All-set, All-weaker}
 use Rattle.std.proofs.lemmas.Option.{get_or_from_slice_get, slice_get_within}
 use Rattle.xns_spp.specs.Meant.{as_meant}
-use Rattle.xns_spp.specs.Packet.{SppPacketModel, IsSppPacket, spp_packet_spelling, spp_packet_of}
+use Rattle.xns_spp.specs.Packet.{SppPacketModel, IsSppPacket, spelled, spp_packet_spelling, spp_packet_of}
 use Rattle.xns_spp.specs.Receiving.{numbers_in, receive_answer, after_receive}
 use Rattle.xns_spp.specs.Sending.{after_send, flush_packets, flush_answer, after_flush, tick_packets, tick_answer, after_tick, after_take}
 use Rattle.xns_spp.specs.State.{State, IsState}
+use Rattle.xns_spp.specs.Telling.{told_packet, told_answer, resend_packet, resend_answer, after_resend}
 use Rattle.xns_spp.specs.declared.item.Item.{Item}
 use Rattle.item_world.proofs.Alive.{read_as_meant}
 use Rattle.item_world.proofs.Arrivals.{Sends, receive_sends}
@@ -195,6 +197,28 @@ pub tick_kept : EndLaws → (w : World) (side : Side) → IsKept w → IsKept (t
 tick_kept laws w side k =
     let s : State = end_of w side in
     moved_kept w side (after_tick s) (tick_answer s) k (record { packets = tick_packets s; spells = laws.goes_out.tick_bytes s; moves = tick_moves laws s (end_of w (other side)) (k.ends side) })
+
+spelled_one : (o : Option SppPacketModel) → option_to_list (spelled o) ≡ map spp_packet_spelling (option_to_list o)
+spelled_one None = refl
+spelled_one (Some p) = refl
+
+pub resend_kept : EndLaws → (w : World) (side : Side) → IsKept w → IsKept (resends w side)
+resend_kept laws w side k =
+    let s : State = end_of w side in
+    moved_kept w side (after_resend s) (option_to_list (resend_answer s)) k (record {
+      packets = option_to_list (resend_packet s);
+      spells = ap option_to_list (laws.goes_out.resend_bytes s) ∙ spelled_one (resend_packet s);
+      moves = resend_moves laws s (end_of w (other side)) (k.ends side);
+    })
+
+pub told_kept : EndLaws → (w : World) (side : Side) (asks : Bool) → IsKept w → IsKept (tells w side asks)
+told_kept laws w side asks k =
+    let s : State = end_of w side in
+    moved_kept w side s (option_to_list (told_answer s asks)) k (record {
+      packets = option_to_list (told_packet s asks);
+      spells = ap option_to_list (laws.goes_out.told_bytes s asks) ∙ spelled_one (told_packet s asks);
+      moves = told_moves laws s (end_of w (other side)) asks (k.ends side);
+    })
 
 pub send_kept : EndLaws → (w : World) (side : Side) (x : Item) → IsItem x → IsKept w → IsKept (sends w side x)
 send_kept laws w side x fits k = silent_kept w side (after_send (end_of w side) x) k

@@ -1,5 +1,6 @@
 -- What each call of an end keeps, beside its peer.
-use Rattle.std.proofs.Common.{◌≡◌, inl, inr, ℕ, ◌<◌, ◌≤◌, true, List, [], ◌∷◌, length, Option, Some, refl, sym, ◌∙◌, ap, subst, arith}
+use Rattle.std.proofs.Common.{◌≡◌, inl, inr, ℕ, ◌<◌, ◌≤◌, Bool, true, List, [], ◌∷◌, append-nil, length, Option, Some, None, refl, sym, ◌∙◌, ap, subst, arith}
+use Rattle.std.specs.Option.{option_to_list}
 use Rattle.std.specs.Prelude.{All, slice_get}
 use Rattle.std.proofs.lemmas.List.Elements.{All-nil, All-cons, All-weaker}
 use Rattle.xns_spp.specs.Growth.{Begins, Grows, HearsNothing, IsOwnPacket}
@@ -8,6 +9,7 @@ use Rattle.xns_spp.specs.Meant.{own_meant}
 use Rattle.xns_spp.specs.Packet.{SppPacketModel}
 use Rattle.xns_spp.specs.Sending.{data_packet, system_packet, after_send, after_take, flush_packets, after_flush, tick_packets, after_tick}
 use Rattle.xns_spp.specs.State.{State, IsState, window_top}
+use Rattle.xns_spp.specs.Telling.{told_packet, resend_packet, after_resend}
 use Rattle.xns_spp.specs.declared.item.Item.{Item}
 use Rattle.item_world.specs.EndLaws.{EndLaws}
 use Rattle.item_world.proofs.Fronts.{begins_get, begins_length}
@@ -124,6 +126,31 @@ flush_moves laws s peer k = sends_own laws s (after_flush s) peer (flush_packets
 
 pub tick_moves : EndLaws → (s peer : State) → Keeps s peer → Moves s (after_tick s) peer (tick_packets s)
 tick_moves laws s peer k = sends_own laws s (after_tick s) peer (tick_packets s) (laws.bounds.tick s k.fits) (laws.grows.tick s k.fits) (laws.hears.tick s) (laws.goes_out.tick s) k
+
+-- a packet that an end may send
+
+own_one : (s t : State) (o : Option SppPacketModel) → ((p : SppPacketModel) → o ≡ Some p → IsOwnPacket s t p) → All (IsOwnPacket s t) (option_to_list o)
+own_one s t None h = All-nil (IsOwnPacket s t)
+own_one s t (Some p) h = All-cons (IsOwnPacket s t) p [] (h p refl) (All-nil (IsOwnPacket s t))
+
+pub resend_moves : EndLaws → (s peer : State) → Keeps s peer → Moves s (after_resend s) peer (option_to_list (resend_packet s))
+resend_moves laws s peer k =
+    sends_own laws s (after_resend s) peer (option_to_list (resend_packet s)) (laws.bounds.resend s k.fits) (laws.grows.resend s) (laws.hears.resend s) (own_one s (after_resend s) (resend_packet s) (laws.goes_out.resend s)) k
+
+same_grows : (s : State) → Grows s s
+same_grows s = record {
+  accepted = ([], append-nil s.accepted);
+  acknowledged = omega arith;
+  sent = omega arith;
+  allowed = omega arith;
+  taken = ([], append-nil s.taken);
+  handed = omega arith;
+  top = omega arith;
+}
+
+pub told_moves : EndLaws → (s peer : State) (asks : Bool) → Keeps s peer → Moves s s peer (option_to_list (told_packet s asks))
+told_moves laws s peer asks k =
+    sends_own laws s s peer (option_to_list (told_packet s asks)) k.fits (same_grows s) (record { taken = refl; early = refl; acknowledged = refl }) (own_one s s (told_packet s asks) (laws.goes_out.told s asks)) k
 
 pub take_goes : EndLaws → (s peer : State) → Keeps s peer → Goes s (after_take s) peer
 take_goes laws s peer k = record { grows = laws.grows.take s; keeps = on_keeps s (after_take s) peer (laws.bounds.take s k.fits) (laws.grows.take s) (laws.hears.take s) k }

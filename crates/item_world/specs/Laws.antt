@@ -1,5 +1,5 @@
 -- What the definitions imply: the statements of the laws, each under the name of its law.
-use Rattle.std.specs.Prelude.{◌≡◌, ℕ, false, List, take, fold, All, Some}
+use Rattle.std.specs.Prelude.{◌≡◌, ℕ, Bool, false, List, take, fold, All, Some}
 use Rattle.xns_spp.specs.Item.{IsItem}
 use Rattle.xns_spp.specs.Meant.{as_meant}
 use Rattle.xns_spp.specs.Receiving.{numbers_in}
@@ -13,6 +13,7 @@ use Rattle.item_world.specs.Side.{other}
 use Rattle.item_world.specs.Setup.{IsSetup, IsGood}
 use Rattle.item_world.specs.Events.{IsEvent, steps_of, all_stepped, delivers, undelivered, happens, run}
 use Rattle.item_world.specs.Landing.{landing, flushed}
+use Rattle.item_world.specs.Telling.{resends, tells}
 use Rattle.item_world.specs.World.{World, start, end_of, has_passed, flushes, ticks, sends, takes, packets_of, sent_at, handed_at}
 use Rattle.xns_spp.specs.Growth.{Begins}
 use Rattle.item_world.specs.Invariant.{Holds, IsSoundSpelling}
@@ -21,6 +22,8 @@ pub record EachStepKeepsTheOrder : Type 0 where
   pub start : (setup : Setup) → IsSetup setup → IsGood setup → Holds (start setup)
   pub flush : (w : World) (side : Side) → Holds w → Holds (flushes w side)
   pub tick : (w : World) (side : Side) → Holds w → Holds (ticks w side)
+  pub resend : (w : World) (side : Side) → Holds w → Holds (resends w side)
+  pub tell : (w : World) (side : Side) (asks : Bool) → Holds w → Holds (tells w side asks)
   pub send : (w : World) (side : Side) (x : Item) → IsItem x → Holds w → Holds (sends w side x)
   pub take : (w : World) (side : Side) → Holds w → Holds (takes w side)
   pub land : (w : World) (k : ℕ) (l : Side × World) → Holds w → landing w k ≡ Some l → Holds l.1

@@ -9,3 +9,4 @@ pub mod Invariant
 pub mod Network
 pub mod Play
 pub mod Laws
+pub mod Telling

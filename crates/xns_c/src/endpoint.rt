@@ -1,12 +1,13 @@
 //! An endpoint that C holds by its handle.
 
-ghost use Rattle.std.specs.Prelude.{◌≡◌, ◌≢◌, ◌⊎◌, ◌<◌, ◌≤◌, ℕ, List, [], ◌∷◌, length, false, All, IfSome, Some, None};
+ghost use Rattle.std.specs.Prelude.{◌≡◌, ◌≢◌, ◌⊎◌, ◌<◌, ◌≤◌, ◌-◌, ℕ, List, [], ◌∷◌, length, false, All, IfSome, Some, None};
 ghost use Rattle.xns_spp.specs.Ends.{is_open, most_pending};
 ghost use Rattle.xns_spp.specs.Held.{StandsFor};
 ghost use Rattle.xns_spp.specs.Packet.{most_body};
 ghost use Rattle.xns_spp.specs.Receiving.{receive_answer, after_receive, NeedsMemory};
 ghost use Rattle.xns_spp.specs.Sending.{send_answer, after_send, take_answer, after_take, is_full, waiting_count, flush_answer, after_flush, tick_answer, after_tick};
 ghost use Rattle.xns_spp.specs.State.{State, initiator_state, responder_state};
+ghost use Rattle.xns_spp.specs.Telling.{unacknowledged_count};
 ghost use Rattle.xns_spp.specs.declared.item.Item.{Item};
 ghost use Rattle.xns_c.specs.Given.{GivesItem, IsPut, IsPutIfThere};
 ghost use Rattle.xns_c.specs.Handle.{line_of};
@@ -99,7 +100,13 @@ pub extern "C" fn xns_endpoint_new_responder(
     ensures none { result ≢ ok → line_of handle.new ≡ None }
 {
     let _ = handle.take(alloc);
-    if id == 0 || peer_id == 0 || window == 0 || window > MOST_PENDING || backlog == 0 || backlog > MOST_PENDING {
+    if id == 0
+        || peer_id == 0
+        || window == 0
+        || window > MOST_PENDING
+        || backlog == 0
+        || backlog > MOST_PENDING
+    {
         return BAD_ARGUMENT;
     }
     match Endpoint::responder(
@@ -273,6 +280,7 @@ pub extern "C" fn xns_endpoint_receive(
     ensures stands { (s : State) → Keeps (line_of handle.old) s → result ≡ ok → Keeps (line_of handle.new) (after_receive s bytes.now) }
     ensures packets { packets_of (line_of handle.new) ≡ packets_of (line_of handle.old) }
     ensures took { (s : State) → Keeps (line_of handle.old) s → result ≡ ok → received.new.took ≡ (receive_answer s bytes.now).took }
+    ensures acknowledged { (s : State) → Keeps (line_of handle.old) s → result ≡ ok → received.new.acknowledged ≡ unacknowledged_count s - unacknowledged_count (after_receive s bytes.now) }
     ensures dropped { (s : State) → Keeps (line_of handle.old) s → result ≡ ok → received.new.dropped ≡ dropped_number (receive_answer s bytes.now).dropped }
     ensures reply { (s : State) → Keeps (line_of handle.old) s → result ≡ ok → IsPutIfThere (receive_answer s bytes.now).reply buffer.old buffer.new received.new.reply }
     ensures memory { (s : State) → Keeps (line_of handle.old) s → 42 ≤ length buffer.old → result ≢ ok → (result ≡ no_memory) × NeedsMemory s bytes.now }
@@ -286,12 +294,15 @@ pub extern "C" fn xns_endpoint_receive(
     let Some(mut connection) = handle.take(alloc) else {
         return NO_ENDPOINT;
     };
+    let before = connection.unacknowledged();
     let answer = connection.receive(alloc, bytes);
+    let after = connection.unacknowledged();
     handle.put(connection);
     match answer {
         Ok(answer) => {
             *received = XnsReceived {
                 took: answer.took,
+                acknowledged: before.saturating_sub(after),
                 reply: put_reply(buffer, &answer.reply),
                 dropped: dropped_number(answer.dropped),
             };

@@ -20,7 +20,7 @@ use crate::front::put_front;
 use crate::item::XnsItem;
 use crate::message::XnsMessage;
 use crate::results::{BUSY, NO_MEMORY, NOTHING, OK, STOPPED, TOO_LONG};
-use courier_messages::{VERSION, Head, Incoming, Message, SessionFault, cut};
+use courier_messages::{Head, Incoming, Message, SessionFault, VERSION, cut};
 use std::alloc::{AllocError, Global};
 use std::collections::VecDeque;
 use std::marker::Model;

@@ -1,18 +1,19 @@
 -- What the definitions imply: the statements of the laws, each under the name of its law.
-use Rattle.std.specs.Prelude.{◌≡◌, ◌<◌, ◌≤◌, ◌+◌, ◌%◌, ◌∷◌, ◌++◌, ◌↔◌, ◌⊎◌, All, IsTrue, List, [], ℕ, is_ok, is_some, length, map, nat_lt, take, true, false, slice_get, Ok, Some, None}
+use Rattle.std.specs.Prelude.{◌≡◌, ◌<◌, ◌≤◌, ◌+◌, ◌%◌, ◌∷◌, ◌++◌, ◌↔◌, ◌⊎◌, All, Bool, IsTrue, List, [], ℕ, max, is_ok, is_some, length, map, nat_lt, take, true, false, slice_get, Ok, Some, None}
 use Rattle.xns_idp.specs.Packet.{AreBytes, IsAddress}
 use Rattle.xns_idp.specs.Reading.{made_even}
 use Rattle.xns_idp.specs.declared.address.Address.{Address}
 use Rattle.xns_spp.specs.Ends.{IsEnds, is_open, most_pending}
 use Rattle.xns_spp.specs.Growth.{IsFresh, Grows, Stays, HearsNothing, HasCome, Takes, Acknowledges, IsOwnPacket}
-use Rattle.xns_spp.specs.Header.{IsHeader, SpellsHeader, header_spelling, header_of, system_bit, reply_control, has_bit, is_system, brings_item}
+use Rattle.xns_spp.specs.Header.{IsHeader, SpellsHeader, header_spelling, header_of, system_bit, reply_control, has_bit, is_system, brings_item, wants_reply}
 use Rattle.xns_spp.specs.Item.{IsItem, IsShortItem, item_in}
 use Rattle.xns_spp.specs.Meant.{Meant, own_meant, IsReduced, as_meant}
 use Rattle.xns_spp.specs.Nearest.{field_round, half_round, nearest, IsNearest}
-use Rattle.xns_spp.specs.Packet.{SppPacketModel, IsSppPacket, IsSppPacketAtFront, spp_packet_spelling, spp_packet_of}
+use Rattle.xns_spp.specs.Packet.{SppPacketModel, IsSppPacket, IsSppPacketAtFront, spelled, spp_packet_spelling, spp_packet_of}
 use Rattle.xns_spp.specs.Receiving.{numbers_in, receive_answer, after_receive, arrival_fault, reply_packet, is_ours, IsOursAtFront}
 use Rattle.xns_spp.specs.Sending.{data_packet, system_packet, flush_packets, flush_answer, tick_packets, tick_answer, is_full, send_answer, take_answer, waiting_count, after_send, after_take, after_flush, after_tick}
-use Rattle.xns_spp.specs.State.{State, IsState, window_top, initiator_state, responder_state}
+use Rattle.xns_spp.specs.State.{State, IsState, window_top, send_limit, initiator_state, responder_state}
+use Rattle.xns_spp.specs.Telling.{system_control, told_packet, told_answer, resend_packet, resend_answer, after_resend, room_to_send}
 use Rattle.xns_spp.specs.declared.header.Header.{Header}
 use Rattle.xns_spp.specs.declared.item.Item.{Item}
 use Rattle.xns_spp.specs.declared.role.Role.TheVariants.{Responder}
@@ -51,6 +52,8 @@ pub record OwnPacketsArePackets : Type 0 where
   pub flush : (s : State) → IsState s → All IsSppPacket (flush_packets s)
   pub tick : (s : State) → IsState s → All IsSppPacket (tick_packets s)
   pub reply : (s : State) (p q : SppPacketModel) → IsState s → IsSppPacket p → arrival_fault s p ≡ None → reply_packet s p ≡ Some q → IsSppPacket q
+  pub resend : (s : State) (p : SppPacketModel) → IsState s → resend_packet s ≡ Some p → IsSppPacket p
+  pub told : (s : State) (asks : Bool) (p : SppPacketModel) → IsState s → told_packet s asks ≡ Some p → IsSppPacket p
 
 pub record OwnPacketsSayWhatIsMeant : Type 0 where
   pub item : (s : State) (i : ℕ) (x : Item) → item_in (data_packet s i x) ≡ x
@@ -59,6 +62,8 @@ pub record OwnPacketsSayWhatIsMeant : Type 0 where
   pub none : (s : State) (control : ℕ) → has_bit control system_bit ≡ true → is_system (system_packet s control).header ≡ true
   pub no_data : (s : State) (control : ℕ) → (system_packet s control).body ≡ []
   pub system_fields : (s : State) (control : ℕ) → IsReduced (system_packet s control).header (own_meant s s.sent)
+  -- a system packet of an open end is answered where it asks, and only there
+  pub asks : (s : State) (asks : Bool) → is_open s.ends ≡ true → wants_reply (system_packet s (system_control asks)).header ≡ asks
 
 pub record RoomIsNearWhatWasTaken : Type 0 where
   pub least : (s : State) → IsState s → length s.taken ≤ window_top s + 1
@@ -77,6 +82,7 @@ pub record BoundsHoldAfterEachStep : Type 0 where
   pub take : (s : State) → IsState s → IsState (after_take s)
   pub flush : (s : State) → IsState s → IsState (after_flush s)
   pub tick : (s : State) → IsState s → IsState (after_tick s)
+  pub resend : (s : State) → IsState s → IsState (after_resend s)
   pub packet : (s : State) (b : List ℕ) (p : SppPacketModel) → IsState s → spp_packet_of b ≡ Ok p → IsSppPacket p → IsState (after_receive s b)
   pub receive : (s : State) (b : List ℕ) → IsState s → AreBytes b → IsState (after_receive s b)
 
@@ -85,11 +91,13 @@ pub record AnEndOnlyGrows : Type 0 where
   pub take : (s : State) → Grows s (after_take s)
   pub flush : (s : State) → IsState s → Grows s (after_flush s)
   pub tick : (s : State) → IsState s → Grows s (after_tick s)
+  pub resend : (s : State) → Grows s (after_resend s)
   pub receive : (s : State) (b : List ℕ) → Grows s (after_receive s b)
 
 pub record OtherStepsAcceptAndHandUpNothing : Type 0 where
   pub flush : (s : State) → Stays s (after_flush s)
   pub tick : (s : State) → Stays s (after_tick s)
+  pub resend : (s : State) → Stays s (after_resend s)
   pub receive : (s : State) (b : List ℕ) → Stays s (after_receive s b)
 
 pub record OtherStepsHearNothing : Type 0 where
@@ -97,6 +105,7 @@ pub record OtherStepsHearNothing : Type 0 where
   pub take : (s : State) → HearsNothing s (after_take s)
   pub flush : (s : State) → HearsNothing s (after_flush s)
   pub tick : (s : State) → HearsNothing s (after_tick s)
+  pub resend : (s : State) → HearsNothing s (after_resend s)
 
 pub record OpenEndsLearnNothing : Type 0 where
   pub known : (s : State) (b : List ℕ) → is_open s.ends ≡ true → (after_receive s b).ends ≡ s.ends
@@ -108,6 +117,8 @@ pub record ItemsAreAcceptedOrChangeNothing : Type 0 where
   pub fits : (s : State) (x : Item) → IsShortItem x → x.attention ≡ false → is_full s ≡ false → is_ok (send_answer s x) ≡ true
   pub room : (s : State) → IsState s → is_full s ≡ false → length s.accepted < s.acknowledged + s.ends.backlog
   pub waiting : (s : State) (x : Item) → is_ok (send_answer s x) ≡ true → waiting_count (after_send s x) ≡ waiting_count s
+  -- where there is room to send, it is not full, and the peer allows one more item than were accepted
+  pub room_to_send : (s : State) → 0 < room_to_send s → (is_full s ≡ false) × (length s.accepted < s.allowed)
 
 pub record TheNextItemIsHandedUp : Type 0 where
   pub some : (s : State) (x : Item) → take_answer s ≡ Some x → after_take s ≡ record s { handed = s.handed + 1 }
@@ -129,3 +140,12 @@ pub record AcceptedItemsGoOut : Type 0 where
   pub flush_bytes : (s : State) → flush_answer s ≡ map spp_packet_spelling (flush_packets s)
   pub tick_bytes : (s : State) → tick_answer s ≡ map spp_packet_spelling (tick_packets s)
   pub reply : (s : State) (b reply : List ℕ) → (receive_answer s b).reply ≡ Some reply → reply ≡ spp_packet_spelling (system_packet (after_receive s b) reply_control)
+  pub resend : (s : State) (p : SppPacketModel) → resend_packet s ≡ Some p → IsOwnPacket s (after_resend s) p
+  pub told : (s : State) (asks : Bool) (p : SppPacketModel) → told_packet s asks ≡ Some p → IsOwnPacket s s p
+  pub resend_bytes : (s : State) → resend_answer s ≡ spelled (resend_packet s)
+  pub told_bytes : (s : State) (asks : Bool) → told_answer s asks ≡ spelled (told_packet s asks)
+
+pub record TheFirstItemGoesOutAgain : Type 0 where
+  pub packet : (s : State) (x : Item) → is_open s.ends ≡ true → slice_get s.accepted s.acknowledged ≡ Some x → s.acknowledged < send_limit s → resend_packet s ≡ Some (data_packet s s.acknowledged x)
+  pub sent : (s : State) → is_open s.ends ≡ true → s.acknowledged < send_limit s → (after_resend s).sent ≡ max s.sent (s.acknowledged + 1)
+  pub same : (s : State) → s.acknowledged < s.sent → after_resend s ≡ s
