@@ -1,8 +1,5 @@
 //! The packet types of the protocols over the internet packet (XSIS 028112, Internet Datagram Protocol, Packet Type).
 
-/// Routing Information.
-pub const ROUTING_INFORMATION: u8 = 1;
-
 /// Echo.
 pub const ECHO: u8 = 2;
 
