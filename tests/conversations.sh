@@ -1,10 +1,10 @@
 #!/bin/sh
-# Refuses each growth of the program `conversations` in turn, while a caller calls and while a server is fed a call, and looks at
+# Refuses each growth of the program `test_conversations` in turn, while a caller calls and while a server is fed a call, and looks at
 # what each side then does. Its last line is 'N passed, M failed', and it ends with 1 where one failed. It builds the program first.
 set -u
 cd "$(dirname "$0")/.."
-crate=crates/conversations
-program=$PWD/$crate/out/conversations
+crate=crates/test_conversations
+program=$PWD/$crate/out/test_conversations
 work=$(mktemp -d)
 trap 'rm -rf "$work"' EXIT
 passed=0

@@ -1,8 +1,8 @@
-"""A second account of what the program `plays` plays, written from the documents and not from its code.
+"""A second account of what the program `test_plays` plays, written from the documents and not from its code.
 
 It reads the program's input and prints what the program must print:
 
-    python3 tests/plays.py < crates/plays/stdin | cmp - crates/plays/stdout
+    python3 tests/plays.py < crates/test_plays/stdin | cmp - crates/test_plays/stdout
 
 docs/FORMATS.md has the layouts, docs/ENDPOINT.md an end, docs/COURIER.md the sessions and docs/WORLD.md the network.
 """

@@ -1,12 +1,12 @@
 #!/bin/sh
-# Compares what the program `plays` prints with a second account of it, tests/plays.py, which was written from the documents; and
+# Compares what the program `test_plays` prints with a second account of it, tests/plays.py, which was written from the documents; and
 # refuses each growth of it in turn, while items are played, while calls are, and while a server is given packets. Each run must end by
 # itself, and tell want of memory and nothing else, or the whole text; the same play that comes next must then be played whole. Its last
 # line is 'N passed, M failed', and it ends with 1 where one failed. It builds the program first.
 set -u
 cd "$(dirname "$0")/.."
-crate=crates/plays
-program=$PWD/$crate/out/plays
+crate=crates/test_plays
+program=$PWD/$crate/out/test_plays
 work=$(mktemp -d)
 trap 'rm -rf "$work"' EXIT
 passed=0

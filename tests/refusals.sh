@@ -1,13 +1,13 @@
 #!/bin/sh
-# Refuses each growth of the program `refusals` in turn. Each of its lines is a call that can take memory: every one is refused at least
+# Refuses each growth of the program `test_refusals` in turn. Each of its lines is a call that can take memory: every one is refused at least
 # once, stands then as before, and answers when it is called again. Three lines are calls that must take none: they answer in every run in
 # which their shape was made. The record with a choice of a text is refused three times, once for each of its parts, and an early item
 # twice, for its body and for the reply. The script's last line is 'N passed, M failed', and it ends with 1 where one failed. It builds the
 # program first.
 set -u
 cd "$(dirname "$0")/.."
-crate=crates/refusals
-program=$PWD/$crate/out/refusals
+crate=crates/test_refusals
+program=$PWD/$crate/out/test_refusals
 work=$(mktemp -d)
 trap 'rm -rf "$work"' EXIT
 passed=0
