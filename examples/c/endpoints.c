@@ -3,7 +3,8 @@
  *     endpoints ITEMS [packets]
  *
  * sends so many items each way, looks at each that arrives, and says ok. With the second word it writes each packet that was
- * sent as a line of hex in its place. A call that is refused memory is made again.
+ * sent as a line of hex in its place. A call that is refused memory is made again. After items were taken a side tells the peer
+ * of its room; at a timeout it sends its first item again, and the next one at once as long as replies acknowledge more.
  */
 #include "xns.h"
 #include <stdio.h>
@@ -20,12 +21,13 @@ struct wire {
     size_t length[QUEUE], first, end;
 };
 
-/* One side: its endpoint, what comes to it, and how far it is. */
+/* One side: its endpoint, what comes to it, how far it is, and how many items were unacknowledged at the last timeout and still are. */
 struct side {
     struct xns_endpoint endpoint;
     struct wire in;
     struct side *peer;
     unsigned number, sent, got;
+    size_t behind;
 };
 
 static unsigned items, lost, carried, refused;
@@ -66,6 +68,26 @@ static void send_packets(struct side *side) {
     while (xns_endpoint_next_packet(&side->endpoint, packet, sizeof packet, &length) == XNS_OK) put_on_wire(&side->peer->in, packet, length);
 }
 
+/* Tells the peer what there is room for. Where memory is refused it is as if the packet had been lost. */
+static void tell_room(struct side *side) {
+    uint8_t packet[XNS_REPLY];
+    size_t length;
+    if (is_done(xns_endpoint_system_packet(&side->endpoint, 0, packet, sizeof packet, &length))) put_on_wire(&side->peer->in, packet, length);
+}
+
+/* Sends the first item again that is not acknowledged, or what opens the connection, or the question to the peer. */
+static void send_first(struct side *side) {
+    uint8_t packet[XNS_LONGEST_PACKET];
+    size_t length;
+    uint32_t result = xns_endpoint_resend_first(&side->endpoint, packet, sizeof packet, &length);
+    if (result != XNS_NOTHING && is_done(result)) put_on_wire(&side->peer->in, packet, length);
+}
+
+static void time_out(struct side *side) {
+    side->behind = xns_endpoint_unacknowledged(&side->endpoint);
+    send_first(side);
+}
+
 /* The bytes of an item, which the other side knows too. */
 static size_t item_bytes(unsigned side, unsigned item, uint8_t *bytes) {
     size_t length = (item * 7 + side) % (XNS_LONGEST_ITEM + 1);
@@ -84,12 +106,14 @@ static void send_items(struct side *side) {
 static void take_items(struct side *side) {
     uint8_t body[XNS_LONGEST_ITEM], wanted[XNS_LONGEST_ITEM];
     struct xns_item item;
+    unsigned before = side->got;
     while (xns_endpoint_take(&side->endpoint, &item, body, sizeof body) == XNS_OK) {
         size_t length = item_bytes(side->peer->number, side->got, wanted);
         CHECK(item.length == length && memcmp(body, wanted, length) == 0);
         CHECK(item.stream == (uint8_t)side->got && item.last == (side->got % 3 == 0) && !item.attention);
         side->got++;
     }
+    if (side->got > before) tell_room(side);
 }
 
 static void receive_packets(struct side *side) {
@@ -99,15 +123,20 @@ static void receive_packets(struct side *side) {
         size_t at = side->in.first++ % QUEUE;
         if (!is_done(xns_endpoint_receive(&side->endpoint, side->in.bytes[at], side->in.length[at], &received, reply, sizeof reply))) continue;
         if (received.reply > 0) put_on_wire(&side->peer->in, reply, received.reply);
+        if (side->behind > 0 && received.acknowledged > 0) {
+            side->behind -= received.acknowledged < side->behind ? received.acknowledged : side->behind;
+            if (side->behind > 0) send_first(side);
+        }
     }
 }
 
-/* What a side does again and again; every third time it is as if time had passed. */
+/* What a side does again and again; every third time it is as if it had waited in vain. */
 static void go_on(struct side *side, unsigned round) {
     receive_packets(side);
     take_items(side);
     send_items(side);
-    if (is_done(round % 3 == side->number ? xns_endpoint_tick(&side->endpoint) : xns_endpoint_flush(&side->endpoint))) send_packets(side);
+    if (round % 3 == side->number) time_out(side);
+    else if (is_done(xns_endpoint_flush(&side->endpoint))) send_packets(side);
 }
 
 /* Makes the endpoint that answers, where an opening packet has come. */
