@@ -1,6 +1,7 @@
 //! The message that is coming in.
-ghost use Rattle.std.specs.Prelude.{◌≡◌, ◌<◌, ◌≤◌, ◌+◌, ◌/◌, Ok, Err, [], map, length, drop, IfOk, IfErr, OnOk, OnErr};
+ghost use Rattle.std.specs.Prelude.{◌≡◌, ◌<◌, ◌≤◌, ◌+◌, ◌/◌, ◌++◌, Ok, Err, [], map, length, drop, IfOk, IfErr, OnOk, OnErr};
 ghost use Rattle.courier_messages.specs.declared.incoming.Stage.TheVariants.{Inside};
+ghost use Rattle.courier_messages.specs.declared.fault.SessionFault.TheVariants.{NoMemory};
 ghost use Rattle.courier_types.specs.Pieces.{words_of};
 ghost use Rattle.courier_messages.specs.Text.{byte, mark, signs};
 ghost use Rattle.courier_messages.specs.Conversation.{Phase, opening, fresh, inside};
@@ -55,7 +56,8 @@ impl Model for Incoming {
 }
 
 fn agree(low: u16, high: u16) -> Result<(), SessionFault>
-    ensures { Follows result (agreement low high) fresh }
+    ensures follows { Follows result (agreement low high) fresh }
+    ensures memory { result ≡ Err NoMemory → ⊥ }
 {
     if low > high {
         Err(SessionFault::BadVersions)
@@ -70,7 +72,8 @@ fn agree(low: u16, high: u16) -> Result<(), SessionFault>
 #[tactic(auto, using(crate::proofs::Ranges::range_words))]
 fn agree_on(pieces: &Pieces) -> Result<(), SessionFault>
     requires { 4 ≤ length pieces.now }
-    ensures { Follows result (opened pieces.now) fresh }
+    ensures follows { Follows result (opened pieces.now) fresh }
+    ensures memory { result ≡ Err NoMemory → ⊥ }
 {
     let _count = pieces.len();
     let mut words = PieceWords::new(pieces.as_slice());
@@ -115,6 +118,7 @@ fn take_range(pieces: &mut Pieces, body: Vec<u8>) -> Result<(Stage, usize), Sess
     ensures held { IfOk result (λ x. IsHeld x.0 x.1 pieces.new) }
     ensures stops { IfErr result (λ e. UnlessMemory e (run (opening pieces.old) (map byte body.items) ≡ Err e)) }
     ensures few { OnErr result (length pieces.new < 4) }
+    ensures memory { result ≡ Err NoMemory → pieces.new ≡ pieces.old }
 {
     pieces.push(body)?;
     let count = pieces.len();
@@ -202,7 +206,8 @@ impl Incoming {
 
     /// More bytes.
     fn take_body(&mut self, body: Vec<u8>) -> Result<(), SessionFault>
-        ensures { Follows result (run self.old (map byte body.items)) self.new }
+        ensures follows { Follows result (run self.old (map byte body.items)) self.new }
+        ensures memory { result ≡ Err NoMemory → self.new ≡ self.old }
     {
         match self.stage {
             Stage::Opening => {
@@ -221,7 +226,8 @@ impl Incoming {
 
     /// A mark, which may end a message.
     fn take_mark(&mut self, alloc: Global) -> Result<Option<PiecedMessage>, SessionFault>
-        ensures { Takes result (step self.old mark) (ended self.old mark) self.new }
+        ensures takes { Takes result (step self.old mark) (ended self.old mark) self.new }
+        ensures memory { result ≡ Err NoMemory → ⊥ }
     {
         match self.stage {
             Stage::Opening => Err(SessionFault::BadVersions),
@@ -241,10 +247,11 @@ impl Incoming {
         }
     }
 
-    /// One more item, which may end a message.
+    /// One more item, which may end a message. Where memory is refused nothing is changed, and the item can be given again.
     #[tactic(auto, using(crate::proofs::Runs::run_append, crate::proofs::Runs::said_append, crate::proofs::Runs::run_mark, crate::proofs::Runs::said_mark, crate::proofs::Runs::said_bytes))]
     pub fn take(&mut self, alloc: Global, item: Item) -> Result<Option<PiecedMessage>, SessionFault>
-        ensures { Takes result (run self.old (signs item)) (said self.old (signs item)) self.new }
+        ensures takes { Takes result (run self.old (signs item)) (said self.old (signs item)) self.new }
+        ensures memory { result ≡ Err NoMemory → self.new ≡ self.old }
     {
         if item.stream != 0 {
             return Err(SessionFault::Stream { kind: item.stream });

@@ -1,5 +1,5 @@
 //! A message that has come in.
-ghost use Rattle.std.specs.Prelude.{◌≡◌, option_map, drop, length, IfOk, IfSome};
+ghost use Rattle.std.specs.Prelude.{◌≡◌, ◌≤◌, ◌++◌, option_map, drop, length, IfOk, IfSome};
 ghost use Rattle.courier_types.specs.Pieces.{words_of};
 ghost use Rattle.courier_types.specs.Shape.{shape_model};
 ghost use Rattle.courier_types.specs.Value.{value_model};
@@ -11,7 +11,7 @@ ghost use Rattle.courier_messages.specs.Whole.{whole};
 
 use crate::head::Head;
 use crate::pieces::Pieces;
-use crate::reading::words_left;
+use crate::reading::{put_front, words_left};
 use crate::words::Words;
 use courier_types::{PieceWords, ReadRefusal, Shape, Value, WordSource, read_pieces};
 use std::alloc::{AllocError, Global};
@@ -59,9 +59,20 @@ impl PiecedMessage {
         words_left(alloc, &mut words)
     }
 
+    /// Puts the message's words to the front of a buffer that has room for them.
+    pub fn put_words(&self, buffer: &mut [u16])
+        requires { length (words_in self.now) ≤ length buffer.old }
+        ensures { buffer.new ≡ words_in self.now ++ drop (length (words_in self.now)) buffer.old }
+    {
+        let _count = self.pieces.len();
+        let mut words = PieceWords::new(self.pieces.as_slice());
+        words.skip(self.skipped);
+        put_front(&mut words, buffer);
+    }
+
     /// How many words the message has of its own.
     #[tactic(auto, using(crate::proofs::Wholes::left_behind))]
-    fn word_count(&self) -> usize
+    pub fn word_count(&self) -> usize
         ensures { result ≡ length (words_in self.now) }
     {
         (self.pieces.len() / 2).saturating_sub(self.skipped)

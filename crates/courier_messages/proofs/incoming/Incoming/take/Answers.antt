@@ -4,10 +4,10 @@ use Rattle.courier_messages.specs.Phases.{run}
 use Rattle.courier_messages.proofs.Runs.{other_stream, without_mark}
 use Rattle.courier_messages.proofs.incoming.Incoming.take.Goals as goal
 
-pub returns-then-item-ne0 : goal.returns-then-item-ne0
-returns-then-item-ne0 c = other_stream c.args.self.now c.args.item c.if-item-ne0.true
+pub returns-then-item-ne0-clause-takes : goal.returns-then-item-ne0-clause-takes
+returns-then-item-ne0-clause-takes c = other_stream c.args.self.now c.args.item c.if-item-ne0.true
 
-pub returns-else-last : goal.returns-else-last
-returns-else-last c =
+pub returns-else-last-clause-takes : goal.returns-else-last-clause-takes
+returns-else-last-clause-takes c =
     without_mark c.args.self.now c.take_body.new.self c.args.item c.if-item-ne0.false c.if-last.false
-    (sym (ap (λ (xs : List ℕ). run c.args.self.now (map byte xs)) c.into_vec.ensures) ∙ c.in_ok-take_body.ensures)
+    (sym (ap (λ (xs : List ℕ). run c.args.self.now (map byte xs)) c.into_vec.ensures) ∙ c.in_ok-take_body.ensures.follows)
