@@ -3,8 +3,10 @@
  *     endpoints ITEMS [packets]
  *
  * sends so many items each way, looks at each that arrives, and says ok. With the second word it writes each packet that was
- * sent as a line of hex in its place. A call that is refused memory is made again. After items were taken a side tells the peer
- * of its room; at a timeout it sends its first item again, and the next one at once as long as replies acknowledge more.
+ * sent as a line of hex in its place. A call that is refused memory is made again.
+ *
+ * Each side says what docs/ENDPOINT.md, "When to say what", has it say: it replies once to what came together and tells the room of what
+ * it took; at a timeout it sends its first item again, and the next one at once while more is acknowledged; it asks an idle peer.
  */
 #include "xns.h"
 #include <stdio.h>
@@ -13,7 +15,8 @@
 
 #define CHECK(x) do { if (!(x)) { fprintf(stderr, "endpoints.c, line %d: %s\n", __LINE__, #x); exit(1); } } while (0)
 
-enum { QUEUE = 256, WINDOW = 8, BACKLOG = 16 };
+/* After so many rounds without a packet there is a timeout, and after so many the peer is gone. */
+enum { QUEUE = 256, WINDOW = 8, BACKLOG = 16, TIMEOUT = 3, GONE = 300 };
 
 /* The packets on their way to one side. */
 struct wire {
@@ -21,13 +24,15 @@ struct wire {
     size_t length[QUEUE], first, end;
 };
 
-/* One side: its endpoint, what comes to it, how far it is, and how many items were unacknowledged at the last timeout and still are. */
+/* One side: its endpoint, what comes to it, and how far it is. */
 struct side {
     struct xns_endpoint endpoint;
     struct wire in;
     struct side *peer;
     unsigned number, sent, got;
-    size_t behind;
+    unsigned quiet; /* rounds in which nothing came */
+    size_t missing; /* how many of the items that were unacknowledged at the last timeout still are */
+    bool owes;      /* whether there is something to tell: a packet asked for a reply, or items were taken */
 };
 
 static unsigned items, lost, carried, refused;
@@ -61,30 +66,37 @@ static void put_on_wire(struct wire *wire, const uint8_t *bytes, size_t length) 
     wire->length[wire->end++ % QUEUE] = length;
 }
 
-/* Sends what the endpoint has made. */
-static void send_packets(struct side *side) {
+/* Sends the items that may go out for the first time. Their packets tell the peer what a system packet would. */
+static void flush(struct side *side) {
     uint8_t packet[XNS_LONGEST_PACKET];
     size_t length;
-    while (xns_endpoint_next_packet(&side->endpoint, packet, sizeof packet, &length) == XNS_OK) put_on_wire(&side->peer->in, packet, length);
+    if (!is_done(xns_endpoint_flush(&side->endpoint))) return;
+    while (xns_endpoint_next_packet(&side->endpoint, packet, sizeof packet, &length) == XNS_OK) {
+        put_on_wire(&side->peer->in, packet, length);
+        side->owes = false;
+    }
 }
 
-/* Tells the peer what there is room for. Where memory is refused it is as if the packet had been lost. */
-static void tell_room(struct side *side) {
+/* Tells the peer what was taken and what there is room for. */
+static void tell(struct side *side) {
     uint8_t packet[XNS_REPLY];
     size_t length;
-    if (is_done(xns_endpoint_system_packet(&side->endpoint, 0, packet, sizeof packet, &length))) put_on_wire(&side->peer->in, packet, length);
+    if (!is_done(xns_endpoint_system_packet(&side->endpoint, 0, packet, sizeof packet, &length))) return;
+    put_on_wire(&side->peer->in, packet, length);
+    side->owes = false;
 }
 
-/* Sends the first item again that is not acknowledged, or what opens the connection, or the question to the peer. */
+/* Sends the first item again, or opens the connection. Where all items are acknowledged it asks the peer whether it is there. */
 static void send_first(struct side *side) {
     uint8_t packet[XNS_LONGEST_PACKET];
     size_t length;
     uint32_t result = xns_endpoint_resend_first(&side->endpoint, packet, sizeof packet, &length);
-    if (result != XNS_NOTHING && is_done(result)) put_on_wire(&side->peer->in, packet, length);
+    if (result == XNS_NOTHING) result = xns_endpoint_system_packet(&side->endpoint, 1, packet, sizeof packet, &length);
+    if (is_done(result)) put_on_wire(&side->peer->in, packet, length);
 }
 
 static void time_out(struct side *side) {
-    side->behind = xns_endpoint_unacknowledged(&side->endpoint);
+    side->missing = xns_endpoint_unacknowledged(&side->endpoint);
     send_first(side);
 }
 
@@ -106,37 +118,39 @@ static void send_items(struct side *side) {
 static void take_items(struct side *side) {
     uint8_t body[XNS_LONGEST_ITEM], wanted[XNS_LONGEST_ITEM];
     struct xns_item item;
-    unsigned before = side->got;
     while (xns_endpoint_take(&side->endpoint, &item, body, sizeof body) == XNS_OK) {
         size_t length = item_bytes(side->peer->number, side->got, wanted);
         CHECK(item.length == length && memcmp(body, wanted, length) == 0);
         CHECK(item.stream == (uint8_t)side->got && item.last == (side->got % 3 == 0) && !item.attention);
         side->got++;
+        side->owes = true;
     }
-    if (side->got > before) tell_room(side);
 }
 
 static void receive_packets(struct side *side) {
     uint8_t reply[XNS_REPLY];
     struct xns_received received;
+    size_t before = side->missing;
+    side->quiet++;
     while (side->in.first < side->in.end) {
         size_t at = side->in.first++ % QUEUE;
         if (!is_done(xns_endpoint_receive(&side->endpoint, side->in.bytes[at], side->in.length[at], &received, reply, sizeof reply))) continue;
-        if (received.reply > 0) put_on_wire(&side->peer->in, reply, received.reply);
-        if (side->behind > 0 && received.acknowledged > 0) {
-            side->behind -= received.acknowledged < side->behind ? received.acknowledged : side->behind;
-            if (side->behind > 0) send_first(side);
-        }
+        side->quiet = 0;
+        side->missing -= received.acknowledged < side->missing ? received.acknowledged : side->missing;
+        if (received.reply > 0) side->owes = true;
     }
+    if (side->missing > 0 && side->missing < before) send_first(side);
 }
 
-/* What a side does again and again; every third time it is as if it had waited in vain. */
-static void go_on(struct side *side, unsigned round) {
+/* What a side does in each round. */
+static void go_on(struct side *side) {
     receive_packets(side);
     take_items(side);
     send_items(side);
-    if (round % 3 == side->number) time_out(side);
-    else if (is_done(xns_endpoint_flush(&side->endpoint))) send_packets(side);
+    flush(side);
+    if (side->owes) tell(side);
+    if (side->quiet > 0 && side->quiet % TIMEOUT == 0) time_out(side);
+    CHECK(side->quiet < GONE);
 }
 
 /* Makes the endpoint that answers, where an opening packet has come. */
@@ -158,11 +172,12 @@ int main(int count, char **words) {
     b.peer = &a;
 
     while (!is_done(xns_endpoint_new_initiator(&a.endpoint, &at_a, 77, &at_b, WINDOW, BACKLOG))) CHECK(a.endpoint.at == NULL);
+    send_first(&a); /* the opening packet */
     for (unsigned round = 0; a.got < items || b.got < items; round++) {
         CHECK(round < 100000);
-        go_on(&a, round);
+        go_on(&a);
         if (b.endpoint.at == NULL) answer_opening(&b, &at_b);
-        if (b.endpoint.at != NULL) go_on(&b, round);
+        if (b.endpoint.at != NULL) go_on(&b);
     }
     xns_endpoint_free(&a.endpoint);
     xns_endpoint_free(&b.endpoint);
