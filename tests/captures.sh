@@ -1,5 +1,5 @@
 #!/bin/sh
-# Tries the commands of docs/CAPTURES.md on small captures that it makes itself. It builds the program first.
+# Tries the commands of docs/CAPTURES.md, whose functions it takes from there, on captures that it makes itself. It builds the program first.
 # Without tshark or text2pcap it says so and ends with 0; without tcpdump that one command is passed over.
 # Its last line is 'N passed, M failed', and it ends with 1 where one failed.
 set -u
@@ -19,8 +19,10 @@ if ! (cd crates/xns && rt run -- sim < stdin) > "$work/build" 2>&1 || [ ! -x "$p
     echo "the program was not built"
     exit 1
 fi
+sed -n '/^```sh$/,/^```$/p' docs/CAPTURES.md | sed '/^```/d' > "$work/functions"
 PATH=$PWD/crates/xns/out:$PATH
 cd "$work" || exit 1
+. ./functions
 passed=0
 failed=0
 
@@ -51,44 +53,85 @@ cat > expected << 'END'
 END
 xns dump < in.hex > text
 same 'the packets themselves' expected text
-text2pcap -q -r '^(?<data>[0-9a-f]+)$' -e 0x600 in.hex x.pcap 2> /dev/null
 
-tshark -r x.pcap -d ethertype==0x600,data -Y eth.type==0x600 -T fields -e data 2> /dev/null | xns dump > from_tshark
-same 'a capture by tshark' text from_tshark
+# ---- every link
 
-tshark -l -i - -d ethertype==0x600,data -Y eth.type==0x600 -T fields -e data < x.pcap 2> /dev/null | xns dump > from_live
-same 'live packets, from a pipe in the place of an interface' text from_live
+# A file of frames: its name, the number of its link, and what stands in front of the packet, in which LENGTH+N is the packet's length and N more.
+frames() {
+    while read -r packet; do
+        more=$(printf '%s' "$3" | sed -n 's/.*LENGTH+\([0-9]*\).*/\1/p')
+        length=$(printf %04x $((${#packet} / 2 + ${more:-0})))
+        printf '%s%s\n' "$(printf '%s' "$3" | sed "s/LENGTH+[0-9]*/$length/; s/ //g")" "$packet"
+    done < in.hex > "$1.hex"
+    text2pcap -q -l "$2" -r '^(?<data>[0-9a-f]+)$' "$1.hex" "$1.pcap" 2> /dev/null
+}
 
-# The same frames behind a VLAN tag: tag 1, then the type of the frame within.
-sed 's/^/00010600/' in.hex > vlan.hex
-text2pcap -q -r '^(?<data>[0-9a-f]+)$' -e 0x8100 vlan.hex vlan.pcap 2> /dev/null
-tshark -r vlan.pcap -d ethertype==0x600,data -Y vlan.etype==0x600 -T fields -e data 2> /dev/null | xns dump > from_vlan
-same 'frames behind a VLAN tag' text from_vlan
+ends='0000aa000102 0000aa000304'
+frames ethernet 1 "$ends 0600"
+frames vlan 1 "$ends 8100 0001 0600"
+frames qinq 1 "$ends 88a8 0001 8100 0002 0600"
+frames snap 1 "$ends LENGTH+8 aaaa03 000000 0600"
+frames snap_behind_vlan 1 "$ends 8100 0001 LENGTH+8 aaaa03 000000 0600"
+frames llc 1 "$ends LENGTH+3 808003"
+frames cooked 113 '0000 0001 0006 0000aa0003040000 0600'
+frames cooked_newer 276 '0600 0000 00000002 0001 00 06 0000aa0003040000'
+for link in ethernet vlan qinq snap snap_behind_vlan llc cooked cooked_newer; do
+    xns_hex -r $link.pcap 2> /dev/null | xns dump > from_$link
+    same "$link" text from_$link
+done
 
-# The same packets in SNAP frames: addresses and length, the service access points and control of SNAP, no organization, the type.
-while read -r packet; do
-    printf '0000aa0001020000aa000304%04xaaaa030000000600%s\n' $((${#packet} / 2 + 8)) "$packet"
-done < in.hex > snap.hex
-text2pcap -q -r '^(?<data>[0-9a-f]+)$' snap.hex snap.pcap 2> /dev/null
-tshark -r snap.pcap -d ethertype==0x600,data -Y llc.type==0x600 -T fields -e data 2> /dev/null | xns dump > from_snap
-same 'SNAP frames' text from_snap
+ethernet_links='ethernet vlan qinq snap snap_behind_vlan llc'
+for link in $ethernet_links; do cat $link.hex; done > mixture.hex
+for link in $ethernet_links; do cat in.hex; done | xns dump > mixture_expected
+text2pcap -q -r '^(?<data>[0-9a-f]+)$' mixture.hex mixture.pcap 2> /dev/null
+xns_hex -r mixture.pcap 2> /dev/null | xns dump > from_mixture
+same 'a mixture' mixture_expected from_mixture
+
+# ---- live, from a pipe in the place of an interface
+
+xns_hex -l -i - < ethernet.pcap 2> /dev/null | xns dump > from_live
+same 'live packets' text from_live
+xns_hex -l -i - < ethernet.pcap 2> /dev/null | split -l 65536 --filter='xns dump || [ $? = 1 ]' > from_live
+same 'live packets, in parts' text from_live
+
+# ---- parts, large frames, frame numbers, tcpdump
+
+split -l 2 --filter='xns dump || [ $? = 1 ]' in.hex > in_parts
+{ head -2 in.hex | xns dump; tail -1 in.hex | xns dump; } > parts
+same 'an input in parts' parts in_parts
+
+{ cat in.hex; printf '%04098d\n' 0; } > with_large.hex
+text2pcap -q -r '^(?<data>[0-9a-f]+)$' -e 0x600 with_large.hex with_large.pcap 2> /dev/null
+xns_hex -r with_large.pcap 2> /dev/null > with_large
+xns dump < with_large > from_with_large 2> /dev/null
+echo $? > status
+echo 3 > status_expected
+same 'a large frame ends a run' status_expected status
+grep -vE '.{4097}' with_large | xns dump > from_without_large
+same 'large frames left out' text from_without_large
+
+# With a frame of another type in front, so that frame numbers and line numbers differ.
+{ echo "0000aa0001020000aa000304080045"; cat ethernet.hex; } > behind.hex
+text2pcap -q -r '^(?<data>[0-9a-f]+)$' behind.hex behind.pcap 2> /dev/null
+xns_framed behind.pcap 2> /dev/null > numbered
+awk '{$1=$1+1}1' text > later
+same 'frame numbers kept' later numbered
 
 if command -v tcpdump > /dev/null; then
-    tcpdump -xtr x.pcap ether proto 0x600 2> /dev/null | awk '/^\t/{$1="";printf "%s",$0;next} NR>1{print ""} END{if(NR)print ""}' | xns dump > from_tcpdump
+    tcpdump -xtr ethernet.pcap ether proto 0x600 2> /dev/null | awk '/^\t/{$1="";printf "%s",$0;next} NR>1{print ""} END{if(NR)print ""}' | xns dump > from_tcpdump
     same 'a capture by tcpdump' text from_tcpdump
 else
     echo "the command with tcpdump is not tried: there is no tcpdump"
 fi
 
-# Without the first frame, so that frame numbers and line numbers differ.
-tshark -r x.pcap -d ethertype==0x600,data -Y 'eth.type==0x600 && frame.number > 1' -T fields -e frame.number -e data 2> /dev/null > both
-cut -f2 both | xns dump | awk 'NR==FNR{n[NR]=$1;next}{$1=n[$1]}1' both - > numbered
-grep -v '^1 ' text > later
-same 'frame numbers kept' later numbered
+# ---- and back
 
-split -l 2 --filter='xns dump || [ $? = 1 ]' in.hex > in_parts
-{ head -2 in.hex | xns dump; tail -1 in.hex | xns dump; } > parts
-same 'an input in parts' parts in_parts
+tr a-f A-F < in.hex | sed 's/../& /g' > any.hex
+tr -d ' \t\r' < any.hex | tr A-F a-f > lower.hex
+same 'hex in lower case without blanks' in.hex lower.hex
+text2pcap -q -r '^(?<data>[0-9a-f]+)$' -e 0x600 lower.hex back.pcap 2> /dev/null
+xns_hex -r back.pcap 2> /dev/null | xns dump > from_back
+same 'a capture made of hex' text from_back
 
 echo "$passed passed, $failed failed"
 [ "$failed" -eq 0 ]
