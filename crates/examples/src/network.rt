@@ -1,10 +1,10 @@
 //! A call over a network that delivers packets late, and more than once: it is carried out once.
 
 use crate::calls::add_five;
-use xns_world::play_calls;
 use courier_calls::{Tally, call_fits, tally_table};
-use xns_idp::Address;
 use item_world::{Event, Setup, Side};
+use xns_idp::Address;
+use xns_world::play_calls;
 
 /// The two ends: the caller is at A.
 const SETUP: Setup = Setup {

@@ -1,10 +1,10 @@
 //! Calls to a tally, through what a script says.
 use crate::SETUP;
-use xns_world::play_calls;
 use courier_calls::{Seen, Tally, tally_table};
 use courier_types::Value;
-use xns_script::Script;
 use item_world::Setup;
+use xns_script::Script;
+use xns_world::play_calls;
 
 /// A line has at most so many bytes.
 const MOST_BYTES: usize = 4_096;

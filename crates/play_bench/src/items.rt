@@ -1,8 +1,8 @@
 //! Items each way.
 use crate::SETUP;
+use item_world::{Event, Side, play_items};
 use std::alloc::{AllocError, Global};
 use xns_spp::{Bytes, Item};
-use item_world::{Event, Side, play_items};
 
 /// So many items go out each way before packets are delivered.
 const ROUND: u32 = 16;

@@ -5,9 +5,9 @@
 mod calls;
 mod items;
 
+use item_world::Setup;
 use std::env;
 use xns_idp::Address;
-use item_world::Setup;
 
 const SETUP: Setup = Setup {
     a: Address {

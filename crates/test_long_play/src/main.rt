@@ -1,10 +1,10 @@
 //! Plays 140,000 items each way through a network that loses, repeats and reorders packets, and delivers old ones again.
 #![tactic(auto)]
 
+use item_world::{Event, Items, Setup, Side, play_items};
 use std::alloc::{AllocError, Global};
 use xns_idp::Address;
 use xns_spp::{Bytes, Item};
-use item_world::{Event, Items, Setup, Side, play_items};
 
 const SETUP: Setup = Setup {
     a: Address {

@@ -9,8 +9,8 @@ use crate::words::{cut_word, is, read_hex_bytes, read_number, read_raw_words, re
 use courier_calls::{Arguments, Call};
 use courier_messages::Words;
 use courier_types::Value;
-use std::alloc::{AllocError, Global};
 use item_world::Event;
+use std::alloc::{AllocError, Global};
 
 const MOST_WORD: u32 = 65_535;
 

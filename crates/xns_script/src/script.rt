@@ -6,8 +6,8 @@ ghost use Rattle.xns_script.specs.Saying.{are_said};
 use crate::command::Command;
 use crate::reading::read_command;
 use courier_calls::Call;
-use std::alloc::{AllocError, Global};
 use item_world::Event;
+use std::alloc::{AllocError, Global};
 
 /// The calls and events of lines, in order, up to the first line that is refused.
 #[derive(Drop)]

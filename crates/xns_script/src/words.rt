@@ -5,10 +5,10 @@ ghost use Rattle.std.specs.Str.{bytes_eq};
 ghost use Rattle.xns_script.specs.Word.{AreDigits, MayBeDecimal, all_hex_words, digits_from, hex_bytes_of, hex_word_of, is_dash as is_dash_of, number_of, raw_words_of, side_of, words_after, words_of_line};
 
 use hex::FromHexError;
+use item_world::Side;
 use memchr::memchr;
 use std::alloc::{AllocError, Global};
 use xns_spp::Bytes;
-use item_world::Side;
 
 /// The decimal of a number of 32 bits has at most so many digits.
 const MOST_DIGITS: usize = 10;

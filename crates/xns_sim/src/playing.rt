@@ -10,14 +10,14 @@ ghost use Rattle.xns_sim.specs.Sim.Play.{play_text, script_setup};
 ghost use Rattle.xns_sim.specs.Sim.{script_text};
 
 use crate::trace::{Played, append_trace};
-use xns_world::play_calls;
 use courier_calls::{Call, Tally, tally_table};
+use item_world::{Event, Setup};
 use std::alloc::{AllocError, Global};
 use xns_idp::Address;
 use xns_lines::Report;
 use xns_lines::numbers::append_decimal;
 use xns_script::Script;
-use item_world::{Event, Setup};
+use xns_world::play_calls;
 
 /// The text of what the script comes to: its first refused line, or its play.
 pub(crate) fn play_script(alloc: Global, script: &Script) -> Result<Report, AllocError>
