@@ -3,11 +3,11 @@ use crate::items::put_bag;
 use crate::lines::Lines;
 use crate::steps::unfold;
 use crate::telling::{call_text, seen_text};
-use xns_world::{CallTrace, play_calls};
 use courier_calls::{Call, Tally, tally_table};
+use item_world::Setup;
 use std::alloc::{AllocError, Global};
 use xns_script::Script;
-use item_world::Setup;
+use xns_world::{CallTrace, play_calls};
 
 /// A step has at most so many bytes.
 const MOST_BYTES: usize = 4_096;

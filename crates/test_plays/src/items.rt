@@ -3,10 +3,10 @@ use crate::draft::read_hex;
 use crate::lines::Lines;
 use crate::steps::unfold;
 use crate::telling::{item_text, packet_text};
+use item_world::{Bag, Event, Items, Setup, Side, play_items};
 use std::alloc::{AllocError, Global};
 use xns_script::{Command, read_command};
 use xns_spp::{Bytes, Item};
-use item_world::{Bag, Event, Items, Setup, Side, play_items};
 
 /// Of a play with more packets they are only counted.
 const MOST_PACKETS: usize = 40;

@@ -3,12 +3,12 @@ use crate::damage::damaged;
 use crate::draft::Draft;
 use crate::generator::Generator;
 use crate::telling::Fault;
-use xns_world::{ServeTrace, serve_bytes};
 use courier_calls::{Tally, tally_table};
+use item_world::Setup;
 use std::alloc::{AllocError, Global};
 use xns_idp::decode;
 use xns_spp::{Bytes, Header, read_header};
-use item_world::Setup;
+use xns_world::{ServeTrace, serve_bytes};
 
 /// So many packets are made before it is looked again at what the server has made of all of them.
 const BLOCK: u16 = 8;

@@ -3,9 +3,9 @@ use crate::draft::{Draft, read_hex};
 use crate::lines::Lines;
 use crate::setting::{A, B};
 use crate::telling::{dropped_text, packet_text};
+use item_world::{Setup, Side};
 use std::alloc::{AllocError, Global};
 use xns_spp::{Bytes, Endpoint, Header, Item, Received};
-use item_world::{Setup, Side};
 
 /// The numbers that each field is given.
 const NUMBERS: [u16; 5] = [0, 1, 32_767, 32_768, 65_535];

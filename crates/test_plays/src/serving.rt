@@ -4,11 +4,11 @@ use crate::draft::{Draft, read_hex};
 use crate::lines::Lines;
 use crate::steps::counted;
 use crate::telling::{Fault, item_text, packet_text};
-use xns_world::{ServeTrace, serve_bytes};
 use courier_calls::{Tally, tally_table};
+use item_world::{Setup, Side};
 use std::alloc::{AllocError, Global};
 use xns_spp::{Bytes, Header};
-use item_world::{Setup, Side};
+use xns_world::{ServeTrace, serve_bytes};
 
 /// Of more replies only the last two are told.
 const MOST_REPLIES: usize = 44;

@@ -1,6 +1,6 @@
 //! The two ends of every play.
-use xns_idp::Address;
 use item_world::Setup;
+use xns_idp::Address;
 
 /// The initiator and caller.
 pub const A: Address = Address {

@@ -3,11 +3,11 @@ use crate::setting::{A, B};
 use courier_calls::{Arguments, Call, Seen};
 use courier_messages::{MessageFault, SessionFault};
 use courier_types::Value;
+use item_world::Side;
 use std::alloc::{AllocError, Global};
 use std::fmt;
 use xns_idp::{Address, decode, packet_type};
 use xns_spp::{Dropped, Header, Item, read_header};
-use item_world::Side;
 
 /// More bytes or words are told by their number.
 const MOST_SHOWN: usize = 40;

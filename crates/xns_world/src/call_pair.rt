@@ -8,8 +8,8 @@ ghost use Rattle.item_world.specs.World.{flushes, ticks};
 use crate::calling::CallingEnd;
 use crate::serving::ServingEnd;
 use courier_calls::{Call, Service};
-use std::alloc::{AllocError, Global};
 use item_world::{Network, Side, flush_end, land, tick_end};
+use std::alloc::{AllocError, Global};
 
 /// Both ends of a play of calls, the caller at A and the server at B.
 ///

@@ -14,8 +14,8 @@ use crate::calling::CallingEnd;
 use crate::laws::calls::laws_are_given;
 use crate::serving::ServingEnd;
 use courier_calls::{Call, Caller, Service, Table, known_calls};
-use std::alloc::{AllocError, Global};
 use item_world::{Event, Network, Setup, Side};
+use std::alloc::{AllocError, Global};
 
 /// Two ends whose sessions carry calls, and the network between them.
 #[derive(Drop)]

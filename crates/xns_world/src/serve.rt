@@ -13,10 +13,10 @@ use crate::laws::serving::served_ends_stay_within_bounds;
 use crate::serve_trace::ServeTrace;
 use crate::serving::ServingEnd;
 use courier_calls::{Service, Table};
+use item_world::Setup;
 use std::alloc::{AllocError, Global};
 use xns_idp::known::known_bytes;
 use xns_spp::Bytes;
-use item_world::Setup;
 
 /// A server's end, and every packet that it sent.
 #[derive(Drop)]

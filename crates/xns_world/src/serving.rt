@@ -14,9 +14,9 @@ ghost use Rattle.item_world.specs.declared.side.Side.TheVariants.{B};
 use crate::calling::MOST_STEPS;
 use courier_calls::{Call, Server, Service, Table};
 use courier_messages::SessionFault;
+use item_world::{Items, Setup, Side, copied};
 use std::alloc::{AllocError, Global};
 use xns_spp::{Endpoint, Item};
-use item_world::{Items, Setup, Side, copied};
 
 /// The server's end: its endpoint, its session, the calls that were decided and the session's first fault.
 #[derive(Drop)]
