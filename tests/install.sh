@@ -105,6 +105,13 @@ expect 'an example against the archive' "$compiler" $flags -std=c99 -I"$prefix/i
 expect 'runs' env -u LD_LIBRARY_PATH "$work/courier"
 expect 'and is answered' grep -qx 42 "$work/out"
 
+# The archive is for every x86-64 processor: here for one without SSSE3 and SSE4.
+if has qemu-x86_64; then
+    expect 'an example without shared libraries' "$compiler" $flags -std=c99 -static -I"$prefix/include" examples/c/courier.c "$prefix/lib/libxns.a" -o "$work/courier"
+    expect 'runs on the first x86-64 processors' qemu-x86_64 -cpu qemu64,-ssse3,-sse4.1,-sse4.2 "$work/courier"
+    expect 'and is answered there' grep -qx 42 "$work/out"
+else left_out qemu-x86_64 'the archive on the first x86-64 processors'; fi
+
 # ---- the manual page
 
 if has man; then
