@@ -17,7 +17,7 @@ use xns_script::Script;
 ///
 /// Byte 10 ends a line, and so does the end of the input after a byte; lines count from 1. One byte 13 at a line's end
 /// is dropped. `xns_script` says what a line can be. The calls are made in order, wherever their lines stand, by a
-/// caller whose network and server are those of `item_world::play_calls`; the server's service is a new tally. Where a
+/// caller whose network and server are those of `xns_world::play_calls`; the server's service is a new tally. Where a
 /// line is refused, the first of them is said alone and nothing is played.
 ///
 /// # Errors

@@ -14,7 +14,7 @@ use Rattle.courier_calls.specs.Server.{server_items}
 use Rattle.xns_spp.specs.Item.{IsItem, IsShortItem}
 use Rattle.xns_spp.specs.Sending.{send_answer, take_answer}
 use Rattle.xns_spp.specs.declared.item.Item.{Item}
-use Rattle.item_world.proofs.Fronts.{begins_itself, begins_then, begins_length, element, begins_more}
+use Rattle.xns_world.proofs.Fronts.{begins_itself, begins_then, begins_length, element, begins_more}
 use Rattle.item_world.specs.declared.side.Side.{Side}
 use Rattle.item_world.specs.declared.side.Side.TheVariants.{A, B}
 use Rattle.xns_spp.specs.Growth.{Begins}

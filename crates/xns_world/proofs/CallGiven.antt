@@ -5,7 +5,7 @@ use Rattle.courier_calls.specs.Laws.{WhatIsHeardStays, BothSidesAgree}
 use Rattle.xns_world.specs.CallLaws.{Answering, Given}
 use Rattle.xns_world.specs.CallPromises.{AreParties}
 use Rattle.xns_world.specs.CallWorld.{Parties}
-use Rattle.item_world.specs.Laws.{EachStepKeepsTheOrder}
+use Rattle.item_world.specs.Laws.{EachStepKeepsTheOrder, ForeignBytesChangeNothing}
 
 -- the laws of a service's sessions, in each state that it can be in
 pub record SessionLaws {S : Type 0} (serving : Serving S) (IsServiceState : S → Type 0) : Type 0 where
@@ -13,9 +13,10 @@ pub record SessionLaws {S : Type 0} (serving : Serving S) (IsServiceState : S �
   pub agree : (s : S) → IsServiceState s → BothSidesAgree serving s
   pub answering : (s : S) → IsServiceState s → Answering serving s
 
-pub given : {S : Type 0} (serving : Serving S) (IsServiceState : S → Type 0) → EachStepKeepsTheOrder → SessionLaws serving IsServiceState → (p : Parties S) → AreParties serving IsServiceState p → Given p
-given {S} serving IsServiceState w l p are = record {
+pub given : {S : Type 0} (serving : Serving S) (IsServiceState : S → Type 0) → EachStepKeepsTheOrder → ForeignBytesChangeNothing → SessionLaws serving IsServiceState → (p : Parties S) → AreParties serving IsServiceState p → Given p
+given {S} serving IsServiceState w foreign l p are = record {
   world = w;
+  foreign = foreign;
   heard = subst (λ (v : Serving S). WhatIsHeardStays v) (sym are.serving_is) l.heard;
   agree = subst (λ (v : Serving S). BothSidesAgree v p.service) (sym are.serving_is) (l.agree p.service are.state);
   answering = subst (λ (v : Serving S). Answering v p.service) (sym are.serving_is) (l.answering p.service are.state);

@@ -20,10 +20,10 @@ use Rattle.xns_world.proofs.CallRuns.{LeavesCaller, server_steps, quiet_between}
 use Rattle.xns_world.proofs.CallSettling.{steps_hold}
 use Rattle.item_world.proofs.Later.{Later, later_itself, later_then, moved_later, flushes_later, landing_later}
 use Rattle.item_world.proofs.Networks.{quiet, lands_as}
-use Rattle.item_world.proofs.Plays.{no_landing}
+use Rattle.xns_world.proofs.Landings.{no_landing}
 use Rattle.item_world.proofs.Resting.{Delivering}
 use Rattle.xns_world.proofs.ServeEnds.{served_on}
-use Rattle.item_world.proofs.Sides.{same_other, same_marked}
+use Rattle.xns_world.proofs.Sides.{same_other, same_marked}
 use Rattle.xns_world.specs.declared.call_trace.CallTrace.{CallTrace}
 use Rattle.xns_world.specs.declared.calling.CallingEnd.{CallingEnd}
 use Rattle.xns_world.specs.declared.call_pair.CallPair.{CallPair}

@@ -11,7 +11,7 @@ use Rattle.xns_spp.specs.State.{State}
 use Rattle.xns_spp.specs.declared.item.Item.{Item}
 use Rattle.item_world.proofs.Continues.{Continues, flush_continues, tick_continues, receive_continues, handed_same}
 use Rattle.item_world.proofs.Networks.{lands_as}
-use Rattle.item_world.proofs.Sides.{same_end, same_other, same_marked, each_end}
+use Rattle.xns_world.proofs.Sides.{same_end, same_other, same_marked, each_end}
 use Rattle.item_world.specs.declared.emitted.Emitted.{Emitted}
 use Rattle.item_world.specs.declared.side.Side.{Side}
 use Rattle.item_world.specs.Invariant.{Holds}

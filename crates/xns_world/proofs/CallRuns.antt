@@ -10,7 +10,7 @@ use Rattle.courier_calls.specs.Server.{decided}
 use Rattle.xns_spp.specs.Sending.{is_full, waiting_count, after_send, after_take}
 use Rattle.xns_spp.specs.State.{State}
 use Rattle.xns_spp.specs.declared.item.Item.{Item}
-use Rattle.item_world.proofs.Fronts.{begins_then, begins_length, front_begins}
+use Rattle.xns_world.proofs.Fronts.{begins_then, begins_length, front_begins}
 use Rattle.item_world.specs.declared.event.Event.{Event}
 use Rattle.item_world.specs.declared.event.Event.TheVariants.{Deliver, Rest, Tick, Foreign, Send, Take}
 use Rattle.item_world.specs.declared.setup.Setup.{Setup}
@@ -25,7 +25,6 @@ use Rattle.item_world.specs.World.{World, start, end_of, flushes, ticks, sent_at
 use Rattle.xns_world.proofs.CallCarries.{faces, same_read, quiet_holds}
 use Rattle.xns_world.specs.CallLaws.{Given}
 use Rattle.xns_world.proofs.CallQuiet.{IsQuiet, flush_quiet, tick_quiet, land_quiet}
-use Rattle.item_world.proofs.Foreign.{foreign_changes_nothing}
 use Rattle.xns_world.proofs.CallSettling.{steps_hold, settles_end}
 use Rattle.xns_world.specs.CallOrder.{CallsHold, AllListed, IsBetween, AreOnceInOrder, MeetNoFault}
 use Rattle.xns_world.specs.CallWorld.{Parties, CallWorld, or_caller, calls_made, put_out, next_out, outcomes_read, in_world, lists, makes, has_outcome, may_call, step_with, settles, arrived, delivers, call_happens, call_start, begun, run_calls, carried_at, seen_at, step}
@@ -118,7 +117,7 @@ pub happens_between : {S : Type 0} (p : Parties S) (w : CallWorld) (e : Event) �
 happens_between p w (Deliver k) g b = delivers_between p w k g b
 happens_between p w Rest g b = all_between p w (undelivered 0 w.world.bag) g b
 happens_between p w (Tick side) g b = settles_between p side (in_world w (ticks w.world side)) g (tick_between p w side g b)
-happens_between p w (Foreign side bytes) g b = subst (λ (v : World). IsBetween p (in_world w v)) (sym (foreign_changes_nothing g.answering.ends w.world side bytes)) b
+happens_between p w (Foreign side bytes) g b = subst (λ (v : World). IsBetween p (in_world w v)) (sym (g.foreign w.world side bytes)) b
 happens_between p w (Send side x) g b = b
 happens_between p w (Take side) g b = b
 

@@ -13,7 +13,7 @@ use Rattle.item_world.specs.World.{World, end_of, sends, handed_at}
 use Rattle.xns_world.proofs.CallCarries.{same_read, next_piece, sends_hold, feeds_hold, lists_hold, calls, makes_hold}
 use Rattle.xns_world.specs.CallLaws.{Given}
 use Rattle.xns_world.proofs.CallQuiet.{not_refused, send_accepts, take_hands_up}
-use Rattle.item_world.proofs.Sides.{same_end}
+use Rattle.xns_world.proofs.Sides.{same_end}
 use Rattle.xns_world.specs.CallOrder.{CallsHold, AllListed, IsBetween, Settles}
 use Rattle.xns_world.specs.CallWorld.{Parties, CallWorld, or_caller, calls_made, next_out, outcomes_read, in_world, sends_next, feeds, lists, makes, has_outcome, may_call, caller_step, step_with, step}
 use Rattle.xns_world.specs.Settling.{most_steps, steps}

@@ -1,6 +1,6 @@
 -- A server's end stays within its bounds, whatever packets come.
-use Rattle.std.proofs.Common.{◌≡◌, ◌∙◌, ℕ, List, [], ◌∷◌, ◌++◌, length, take, fold, Option, Some, None, Bool, true, false, Result, Ok, Err, sym, subst, arith}
-use Rattle.std.specs.Prelude.{All, if◌then◌else◌}
+use Rattle.std.proofs.Common.{◌≡◌, ◌∙◌, ℕ, List, [], ◌∷◌, ◌++◌, length, take, fold, Option, Some, None, Bool, true, false, Result, Ok, Err, refl, sym, ap, subst, arith}
+use Rattle.std.specs.Prelude.{All, if◌then◌else◌, is_ok}
 use Rattle.std.proofs.lemmas.List.{take_all, take-append-le}
 use Rattle.std.proofs.lemmas.List.Elements.{All-head, All-tail, All-take, All-weaker}
 use Rattle.xns_idp.specs.Packet.{AreBytes}
@@ -13,13 +13,14 @@ use Rattle.courier_messages.specs.declared.fault.SessionFault.TheVariants.{BadRe
 use Rattle.xns_spp.specs.Growth.{Begins}
 use Rattle.xns_spp.specs.Item.{IsItem, IsShortItem}
 use Rattle.xns_spp.specs.Receiving.{after_receive}
-use Rattle.xns_spp.specs.Sending.{after_flush}
+use Rattle.xns_spp.specs.Sending.{after_flush, after_send, send_answer}
 use Rattle.xns_spp.specs.State.{State, IsState}
 use Rattle.xns_spp.specs.declared.item.Item.{Item}
 use Rattle.item_world.proofs.Continues.{flush_continues, receive_continues, handed_same}
 use Rattle.xns_world.proofs.ServeOuts.{IfOut, step_out, out_same}
 use Rattle.xns_world.proofs.ServeSettling.{Keeps, left_of, step_goes}
 use Rattle.xns_world.proofs.Stepping.{IfGoesOn, steps_keep}
+use Rattle.item_world.specs.EndLaws.{EndLaws}
 use Rattle.xns_world.specs.CallLaws.{Answering}
 use Rattle.xns_world.specs.Serve.{Served, serve_settles, serve_receives, serve_hears}
 use Rattle.xns_world.specs.ServeBounds.{IsOutShort}
@@ -72,6 +73,22 @@ pub hears_all_within : {S : Type 0} (serving : Serving S) (s : S) (w : Served) (
 hears_all_within serving s w [] a brings h bytes = h
 hears_all_within serving s w (b ∷ bs) a brings h bytes =
     hears_all_within serving s (serve_hears serving s w b) bs a brings (hears_within serving s w b a brings h (All-head AreBytes b bs bytes)) (All-tail AreBytes b bs bytes)
+
+-- ---- while an item is out
+
+send_hands_up_nothing : EndLaws → (v : State) (x : Item) → handed_by (after_send v x) ≡ handed_by v
+send_hands_up_nothing laws v x =
+    let ok : Bool = is_ok (send_answer v x) in
+    elim ok as (λ b. ok ≡ b → handed_by (after_send v x) ≡ handed_by v) [
+      | true ↦ λ h. ap (λ (u : State). handed_by u) (laws.accepts.accepted v x h)
+      | false ↦ λ h. ap (λ (u : State). handed_by u) (laws.accepts.refused v x h)
+    ] refl
+
+pub still_handed : EndLaws → (v u : State) (x : Item) (full : Bool) → (if full then None else Some (after_send v x)) ≡ Some u → handed_by u ≡ handed_by v
+still_handed laws v u x true is = absurd (cc)
+still_handed laws v u x false is =
+    let same : after_send v x ≡ u = cc in
+    ap (λ (q : State). handed_by q) (sym same) ∙ send_hands_up_nothing laws v x
 
 -- ---- what the session keeps
 

@@ -4,7 +4,7 @@ use Rattle.courier_calls.specs.Calls.{Serving, IsFitting}
 use Rattle.courier_calls.specs.Laws.{WhatIsHeardStays, BothSidesAgree, SessionItemsCanBeSent, FirstFaultStays}
 use Rattle.xns_world.specs.CallWorld.{Parties}
 use Rattle.item_world.specs.EndLaws.{EndLaws}
-use Rattle.item_world.specs.Laws.{EachStepKeepsTheOrder}
+use Rattle.item_world.specs.Laws.{EachStepKeepsTheOrder, ForeignBytesChangeNothing}
 
 -- of an end, and of a server's session that began in the state s
 pub record Answering {S : Type 0} (serving : Serving S) (s : S) : Type 0 where
@@ -15,6 +15,7 @@ pub record Answering {S : Type 0} (serving : Serving S) (s : S) : Type 0 where
 -- of an end, of the network and of these parties' sessions
 pub record Given {S : Type 0} (p : Parties S) : Type 0 where
   pub world : EachStepKeepsTheOrder
+  pub foreign : ForeignBytesChangeNothing
   pub heard : WhatIsHeardStays p.serving
   pub agree : BothSidesAgree p.serving p.service
   pub answering : Answering p.serving p.service

@@ -1,5 +1,5 @@
 -- What bounds a server's end and its session, whatever packets come.
-use Rattle.std.specs.Prelude.{◌≡◌, ◌≤◌, ℕ, List, length, drop, Ok, Some, None, if◌then◌else◌}
+use Rattle.std.specs.Prelude.{◌≡◌, ◌≤◌, ℕ, List, length, drop, Ok, Some}
 use Rattle.courier_messages.specs.RawCalls.{RawCall}
 use Rattle.courier_calls.specs.Calls.{Serving, decision, HasWords}
 use Rattle.courier_messages.specs.Conversation.{Phase}
@@ -8,7 +8,6 @@ use Rattle.courier_messages.specs.Message.{most_bytes}
 use Rattle.courier_messages.specs.Bounds.{IsBounded, bytes_in}
 use Rattle.courier_messages.specs.Laws.{IsShort}
 use Rattle.courier_calls.specs.Server.{server_ending, server_items, server_state}
-use Rattle.xns_spp.specs.Sending.{is_full, after_send}
 use Rattle.xns_spp.specs.State.{State, IsState}
 use Rattle.xns_spp.specs.declared.item.Item.{Item}
 use Rattle.xns_world.specs.Serve.{Served}
@@ -26,11 +25,11 @@ IsOutShort serving s v = length (bytes_in (items_out serving s v)) ≤ most_byte
 pub record IsServedWithin {S : Type 0} (serving : Serving S) (s : S) (w : Served) : Type 0 where
   -- at most window items wait or are early, and at most backlog are unacknowledged
   pub end : IsState w.end
-  -- the session keeps fewer than four bytes of the versions, or at most 131,072 bytes of an incoming message
+  -- where its session has met no fault, it keeps fewer than four bytes of the versions, or at most 131,072 bytes of an incoming message
   pub kept : (p : Phase) → server_ending (handed_by w.end) ≡ Ok p → IsBounded p
   -- the answer to whatever call it decides next has at most 131,072 bytes
   pub answer : (transaction : ℕ) (call : RawCall) → HasWords call → IsShort (answer_message transaction (decision serving (server_state serving s (handed_by w.end)) call))
-  -- while an item is out no other is handed up to the session, so no call is decided
-  pub alone : (x : Item) → next_of serving s w.end ≡ Some x → serve_step serving s w.end ≡ (if is_full w.end then None else Some (after_send w.end x))
+  -- while an item is out, a step of the end hands no other up to the session, so no call is decided
+  pub alone : (x : Item) (v : State) → next_of serving s w.end ≡ Some x → serve_step serving s w.end ≡ Some v → handed_by v ≡ handed_by w.end
   -- all that is out has at most 131,072 bytes
   pub out : IsOutShort serving s w.end

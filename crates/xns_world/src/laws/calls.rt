@@ -10,7 +10,9 @@ use courier_calls::Service;
 use courier_calls::laws::{
     both_sides_agree, first_fault_stays, session_items_can_be_sent, what_is_heard_stays,
 };
-use item_world::laws::{each_step_keeps_the_order, end_laws_are_given};
+use item_world::laws::{
+    each_step_keeps_the_order, end_laws_are_given, foreign_bytes_change_nothing,
+};
 
 /// Over every list of deliveries, losses, repeats and reorderings each call is carried out at most once and in order, and the k-th outcome
 /// that the caller sees is the server's to its k-th call; neither session ever meets a fault; and a side that settles always comes to
@@ -26,6 +28,7 @@ pub(crate) fn laws_are_given<S: Service>()
     ensures { (p : Parties S) → AreParties S.serving S.IsServiceState p → Given p }
 {
     each_step_keeps_the_order();
+    foreign_bytes_change_nothing();
     what_is_heard_stays::<S>();
     both_sides_agree::<S>();
     server_laws_are_given::<S>();

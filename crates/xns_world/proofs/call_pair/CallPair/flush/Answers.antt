@@ -1,6 +1,6 @@
 use Rattle.std.proofs.Common.{◌≡◌, subst}
 use Rattle.xns_world.proofs.CallPlays.{acts_at}
-use Rattle.item_world.proofs.Continues.{ok_then}
+use Rattle.xns_world.proofs.Results.{ok_then}
 use Rattle.item_world.specs.Network.{IsEnd}
 use Rattle.item_world.specs.World.{World, flushes}
 use Rattle.item_world.specs.declared.side.Side.{Side}

@@ -1,7 +1,7 @@
 use Rattle.std.proofs.Common.{subst}
 use Rattle.xns_world.proofs.CallPlays.{landed, delivers_nowhere, delivers_to}
-use Rattle.item_world.proofs.Continues.{ok_then}
-use Rattle.item_world.proofs.Plays.{some_landing}
+use Rattle.xns_world.proofs.Results.{ok_then}
+use Rattle.xns_world.proofs.Landings.{some_landing}
 use Rattle.xns_world.specs.CallPlay.{IsCallPlaying}
 use Rattle.xns_world.specs.CallWorld.{CallWorld, in_world}
 use Rattle.item_world.specs.Landing.{landing}

@@ -1,6 +1,6 @@
 use Rattle.std.proofs.Common.{ℕ, List, fold, ◌∙◌, ap, sym, subst}
 use Rattle.xns_world.proofs.CallPlays.{delivering}
-use Rattle.item_world.proofs.Continues.{ok_then}
+use Rattle.xns_world.proofs.Results.{ok_then}
 use Rattle.item_world.proofs.Resting.{unsettled_is_enough}
 use Rattle.xns_world.specs.CallPlay.{IsCallPlaying}
 use Rattle.xns_world.specs.CallWorld.{CallWorld, delivers}

@@ -9,4 +9,4 @@ returns g c p are =
       agree = c.both_sides_agree.ensures;
       answering = c.server_laws_are_given.ensures;
     } in
-    given serving g.S.Service.IsServiceState c.each_step_keeps_the_order.ensures laws p are
+    given serving g.S.Service.IsServiceState c.each_step_keeps_the_order.ensures c.foreign_bytes_change_nothing.ensures laws p are

@@ -1,7 +1,8 @@
-use Rattle.std.proofs.Common.{Option, ap, refl}
+use Rattle.std.proofs.Common.{◌≡◌, Option, Some, subst, refl}
 use Rattle.courier_calls.specs.Server.{server_state}
+use Rattle.xns_spp.specs.Sending.{is_full}
 use Rattle.xns_spp.specs.declared.item.Item.{Item}
-use Rattle.xns_world.proofs.ServeBounds.{Within, handed_items, steps_within, settles_within, hears_all_within, kept_ending}
+use Rattle.xns_world.proofs.ServeBounds.{Within, handed_items, steps_within, settles_within, hears_all_within, still_handed, kept_ending}
 use Rattle.xns_world.proofs.ServeOuts.{out_first}
 use Rattle.xns_world.specs.Serve.{serve, serve_start, serve_settles}
 use Rattle.xns_world.specs.Settling.{handed_by, end_step_with}
@@ -24,7 +25,7 @@ returns-clause-ends g c s setup packets can fits good bytes =
       end = within.fits;
       kept = λ p is. c.what_is_kept_is_bounded.ensures (handed_by v) p (kept_ending (handed_by v) p is);
       answer = λ transaction call words. c.answers_are_short.ensures (server_state serving s (handed_by v)) transaction call (c.service_stays_in_its_states.ensures.items s (handed_by v) can (handed_items v within.fits)) words;
-      alone = λ x is. ap (λ (o : Option Item). end_step_with v o) is;
+      alone = λ x u is step. still_handed answering.ends v u x (is_full v) (subst (λ (o : Option Item). end_step_with v o ≡ Some u) is step);
       out = within.out;
     }
 
