@@ -87,6 +87,20 @@ text2pcap -q -r '^(?<data>[0-9a-f]+)$' mixture.hex mixture.pcap 2> /dev/null
 xns_hex -r mixture.pcap 2> /dev/null | xns dump > from_mixture
 same 'a mixture' mixture_expected from_mixture
 
+# ---- calls, and one conversation of them
+
+worked() {
+    awk '/^#/ {there = $0 == "# two connections"; next} there' "$root/crates/test_captures/$1"
+}
+worked stdin > calls.hex
+worked stdout > calls_expected
+text2pcap -q -r '^(?<data>[0-9a-f]+)$' -e 0x600 calls.hex calls.pcap 2> /dev/null
+xns_hex -r calls.pcap 2> /dev/null | xns calls > from_calls
+same 'the calls of a capture' calls_expected from_calls
+grep -E '^[0-9]+ 2[ab] ' calls_expected > second_expected
+xns_hex -r calls.pcap 2> /dev/null | xns calls | grep -E '^[0-9]+ 2[ab] ' > from_second
+same 'one conversation' second_expected from_second
+
 # ---- live, from a pipe in the place of an interface
 
 xns_hex -l -i - < ethernet.pcap 2> /dev/null | xns dump > from_live

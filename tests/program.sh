@@ -110,6 +110,32 @@ expect 'the packets of the examples' 0 '' -
 [ "$(grep -c '^[0-9]* idp length ' "$work/out")" -eq 8 ] && ! grep -q ' refused ' "$work/out"
 saw 'the examples have not 8 packets' $?
 
+# ---- calls of a capture
+
+# What stands behind a name in a file of captures.
+behind() {
+    awk -v name="# $1" '/^#/ {there = $0 == name; next} there' "$2"
+}
+
+# Calls and answers whose items come out of order, an Echo request, which prints nothing, and a line that is no packet.
+behind reordered crates/test_captures/stdin > "$work/in"
+behind reordered crates/test_captures/stdout > "$work/text"
+[ "$(grep -c ' call \| return ' "$work/text")" -eq 2 ]
+saw 'no call with its answer to print' $?
+run calls
+expect 'calls and answers out of order' 0 '' "$work/text"
+cat "$work/packet" >> "$work/in"
+echo 5g >> "$work/in"
+echo "$(wc -l < "$work/in") hex refused Digit 1" >> "$work/text"
+run calls
+expect 'the same before a refused line' 1 '' "$work/text"
+cat "$work/in" > "$work/conversation"
+cat "$work/text" > "$work/conversation.text"
+
+: > "$work/in"
+run calls
+expect 'no input for calls' 0 '' "$work/nothing"
+
 # ---- plays of calls
 
 # The program on the lines of $work/in prints the words, each as a line.
@@ -232,6 +258,26 @@ expect 'a directory as reader' 3 'xns: read fault' "$work/text"
 ended=$?
 expect 'a closed reader' 3 'xns: read fault' "$work/text"
 
+# Of calls the same faults, behind the text of the lines before them.
+{ cat "$work/conversation" && repeat 4097 ' '; } > "$work/in"
+run calls
+expect 'a line of 4,097 bytes after calls' 3 'xns: line too long' "$work/conversation.text"
+{ cat "$work/conversation" && repeat 65536 '\n'; } > "$work/in"
+run calls
+head -n "$(wc -l < "$work/conversation.text")" "$work/out" > "$work/head"
+lines=$(wc -l < "$work/out")
+cp "$work/head" "$work/out"
+expect 'more than 65,536 lines of calls' 3 'xns: too many lines' "$work/conversation.text"
+[ "$lines" -eq $((65536 - $(wc -l < "$work/conversation") + $(wc -l < "$work/conversation.text"))) ]
+saw 'the text of 65,536 lines is not there' $?
+cat "$work/conversation" > "$work/in"
+"$program" calls < "$work/in" > /dev/full 2> "$work/err"
+ended=$?
+expect 'calls for a full device' 3 'xns: write fault' -
+"$program" calls < / > "$work/out" 2> "$work/err"
+ended=$?
+expect 'a directory as capture' 3 'xns: read fault' "$work/nothing"
+
 repeat 65536 '\n' > "$work/in"
 plays '65,536 lines of a script' 0 'calls 0' 'carried 0' 'total 0' 'packets 0'
 { echo 'tick c' && repeat 65537 '\n'; } > "$work/in"
@@ -261,10 +307,10 @@ expect 'a directory as script' 3 'xns: read fault' "$work/nothing"
 
 : > "$work/in"
 run
-expect 'no subcommand' 2 "error: 'xns' requires a subcommand but one was not provided; the subcommands are dump and sim; try 'xns --help'" "$work/nothing"
+expect 'no subcommand' 2 "error: 'xns' requires a subcommand but one was not provided; the subcommands are dump, calls and sim; try 'xns --help'" "$work/nothing"
 
 run play
-expect 'another subcommand' 2 "error: unrecognized subcommand 'play'; the subcommands are dump and sim; try 'xns --help'" "$work/nothing"
+expect 'another subcommand' 2 "error: unrecognized subcommand 'play'; the subcommands are dump, calls and sim; try 'xns --help'" "$work/nothing"
 
 run dump file
 expect 'a word too many' 2 "error: unexpected argument 'file' found; try 'xns --help'" "$work/nothing"
@@ -275,10 +321,13 @@ expect 'an option that is none' 2 "error: unexpected argument '--loud' found; tr
 run "$(printf 'dump\377')"
 expect 'a word that is not UTF-8' 2 "error: a word of the command line is not UTF-8; try 'xns --help'" "$work/nothing"
 
+run calls file
+expect 'a word too many behind calls' 2 "error: unexpected argument 'file' found; try 'xns --help'" "$work/nothing"
+
 run sim file
 expect 'a word too many behind sim' 2 "error: unexpected argument 'file' found; try 'xns --help'" "$work/nothing"
 
-for words in --help -h 'dump --help' 'sim --help' 'help' 'help dump' 'help sim'; do
+for words in --help -h 'dump --help' 'calls --help' 'sim --help' 'help' 'help dump' 'help calls' 'help sim'; do
     # shellcheck disable=SC2086
     run $words
     expect "$words" 0 '' -
@@ -286,7 +335,7 @@ for words in --help -h 'dump --help' 'sim --help' 'help' 'help dump' 'help sim';
     saw "$words: no usage on standard output" $?
 done
 
-for words in --help 'dump --help' 'sim --help'; do
+for words in --help 'dump --help' 'calls --help' 'sim --help'; do
     # shellcheck disable=SC2086
     run $words
     for said in 'standard input' 'Example'; do
@@ -296,7 +345,7 @@ for words in --help 'dump --help' 'sim --help'; do
 done
 
 # The limits that help names are those that hold: a line of so many bytes and so many lines are read, and not one more.
-for words in --help 'dump --help' 'sim --help'; do
+for words in --help 'dump --help' 'calls --help' 'sim --help'; do
     # shellcheck disable=SC2086
     run $words
     tr '\n' ' ' < "$work/out" | tr -d , > "$work/said"
@@ -335,7 +384,7 @@ take_front() {
     head -c "$(wc -c < "$work/out")" "$work/text" > "$work/front"
 }
 
-# Each read fails in turn, then each write: `dump` has written a front of the text, `sim` nothing before a failed write. Nothing fails in the last run.
+# Each read fails in turn, then each write: `dump` and `calls` have written a front of the text, `sim` nothing before a failed write. Nothing fails in the last run.
 fail_streams() {
     mode=$1 fine=$2
     library=$work/fail_streams.so
@@ -365,7 +414,7 @@ run_refusing() {
     ended=$?
 }
 
-# Each growth is refused in turn: the whole text, or 3 and of `dump` a front of the text, of `sim` nothing.
+# Each growth is refused in turn: the whole text, or 3 and of `dump` and `calls` a front of the text, of `sim` nothing.
 refuse_growths() {
     mode=$1 fine=$2
     growth=1
@@ -410,7 +459,7 @@ refuse_mistaken() {
 }
 
 : > "$work/in"
-refuse_mistaken "error: unrecognized subcommand 'play'; the subcommands are dump and sim; try 'xns --help'" play
+refuse_mistaken "error: unrecognized subcommand 'play'; the subcommands are dump, calls and sim; try 'xns --help'" play
 refuse_mistaken "error: unexpected argument 'extra' found; try 'xns --help'" dump extra
 
 { cat "$work/packet" && echo 5g; } > "$work/in"
@@ -420,11 +469,19 @@ MOST=50
 export MOST
 fail_streams dump 1
 
+cat "$work/conversation" > "$work/in"
+cat "$work/conversation.text" > "$work/text"
+fail_streams calls 1
+
 cat $crate/stdin > "$work/in"
 cat $crate/stdout > "$work/text"
 fail_streams sim 0
 unset MOST
 refuse_growths sim 0
+
+cat "$work/conversation" > "$work/in"
+cat "$work/conversation.text" > "$work/text"
+refuse_growths calls 1
 
 library=$work/fail_streams.so
 echo 'tick c' > "$work/in"

@@ -89,9 +89,13 @@ begin_track heading packet f None s = record s { own = record s.own { track = So
 unfoldable pub begun : Heading → PacketModel → Header → Scene → Scene
 begun heading packet f s = begin_track heading packet f s.own.track s
 
+-- an item of that number was read or passed over, or it is kept
+abbrev pub is_repeat : ℕ → Track → Bool
+is_repeat number track = nat_lt number track.next || list_any (λ early. early.number == number) track.early
+
 abbrev pub unless_repeat : Track → Option ℕ → Option ℕ
 unless_repeat track None = None
-unless_repeat track (Some number) = if nat_lt number track.next || list_any (λ early. early.number == number) track.early then None else Some number
+unless_repeat track (Some number) = if is_repeat number track then None else Some number
 
 -- the number of an item, where it is no repeat
 abbrev pub new_number : Option Track → ℕ → Option ℕ

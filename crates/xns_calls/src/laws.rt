@@ -1,25 +1,38 @@
 //! Laws of the definitions, as functions that do nothing.
-ghost use Rattle.std.specs.Prelude.{◌≡◌, ◌++◌, [], List, ℕ, IfOk, codes};
-ghost use Rattle.courier_messages.specs.Conversation.{conversation, ending, opening};
-ghost use Rattle.courier_messages.specs.declared.message.Message as messages;
-ghost use Rattle.xns_spp.specs.declared.item.Item as items;
-ghost use Rattle.xns_calls.specs.Listening.{messages_heard};
-ghost use Rattle.xns_calls.specs.declared.speech.Speech.TheVariants.{Hearing};
-ghost use Rattle.xns_calls.specs.Calls.{calls_text, has_refusal};
-ghost use Rattle.xns_dump.specs.Dump.Line.{has_word};
+ghost use Rattle.xns_calls.specs.Laws.{AnItemIsAnEvent, NothingIsMissing, NothingIsMissingAtTheEnd, RepeatsSayNothing, TheAnswerSaysRefused, WhatIsHeardIsTheConversation};
 
 use courier_messages::laws::conversation_is_read_sign_by_sign;
 
 /// What is heard of a flow from its version range on begins with the messages of the conversation of its items, and there
 /// is no more of it where the conversation has no fault.
 pub fn what_is_heard_is_the_conversation()
-    ensures begins { (fed : List items.Item) → (rest : List messages.Message) × (conversation fed ++ rest ≡ messages_heard (Hearing (opening [])) fed) }
-    ensures whole { (fed : List items.Item) → IfOk (ending fed) (λ phase. conversation fed ≡ messages_heard (Hearing (opening [])) fed) }
+    ensures { WhatIsHeardIsTheConversation }
 {
     conversation_is_read_sign_by_sign();
 }
 
 /// The answer of `calls` is true exactly where its text has the word `refused`.
 pub fn the_answer_says_refused()
-    ensures { (input : List ℕ) → has_word (codes "refused") (calls_text input) ≡ has_refusal input }
+    ensures { TheAnswerSaysRefused }
+{}
+
+/// What a data packet does to its flow is the event of its item, with the number that its field stands for.
+pub fn an_item_is_an_event()
+    ensures { AnItemIsAnEvent }
+{}
+
+/// Where each item of a flow is captured within 63 numbers of its place, and before it is acknowledged, no item is said to
+/// be missing.
+pub fn nothing_is_missing()
+    ensures { NothingIsMissing }
+{}
+
+/// An item that was captured before changes nothing and says nothing.
+pub fn repeats_say_nothing()
+    ensures { RepeatsSayNothing }
+{}
+
+/// Items are said to be missing only where a later one was captured.
+pub fn nothing_is_missing_at_the_end()
+    ensures { NothingIsMissingAtTheEnd }
 {}

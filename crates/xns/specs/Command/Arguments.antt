@@ -6,13 +6,17 @@ use Rattle.clap.specs.Kinds.{or_else}
 use Rattle.clap.specs.Words.{App, Kinds, Text, fault_of, new_app, subcommand_of, with_subcommand}
 use Rattle.clap.specs.declared.error.kind.ErrorKind.TheVariants as kind
 use Rattle.xns.specs.declared.command.modes.Mode.{Mode}
-use Rattle.xns.specs.declared.command.modes.Mode.TheVariants.{Dump, Sim}
+use Rattle.xns.specs.declared.command.modes.Mode.TheVariants.{Calls, Dump, Sim}
 
--- `xns` with the subcommands `dump` and `sim`, one of which is required
-abbrev pub xns_command : App
-xns_command =
-    let subcommands = with_subcommand (with_subcommand (new_app (codes "xns")) (new_app (codes "dump")).top) (new_app (codes "sim")).top in
+-- `xns` with the subcommands that read captures, `dump` and `calls`; a subcommand is required
+abbrev pub reading_command : App
+reading_command =
+    let subcommands = with_subcommand (with_subcommand (new_app (codes "xns")) (new_app (codes "dump")).top) (new_app (codes "calls")).top in
     record subcommands { top = record subcommands.top { subcommand_required = true } }
+
+-- the program's command, with `sim` behind these
+abbrev pub xns_command : App
+xns_command = with_subcommand reading_command (new_app (codes "sim")).top
 
 -- the subcommand that the words name, by clap's meaning
 abbrev pub named_subcommand : List Text → Option Text
@@ -20,11 +24,12 @@ named_subcommand words = option_map (λ p. p.0) (subcommand_of xns_command words
 
 abbrev pub name_of : Mode → Text
 name_of Dump = codes "dump"
+name_of Calls = codes "calls"
 name_of Sim = codes "sim"
 
 abbrev pub is_mode : Option Text → Bool
 is_mode None = false
-is_mode (Some name) = bytes_eq name (codes "dump") || bytes_eq name (codes "sim")
+is_mode (Some name) = bytes_eq name (codes "dump") || bytes_eq name (codes "calls") || bytes_eq name (codes "sim")
 
 -- the kinds of error with which words may be refused: those of clap's meaning, and else that no mode is named
 abbrev pub refusals_of : List Text → Kinds

@@ -1,0 +1,5 @@
+use Rattle.xns_calls.proofs.Gaps.{repeated}
+use Rattle.xns_calls.proofs.laws.repeats_say_nothing.Goals as goal
+
+pub returns : goal.returns
+returns c = repeated

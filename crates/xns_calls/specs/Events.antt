@@ -1,0 +1,76 @@
+-- What happens to one flow, with numbers in the place of fields.
+use Rattle.std.specs.Prelude.{◌≡◌, ℕ, ◌+◌, ◌-◌, ◌≤◌, ◌<◌, ◌==◌, ◌⊎◌, if◌then◌else◌, List, [], ◌∷◌, Option, Some, None}
+use Rattle.xns_spp.specs.declared.item.Item.{Item}
+use Rattle.xns_calls.specs.Exchange.{is_repeat, up_to}
+use Rattle.xns_calls.specs.Queue.{kept, last_number}
+use Rattle.xns_calls.specs.Reading.{Told, brought, read_next}
+use Rattle.xns_calls.specs.declared.early.Early.{Early}
+use Rattle.xns_calls.specs.declared.heading.Heading.{Heading}
+
+-- an item of the flow is captured, or a packet that acknowledges all its items below a number
+pub data Event : Type 0 where
+  captured : Heading → ℕ → Item → Event
+  acknowledged : Heading → ℕ → Event
+
+abbrev pub with_kept_item : ℕ → Item → Told → Told
+with_kept_item number item t = record t { track = record t.track { early = kept number item t.track.early } }
+
+abbrev pub brought_if : Heading → Option ℕ → Told → Told
+brought_if heading None t = t
+brought_if heading (Some number) t = brought heading number t
+
+-- what an event does to the flow
+abbrev pub after_event : Event → Told → Told
+after_event (captured heading number item) t =
+    if is_repeat number t.track then t
+    else brought heading 0 (with_kept_item number item (brought heading (number - 63) t))
+after_event (acknowledged heading number) t = brought_if heading (up_to (last_number t.track.early) (Some number)) t
+
+abbrev pub after_events : List Event → Told → Told
+after_events [] t = t
+after_events (e ∷ more) t = after_events more (after_event e t)
+
+-- ---- the same where nothing is missing: the items that are kept are read while they come next
+
+abbrev pub read_on_over : Heading → List Early → Told → Told
+read_on_over heading [] t = t
+read_on_over heading (early ∷ rest) t =
+    if early.number == t.track.next then read_on_over heading rest (read_next heading (early.number + 1) early.item (record t { track = record t.track { early = rest } }))
+    else t
+
+abbrev pub read_on : Heading → Told → Told
+read_on heading t = read_on_over heading t.track.early t
+
+abbrev pub after_whole_event : Event → Told → Told
+after_whole_event (captured heading number item) t = if is_repeat number t.track then t else read_on heading (with_kept_item number item t)
+after_whole_event (acknowledged heading number) t = t
+
+abbrev pub after_whole_events : List Event → Told → Told
+after_whole_events [] t = t
+after_whole_events (e ∷ more) t = after_whole_events more (after_whole_event e t)
+
+-- ---- which items are captured
+
+abbrev pub IsAmong : ℕ → List ℕ → Type 0
+IsAmong number [] = ⊥
+IsAmong number (n ∷ more) = (number ≡ n) ⊎ IsAmong number more
+
+abbrev pub with_captured : Event → List ℕ → List ℕ
+with_captured (captured heading number item) before = number ∷ before
+with_captured (acknowledged heading number) before = before
+
+-- the numbers of the items that are captured, those of `before` among them
+abbrev pub captured_in : List Event → List ℕ → List ℕ
+captured_in [] before = before
+captured_in (e ∷ more) before = captured_in more (with_captured e before)
+
+-- the items from `first` on which were sent so long before the event that they have to be captured by then: they lie 64 or more before an item,
+-- or they are acknowledged
+abbrev pub IsLate : Event → ℕ → Type 0
+IsLate (captured heading number item) n = n + 63 < number
+IsLate (acknowledged heading number) n = n < number
+
+-- each item from `first` on is captured within 63 numbers of its place, and before it is acknowledged
+abbrev pub AreWithin63 : ℕ → List ℕ → List Event → Type 0
+AreWithin63 first before [] = Unit {0}
+AreWithin63 first before (e ∷ more) = ((n : ℕ) → first ≤ n → IsLate e n → IsAmong n before) × AreWithin63 first (with_captured e before) more

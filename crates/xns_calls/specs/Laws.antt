@@ -1,0 +1,44 @@
+-- What the laws say: of what is heard, and of items that the capture lacks.
+use Rattle.std.specs.Prelude.{◌≡◌, ℕ, ◌+◌, ◌≤◌, ◌<◌, ◌⊎◌, List, [], ◌++◌, IfOk, codes, Some}
+use Rattle.xns_spp.specs.declared.item.Item.{Item}
+use Rattle.xns_spp.specs.declared.header.Header.{Header}
+use Rattle.courier_messages.specs.Conversation.{conversation, ending, opening}
+use Rattle.courier_messages.specs.declared.message.Message.{Message}
+use Rattle.xns_dump.specs.Dump.Line.{has_word}
+use Rattle.xns_calls.specs.Calls.{calls_text, has_refusal}
+use Rattle.xns_calls.specs.Events.{AreWithin63, Event, IsAmong, after_event, after_events, after_whole_events, captured, captured_in}
+use Rattle.xns_calls.specs.Exchange.{Scene, after_told, advance_other, take_number, told_of}
+use Rattle.xns_calls.specs.Listening.{messages_heard}
+use Rattle.xns_calls.specs.Numbers.{near}
+use Rattle.xns_calls.specs.Reading.{Told}
+use Rattle.xns_calls.specs.declared.heading.Heading.{Heading}
+use Rattle.xns_calls.specs.declared.speech.Speech.TheVariants.{Hearing}
+use Rattle.xns_calls.specs.declared.track.Track.{Track}
+
+-- what is heard of a flow from its version range on begins with the conversation of its items, and is all of it where that has no fault
+pub record WhatIsHeardIsTheConversation : Type 0 where
+  pub begins : (fed : List Item) → (rest : List Message) × (conversation fed ++ rest ≡ messages_heard (Hearing (opening [])) fed)
+  pub whole : (fed : List Item) → IfOk (ending fed) (λ phase. conversation fed ≡ messages_heard (Hearing (opening [])) fed)
+
+-- the answer of `calls` is true exactly where its text has the word `refused`
+abbrev pub TheAnswerSaysRefused : Type 0
+TheAnswerSaysRefused = (input : List ℕ) → has_word (codes "refused") (calls_text input) ≡ has_refusal input
+
+-- what a data packet does to its flow is the event of its item, with the number that its field stands for
+abbrev pub AnItemIsAnEvent : Type 0
+AnItemIsAnEvent = (h : Heading) (f : Header) (item : Item) (s : Scene) (track : Track) (number : ℕ) → s.own.track ≡ Some track → near track.next f.sequence ≡ Some number
+    → take_number h f item s ≡ after_told (after_event (captured h number item) (told_of track s)) s
+
+-- where each item of a flow is captured within 63 numbers of its place, and before it is acknowledged, none is missing: what is said is what is said without the line of missing items
+abbrev pub NothingIsMissing : Type 0
+NothingIsMissing = (events : List Event) (t : Told) → t.track.early ≡ [] → AreWithin63 t.track.next [] events → after_events events t ≡ after_whole_events events t
+
+-- an item that was captured before changes nothing and says nothing
+abbrev pub RepeatsSayNothing : Type 0
+RepeatsSayNothing = (events : List Event) (h : Heading) (number : ℕ) (item : Item) (t : Told) → t.track.early ≡ [] → (number < t.track.next) ⊎ IsAmong number (captured_in events [])
+    → after_event (captured h number item) (after_events events t) ≡ after_events events t
+
+-- no item is passed over but before one that is captured: the next item is never more than one behind the last that is
+abbrev pub NothingIsMissingAtTheEnd : Type 0
+NothingIsMissingAtTheEnd = (events : List Event) (t : Told) (most : ℕ) → t.track.early ≡ [] → t.track.next ≤ most + 1 → ((n : ℕ) → IsAmong n (captured_in events []) → n ≤ most)
+    → (after_events events t).track.next ≤ most + 1
