@@ -18,6 +18,8 @@ prints the medians and their ratio.
                                           1,000, 10,000 and 65,535 items each way, to see that their time grows with the packets
     python3 bench/compare.py dump         `xns dump` of 65,536 packets in hex: of types that no layer reads, of types 2 to 4, sequenced ones of 1, 1,000 and
                                           65,536 flows, and those that end messages of Courier; and the largest resident memory of each
+    python3 bench/compare.py captures     `xns calls` of 65,536 packets in hex: short calls of one connection, out of order, long ones, each in a flow
+                                          of its own, and messages that never end; beside a peer and beside `xns dump` of the same
 
 The proved program is built by `rt run` in its crate, the peer by `rustc -O`. Absolute times say little on a shared machine; the
 ratio is of processor time in one run. What is printed is thrown away, once it is known that both print the same; that of `xns dump` goes
@@ -140,6 +142,14 @@ def main():
                 print("    into a file:", end=" ", flush=True)
                 compare([ours, "dump"], [peer], given, pathlib.Path(folder) / "output")
                 print(f"    ours holds {held_by([ours, 'dump'], given)} KiB at most, the peer {held_by([peer], given)}")
+        elif which == "captures":
+            ours, peer = built_program("xns"), built_peer("captures_peer", folder)
+            for which in ("short", "reversed", "long", "flows", "endless", "endless-flows"):
+                given.write_bytes(subprocess.run([sys.executable, BENCH / "captures.py", which], stdout=subprocess.PIPE, check=True).stdout)
+                print(f"{which}:", end=" ", flush=True)
+                medians = compare([ours, "calls"], [peer], given)
+                dump = statistics.median(seconds_of([ours, "dump"], given) for _ in range(RUNS))
+                print(f"    {medians['ours'] / dump:.2f} of the time of dump; ours holds {held_by([ours, 'calls'], given)} KiB at most, the peer {held_by([peer], given)}")
         elif which == "sim":
             ours, peer = built_program("xns"), built_peer("sim_peer", folder)
             for words in (["2500"], ["5000"], ["10000"], ["5000", "6"]):

@@ -12,7 +12,8 @@ for tool in tshark text2pcap; do
 done
 work=$(mktemp -d)
 trap 'rm -rf "$work"' EXIT
-program=$PWD/crates/xns/out/xns
+root=$PWD
+program=$root/crates/xns/out/xns
 rm -f "$program"
 if ! (cd crates/xns && rt run -- sim < stdin) > "$work/build" 2>&1 || [ ! -x "$program" ]; then
     cat "$work/build"

@@ -1,0 +1,218 @@
+// A plain Rust `calls` (no proofs, std alone): what a user would write without us, to be timed beside `xns calls`. It prints the same lines.
+use std::collections::{BTreeMap, HashMap};
+use std::io::{self, BufRead, Write};
+
+fn nibble(c: u8) -> Option<u8> {
+    match c { b'0'..=b'9' => Some(c - b'0'), b'a'..=b'f' => Some(c - b'a' + 10), b'A'..=b'F' => Some(c - b'A' + 10), _ => None }
+}
+
+fn cycle(b: &[u8]) -> u16 {
+    let mut s: u32 = 0;
+    for w in b.chunks_exact(2) {
+        s += u32::from(u16::from_be_bytes([w[0], w[1]]));
+        s = (s & 0xffff) + (s >> 16);
+        s = ((s << 1) & 0xffff) | (s >> 15);
+    }
+    if s == 0xffff { 0 } else { s as u16 }
+}
+
+fn be(b: &[u8]) -> u64 { b.iter().fold(0, |a, x| a << 8 | u64::from(*x)) }
+
+// The number nearest to `next` of which the field is the lowest 16 bits, if there is one.
+fn nearest(next: u64, field: u64) -> Option<u64> {
+    let least = next + 32768;
+    (least + (field + 65536 - least % 65536) % 65536).checked_sub(65536)
+}
+
+// A flow: host, socket and identifier of its source, then of its target.
+type Key = [u8; 20];
+
+fn behind(key: &Key) -> Key {
+    let mut other = [0; 20];
+    other[..10].copy_from_slice(&key[10..]);
+    other[10..].copy_from_slice(&key[..10]);
+    other
+}
+
+struct Item { stream: u8, last: bool, body: Vec<u8> }
+
+enum Said { Range(Vec<u8>), Behind, Message(Vec<u8>), Waiting }
+
+struct Track { next: u64, early: BTreeMap<u64, Item>, said: Said }
+
+#[derive(Default)]
+struct Side { track: Option<Track>, call: Option<(u64, u32)> }
+
+struct Name { line: u32, connection: usize, side: char }
+
+fn words(out: &mut Vec<u8>, b: &[u8]) {
+    if b.is_empty() { out.push(b'-'); }
+    for (i, w) in b.chunks(2).enumerate() {
+        if i > 0 { out.push(b' '); }
+        write!(out, "{:02x}{:02x}", w[0], w[1]).unwrap();
+    }
+    out.push(b'\n');
+}
+
+fn behind_mark(last: bool) -> Said { if last { Said::Message(Vec::new()) } else { Said::Waiting } }
+
+const MOST: usize = 131_072;
+
+// A whole message, or why it is none.
+fn message(out: &mut Vec<u8>, name: &Name, d: &[u8], own: &mut Option<(u64, u32)>, asked: &mut Option<(u64, u32)>) -> Result<(), String> {
+    if d.len() % 2 == 1 { return Err("OddLength".into()); }
+    if d.len() < 2 { return Err("ShortMessage".into()); }
+    let kind = be(&d[..2]);
+    let head = match kind { 0 => 12, 1 | 3 => 6, 2 => 4, _ => return Err(format!("UnknownKind {kind}")) };
+    if d.len() < head { return Err("ShortMessage".into()); }
+    let transaction = be(&d[2..4]);
+    write!(out, "{} {}{} ", name.line, name.connection, name.side).unwrap();
+    if kind == 0 {
+        *own = Some((transaction, name.line));
+        write!(out, "call {transaction} program {} version {} procedure {} args ", be(&d[4..8]), be(&d[8..10]), be(&d[10..12])).unwrap();
+    } else {
+        let of = match *asked { Some((t, line)) if t == transaction => { *asked = None; line.to_string() } _ => "-".into() };
+        match kind {
+            1 => write!(out, "reject {transaction} of {of} reason {} words ", be(&d[4..6])),
+            2 => write!(out, "return {transaction} of {of} results "),
+            _ => write!(out, "abort {transaction} of {of} error {} args ", be(&d[4..6])),
+        }.unwrap();
+    }
+    words(out, &d[head..]);
+    Ok(())
+}
+
+// Hears one more item, and gives why what was said is refused.
+fn hear(out: &mut Vec<u8>, name: &Name, said: &mut Said, item: Item, own: &mut Option<(u64, u32)>, asked: &mut Option<(u64, u32)>) -> Result<(), String> {
+    let mut body = &item.body[..];
+    if let Said::Waiting = said { *said = behind_mark(item.last); return Ok(()); }
+    if let Said::Range(bytes) = said {
+        let more = body.len().min(4 - bytes.len());
+        bytes.extend_from_slice(&body[..more]);
+        body = &body[more..];
+        if bytes.len() < 4 { return if item.last { Err("BadVersions".into()) } else { Ok(()) }; }
+        let (low, high) = (be(&bytes[..2]), be(&bytes[2..]));
+        if high < low { return Err("BadVersions".into()); }
+        if low > 3 || high < 3 { return Err("NoCommonVersion".into()); }
+        *said = Said::Behind;
+    }
+    if let Said::Behind = said {
+        if body.is_empty() {
+            if item.last { *said = Said::Message(Vec::new()); }
+            return Ok(());
+        }
+        *said = Said::Message(Vec::new());
+    }
+    if let Said::Message(bytes) = said {
+        if bytes.len() + body.len() > MOST { return Err("TooLong".into()); }
+        bytes.extend_from_slice(body);
+        if item.last {
+            message(out, name, bytes, own, asked)?;
+            bytes.clear();
+        }
+    }
+    Ok(())
+}
+
+// Brings a flow to a number, and reads on.
+fn bring(out: &mut Vec<u8>, refused: &mut bool, name: &Name, own: &mut Side, other: &mut Side, to: u64) {
+    let Some(track) = &mut own.track else { return };
+    loop {
+        while let Some(item) = track.early.remove(&track.next) {
+            track.next += 1;
+            if item.stream != 0 { continue; }
+            let last = item.last;
+            if let Err(reason) = hear(out, name, &mut track.said, item, &mut own.call, &mut other.call) {
+                *refused = true;
+                writeln!(out, "{} {}{} refused {reason}", name.line, name.connection, name.side).unwrap();
+                track.said = behind_mark(last);
+            }
+        }
+        if track.next >= to { return; }
+        let behind = track.early.keys().next().map_or(to, |first| to.min(*first));
+        writeln!(out, "{} {}{} missing {} to {}", name.line, name.connection, name.side, track.next, behind - 1).unwrap();
+        track.next = behind;
+        track.said = Said::Waiting;
+    }
+}
+
+fn address(out: &mut Vec<u8>, b: &[u8], id: &[u8]) {
+    write!(out, "{:08x}.{:012x}.{:04x} id {:04x}", be(&b[..4]), be(&b[4..10]), be(&b[10..12]), be(id)).unwrap();
+}
+
+fn main() {
+    let stdin = io::stdin();
+    let mut input = stdin.lock();
+    let stdout = io::stdout();
+    let mut output = io::BufWriter::new(stdout.lock());
+    let (mut line, mut bytes, mut out) = (Vec::new(), Vec::new(), Vec::new());
+    let mut n = 0u32;
+    let mut refused = false;
+    let mut places: HashMap<Key, usize> = HashMap::new();
+    let mut connections: Vec<[Side; 2]> = Vec::new();
+    loop {
+        line.clear();
+        if input.read_until(b'\n', &mut line).unwrap() == 0 { break; }
+        if line.last() == Some(&b'\n') { line.pop(); }
+        if line.last() == Some(&b'\r') { line.pop(); }
+        n += 1;
+        line.retain(|c| *c != b' ' && *c != b'\t');
+        output.write_all(&out).unwrap();
+        out.clear();
+        bytes.clear();
+        if line.len() % 2 == 1 { refused = true; writeln!(out, "{n} hex refused OddLength").unwrap(); continue; }
+        if let Some(p) = line.iter().position(|c| nibble(*c).is_none()) { refused = true; writeln!(out, "{n} hex refused Digit {p}").unwrap(); continue; }
+        for p in line.chunks_exact(2) { bytes.push(nibble(p[0]).unwrap() << 4 | nibble(p[1]).unwrap()); }
+        let have = bytes.len();
+        if have < 30 { refused = true; writeln!(out, "{n} idp refused Short {have}").unwrap(); continue; }
+        let length = be(&bytes[2..4]) as usize;
+        let needed = length + length % 2;
+        if length < 30 { refused = true; writeln!(out, "{n} idp refused LengthSmall {length}").unwrap(); continue; }
+        if length > 576 { refused = true; writeln!(out, "{n} idp refused LengthLarge {length}").unwrap(); continue; }
+        if have < needed { refused = true; writeln!(out, "{n} idp refused Cut {needed} {have}").unwrap(); continue; }
+        let found = be(&bytes[0..2]) as u16;
+        let computed = cycle(&bytes[2..needed]);
+        if found != 0xffff && found != computed { refused = true; writeln!(out, "{n} idp refused BadSum {found:04x} {computed:04x}").unwrap(); continue; }
+        if bytes[5] != 5 { continue; }
+        let b = &bytes[30..length];
+        if b.len() < 12 { refused = true; writeln!(out, "{n} inner refused Short {}", b.len()).unwrap(); continue; }
+        if be(&b[4..6]) == 0 { continue; }
+        let mut key = [0; 20];
+        key[..8].copy_from_slice(&bytes[22..30]);
+        key[8..10].copy_from_slice(&b[2..4]);
+        key[10..18].copy_from_slice(&bytes[10..18]);
+        key[18..].copy_from_slice(&b[4..6]);
+        let system = b[0] & 128 != 0;
+        let (place, side) = match (places.get(&key), places.get(&behind(&key))) {
+            (Some(place), _) => (*place, 0),
+            (None, Some(place)) => (*place, 1),
+            _ if system => continue,
+            _ => { places.insert(key, connections.len()); connections.push(Default::default()); (connections.len() - 1, 0) }
+        };
+        let name = |side| Name { line: n, connection: place + 1, side: if side == 0 { 'a' } else { 'b' } };
+        let [first, second] = &mut connections[place];
+        let (own, other) = if side == 0 { (first, second) } else { (second, first) };
+        let acknowledged = other.track.as_ref().and_then(|track| Some(nearest(track.next, be(&b[8..10]))?.min(track.early.keys().next_back()? + 1)));
+        if let Some(number) = acknowledged { bring(&mut out, &mut refused, &name(1 - side), other, own, number); }
+        if system { continue; }
+        let field = be(&b[6..8]);
+        if own.track.is_none() {
+            write!(out, "{n} {}{} flow to ", place + 1, name(side).side).unwrap();
+            address(&mut out, &bytes[6..18], &b[4..6]);
+            out.extend_from_slice(b" from ");
+            address(&mut out, &bytes[18..30], &b[2..4]);
+            out.push(b'\n');
+            let (next, said) = if field < 64 { (0, Said::Range(Vec::new())) } else { (field, Said::Waiting) };
+            own.track = Some(Track { next, early: BTreeMap::new(), said });
+        }
+        let track = own.track.as_mut().unwrap();
+        let Some(number) = nearest(track.next, field) else { continue };
+        if number < track.next || track.early.contains_key(&number) { continue; }
+        bring(&mut out, &mut refused, &name(side), own, other, number.saturating_sub(63));
+        own.track.as_mut().unwrap().early.insert(number, Item { stream: b[1], last: b[0] & 16 != 0, body: b[12..].to_vec() });
+        bring(&mut out, &mut refused, &name(side), own, other, 0);
+    }
+    output.write_all(&out).unwrap();
+    output.flush().unwrap();
+    std::process::exit(i32::from(refused));
+}
