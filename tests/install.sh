@@ -61,6 +61,8 @@ expect 'their names are printed' cmp "$work/expected" "$work/names"
 echo 532300220002000000010000aa0001020002000000010000aa000304040000014869 > "$work/request"
 expect 'the program' sh -c "'$prefix/bin/xns' dump < '$work/request'"
 expect 'reads a packet' grep -q '^1 echo request 4869$' "$work/out"
+sed -n '/^    \$ xns calls/,/^$/p' README.md | sed '1d; /^$/d; s/^    //' > "$work/shown"
+expect 'the calls that the README shows' sh -c "[ -s '$work/shown' ] && '$prefix/bin/xns' calls < examples/six-calls.hex | head -6 | cmp - '$work/shown'"
 
 # ---- the library, by pkg-config
 
@@ -118,7 +120,7 @@ if has man; then
     expect 'the manual page' env LC_ALL=C.UTF-8 MANWIDTH=80 man --warnings -l "$prefix/share/man/man1/xns.1"
     cp "$work/out" "$work/page"
     expect 'has the version' grep -q "xns $(cat VERSION)" "$work/page"
-    expect 'has the commands' sh -c "grep -q 'xns dump' '$work/page' && grep -q 'xns sim' '$work/page'"
+    expect 'has the commands' sh -c "grep -q 'xns dump' '$work/page' && grep -q 'xns calls' '$work/page' && grep -q 'xns sim' '$work/page'"
 else left_out man 'the manual page'; fi
 
 # ---- a wrong command line, and taking it away
