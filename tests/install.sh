@@ -64,6 +64,13 @@ expect 'reads a packet' grep -q '^1 echo request 4869$' "$work/out"
 sed -n '/^    \$ xns calls/,/^$/p' README.md | sed '1d; /^$/d; s/^    //' > "$work/shown"
 expect 'the calls that the README shows' sh -c "[ -s '$work/shown' ] && '$prefix/bin/xns' calls < examples/six-calls.hex | head -6 | cmp - '$work/shown'"
 
+# VERSION is the one that names the version.
+expect 'the version of the header' grep -qx "#define XNS_VERSION \"$(cat VERSION)\"" include/xns.h
+expect 'help' "$prefix/bin/xns" --help
+head -1 "$work/out" > "$work/first"
+if grep -q '^xns [0-9]' "$work/first"; then expect 'its version' grep -q "^xns $(cat VERSION)[: ]" "$work/first"
+else echo 'left out: help names no version'; fi
+
 # ---- the library, by pkg-config
 
 if has nm; then
