@@ -123,8 +123,8 @@ else left_out qemu-x86_64 'the archive on the first x86-64 processors'; fi
 
 # ---- the manual page
 
-if has man; then
-    expect 'the manual page' env LC_ALL=C.UTF-8 MANWIDTH=80 man --warnings -l "$prefix/share/man/man1/xns.1"
+if has man && man --version 2> /dev/null | grep -q '^man [0-9]'; then
+    expect 'the manual page' env LC_ALL=C MANWIDTH=80 man --warnings -l "$prefix/share/man/man1/xns.1"
     cp "$work/out" "$work/page"
     expect 'has the version' grep -q "xns $(cat VERSION)" "$work/page"
     expect 'has the commands' sh -c "grep -q 'xns dump' '$work/page' && grep -q 'xns calls' '$work/page' && grep -q 'xns sim' '$work/page'"
