@@ -1,6 +1,7 @@
 -- Faults, and wants of memory in their stead.
-use Rattle.std.specs.Prelude.{◌≡◌, ◌<◌, List, [], length, Option, Result, Ok, Err}
+use Rattle.std.specs.Prelude.{◌≡◌, ◌<◌, List, [], length, false, Option, Result, Ok, Err}
 use Rattle.std.specs.Option.{option_to_list}
+use Rattle.xns_spp.specs.declared.item.Item.{Item}
 use Rattle.courier_messages.specs.declared.fault.MessageFault.{MessageFault}
 use Rattle.courier_messages.specs.declared.fault.MessageRefusal.{MessageRefusal}
 use Rattle.courier_messages.specs.declared.fault.MessageRefusal.TheVariants as refusals
@@ -8,10 +9,6 @@ use Rattle.courier_messages.specs.declared.fault.SessionFault.{SessionFault}
 use Rattle.courier_messages.specs.declared.fault.SessionFault.TheVariants.{NoCommonVersion, BadVersions, BadMessage, WrongTransaction, BadReply, Stream, NoMemory, Failed}
 use Rattle.courier_messages.specs.declared.message.Message.{Message}
 use Rattle.courier_messages.specs.Head.{words_in}
-
-abbrev pub session_fault : MessageRefusal → SessionFault
-session_fault (refusals.Fault e) = BadMessage e
-session_fault refusals.NoMemory = NoMemory
 
 -- what reading a message answers, unless memory ran out
 abbrev pub Reads : Result Message MessageRefusal → Result Message MessageFault → Type 0
@@ -54,3 +51,7 @@ Follows (Err e) q new = UnlessMemory e (q ≡ Err e)
 abbrev pub Takes : {A : Type 0} → Result (Option Message) SessionFault → Result A SessionFault → List Message → A → Type 0
 Takes (Ok m) q ms new = (q ≡ Ok new) × (ms ≡ option_to_list m)
 Takes (Err e) q ms new = UnlessMemory e ((q ≡ Err e) × (ms ≡ []))
+
+-- an item at which memory may be refused: it is of datastream 0, and has bytes to keep or ends a message
+abbrev pub MayGrow : Item → Type 0
+MayGrow x = (x.stream ≡ 0) × (x.last ≡ false → 0 < length x.body)

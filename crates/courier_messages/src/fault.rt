@@ -90,16 +90,3 @@ impl<T: Drop> From<AllocFailed<T>> for SessionFault {
         SessionFault::NoMemory
     }
 }
-
-impl From<MessageRefusal> for SessionFault {
-    ghost use Rattle.courier_messages.specs.Refusal.{session_fault};
-
-    ghost from_gives = { λ r e. e ≡ session_fault r };
-
-    fn from(refusal: MessageRefusal) -> SessionFault {
-        match refusal {
-            MessageRefusal::Fault(fault) => SessionFault::BadMessage(fault),
-            MessageRefusal::NoMemory => SessionFault::NoMemory,
-        }
-    }
-}

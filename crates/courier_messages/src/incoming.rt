@@ -1,5 +1,5 @@
 //! The message that is coming in.
-ghost use Rattle.std.specs.Prelude.{◌≡◌, ◌<◌, ◌≤◌, ◌+◌, ◌/◌, ◌++◌, Ok, Err, [], map, length, drop, IfOk, IfErr, OnOk, OnErr};
+ghost use Rattle.std.specs.Prelude.{◌≡◌, ◌<◌, ◌≤◌, ◌+◌, ◌/◌, ◌++◌, Ok, Err, [], map, length, drop, true, IfOk, IfErr, IfSome, OnOk, OnErr};
 ghost use Rattle.courier_messages.specs.declared.incoming.Stage.TheVariants.{Inside};
 ghost use Rattle.courier_messages.specs.declared.fault.SessionFault.TheVariants.{NoMemory};
 ghost use Rattle.courier_types.specs.Pieces.{words_of};
@@ -118,7 +118,7 @@ fn take_range(pieces: &mut Pieces, body: Vec<u8>) -> Result<(Stage, usize), Sess
     ensures held { IfOk result (λ x. IsHeld x.0 x.1 pieces.new) }
     ensures stops { IfErr result (λ e. UnlessMemory e (run (opening pieces.old) (map byte body.items) ≡ Err e)) }
     ensures few { OnErr result (length pieces.new < 4) }
-    ensures memory { result ≡ Err NoMemory → pieces.new ≡ pieces.old }
+    ensures memory { result ≡ Err NoMemory → (pieces.new ≡ pieces.old) × (0 < length body.items) }
 {
     pieces.push(body)?;
     let count = pieces.len();
@@ -149,6 +149,7 @@ fn take_more(pieces: &mut Pieces, skipped: usize, body: Vec<u8>) -> Result<(), S
     ensures held { OnOk result (IsHeld Inside skipped pieces.new) }
     ensures stops { IfErr result (λ e. UnlessMemory e (run (inside (drop skipped pieces.old)) (map byte body.items) ≡ Err e)) }
     ensures same { OnErr result (pieces.new ≡ pieces.old) }
+    ensures memory { result ≡ Err NoMemory → 0 < length body.items }
 {
     if body.len() > MOST_BYTES + skipped - pieces.len() {
         return Err(SessionFault::BadMessage(MessageFault::TooLong));
@@ -165,6 +166,7 @@ fn take_first(pieces: &mut Pieces, body: Vec<u8>) -> Result<Stage, SessionFault>
     ensures held { IfOk result (λ stage. IsHeld stage 0 pieces.new) }
     ensures stops { IfErr result (λ e. UnlessMemory e (run fresh (map byte body.items) ≡ Err e)) }
     ensures same { OnErr result (pieces.new ≡ []) }
+    ensures memory { result ≡ Err NoMemory → 0 < length body.items }
 {
     let more = body.len();
     if more == 0 {
@@ -208,6 +210,7 @@ impl Incoming {
     fn take_body(&mut self, body: Vec<u8>) -> Result<(), SessionFault>
         ensures follows { Follows result (run self.old (map byte body.items)) self.new }
         ensures memory { result ≡ Err NoMemory → self.new ≡ self.old }
+        ensures bytes { result ≡ Err NoMemory → 0 < length body.items }
     {
         match self.stage {
             Stage::Opening => {
@@ -247,11 +250,14 @@ impl Incoming {
         }
     }
 
-    /// One more item, which may end a message. Where memory is refused nothing is changed, and the item can be given again.
+    /// One more item, which may end a message. Memory is only refused to bytes that are to be kept: then nothing is
+    /// changed, and the item can be given again.
     #[tactic(auto, using(crate::proofs::Runs::run_append, crate::proofs::Runs::said_append, crate::proofs::Runs::run_mark, crate::proofs::Runs::said_mark, crate::proofs::Runs::said_bytes))]
     pub fn take(&mut self, alloc: Global, item: Item) -> Result<Option<PiecedMessage>, SessionFault>
         ensures takes { Takes result (run self.old (signs item)) (said self.old (signs item)) self.new }
         ensures memory { result ≡ Err NoMemory → self.new ≡ self.old }
+        ensures bytes { result ≡ Err NoMemory → (item.stream ≡ 0) × (0 < length item.body) }
+        ensures ends { IfOk result (λ message. IfSome message (λ m. (item.stream ≡ 0) × (item.last ≡ true))) }
     {
         if item.stream != 0 {
             return Err(SessionFault::Stream { kind: item.stream });

@@ -113,11 +113,12 @@ impl Pieces {
         self.count = 0;
     }
 
-    /// One more piece.
+    /// One more piece. The only error is want of memory, which a piece of no bytes never meets.
     pub fn push(&mut self, piece: Vec<u8>) -> Result<(), AllocError>
         requires { length self.old + length piece.items < 2 ^ 64 }
         ensures ok { OnOk result (self.new ≡ self.old ++ piece.items) }
         ensures err { OnErr result (self.new ≡ self.old) }
+        ensures memory { OnErr result (0 < length piece.items) }
     {
         let more = piece.len();
         if more == 0 {

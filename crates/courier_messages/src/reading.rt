@@ -23,7 +23,7 @@ pub fn take_word<S: WordSource>(source: &mut S) -> u16
 {
     match source.next_word() {
         Some(word) => word,
-        None => 0,
+        None => unreachable!(),
     }
 }
 

@@ -1,5 +1,6 @@
 //! Room for words.
-ghost use Rattle.std.specs.Prelude.{◌≡◌, [], IfOk};
+ghost use Rattle.std.specs.Prelude.{◌≡◌, ◌≤◌, [], IfOk};
+ghost use Rattle.std.specs.Vec.{vec_capacity};
 
 use std::alloc::{AllocError, Global};
 use std::mem::replace;
@@ -7,10 +8,12 @@ use std::mem::replace;
 /// A message that is made has room for so many words at first, which most messages need no more than.
 const FIRST_ROOM: usize = 16;
 
-/// The room that the words of a message were made in, kept for those of the next one where it is no more than was made at first.
+/// The room that the words of a message were made in, kept for those of the next one where it is no more
+/// than was made at first: 16 words, 32 bytes.
 #[derive(Debug, Drop)]
 pub struct Spare {
     room: Vec<u16>,
+    ghost few: { vec_capacity room ≤ 16 },
 }
 
 impl Spare {
