@@ -42,7 +42,7 @@ static void serve(struct xns_endpoint *endpoint, struct xns_endpoint *to) {
     DO(xns_endpoint_take(endpoint, &item, body, sizeof body));
     DO(xns_message_read(body, item.length, &message, words, XNS_LONGEST_ITEM, &count));
     for (size_t i = 0; i < count; i++) sum = (uint16_t)(sum + words[i]);
-    message.kind = XNS_RETURN;
+    message.kind = XNS_KIND_RETURN;
     DO(xns_message_write(&message, &sum, 1, body, sizeof body, &length));
     DO(xns_endpoint_send(endpoint, 0, 0, 1, versions, sizeof versions));
     DO(xns_endpoint_send(endpoint, 0, 0, 1, body, length));
@@ -70,7 +70,7 @@ int main(void) {
     serve(&b, &a);
     while (xns_endpoint_take(&a, &item, body, sizeof body) == XNS_OK) DO(xns_caller_feed(&caller, item.stream, item.last, body, item.length));
     DO(xns_caller_outcome(&caller, &answer, words, 2, &count));
-    if (answer.kind == XNS_RETURN && count == 1) printf("%u\n", words[0]);
+    if (answer.kind == XNS_KIND_RETURN && count == 1) printf("%u\n", words[0]);
     xns_caller_free(&caller);
     xns_endpoint_free(&a);
     xns_endpoint_free(&b);

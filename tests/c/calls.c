@@ -130,14 +130,14 @@ static void messages(void) {
     GUARD(message);
     memset(words, 0xee, sizeof words);
     AGAIN(xns_message_read(call, sizeof call, &message.it, words, 8, &count));
-    CHECK(IS_GUARDED(message) && message.it.kind == XNS_CALL && message.it.transaction == 1 && message.it.program == 7 && message.it.version == 2);
+    CHECK(IS_GUARDED(message) && message.it.kind == XNS_KIND_CALL && message.it.transaction == 1 && message.it.program == 7 && message.it.version == 2);
     CHECK(message.it.procedure == 1 && message.it.number == 0 && count == 1 && words[0] == 5 && is_left((uint8_t *)words, 2, sizeof words));
     memset(buffer, 0xee, sizeof buffer);
     AGAIN(xns_message_write(&message.it, words, count, buffer, sizeof buffer, &written));
     CHECK(written == sizeof call && memcmp(buffer, call, sizeof call) == 0 && is_left(buffer, written, sizeof buffer));
 
     AGAIN(xns_message_read(reject, sizeof reject, &message.it, words, 2, &count));
-    CHECK(message.it.kind == XNS_REJECT && message.it.transaction == 1 && message.it.number == 1 && count == 2 && words[0] == 1 && words[1] == 2);
+    CHECK(message.it.kind == XNS_KIND_REJECT && message.it.transaction == 1 && message.it.number == 1 && count == 2 && words[0] == 1 && words[1] == 2);
     AGAIN(xns_message_write(&message.it, words, count, buffer, sizeof reject, &written));
     CHECK(written == sizeof reject && memcmp(buffer, reject, sizeof reject) == 0);
 }
@@ -153,7 +153,7 @@ static void bad_messages(void) {
     CHECK(xns_message_read(request, 34, &message.it, words, 8, &count) == XNS_UNKNOWN_KIND && count == 7);
     message.it.kind = 4;
     CHECK(xns_message_write(&message.it, words, 1, buffer, sizeof buffer, &written) == XNS_BAD_ARGUMENT);
-    message.it.kind = XNS_RETURN;
+    message.it.kind = XNS_KIND_RETURN;
     CHECK(xns_message_write(&message.it, words, 2, buffer, 7, &written) == XNS_SHORT_BUFFER && xns_message_write(&message.it, words, 2, buffer, 8, &written) == XNS_OK);
 }
 
@@ -329,7 +329,7 @@ static uint32_t converse(void) {
     GUARD(message);
     memset(words, 0xee, sizeof words);
     CHECK(xns_caller_outcome(&caller, &message.it, words, 1, &count) == XNS_SHORT_BUFFER && count == 7 && is_left((uint8_t *)&message, 0, sizeof message));
-    CHECK(xns_caller_outcome(&caller, &message.it, words, 4, &count) == XNS_OK && IS_GUARDED(message) && message.it.kind == XNS_REJECT && message.it.transaction == 1);
+    CHECK(xns_caller_outcome(&caller, &message.it, words, 4, &count) == XNS_OK && IS_GUARDED(message) && message.it.kind == XNS_KIND_REJECT && message.it.transaction == 1);
     CHECK(message.it.number == 1 && count == 2 && words[0] == 1 && words[1] == 2 && is_left((uint8_t *)words, 4, sizeof words));
     CHECK(xns_caller_outcome(&caller, &message.it, words, 4, &count) == XNS_NOTHING);
     AGAIN(xns_caller_call(&caller, 7, 2, 1, words, 1));
