@@ -13,3 +13,6 @@ pub mod Numbers
 pub mod Heads
 pub mod Puts
 pub mod More
+pub mod Lists
+pub mod Numbered
+pub mod Called

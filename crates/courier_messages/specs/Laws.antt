@@ -1,14 +1,22 @@
--- What the laws of messages speak of.
-use Rattle.std.specs.Prelude.{◌≡◌, ◌≤◌, ◌∷◌, List, length, false, Result, Ok, Err}
-use Rattle.std.specs.List.{flat_map}
+-- What the laws of messages speak of, and the statements of those that other crates stand on.
+use Rattle.std.specs.Prelude.{◌≡◌, ◌≤◌, ◌+◌, ◌%◌, [], ◌∷◌, ◌++◌, ◌↔◌, ℕ, List, map, length, false, Some, Result, Ok, Err}
+use Rattle.std.specs.List.{AllByRecursion, flat_map}
 use Rattle.xns_spp.specs.declared.item.Item.{Item}
 use Rattle.xns_spp.specs.Growth.{Begins}
-use Rattle.xns_spp.specs.Item.{IsShortItem}
+use Rattle.xns_spp.specs.Item.{IsItem, IsShortItem}
+use Rattle.courier_types.specs.Shape.{ShapeModel}
+use Rattle.courier_types.specs.Value.{ValueModel}
+use Rattle.courier_types.specs.Spelling.{SpellsValue, AreWords}
 use Rattle.courier_messages.specs.declared.fault.SessionFault.{SessionFault}
 use Rattle.courier_messages.specs.declared.message.Message.{Message}
-use Rattle.courier_messages.specs.Message.{most_words, message_words}
+use Rattle.courier_messages.specs.Message.{IsMessage, most_words, message_words}
+use Rattle.courier_messages.specs.Text.{Sign, signs}
 use Rattle.courier_messages.specs.Conversation.{Phase, conversation, ending}
+use Rattle.courier_messages.specs.Phases.{run, said, onwards, ◌then◌}
 use Rattle.courier_messages.specs.Cutting.{cut, versions_item}
+use Rattle.courier_messages.specs.RawCalls.{RawCall, IsShortCall, call_message, call_items, caller_items, numbered, numbered_message}
+use Rattle.courier_messages.specs.Called.{calls_of, heard, server_ending}
+use Rattle.courier_messages.specs.Whole.{whole}
 
 -- at most 131,072 bytes
 abbrev pub IsShort : Message → Type 0
@@ -28,7 +36,63 @@ pub record IsSendableItem (x : Item) : Type 0 where
   pub short : IsShortItem x
   pub plain : x.attention ≡ false
 
--- the statement of the law of that name
+-- a server that goes on, with one more item
+pub record Goes (fed : List Item) (p : Phase) (item : Item) : Type 0 where
+  pub said_then : conversation (fed ++ item ∷ []) ≡ conversation fed ++ said p (signs item)
+  pub ends : server_ending (fed ++ item ∷ []) ≡ heard (said p (signs item)) (run p (signs item))
+  pub calls_then : calls_of (conversation (fed ++ item ∷ [])) ≡ calls_of (conversation fed) ++ calls_of (said p (signs item))
+
+-- a server with a fault, with one more item: the first fault stays, and no call comes behind it
+pub record Stays (fed : List Item) (item : Item) (fault : SessionFault) : Type 0 where
+  pub calls : calls_of (conversation (fed ++ item ∷ [])) ≡ calls_of (conversation fed)
+  pub ending : server_ending (fed ++ item ∷ []) ≡ Err fault
+
+-- what was heard begins messages that were sent, and has no fault
+pub record Hears (fed : List Item) (sent : List Message) : Type 0 where
+  pub front : Begins (conversation fed) sent
+  pub well : IsFaultless (ending fed)
+
+-- what a server heard begins calls that were made, each with its transaction, and has no fault
+pub record HearsCalls (fed : List Item) (made : List RawCall) : Type 0 where
+  pub messages : Begins (conversation fed) (map numbered_message (numbered 1 made))
+  pub calls : Begins (calls_of (conversation fed)) (numbered 1 made)
+  pub well : IsFaultless (server_ending fed)
+
+-- the statements of laws, each under the name of its law
+
 pub record AConversationOnlyGrows : Type 0 where
   pub messages : (front fed : List Item) → Begins front fed → Begins (conversation front) (conversation fed)
   pub fault : (front fed : List Item) → Begins front fed → IsFaultless (ending fed) → IsFaultless (ending front)
+
+pub record SignsRunOn : Type 0 where
+  pub run_on : (p : Phase) (text more : List Sign) → run p (text ++ more) ≡ (run p text then λ q. run q more)
+  pub said_on : (p : Phase) (text more : List Sign) → said p (text ++ more) ≡ said p text ++ onwards (run p text) (λ q. said q more)
+
+pub record OneItemMore : Type 0 where
+  pub messages : (fed : List Item) (item : Item) → conversation (fed ++ item ∷ []) ≡ conversation fed ++ onwards (ending fed) (λ p. said p (signs item))
+  pub kept : (fed : List Item) (item : Item) → ending (fed ++ item ∷ []) ≡ (ending fed then λ p. run p (signs item))
+  -- an item ends at most one message, and none where it brings a fault
+  pub single : (item : Item) (p : Phase) → length (said p (signs item)) ≤ 1
+  pub silent : (item : Item) (p : Phase) (fault : SessionFault) → run p (signs item) ≡ Err fault → said p (signs item) ≡ []
+
+pub record AServerHearsOneItemMore : Type 0 where
+  pub goes : (fed : List Item) (p : Phase) (item : Item) → server_ending fed ≡ Ok p → Goes fed p item
+  pub stays : (fed : List Item) (item : Item) (fault : SessionFault) → server_ending fed ≡ Err fault → Stays fed item fault
+  -- an item that brings a fault ends no call
+  pub silent : (fed : List Item) (item : Item) (fault : SessionFault) → server_ending (fed ++ item ∷ []) ≡ Err fault → calls_of (conversation (fed ++ item ∷ [])) ≡ calls_of (conversation fed)
+
+pub record MoreCallsGoOut : Type 0 where
+  pub one : (k : ℕ) (calls : List RawCall) (call : RawCall) → call_items k (calls ++ call ∷ []) ≡ call_items k calls ++ cut (call_message ((k + length calls) % 65536) call)
+  pub front : (front calls : List RawCall) → Begins front calls → Begins (caller_items front) (caller_items calls)
+
+abbrev pub AFrontIsHeard : Type 0
+AFrontIsHeard = (fed : List Item) (sent : List Message) → AllByRecursion IsShort sent → Begins fed (items_of sent) → Hears fed sent
+
+abbrev pub CallsAreHeard : Type 0
+CallsAreHeard = (fed : List Item) (made : List RawCall) → AllByRecursion IsShortCall made → Begins fed (caller_items made) → HearsCalls fed made
+
+abbrev pub WhatIsHeardHasNumbers : Type 0
+WhatIsHeardHasNumbers = (fed : List Item) → AllByRecursion IsItem fed → AllByRecursion IsMessage (conversation fed)
+
+abbrev pub WholeValueIsSpelled : Type 0
+WholeValueIsSpelled = (shape : ShapeModel) (value : ValueModel) (words : List ℕ) → AreWords words → (whole shape words ≡ Some value) ↔ SpellsValue shape value words

@@ -8,5 +8,6 @@ pub mod Bounds
 pub mod Inside
 pub mod Cutting
 pub mod RawCalls
+pub mod Called
 pub mod Whole
 pub mod Laws

@@ -1,6 +1,6 @@
 -- Calls by their words, and the messages that they go out in (XSIS 038112, Courier, Remote procedures and errors). How calls are
 -- numbered is this project's rule.
-use Rattle.std.specs.Prelude.{ℕ, ◌+◌, ◌%◌, List, [], ◌∷◌, ◌++◌}
+use Rattle.std.specs.Prelude.{◌≤◌, ℕ, ◌+◌, ◌%◌, List, [], ◌∷◌, ◌++◌, length}
 use Rattle.xns_spp.specs.declared.item.Item.{Item}
 use Rattle.courier_messages.specs.declared.message.Message.{Message}
 use Rattle.courier_messages.specs.declared.message.Message.TheVariants.{Call}
@@ -17,11 +17,23 @@ pub record RawCall : Type 0 where
 abbrev pub most_call_words : ℕ
 most_call_words = 65530
 
+-- a call whose message has at most 131,072 bytes
+abbrev pub IsShortCall : RawCall → Type 0
+IsShortCall c = length c.words ≤ most_call_words
+
 abbrev pub words_call : ℕ → ℕ → ℕ → List ℕ → RawCall
 words_call program version procedure words = record { program = program; version = version; procedure = procedure; words = words }
 
 abbrev pub call_message : ℕ → RawCall → Message
 call_message transaction c = Call transaction c.program c.version c.procedure c.words
+
+-- calls with their transactions, from the k-th on
+unfoldable pub numbered : ℕ → List RawCall → List (ℕ × RawCall)
+numbered k [] = []
+numbered k (c ∷ cs) = (k % 65536, c) ∷ numbered (k + 1) cs
+
+unfoldable pub numbered_message : ℕ × RawCall → Message
+numbered_message n = call_message n.0 n.1
 
 -- what goes out
 

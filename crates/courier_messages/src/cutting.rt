@@ -1,9 +1,10 @@
 //! Messages on their way out.
-ghost use Rattle.std.specs.Prelude.{◌≡◌, ◌++◌, ◌≤◌, ◌+◌, ◌*◌, length, IfOk, OnOk, OnErr, Ok};
+ghost use Rattle.std.specs.Prelude.{◌≡◌, ◌++◌, ◌∷◌, ◌≤◌, ◌+◌, ◌*◌, [], length, IfOk, OnOk, OnErr, Ok};
 ghost use Rattle.courier_types.specs.Source.{bytes_of};
 ghost use Rattle.courier_messages.specs.Bounds.{bytes_in};
-ghost use Rattle.courier_messages.specs.Cutting.{message_item, cut_bytes};
+ghost use Rattle.courier_messages.specs.Cutting.{message_item, cut_bytes, versions_item};
 
+use crate::incoming::VERSION;
 use crate::writing::put_words;
 use std::alloc::{AllocError, Global};
 use std::collections::VecDeque;
@@ -42,6 +43,13 @@ pub fn cut(alloc: Global, words: &[u16]) -> Result<VecDeque<Item>, AllocError>
     }
     items.push_back(make_item(alloc, true, rest)?)?;
     Ok(items)
+}
+
+/// What each side puts out first: the item that says its lowest and highest version. The only error is want of memory.
+pub fn versions(alloc: Global) -> Result<VecDeque<Item>, AllocError>
+    ensures { IfOk result (λ q. q.items ≡ versions_item ∷ []) }
+{
+    cut(alloc, &[VERSION; 2])
 }
 
 /// Puts the items that the words of a message go out in behind those that are out. The only error is want of

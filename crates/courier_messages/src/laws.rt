@@ -1,20 +1,16 @@
 //! Laws on messages, over the definitions alone, as functions that do nothing.
-ghost use Rattle.std.specs.Prelude.{◌≡◌, ◌↔◌, ◌++◌, ◌+◌, ◌%◌, ℕ, List, [], map, length, Some, None, Ok};
+ghost use Rattle.std.specs.Prelude.{◌≡◌, ◌≤◌, ◌++◌, ◌%◌, ℕ, List, [], map, length, None, Ok};
 ghost use Rattle.std.specs.List.{All, AllByRecursion, flat_map};
 ghost use Rattle.xns_spp.specs.declared.item.Item.{Item};
 ghost use Rattle.courier_types.specs.Pieces.{words_of};
-ghost use Rattle.courier_types.specs.Shape.{ShapeModel};
-ghost use Rattle.courier_types.specs.Value.{ValueModel};
-ghost use Rattle.courier_types.specs.Spelling.{SpellsValue, AreWords};
 ghost use Rattle.courier_messages.specs.declared.message.Message.{Message};
-ghost use Rattle.courier_messages.specs.Message.{message_of, message_bytes, IsMessage, SpellsMessage};
+ghost use Rattle.courier_messages.specs.Message.{message_of, message_bytes, most_bytes, IsMessage, SpellsMessage};
 ghost use Rattle.courier_messages.specs.Text.{Sign, byte, marked, written, pieces, rest, foreign_in};
 ghost use Rattle.courier_messages.specs.Conversation.{Phase, conversation, ending, opening, inside};
 ghost use Rattle.courier_messages.specs.Phases.{said, run};
-ghost use Rattle.courier_messages.specs.Whole.{whole};
-ghost use Rattle.courier_messages.specs.Cutting.{cut};
-ghost use Rattle.courier_messages.specs.Bounds.{IsBounded};
-ghost use Rattle.courier_messages.specs.Laws.{IsShort, IsSendableItem, items_of, AConversationOnlyGrows};
+ghost use Rattle.courier_messages.specs.Cutting.{cut, versions_item};
+ghost use Rattle.courier_messages.specs.Bounds.{IsBounded, bytes_in};
+ghost use Rattle.courier_messages.specs.Laws.{IsShort, IsSendableItem, items_of, AConversationOnlyGrows, SignsRunOn, OneItemMore, AServerHearsOneItemMore, MoreCallsGoOut, AFrontIsHeard, CallsAreHeard, WhatIsHeardHasNumbers, WholeValueIsSpelled};
 
 use courier_types::laws::value_of_is_spelled;
 
@@ -27,7 +23,7 @@ pub fn message_is_spelled()
 
 /// A value is read whole exactly where all the words spell it.
 pub fn whole_value_is_spelled()
-    ensures { (shape : ShapeModel) (value : ValueModel) (words : List ℕ) → AreWords words → (whole shape words ≡ Some value) ↔ SpellsValue shape value words }
+    ensures { WholeValueIsSpelled }
 {
     value_of_is_spelled();
 }
@@ -48,9 +44,17 @@ pub fn what_is_kept_is_bounded()
     ensures { (fed : List Item) (p : Phase) → ending fed ≡ Ok p → IsBounded p }
 {}
 
-/// The items of a message can go out: they are of datastream 0, of bytes, and have at most 534, without attention.
+/// The items of a message can go out: they are of datastream 0, of bytes, and have at most 534, without attention. So
+/// can the versions. The items of a message of at most 131,072 bytes have no more bytes.
 pub fn message_items_can_be_sent()
-    ensures { (m : Message) → IsMessage m → All IsSendableItem (cut m) }
+    ensures items { (m : Message) → IsMessage m → All IsSendableItem (cut m) }
+    ensures versions { IsSendableItem versions_item }
+    ensures size { (m : Message) → IsShort m → length (bytes_in (cut m)) ≤ most_bytes }
+{}
+
+/// The messages of items of bytes have numbers within their types' bounds.
+pub fn what_is_heard_has_numbers()
+    ensures { WhatIsHeardHasNumbers }
 {}
 
 /// Items with equal bytes and marks have equal conversations, however they are cut.
@@ -68,4 +72,35 @@ pub fn what_is_sent_is_heard()
 /// What is heard first stays, whatever comes later.
 pub fn a_conversation_only_grows()
     ensures { AConversationOnlyGrows }
+{}
+
+/// Where the signs of two texts lead, one behind the other, and what messages they end.
+pub fn signs_run_on()
+    ensures { SignsRunOn }
+{}
+
+/// What one item more makes of a conversation: it ends at most one message, and none where it brings a fault.
+pub fn one_item_more()
+    ensures { OneItemMore }
+{}
+
+/// What one item more makes of a conversation in which a message that isn't a call is a fault: the first fault stays,
+/// and no call comes with it or behind it.
+pub fn a_server_hears_one_item_more()
+    ensures { AServerHearsOneItemMore }
+{}
+
+/// The items of more calls begin with those of fewer, and one call more puts its message behind them, cut.
+pub fn more_calls_go_out()
+    ensures { MoreCallsGoOut }
+{}
+
+/// Of a front of what was sent a front is heard, without a fault.
+pub fn a_front_is_heard()
+    ensures { AFrontIsHeard }
+{}
+
+/// Of a front of what a caller puts out its first calls are heard, each with its transaction, without a fault.
+pub fn calls_are_heard()
+    ensures { CallsAreHeard }
 {}

@@ -15,7 +15,7 @@ mod spare;
 mod words;
 mod writing;
 
-pub use cutting::{cut, put_out};
+pub use cutting::{cut, put_out, versions};
 pub use fault::{MessageFault, MessageRefusal, SessionFault};
 pub use head::Head;
 pub use incoming::{Incoming, VERSION};

@@ -1,0 +1,34 @@
+-- What the side that is called makes of its peer's messages (XSIS 038112, Courier, Remote procedures and errors). That a message
+-- that isn't a call is a fault of its own, before those behind it, is this project's rule.
+use Rattle.std.specs.Prelude.{ℕ, List, [], ◌∷◌, map, Bool, true, false, if◌then◌else◌, Result, Err}
+use Rattle.xns_spp.specs.declared.item.Item.{Item}
+use Rattle.courier_messages.specs.declared.fault.SessionFault.{SessionFault}
+use Rattle.courier_messages.specs.declared.fault.SessionFault.TheVariants.{BadReply}
+use Rattle.courier_messages.specs.declared.message.Message.{Message}
+use Rattle.courier_messages.specs.declared.message.Message.TheVariants.{Call}
+use Rattle.courier_messages.specs.Conversation.{Phase, conversation, ending}
+use Rattle.courier_messages.specs.RawCalls.{RawCall}
+
+-- the calls up to the first message that isn't one, each with its transaction
+unfoldable pub calls_of : List Message → List (ℕ × RawCall)
+calls_of [] = []
+calls_of (Call transaction program version procedure words ∷ ms) = (transaction, record { program = program; version = version; procedure = procedure; words = words }) ∷ calls_of ms
+calls_of (m ∷ ms) = []
+
+-- whether each message is a call
+unfoldable pub all_calls : List Message → Bool
+all_calls [] = true
+all_calls (Call transaction program version procedure words ∷ ms) = all_calls ms
+all_calls (m ∷ ms) = false
+
+-- the calls without their transactions
+abbrev pub raws : List (ℕ × RawCall) → List RawCall
+raws cs = map (λ c. c.1) cs
+
+-- messages as a server takes them: one that isn't a call comes before the faults of the text behind it
+abbrev pub heard : List Message → Result Phase SessionFault → Result Phase SessionFault
+heard ms q = if all_calls ms then q else Err BadReply
+
+-- what is kept of the conversation, or the first fault
+abbrev pub server_ending : List Item → Result Phase SessionFault
+server_ending items = heard (conversation items) (ending items)
