@@ -4,26 +4,11 @@ ghost use Rattle.clap.specs.Words.{FailsBy, app_of, fault_of, kind_of};
 ghost use Rattle.xns.specs.declared.command.modes.Mode.{Mode};
 ghost use Rattle.xns.specs.Command.Arguments.{name_of, named_subcommand, reading_command, refusals_of, texts, words_of, xns_command};
 
+use crate::command::help::{ABOUT, CALLS_HELP, DUMP_HELP, HELP, SIM_HELP};
 use crate::command::modes::Mode;
 use clap::error::ErrorKind;
 use clap::{Command, Error};
 use std::alloc::{AllocError, Global};
-
-/// What `xns --help` says at its end.
-const HELP: &str =
-    "Each reads standard input and writes standard output. A line of dump is one packet in hex, and it prints what the packet's header and body say. A line of calls is the same, and it prints the calls that the packets carry, each when it is whole, and what came back. A line of sim is a call or an event, and it prints what came of the calls. The hex of a packet begins at the checksum of the internet packet, behind the Ethernet header. `xns dump --help`, `xns calls --help` and `xns sim --help` say more. A line has at most 4,096 bytes, and there are at most 65,536 lines.\n\nIt ends with 0, or with 1 where a line was refused, 2 where the command line is wrong, 3 after a fault.\n\nExamples:\n  echo 532300220002000000010000aa0001020002000000010000aa000304040000014869 | xns dump\n  echo ffff003c0005000000010000aa0001020005000000010000aa0003040400100012345678000000000003000300030000000100000007000200010005 | xns calls\n  printf '%s\\n' 'call add 5' 'tick a' rest rest rest rest rest | xns sim";
-
-/// What `xns dump --help` says at its end.
-const DUMP_HELP: &str =
-    "Each line of standard input is one packet in hex, of either case, from the checksum of the internet packet on, which stands behind the Ethernet header; spaces and tabs are left out. It prints two to four lines of each packet: the fields of its header, and what its body says. A line has at most 4,096 bytes, and there are at most 65,536 lines.\n\nIt ends with 0, or with 1 where a line was refused, 2 where the command line is wrong, 3 after a fault.\n\nExample: echo 532300220002000000010000aa0001020002000000010000aa000304040000014869 | xns dump";
-
-/// What `xns calls --help` says at its end.
-const CALLS_HELP: &str =
-    "Each line of standard input is one packet in hex, as for dump. It prints a line of each flow of items that begins, of each call, return, reject and abort of Courier when it is whole, in however many packets it came, of items that the capture lacks, and of what is refused. Such a line begins with the number of the line of the input and the name of the flow: `1a` and `1b` are the two flows of the first connection. A line has at most 4,096 bytes, and there are at most 65,536 lines.\n\nIt ends with 0, or with 1 where a line was refused, 2 where the command line is wrong, 3 after a fault.\n\nExample: echo ffff003c0005000000010000aa0001020005000000010000aa0003040400100012345678000000000003000300030000000100000007000200010005 | xns calls";
-
-/// What `xns sim --help` says at its end.
-const SIM_HELP: &str =
-    "Each line of standard input is `call add N`, `call total` or `call raw PROGRAM VERSION PROCEDURE WORDS`, which makes a call; `tick a`, `tick b`, `deliver N`, `rest`, `foreign a HEX` or `foreign b HEX`, which lets something happen; or empty, or a comment after #. A line has at most 4,096 bytes, and there are at most 65,536 lines.\n\nIt ends with 0, or with 1 where a line was refused, 2 where the command line is wrong, 3 after a fault.\n\nExample: printf '%s\\n' 'call add 5' 'tick a' rest rest rest rest rest | xns sim";
 
 /// A command that requires one of its subcommands, which read captures.
 fn reading_program<'a>(alloc: Global) -> Result<Command<'a>, AllocError>
@@ -36,6 +21,7 @@ fn reading_program<'a>(alloc: Global) -> Result<Command<'a>, AllocError>
         .about("Prints the calls that lines of hex carry, and what came back")
         .after_help(CALLS_HELP);
     Command::new(alloc, "xns")
+        .about(ABOUT)
         .after_help(HELP)
         .subcommand_required(true)
         .subcommand(dump)?

@@ -1,0 +1,100 @@
+//! What the program says of itself.
+
+/// The first line of `xns --help`. The file VERSION at the top of the repository has the version.
+pub const ABOUT: &str =
+    "xns 0.1.0: reads packets of the Xerox Network Systems, and plays Courier calls";
+
+/// What `xns --help` says at its end.
+pub const HELP: &str = "\
+Each command reads lines from standard input, and writes lines to standard output:
+  dump   A line is one packet in hex. What its header and its body say is printed.
+  calls  A line is one packet in hex. The Courier calls that the packets carry are
+         printed, each when it is whole, and what came back.
+  sim    A line is a call or an event. What came of the calls is printed.
+
+The hex of a packet begins at the checksum of the internet packet, which stands
+behind the Ethernet header.
+A line has at most 4,096 bytes, and there are at most 65,536 lines.
+
+Exit status:
+  0    all is fine
+  1    a line was refused; the output says which
+  2    the command line is wrong
+  3    reading or writing failed, a limit was passed, or there was no memory
+  127  the processor is older than x86-64-v2
+
+Examples:
+  echo 532300220002000000010000aa0001020002000000010000aa000304040000014869 | xns dump
+  echo ffff003c0005000000010000aa0001020005000000010000aa0003040400100012345678000000000003000300030000000100000007000200010005 | xns calls
+  printf '%s\\n' 'call add 5' 'tick a' rest rest rest rest rest | xns sim
+
+`xns dump --help`, `xns calls --help` and `xns sim --help` say more, and so does the
+manual page, `man xns`. docs/CAPTURES.md leads from a capture to its packets and
+calls; docs/FORMATS.md has every line that is read and printed.";
+
+/// What `xns dump --help` says at its end.
+pub const DUMP_HELP: &str = "\
+Each line of standard input is one packet in hex, of either case. Spaces and tabs
+are left out. The hex begins at the checksum of the internet packet, which stands
+behind the Ethernet header.
+Two to four lines are printed of each packet: the fields of its header, and what
+its body says. Each begins with the number of the input line.
+A line has at most 4,096 bytes, and there are at most 65,536 lines.
+
+Exit status: 0 all is fine, 1 a line was refused, 2 the command line is wrong,
+3 reading or writing failed, a limit was passed, or there was no memory.
+
+Example:
+  echo 532300220002000000010000aa0001020002000000010000aa000304040000014869 | xns dump
+
+docs/FORMATS.md has each line that is printed; docs/CAPTURES.md leads from a capture
+to these lines.";
+
+/// What `xns calls --help` says at its end.
+pub const CALLS_HELP: &str = "\
+Each line of standard input is one packet in hex, as for dump. The hex begins at the
+checksum of the internet packet, which stands behind the Ethernet header.
+A line is printed of each flow of items that begins; of each call, return, reject
+and abort of Courier when it is whole, in however many packets it came; of items
+that the capture lacks; and of what is refused.
+Each begins with the number of the input line and the name of the flow: `1a` and
+`1b` are the two flows of the first connection. A return, a reject and an abort
+name the line of their call.
+A line has at most 4,096 bytes, and there are at most 65,536 lines.
+
+Exit status: 0 all is fine, 1 a line was refused, 2 the command line is wrong,
+3 reading or writing failed, a limit was passed, or there was no memory.
+
+Example:
+  echo ffff003c0005000000010000aa0001020005000000010000aa0003040400100012345678000000000003000300030000000100000007000200010005 | xns calls
+
+docs/FORMATS.md has each line that is printed; docs/CAPTURES.md leads from a capture
+to these lines.";
+
+/// What `xns sim --help` says at its end.
+pub const SIM_HELP: &str = "\
+Each line of standard input makes a call, or lets something happen between the
+caller, a, and the server, b:
+  call add N      the call Add: N, at most 65535, is added to the server's tally
+  call total      the call Total, which asks for the tally
+  call raw PROGRAM VERSION PROCEDURE WORDS
+                  any call; words have four hex digits, and - stands for none
+  tick a, tick b  time has passed at an end: it sends again what its peer did not
+                  acknowledge, or asks its peer
+  deliver K       packet K of all that were sent, from 0, arrives, once or again
+  rest            each packet that has not arrived arrives once, in order
+  foreign a HEX, foreign b HEX
+                  bytes from elsewhere arrive at an end
+An empty line, and a line that begins with #, says nothing. A packet that no line
+delivers is lost.
+It prints how many calls there were, how many the server carried out, what the
+caller was answered, the tally's total, and how many packets were sent.
+A line has at most 4,096 bytes, and there are at most 65,536 lines.
+
+Exit status: 0 all is fine, 1 a line was refused, 2 the command line is wrong,
+3 reading or writing failed, a limit was passed, or there was no memory.
+
+Example:
+  printf '%s\\n' 'call add 5' 'tick a' rest rest rest rest rest | xns sim
+
+docs/FORMATS.md has each line; docs/WORLD.md says what happens in a play.";
