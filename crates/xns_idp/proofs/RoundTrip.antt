@@ -3,7 +3,7 @@ use Rattle.std.proofs.Common.{◌≡◌, ℕ, ◌+◌, ◌-◌, ◌*◌, ◌/◌
 use Rattle.std.specs.Prelude.{slice_range, IfOk, IfErr}
 use Rattle.std.specs.Int.{w16, w32, to_be_bytes}
 use Rattle.std.proofs.lemmas.Bool.{ltb-false, le-ltb, eqb-true, eq-eqb, ne_eqb, cases_Bool, not-true}
-use Rattle.std.proofs.lemmas.List.{take_at, length-append, length-take, length-drop, length-replicate}
+use Rattle.std.proofs.lemmas.List.{take_at, take-append-drop, length-append, length-take, length-drop, length-replicate}
 use Rattle.std.proofs.lemmas.List.Elements.{All-take, All-drop, All-from_get_or, All-replicate}
 use Rattle.xns_idp.specs.Checksum.{words, cycle_checksum}
 use Rattle.xns_idp.specs.Packet.{PacketModel, AreBytes, IsAddress, IsPacket, SpellsPacket, IsPacketAtFront, packet_model, address_bytes, after_checksum, packet_bytes, packet_spelling}
@@ -276,6 +276,12 @@ spelling_again p taken rest b fits spells e =
     let long : made_even (30 + length p.body) ≡ length taken =
     omega (arith, ap length spells.spells, spelled_length p garbage, after_length p garbage fits.target.host_length fits.source.host_length, spells.garbage_length) in
     ap packet_of (e ∙ ap (λ (xs : List ℕ). xs ++ rest) spells.spells) ∙ packet_again p garbage rest fits spells.size spells.garbage_length ∙ ap (λ (k : ℕ). ended (p, k)) long
+
+-- where there is a fault, no prefix spells a packet
+pub none_spelled : (b : List ℕ) (f : IdpFault) → packet_of b ≡ Err f → (p : PacketModel) (taken : ℕ) → ¬ (IsPacketAtFront b p taken)
+none_spelled b f refused p taken front =
+    let found = spelling_again p (take taken b) (drop taken b) b front.fits front.spells (sym (take-append-drop taken b)) in
+    absurd (cc)
 
 -- ---- the laws of the written form
 

@@ -1,9 +1,10 @@
 //! What the definitions imply, each as the contract of a function that does nothing.
 
-ghost use Rattle.std.specs.Prelude.{◌≡◌, ◌+◌, ◌^◌, ◌<◌, ◌≤◌, ◌↔◌, All, List, ℕ, ◌∷◌, ◌++◌, length, Ok};
+ghost use Rattle.std.specs.Prelude.{◌≡◌, ◌+◌, ◌^◌, ◌<◌, ◌≤◌, ◌↔◌, All, List, ℕ, ◌∷◌, ◌++◌, length, Ok, Err};
 ghost use Rattle.xns_idp.specs.Checksum.{cycle_checksum, added_and_rotated, zero_for_all_ones, AreAlike};
 ghost use Rattle.xns_idp.specs.Packet.{PacketModel, AreBytes, IsPacket, SpellsPacket, IsPacketAtFront, packet_spelling};
 ghost use Rattle.xns_idp.specs.Reading.{packet_of, made_even};
+ghost use Rattle.xns_idp.specs.declared.fault.IdpFault.{IdpFault};
 
 /// The checksum is what the standard describes: each word is added with end-around carry and the sum rotated left by one,
 /// from 0 on, and a final 65535 becomes 0.
@@ -31,10 +32,12 @@ pub fn written_packet_is_read_again()
     ensures size { (p : PacketModel) → IsPacket p → length (packet_spelling p) ≡ made_even (30 + length p.body) }
 {}
 
-/// The packet that is computed from the places of its fields is the one that a front of the bytes spells.
+/// The packet that is computed from the places of its fields is the one that a prefix of the bytes spells. Where there is
+/// a fault, no prefix of them spells a packet.
 pub fn packet_at_front_is_its_spelling()
     ensures found { (bytes : List ℕ) (p : PacketModel) (taken : ℕ) → AreBytes bytes → packet_of bytes ≡ Ok (p, taken) →
         IsPacketAtFront bytes p taken }
     ensures only { (bytes taken rest : List ℕ) (p : PacketModel) → IsPacket p → SpellsPacket p taken → bytes ≡ taken ++ rest →
         packet_of bytes ≡ Ok (p, length taken) }
+    ensures none { (bytes : List ℕ) (f : IdpFault) → packet_of bytes ≡ Err f → (p : PacketModel) (taken : ℕ) → ¬ (IsPacketAtFront bytes p taken) }
 {}

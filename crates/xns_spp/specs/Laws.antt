@@ -1,6 +1,6 @@
 -- What the definitions imply: the statements of the laws, each under the name of its law.
-use Rattle.std.specs.Prelude.{◌≡◌, ◌<◌, ◌≤◌, ◌+◌, ◌%◌, ◌∷◌, ◌++◌, ◌↔◌, ◌⊎◌, All, Bool, IsTrue, List, [], ℕ, max, is_ok, is_some, length, map, nat_lt, take, true, false, slice_get, Ok, Some, None}
-use Rattle.xns_idp.specs.Packet.{AreBytes, IsAddress}
+use Rattle.std.specs.Prelude.{◌≡◌, ◌<◌, ◌≤◌, ◌+◌, ◌%◌, ◌∷◌, ◌++◌, ◌↔◌, ◌⊎◌, All, Bool, IsTrue, List, [], ℕ, max, is_ok, is_some, length, map, nat_lt, take, true, false, slice_get, Ok, Err, Some, None}
+use Rattle.xns_idp.specs.Packet.{PacketModel, AreBytes, IsAddress, IsPacketAtFront}
 use Rattle.xns_idp.specs.Reading.{made_even}
 use Rattle.xns_idp.specs.declared.address.Address.{Address}
 use Rattle.xns_spp.specs.Ends.{IsEnds, is_open, most_pending}
@@ -14,6 +14,8 @@ use Rattle.xns_spp.specs.Receiving.{numbers_in, receive_answer, after_receive, a
 use Rattle.xns_spp.specs.Sending.{data_packet, system_packet, flush_packets, flush_answer, tick_packets, tick_answer, is_full, send_answer, take_answer, waiting_count, after_send, after_take, after_flush, after_tick}
 use Rattle.xns_spp.specs.State.{State, IsState, window_top, send_limit, initiator_state, responder_state}
 use Rattle.xns_spp.specs.Telling.{system_control, told_packet, told_answer, resend_packet, resend_answer, after_resend, room_to_send}
+use Rattle.xns_spp.specs.declared.dropped.Dropped.{Dropped}
+use Rattle.xns_spp.specs.declared.dropped.Dropped.TheVariants.{NotIdp}
 use Rattle.xns_spp.specs.declared.header.Header.{Header}
 use Rattle.xns_spp.specs.declared.item.Item.{Item}
 use Rattle.xns_spp.specs.declared.role.Role.TheVariants.{Responder}
@@ -38,6 +40,8 @@ pub record WrittenPacketIsReadAgain : Type 0 where
 pub record PacketAtFrontIsItsSpelling : Type 0 where
   pub found : (b : List ℕ) (p : SppPacketModel) → AreBytes b → spp_packet_of b ≡ Ok p → IsSppPacketAtFront b p
   pub only : (b : List ℕ) (p : SppPacketModel) → IsSppPacketAtFront b p → spp_packet_of b ≡ Ok p
+  pub no_packet : (b : List ℕ) → spp_packet_of b ≡ Err NotIdp → (p : PacketModel) (taken : ℕ) → ¬ (IsPacketAtFront b p taken)
+  pub none : (b : List ℕ) (why : Dropped) → spp_packet_of b ≡ Err why → (p : SppPacketModel) → ¬ (IsSppPacketAtFront b p)
 
 abbrev pub OursIsAPacketAtTheFront : Type 0
 OursIsAPacketAtTheFront = (s : State) (b : List ℕ) → AreBytes b → (IsTrue (is_ours s b) ↔ IsOursAtFront s b)
