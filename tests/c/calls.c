@@ -148,9 +148,9 @@ static void bad_messages(void) {
     uint16_t words[8] = { 0 };
     size_t count = 7, written = 7;
     GUARD(message);
-    CHECK(xns_message_read(reject, sizeof reject, &message.it, words, 1, &count) == XNS_SHORT_BUFFER && count == 7 && is_left((uint8_t *)&message, 0, sizeof message));
+    CHECK(xns_message_read(reject, sizeof reject, &message.it, words, 1, &count) == XNS_SHORT_BUFFER && count == 2 && is_left((uint8_t *)&message, 0, sizeof message));
     CHECK(xns_message_read(call, 13, &message.it, words, 8, &count) == XNS_ODD_LENGTH && xns_message_read(call, 10, &message.it, words, 8, &count) == XNS_SHORT_MESSAGE);
-    CHECK(xns_message_read(request, 34, &message.it, words, 8, &count) == XNS_UNKNOWN_KIND && count == 7);
+    CHECK(xns_message_read(request, 34, &message.it, words, 8, &count) == XNS_UNKNOWN_KIND && count == 2);
     message.it.kind = 4;
     CHECK(xns_message_write(&message.it, words, 1, buffer, sizeof buffer, &written) == XNS_BAD_ARGUMENT);
     message.it.kind = XNS_KIND_RETURN;
@@ -297,8 +297,8 @@ static void gives(struct xns_caller *caller, const uint8_t *bytes, size_t length
     CHECK(IS_GUARDED(item) && memcmp(buffer, bytes, length) == 0 && is_left(buffer, length, sizeof buffer));
 }
 
-/* A call, and the reject that comes to it in two items. After XNS_NO_MEMORY of an item the conversation has stopped. */
-static uint32_t converse(void) {
+/* A call, and the reject that comes to it in two items. */
+static void converse(void) {
     struct xns_caller caller = XNS_CALLER_NONE;
     GUARDED(struct xns_message) message;
     struct xns_item item;
@@ -317,18 +317,12 @@ static uint32_t converse(void) {
     CHECK(xns_caller_next_item(&caller, &item, buffer, sizeof buffer) == XNS_NOTHING);
     for (int items = 0; items < 3; items++) {
         CHECK(xns_caller_outcome(&caller, &message.it, words, 4, &count) == XNS_NOTHING && count == 7);
-        uint32_t result = xns_caller_feed(&caller, 0, items != 1, bodies[items], lengths[items]);
-        if (result == XNS_NO_MEMORY) {
-            CHECK(xns_caller_feed(&caller, 0, 1, bodies[items], lengths[items]) == XNS_STOPPED && xns_caller_call(&caller, 7, 2, 1, words, 1) == XNS_STOPPED);
-            xns_caller_free(&caller);
-            return result;
-        }
-        CHECK(result == XNS_OK);
+        AGAIN(xns_caller_feed(&caller, 0, items != 1, bodies[items], lengths[items])); /* after XNS_NO_MEMORY it is as it was */
     }
     CHECK(xns_caller_call(&caller, 7, 2, 1, words, 1) == XNS_BUSY); /* the answer is not picked up */
     GUARD(message);
     memset(words, 0xee, sizeof words);
-    CHECK(xns_caller_outcome(&caller, &message.it, words, 1, &count) == XNS_SHORT_BUFFER && count == 7 && is_left((uint8_t *)&message, 0, sizeof message));
+    CHECK(xns_caller_outcome(&caller, &message.it, words, 1, &count) == XNS_SHORT_BUFFER && count == 2 && is_left((uint8_t *)words, 0, sizeof words) && is_left((uint8_t *)&message, 0, sizeof message));
     CHECK(xns_caller_outcome(&caller, &message.it, words, 4, &count) == XNS_OK && IS_GUARDED(message) && message.it.kind == XNS_KIND_REJECT && message.it.transaction == 1);
     CHECK(message.it.number == 1 && count == 2 && words[0] == 1 && words[1] == 2 && is_left((uint8_t *)words, 4, sizeof words));
     CHECK(xns_caller_outcome(&caller, &message.it, words, 4, &count) == XNS_NOTHING);
@@ -337,7 +331,6 @@ static uint32_t converse(void) {
     gives(&caller, versions + 42, 4);
     xns_caller_free(&caller);
     no_caller(&caller);
-    return XNS_OK;
 }
 
 /* The conversation stops with this number at an item behind the peer's versions, or at the first item. */
@@ -359,6 +352,8 @@ static void bad_conversations(void) {
     stops(true, 0, "\0\4\0\3", 4, XNS_BAD_VERSIONS);
     stops(true, 0, "\0\3", 2, XNS_BAD_VERSIONS);
     stops(true, 1, "\0\4\0\3", 4, XNS_OTHER_STREAM);
+    stops(true, XNS_STREAM_END, "", 0, XNS_CLOSING);
+    stops(true, XNS_STREAM_END_REPLY, "\0", 1, XNS_CLOSING);
     stops(false, 0, "\0\2\0", 3, XNS_ODD_LENGTH);
     stops(false, 0, "\0\2", 2, XNS_SHORT_MESSAGE);
     stops(false, 0, "\0\4\0\1", 4, XNS_UNKNOWN_KIND);
@@ -382,7 +377,7 @@ int main(void) {
         connection();
         refused_writers();
         messages();
-        if (converse() == XNS_NO_MEMORY) { CHECK(growths >= refuse_at && refuse_at > 0); CHECK(converse() == XNS_OK); }
+        converse();
         if (refuse_at == 0) most = growths;
         CHECK(growths >= most);
     }

@@ -6,7 +6,7 @@ use Rattle.xns_spp.specs.declared.item.Item.{Item}
 use Rattle.courier_messages.specs.declared.fault.SessionFault.{SessionFault}
 use Rattle.courier_messages.specs.declared.message.Message.{Message}
 use Rattle.courier_messages.specs.declared.message.Message.TheVariants.{Call, Reject, Return, Abort}
-use Rattle.courier_messages.specs.RawCalls.{RawCall, most_call_words}
+use Rattle.courier_messages.specs.RawCalls.{RawCall, IsShortCall, most_call_words}
 use Rattle.courier_messages.specs.RawCalls.{caller_items, call_items}
 use Rattle.courier_messages.specs.Conversation.{Phase, conversation, conversation_fault, ending}
 use Rattle.courier_messages.specs.Cutting.{cut, versions_item}
@@ -17,22 +17,30 @@ use Rattle.courier_messages.proofs.More.{items_more}
 use Rattle.courier_messages.proofs.More.{item_one}
 use Rattle.courier_messages.proofs.More.{next_number}
 use Rattle.courier_messages.proofs.More.{conversation_more, ending_more}
-use Rattle.std.proofs.lemmas.Bool.{eqb-true}
+use Rattle.std.proofs.lemmas.Bool.{eqb-true, ltb-false}
+use Rattle.std.specs.List.{AllByRecursion}
 use Rattle.xns_c.specs.Results.{ok, stopped, busy, too_long}
 use Rattle.xns_c.specs.Talk.{Talk, new_talk, next_transaction, called, is_there, call_number, wrong_unless, reply_fault, answered_unless, answered, after_item}
 use Rattle.xns_c.specs.Talks.{HasDone, AreAnswers, answered_call, count_if, Refuses}
 
 pub start : HasDone [] [] [] [] new_talk
 unfolding conversation conversation_fault ending call_items AreAnswers
-start = record { going = refl; items = refl; transaction = refl; messages = refl; answers = tt; count = refl; single = λ h. refl; ending = refl }
+start = record { going = refl; items = refl; short = tt; transaction = refl; messages = refl; answers = tt; count = refl; single = λ h. refl; ending = refl }
 
 -- a call
 
-free_by : (f w o n : Bool) → (if f then stopped else if w || o then busy else if n then too_long else ok) ≡ ok → (w ≡ false) × (o ≡ false)
+free_by : (f w o : Bool) (n : ℕ) → (if f then stopped else if w || o then busy else if nat_lt most_call_words n then too_long else ok) ≡ ok → (w ≡ false) × (o ≡ false) × (n ≤ most_call_words)
 free_by true w o n h = absurd cc
 free_by false true o n h = absurd cc
 free_by false false true n h = absurd cc
-free_by false false false n h = (refl, refl)
+free_by false false false n h = (refl, refl, few (nat_lt most_call_words n) refl h) where
+  few : (b : Bool) → nat_lt most_call_words n ≡ b → (if b then too_long else ok) ≡ ok → n ≤ most_call_words
+  few true e h = absurd cc
+  few false e h = ltb-false most_call_words n e
+
+pub all_more : {X : Type 0} (P : X → Type 0) (xs : List X) (x : X) → AllByRecursion P xs → P x → AllByRecursion P (xs ++ x ∷ [])
+all_more P [] x h p = (p, tt)
+all_more P (y ∷ xs) x h p = (h.0, all_more P xs x h.1 p)
 
 none_there : (o : Option Message) → is_there o ≡ false → o ≡ None
 none_there None h = refl
@@ -40,7 +48,7 @@ none_there (Some m) h = absurd cc
 
 pub calls : (made : List RawCall) (fed given : List Item) (handed : List Message) (t : Talk) (c : RawCall) → HasDone made fed given handed t → call_number t c ≡ ok → HasDone (made ++ c ∷ []) fed given handed (called t c)
 calls made fed given handed t c h free =
-    let f = free_by t.failed t.waiting (is_there t.outcome) (nat_lt most_call_words (length c.words)) free in
+    let f = free_by t.failed t.waiting (is_there t.outcome) (length c.words) free in
     let none : t.outcome ≡ None = none_there t.outcome f.1 in
     let last : List Item = cut (call_message (next_transaction t) c) in
     let next : next_transaction t ≡ (1 + length made) % 65536 = next_number t.transaction (length made) h.transaction in
@@ -49,6 +57,7 @@ calls made fed given handed t c h free =
     record {
       going = h.going;
       items = sym (append_assoc given t.out last) ∙ ap (λ (xs : List Item). xs ++ last) h.items ∙ ap (λ (n : ℕ). caller_items made ++ cut (call_message n c)) next ∙ ap (λ (xs : List Item). versions_item ∷ xs) (sym (items_more 1 made c));
+      short = all_more IsShortCall made c h.short f.2;
       transaction = next ∙ ap (λ (n : ℕ). n % 65536) (let e : 1 + length made ≡ length (made ++ c ∷ []) = omega (arith, more) in e);
       messages = h.messages;
       answers = h.answers;
@@ -63,6 +72,7 @@ pub gives : (made : List RawCall) (fed given : List Item) (handed : List Message
 gives made fed given handed t x xs h e = record {
   going = h.going;
   items = append_assoc given (x ∷ []) xs ∙ ap (λ (ys : List Item). given ++ ys) (sym e) ∙ h.items;
+  short = h.short;
   transaction = h.transaction;
   messages = h.messages;
   answers = h.answers;
@@ -75,6 +85,7 @@ pub hands : (made : List RawCall) (fed given : List Item) (handed : List Message
 hands made fed given handed t m h e = record {
   going = h.going;
   items = h.items;
+  short = h.short;
   transaction = h.transaction;
   messages = append-nil (handed ++ m ∷ []) ∙ ap (λ (o : Option Message). handed ++ option_to_list o) (sym e) ∙ h.messages;
   answers = h.answers;
@@ -116,6 +127,7 @@ silent made fed given handed t x p h hq hm =
     record {
       going = h.going;
       items = h.items;
+      short = h.short;
       transaction = h.transaction;
       messages = h.messages ∙ sym same;
       answers = subst (AreAnswers 1) (sym same) h.answers;
@@ -137,6 +149,7 @@ replied made fed given handed t x p m h hq hm good =
     record {
       going = h.going;
       items = h.items;
+      short = h.short;
       transaction = h.transaction;
       messages = ap (λ (ms : List Message). ms ++ m ∷ []) all ∙ sym more;
       answers = subst (AreAnswers 1) (sym more) (answers_more 1 (conversation fed) m h.answers (is.1 ∙ ap (λ (n : ℕ). Some n) number));
@@ -145,7 +158,7 @@ replied made fed given handed t x p m h hq hm good =
       ending = ending_by made fed given handed t x h ∙ hq;
     }
 
-two_are_no_one : (ms : List Message) (m n : Message) (more : List Message) → ms ≡ m ∷ n ∷ more → length ms ≤ 1 → ⊥
+pub two_are_no_one : (ms : List Message) (m n : Message) (more : List Message) → ms ≡ m ∷ n ∷ more → length ms ≤ 1 → ⊥
 two_are_no_one ms m n more e few = let l : length ms ≡ length (m ∷ n ∷ more) = ap (length {A = Message}) e in omega (arith, l, few)
 
 feeds_by : (made : List RawCall) (fed given : List Item) (handed : List Message) (t n : Talk) (x : Item) (q : Result Phase SessionFault) (ms : List Message) → HasDone made fed given handed t → run t.phase (signs x) ≡ q → said t.phase (signs x) ≡ ms → (q then λ p. answered (record t { phase = p }) ms) ≡ Ok n → HasDone made (fed ++ x ∷ []) given handed n

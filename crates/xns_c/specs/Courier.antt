@@ -1,10 +1,13 @@
 -- Courier's messages, as C has them.
-use Rattle.std.specs.Prelude.{ℕ, ◌==◌, if◌then◌else◌, List, Option, Some, None}
+use Rattle.std.specs.Prelude.{ℕ, ◌==◌, ◌||◌, if◌then◌else◌, List, Option, Some, None, Result, Ok, Err}
 use Rattle.courier_messages.specs.declared.fault.MessageFault.{MessageFault}
 use Rattle.courier_messages.specs.declared.fault.MessageFault.TheVariants.{OddLength, ShortMessage, UnknownKind, TooLong}
 use Rattle.courier_messages.specs.declared.message.Message.{Message}
 use Rattle.courier_messages.specs.declared.message.Message.TheVariants.{Call, Reject, Return, Abort}
+use Rattle.courier_messages.specs.declared.fault.SessionFault.{SessionFault}
+use Rattle.courier_messages.specs.declared.fault.SessionFault.TheVariants.{NoCommonVersion, BadVersions, BadMessage, WrongTransaction, BadReply, Stream, NoMemory, Failed}
 use Rattle.xns_c.specs.declared.message.XnsMessage.{XnsMessage}
+use Rattle.xns_c.specs.Results.{ok, no_memory, stopped, closing}
 
 -- why bytes are no message
 abbrev pub message_fault_number : MessageFault → ℕ
@@ -22,9 +25,28 @@ message_given m words =
     else if m.kind == 3 then Some (Abort m.transaction m.number words)
     else None
 
--- the words behind its head
-abbrev pub words_in : Message → List ℕ
-words_in (Call transaction program version procedure words) = words
-words_in (Reject transaction reason words) = words
-words_in (Return transaction words) = words
-words_in (Abort transaction error words) = words
+-- an item of another datastream: two of them close the connection (XSIS 028112, Sequenced Packet Protocol, Datastream Type)
+abbrev pub stream_end : ℕ
+stream_end = 254
+
+abbrev pub stream_end_reply : ℕ
+stream_end_reply = 255
+
+abbrev pub stream_number : ℕ → ℕ
+stream_number kind = if kind == stream_end || kind == stream_end_reply then closing else 55
+
+-- why a session stops
+abbrev pub session_fault_number : SessionFault → ℕ
+session_fault_number NoCommonVersion = 51
+session_fault_number BadVersions = 52
+session_fault_number (BadMessage f) = message_fault_number f
+session_fault_number WrongTransaction = 53
+session_fault_number BadReply = 54
+session_fault_number (Stream kind) = stream_number kind
+session_fault_number NoMemory = no_memory
+session_fault_number Failed = stopped
+
+-- what is told of an item
+abbrev pub heard_number : {A : Type 0} → Result A SessionFault → ℕ
+heard_number (Ok t) = ok
+heard_number (Err e) = session_fault_number e

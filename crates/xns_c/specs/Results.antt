@@ -29,6 +29,9 @@ bad_argument = 5
 abbrev pub no_caller : ℕ
 no_caller = 6
 
+abbrev pub no_server : ℕ
+no_server = 7
+
 abbrev pub short : ℕ
 short = 11
 
@@ -40,6 +43,9 @@ stopped = 56
 
 abbrev pub busy : ℕ
 busy = 57
+
+abbrev pub closing : ℕ
+closing = 58
 
 -- why bytes are no internet packet
 abbrev pub idp_fault_number : IdpFault → ℕ

@@ -2,7 +2,7 @@
 use Rattle.std.specs.Prelude.{◌≡◌, ℕ, ◌+◌, ◌%◌, List, [], ◌∷◌, ◌++◌, length, Bool, true, false, ◌&&◌, ◌||◌, ◌==◌, nat_lt, if◌then◌else◌, Option, Some, None, Result, Ok, Err}
 use Rattle.xns_spp.specs.declared.item.Item.{Item}
 use Rattle.courier_messages.specs.declared.fault.SessionFault.{SessionFault}
-use Rattle.courier_messages.specs.declared.fault.SessionFault.TheVariants.{NoCommonVersion, BadVersions, BadMessage, WrongTransaction, BadReply, Stream, NoMemory, Failed}
+use Rattle.courier_messages.specs.declared.fault.SessionFault.TheVariants.{WrongTransaction, BadReply}
 use Rattle.courier_messages.specs.declared.message.Message.{Message}
 use Rattle.courier_messages.specs.declared.message.Message.TheVariants.{Call, Reject, Return, Abort}
 use Rattle.courier_messages.specs.RawCalls.{RawCall, most_call_words}
@@ -11,8 +11,7 @@ use Rattle.courier_messages.specs.Cutting.{cut, versions_item}
 use Rattle.courier_messages.specs.RawCalls.{call_message}
 use Rattle.courier_messages.specs.Phases.{run, said, ◌then◌}
 use Rattle.courier_messages.specs.Text.{signs}
-use Rattle.xns_c.specs.Courier.{message_fault_number}
-use Rattle.xns_c.specs.Results.{ok, no_memory, stopped, busy, too_long}
+use Rattle.xns_c.specs.Results.{ok, stopped, busy, too_long}
 
 pub record Talk : Type 0 where
   -- what is kept of the peer's text
@@ -76,19 +75,3 @@ after_item t x = run t.phase (signs x) then λ p. answered (record t { phase = p
 -- stopped: what is out and the answer that is there stay
 abbrev pub IsStopped : Talk → Talk → Type 0
 IsStopped old new = new ≡ record old { failed = true; phase = new.phase }
-
--- why a session stops
-abbrev pub session_fault_number : SessionFault → ℕ
-session_fault_number NoCommonVersion = 51
-session_fault_number BadVersions = 52
-session_fault_number (BadMessage f) = message_fault_number f
-session_fault_number WrongTransaction = 53
-session_fault_number BadReply = 54
-session_fault_number (Stream kind) = 55
-session_fault_number NoMemory = no_memory
-session_fault_number Failed = stopped
-
--- what is told of an item
-abbrev pub heard_number : Result Talk SessionFault → ℕ
-heard_number (Ok t) = ok
-heard_number (Err e) = session_fault_number e

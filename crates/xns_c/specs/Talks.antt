@@ -5,8 +5,10 @@ use Rattle.xns_spp.specs.declared.item.Item.{Item}
 use Rattle.courier_messages.specs.declared.fault.SessionFault.{SessionFault}
 use Rattle.courier_messages.specs.declared.message.Message.{Message}
 use Rattle.courier_messages.specs.declared.message.Message.TheVariants.{Call, Reject, Return, Abort}
-use Rattle.courier_messages.specs.RawCalls.{RawCall}
+use Rattle.std.specs.List.{AllByRecursion}
+use Rattle.courier_messages.specs.RawCalls.{RawCall, IsShortCall}
 use Rattle.courier_messages.specs.RawCalls.{caller_items}
+use Rattle.courier_messages.specs.RawCalls.{call_message}
 use Rattle.courier_messages.specs.Conversation.{conversation, ending}
 use Rattle.xns_c.specs.Talk.{Talk, reply_fault}
 
@@ -22,6 +24,11 @@ unfoldable pub AreAnswers : ℕ → List Message → Type 0
 AreAnswers k [] = Unit {0}
 AreAnswers k (m ∷ ms) = (answered_call m ≡ Some (k % 65536)) × AreAnswers (k + 1) ms
 
+-- the messages of the k-th call and of those after it
+unfoldable pub made_messages : ℕ → List RawCall → List Message
+made_messages k [] = []
+made_messages k (c ∷ cs) = call_message (k % 65536) c ∷ made_messages (k + 1) cs
+
 abbrev pub count_if : Bool → ℕ
 count_if waits = if waits then 1 else 0
 
@@ -30,6 +37,7 @@ pub record HasDone (made : List RawCall) (fed given : List Item) (handed : List 
   pub going : t.failed ≡ false
   -- what was given and is out are the versions and the calls
   pub items : given ++ t.out ≡ caller_items made
+  pub short : AllByRecursion IsShortCall made
   pub transaction : t.transaction ≡ length made % 65536
   -- each message of the peer's was handed, or is there
   pub messages : handed ++ option_to_list t.outcome ≡ conversation fed

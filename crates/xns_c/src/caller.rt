@@ -5,10 +5,11 @@ ghost use Rattle.xns_spp.specs.declared.item.Item.{Item};
 ghost use Rattle.courier_messages.specs.declared.message.Message.{Message};
 ghost use Rattle.courier_messages.specs.RawCalls.{words_call};
 ghost use Rattle.xns_c.specs.Handle.{talk_of};
-ghost use Rattle.xns_c.specs.Courier.{message_given, words_in};
+ghost use Rattle.courier_messages.specs.Head.{words_in};
+ghost use Rattle.xns_c.specs.Courier.{message_given, heard_number};
 ghost use Rattle.xns_c.specs.Given.{GivesItem, IsPut};
 ghost use Rattle.xns_c.specs.Results.{ok, nothing, no_memory, no_caller, short_buffer, stopped};
-ghost use Rattle.xns_c.specs.Talk.{Talk, new_talk, called, call_number, after_item, heard_number, IsStopped};
+ghost use Rattle.xns_c.specs.Talk.{Talk, new_talk, called, call_number, after_item, IsStopped};
 ghost use Rattle.xns_c.specs.Views.{item_given};
 
 use crate::caller_handle::XnsCaller;
@@ -107,7 +108,8 @@ pub extern "C" fn xns_caller_next_item(
 
 /// Takes in an item of the peer's, whose bytes are copied. `last` is 0 for no.
 ///
-/// `NO_CALLER`; else why the session stops, and from then on `STOPPED`. `NO_MEMORY` where memory is refused: the session stops too.
+/// `NO_CALLER`; else why the session stops, and from then on `STOPPED`. `NO_MEMORY` where memory is refused: the session is as it was, and the item can
+/// be fed again.
 #[unsafe(no_mangle)]
 pub extern "C" fn xns_caller_feed(
     alloc: Global,
@@ -118,7 +120,8 @@ pub extern "C" fn xns_caller_feed(
 ) -> u32
     ensures number { (t : Talk) → talk_of handle.old ≡ Some t → t.failed ≡ false → result ≢ no_memory → result ≡ heard_number (after_item t (item_given stream 0 last body.now)) }
     ensures heard { (t n : Talk) → talk_of handle.old ≡ Some t → result ≡ ok → after_item t (item_given stream 0 last body.now) ≡ Ok n → talk_of handle.new ≡ Some n }
-    ensures stops { (t : Talk) → talk_of handle.old ≡ Some t → result ≢ ok → IfSome (talk_of handle.new) (IsStopped t) }
+    ensures stops { (t : Talk) → talk_of handle.old ≡ Some t → result ≢ ok → result ≢ no_memory → IfSome (talk_of handle.new) (IsStopped t) }
+    ensures memory { result ≡ no_memory → talk_of handle.new ≡ talk_of handle.old }
     ensures stays { (t : Talk) → talk_of handle.old ≡ Some t → talk_of handle.new ≢ None }
     ensures refuses { (t : Talk) → talk_of handle.old ≡ Some t → t.failed ≡ true → (result ≡ stopped) × (talk_of handle.new ≡ talk_of handle.old) }
     ensures none { talk_of handle.old ≡ None → (result ≡ no_caller) × (talk_of handle.new ≡ None) }
@@ -133,7 +136,7 @@ pub extern "C" fn xns_caller_feed(
 
 /// Gives the answer that is there, once: a return, an abort or a reject, its words to the front of a buffer.
 ///
-/// `NO_CALLER`; `NOTHING` where there is none; `SHORT_BUFFER` where it has more words than the buffer has room for.
+/// `NO_CALLER`; `NOTHING` where there is none; `SHORT_BUFFER` where it has more words than the buffer has room for: `count` is then their number.
 #[unsafe(no_mangle)]
 pub extern "C" fn xns_caller_outcome(
     alloc: Global,
@@ -145,10 +148,10 @@ pub extern "C" fn xns_caller_outcome(
     ensures given { (t : Talk) (m : Message) → talk_of handle.old ≡ Some t → t.outcome ≡ Some m → length (words_in m) ≤ length words.old →
         (result ≡ ok) × (message_given message.new (words_in m) ≡ Some m) × IsPut (words_in m) words.old words.new count.new }
     ensures rest { (t : Talk) → talk_of handle.old ≡ Some t → result ≡ ok → talk_of handle.new ≡ Some (record t { outcome = None }) }
-    ensures short { (t : Talk) (m : Message) → talk_of handle.old ≡ Some t → t.outcome ≡ Some m → length words.old < length (words_in m) → result ≡ short_buffer }
-    ensures nothing { (t : Talk) → talk_of handle.old ≡ Some t → t.outcome ≡ None → result ≡ nothing }
-    ensures none { talk_of handle.old ≡ None → result ≡ no_caller }
-    ensures unchanged { result ≢ ok → (talk_of handle.new ≡ talk_of handle.old) × (message.new ≡ message.old) × (words.new ≡ words.old) × (count.new ≡ count.old) }
+    ensures short { (t : Talk) (m : Message) → talk_of handle.old ≡ Some t → t.outcome ≡ Some m → length words.old < length (words_in m) → (result ≡ short_buffer) × (count.new ≡ length (words_in m)) }
+    ensures nothing { (t : Talk) → talk_of handle.old ≡ Some t → t.outcome ≡ None → (result ≡ nothing) × (count.new ≡ count.old) }
+    ensures none { talk_of handle.old ≡ None → (result ≡ no_caller) × (count.new ≡ count.old) }
+    ensures unchanged { result ≢ ok → (talk_of handle.new ≡ talk_of handle.old) × (message.new ≡ message.old) × (words.new ≡ words.old) }
 {
     let Some(mut session) = handle.take(alloc) else {
         return NO_CALLER;

@@ -1,20 +1,28 @@
 //! Courier's messages.
 
-ghost use Rattle.std.specs.Prelude.{◌≡◌, ◌≢◌, ◌<◌, ◌≤◌, length, IfSome, Ok, Err, Some, None, MatchOption};
+ghost use Rattle.std.specs.Prelude.{◌≡◌, ◌≢◌, ◌<◌, ◌≤◌, ℕ, List, length, IfSome, Ok, Err, Some, None, MatchOption};
 ghost use Rattle.courier_messages.specs.Message.{most_bytes, message_bytes, message_of};
 ghost use Rattle.courier_messages.specs.declared.fault.MessageFault.{MessageFault};
 ghost use Rattle.courier_messages.specs.declared.message.Message.{Message};
-ghost use Rattle.xns_c.specs.Courier.{message_fault_number, message_given, words_in};
+ghost use Rattle.courier_messages.specs.Head.{with_words, words_in};
+ghost use Rattle.xns_c.specs.Courier.{message_fault_number, message_given, session_fault_number, stream_number};
 ghost use Rattle.xns_c.specs.Given.{IsPut};
 ghost use Rattle.xns_c.specs.Results.{ok, bad_argument, no_memory, short_buffer, too_long};
 
 use crate::front::put_front;
 use crate::message::XnsMessage;
-use crate::results::{BAD_ARGUMENT, NO_MEMORY, OK, SHORT_BUFFER, TOO_LONG};
+use crate::results::{BAD_ARGUMENT, CLOSING, NO_MEMORY, OK, SHORT_BUFFER, STOPPED, TOO_LONG};
 use courier_messages::{
-    MOST_BYTES, Message, MessageFault, MessageRefusal, Words, read_message, write_message,
+    Head, MOST_BYTES, Message, MessageFault, MessageRefusal, PiecedMessage, SessionFault, Words,
+    read_message, write_message,
 };
 use std::alloc::Global;
+
+/// The datastream of the item that asks to close the connection.
+const STREAM_END: u8 = 254;
+
+/// The datastream of the item that answers it.
+const STREAM_END_REPLY: u8 = 255;
 
 /// Why bytes are no message.
 pub fn message_fault_number(fault: MessageFault) -> u32
@@ -29,42 +37,59 @@ pub fn message_fault_number(fault: MessageFault) -> u32
     }
 }
 
-/// A message but for its words, and these.
-pub fn parts_of(message: &Message) -> (XnsMessage, &[u16])
-    ensures given { message_given result.0 (words_in message.now) ≡ Some message.now }
-    ensures words { result.1.now ≡ words_in message.now }
+/// What an item of this datastream, which is not Courier's, is told as: two of them close the connection.
+fn stream_number(kind: u8) -> u32
+    ensures number { result ≡ stream_number kind }
+    ensures large { 1 < result }
 {
-    match message {
-        Message::Call {
+    if kind == STREAM_END || kind == STREAM_END_REPLY {
+        CLOSING
+    } else {
+        55
+    }
+}
+
+/// Why a session stops.
+pub fn session_fault_number(fault: SessionFault) -> u32
+    ensures number { result ≡ session_fault_number fault }
+    ensures large { 1 < result }
+{
+    match fault {
+        SessionFault::NoCommonVersion => 51,
+        SessionFault::BadVersions => 52,
+        SessionFault::BadMessage(fault) => message_fault_number(fault),
+        SessionFault::WrongTransaction => 53,
+        SessionFault::BadReply => 54,
+        SessionFault::Stream { kind } => stream_number(kind),
+        SessionFault::NoMemory => NO_MEMORY,
+        SessionFault::Failed => STOPPED,
+    }
+}
+
+/// What comes before the words of a message.
+pub fn head_out(head: Head) -> XnsMessage
+    ensures { (words : List ℕ) → message_given result words ≡ Some (with_words head words) }
+{
+    match head {
+        Head::Call {
             transaction,
             program,
             version,
             procedure,
-            words,
-        } => (
-            XnsMessage {
-                kind: 0,
-                transaction: *transaction,
-                program: *program,
-                version: *version,
-                procedure: *procedure,
-                number: 0,
-            },
-            words.as_slice(),
-        ),
-        Message::Reject {
+        } => XnsMessage {
+            kind: 0,
+            transaction,
+            program,
+            version,
+            procedure,
+            number: 0,
+        },
+        Head::Reject {
             transaction,
             reason,
-            words,
-        } => (short_head(1, *transaction, *reason), words.as_slice()),
-        Message::Return { transaction, words } => {
-            (short_head(2, *transaction, 0), words.as_slice())
-        }
-        Message::Abort {
-            transaction,
-            error,
-            words,
-        } => (short_head(3, *transaction, *error), words.as_slice()),
+        } => short_head(1, transaction, reason),
+        Head::Return { transaction } => short_head(2, transaction, 0),
+        Head::Abort { transaction, error } => short_head(3, transaction, error),
     }
 }
 
@@ -82,18 +107,40 @@ fn short_head(kind: u8, transaction: u16, number: u16) -> XnsMessage
     }
 }
 
+/// Gives a message, its words to the front of a buffer, and says how many. Of a buffer that is too short nothing is written.
+pub fn give_message(
+    found: &PiecedMessage,
+    message: &mut XnsMessage,
+    words: &mut [u16],
+    count: &mut usize,
+) -> u32
+    ensures given { length (words_in found.now) ≤ length words.old →
+        (result ≡ ok) × (message_given message.new (words_in found.now) ≡ Some found.now) × IsPut (words_in found.now) words.old words.new count.new }
+    ensures short { length words.old < length (words_in found.now) → (result ≡ short_buffer) × (count.new ≡ length (words_in found.now)) }
+    ensures unchanged { result ≢ ok → (message.new ≡ message.old) × (words.new ≡ words.old) }
+{
+    let size = found.word_count();
+    *count = size;
+    if words.len() < size {
+        return SHORT_BUFFER;
+    }
+    found.put_words(words);
+    *message = head_out(found.head());
+    OK
+}
+
 /// Puts words to the front of a buffer, and says how many. Of a buffer that is too short nothing is written.
 pub fn put_words(words: &[u16], buffer: &mut [u16], count: &mut usize) -> u32
     ensures put { length words.now ≤ length buffer.old → (result ≡ ok) × IsPut words.now buffer.old buffer.new count.new }
-    ensures short { length buffer.old < length words.now → result ≡ short_buffer }
-    ensures unchanged { length buffer.old < length words.now → (buffer.new ≡ buffer.old) × (count.new ≡ count.old) }
+    ensures short { length buffer.old < length words.now → (result ≡ short_buffer) × (count.new ≡ length words.now) }
+    ensures unchanged { length buffer.old < length words.now → buffer.new ≡ buffer.old }
 {
     let size = words.len();
+    *count = size;
     if buffer.len() < size {
         return SHORT_BUFFER;
     }
     buffer[..size].copy_from_slice(words);
-    *count = size;
     OK
 }
 
@@ -110,20 +157,20 @@ pub extern "C" fn xns_message_read(
 ) -> u32
     ensures read { (m : Message) → message_of bytes.now ≡ Ok m → result ≡ ok →
         (message_given message.new (words_in m) ≡ Some m) × IsPut (words_in m) words.old words.new count.new }
-    ensures short { (m : Message) → message_of bytes.now ≡ Ok m → length words.old < length (words_in m) → result ≢ no_memory → result ≡ short_buffer }
+    ensures short { (m : Message) → message_of bytes.now ≡ Ok m → length words.old < length (words_in m) → result ≢ no_memory → (result ≡ short_buffer) × (count.new ≡ length (words_in m)) }
     ensures memory { (m : Message) → message_of bytes.now ≡ Ok m → length (words_in m) ≤ length words.old → result ≢ ok → result ≡ no_memory }
     ensures fault { (f : MessageFault) → message_of bytes.now ≡ Err f → result ≢ no_memory → result ≡ message_fault_number f }
-    ensures unchanged { result ≢ ok → (message.new ≡ message.old) × (words.new ≡ words.old) × (count.new ≡ count.old) }
+    ensures unchanged { result ≢ ok → (message.new ≡ message.old) × (words.new ≡ words.old) }
+    ensures count { result ≢ ok → result ≢ short_buffer → count.new ≡ count.old }
 {
     let found = match read_message(alloc, bytes) {
         Ok(found) => found,
         Err(MessageRefusal::Fault(fault)) => return message_fault_number(fault),
         Err(MessageRefusal::NoMemory) => return NO_MEMORY,
     };
-    let (head, rest) = parts_of(&found);
-    let result = put_words(rest, words, count);
+    let result = put_words(found.words(), words, count);
     if result == OK {
-        *message = head;
+        *message = head_out(Head::of(&found));
     }
     result
 }

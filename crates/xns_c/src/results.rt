@@ -27,6 +27,9 @@ pub const BAD_ARGUMENT: u32 = 5;
 /// The handle has no caller.
 pub const NO_CALLER: u32 = 6;
 
+/// The handle has no server.
+pub const NO_SERVER: u32 = 7;
+
 /// There are fewer bytes than a header has.
 pub const SHORT: u32 = 11;
 
@@ -36,8 +39,11 @@ pub const TOO_LONG: u32 = 21;
 /// The session has stopped.
 pub const STOPPED: u32 = 56;
 
-/// A call waits for its answer, or an answer was not picked up.
+/// A call waits for its answer, or an answer or what is out was not picked up.
 pub const BUSY: u32 = 57;
+
+/// The peer closes the connection.
+pub const CLOSING: u32 = 58;
 
 /// Why bytes are no internet packet.
 pub fn idp_fault_number(fault: IdpFault) -> u32

@@ -1,30 +1,28 @@
 //! The side of a Courier conversation that calls. It reads no shapes: a call goes out with its words, and its answer comes as a message.
 
-ghost use Rattle.std.specs.Prelude.{◌≡◌, ◌≢◌, ◌<◌, ◌≤◌, ℕ, List, [], ◌∷◌, length, true, false, OnErr, IfOk, Some, None, Ok};
+ghost use Rattle.std.specs.Prelude.{◌≡◌, ◌≢◌, ◌<◌, ◌≤◌, ℕ, List, [], ◌∷◌, length, true, false, OnErr, IfOk, Some, None, Ok, Err};
 ghost use Rattle.xns_spp.specs.declared.item.Item.{Item};
+ghost use Rattle.courier_messages.specs.declared.fault.SessionFault.TheVariants.{NoMemory};
 ghost use Rattle.courier_messages.specs.declared.message.Message.{Message};
 ghost use Rattle.courier_messages.specs.RawCalls.{words_call};
-ghost use Rattle.courier_messages.specs.RawCalls.{call_message};
-ghost use Rattle.courier_messages.specs.Head.{with_words};
-ghost use Rattle.courier_messages.specs.Message.{message_words};
+ghost use Rattle.courier_messages.specs.Head.{with_words, words_in};
 ghost use Rattle.courier_messages.specs.Refusal.{Follows};
-ghost use Rattle.xns_c.specs.Courier.{message_given, words_in};
+ghost use Rattle.xns_c.specs.Courier.{message_given, session_fault_number, heard_number};
 ghost use Rattle.xns_c.specs.Given.{GivesItem, IsPut};
 ghost use Rattle.xns_c.specs.Results.{ok, nothing, no_memory, short_buffer, stopped};
-ghost use Rattle.xns_c.specs.Talk.{Talk, new_talk, called, call_number, reply_fault, after_item, heard_number, session_fault_number, IsStopped};
+ghost use Rattle.xns_c.specs.Talk.{Talk, new_talk, called, call_number, reply_fault, after_item, IsStopped};
 ghost use Rattle.xns_c.specs.Views.{item_given};
 
-use crate::courier::{message_fault_number, parts_of, put_words};
-use crate::flag::as_byte;
-use crate::front::put_front;
+use crate::courier::{give_message, session_fault_number};
 use crate::item::XnsItem;
 use crate::message::XnsMessage;
+use crate::outgoing::{copied_item, give_item, whole_words};
 use crate::results::{BUSY, NO_MEMORY, NOTHING, OK, STOPPED, TOO_LONG};
-use courier_messages::{Head, Incoming, Message, SessionFault, VERSION, cut};
+use courier_messages::{Head, Incoming, PiecedMessage, SessionFault, VERSION, cut};
 use std::alloc::{AllocError, Global};
 use std::collections::VecDeque;
 use std::marker::Model;
-use xns_spp::{Bytes, Item};
+use xns_spp::Item;
 
 /// The most words that a call may have: with six words before them they are 131,072 bytes.
 const MOST_WORDS: usize = 65_530;
@@ -37,7 +35,7 @@ pub struct Session {
     failed: bool,
     transaction: u16,
     waiting: bool,
-    outcome: Option<Message>,
+    outcome: Option<PiecedMessage>,
 }
 
 impl Model for Session {
@@ -48,28 +46,10 @@ impl Model for Session {
     ghost view = { λ s. record { phase = s.incoming; out = s.out.items; failed = s.failed; transaction = s.transaction; waiting = s.waiting; outcome = s.outcome } };
 }
 
-/// The words of a call's message.
-fn call_words(
-    alloc: Global,
-    transaction: u16,
-    program: u32,
-    version: u16,
-    procedure: u16,
-    words: &[u16],
-) -> Result<Vec<u16>, AllocError>
-    ensures { IfOk result (λ w. w.items ≡ message_words (call_message transaction (words_call program version procedure words.now))) }
-{
-    let high = (program / 65536) as u16;
-    let low = (program % 65536) as u16;
-    let mut all = Vec::new(alloc);
-    all.extend_from_slice(&[0, transaction, high, low, version, procedure])?;
-    all.extend_from_slice(words)?;
-    Ok(all)
-}
-
 /// Why a message is no answer to the call that waits.
 fn reply_fault(head: Head, waiting: bool, expects: u16) -> Option<SessionFault>
-    ensures { (words : List ℕ) → result ≡ reply_fault waiting expects (with_words head words) }
+    ensures fault { (words : List ℕ) → result ≡ reply_fault waiting expects (with_words head words) }
+    ensures memory { result ≡ Some NoMemory → ⊥ }
 {
     let found = match head {
         Head::Call { .. } => return Some(SessionFault::BadReply),
@@ -82,37 +62,6 @@ fn reply_fault(head: Head, waiting: bool, expects: u16) -> Option<SessionFault>
     } else {
         Some(SessionFault::WrongTransaction)
     }
-}
-
-/// Why a session stops.
-fn session_fault_number(fault: SessionFault) -> u32
-    ensures number { result ≡ session_fault_number fault }
-    ensures large { 1 < result }
-{
-    match fault {
-        SessionFault::NoCommonVersion => 51,
-        SessionFault::BadVersions => 52,
-        SessionFault::BadMessage(fault) => message_fault_number(fault),
-        SessionFault::WrongTransaction => 53,
-        SessionFault::BadReply => 54,
-        SessionFault::Stream { kind: _ } => 55,
-        SessionFault::NoMemory => NO_MEMORY,
-        SessionFault::Failed => STOPPED,
-    }
-}
-
-/// An item of these parts, whose bytes are copied.
-fn copied_item(alloc: Global, stream: u8, last: u8, body: &[u8]) -> Result<Item, AllocError>
-    ensures { IfOk result (λ x. x ≡ item_given stream 0 last body.now) }
-{
-    let mut bytes = Vec::new(alloc);
-    bytes.extend_from_slice(body)?;
-    Ok(Item {
-        stream,
-        attention: false,
-        last: last != 0,
-        body: Bytes::new(bytes),
-    })
 }
 
 impl Session {
@@ -159,7 +108,13 @@ impl Session {
         ensures unchanged { OnErr result (self.new ≡ self.old) }
     {
         let transaction = self.transaction.wrapping_add(1);
-        let all = call_words(alloc, transaction, program, version, procedure, words)?;
+        let head = Head::Call {
+            transaction,
+            program,
+            version,
+            procedure,
+        };
+        let all = whole_words(alloc, head, words)?;
         let mut items = cut(alloc, all.as_slice())?;
         self.out.append(&mut items)?;
         self.transaction = transaction;
@@ -200,21 +155,7 @@ impl Session {
         ensures none { self.old.out ≡ [] → result ≡ nothing }
         ensures unchanged { result ≢ ok → (self.new ≡ self.old) × (item.new ≡ item.old) × (buffer.new ≡ buffer.old) }
     {
-        let Some(first) = self.out.front() else {
-            return NOTHING;
-        };
-        let mut length = 0;
-        let result = put_front(first.body.as_slice(), buffer, &mut length);
-        if result == OK {
-            *item = XnsItem {
-                stream: first.stream,
-                attention: as_byte(first.attention),
-                last: as_byte(first.last),
-                length,
-            };
-            let _ = self.out.pop_front();
-        }
-        result
+        give_item(&mut self.out, item, buffer)
     }
 
     /// Takes in one more item, whose bytes are copied, and keeps the answer that it ends.
@@ -228,27 +169,28 @@ impl Session {
         ensures hears { Follows result (after_item self.old (item_given stream 0 last body.now)) self.new }
         ensures beside { self.new ≡ record self.old { phase = self.new.phase; waiting = self.new.waiting; outcome = self.new.outcome } }
         ensures same { OnErr result ((self.new.waiting ≡ self.old.waiting) × (self.new.outcome ≡ self.old.outcome)) }
+        ensures memory { result ≡ Err NoMemory → self.new ≡ self.old }
     {
         let item = copied_item(alloc, stream, last, body)?;
         let Some(message) = self.incoming.take(alloc, item)? else {
             return Ok(());
         };
-        let head = message.head();
-        if let Some(fault) = reply_fault(head, self.waiting, self.transaction) {
+        if let Some(fault) = reply_fault(message.head(), self.waiting, self.transaction) {
             return Err(fault);
         }
-        let words = message.words(alloc)?;
-        self.outcome = Some(head.with_words(words));
+        self.outcome = Some(message);
         self.waiting = false;
         Ok(())
     }
 
-    /// Takes in one more item, and says by a number whether the session goes on. Where it does not each further item and call is refused.
+    /// Takes in one more item, and says by a number whether the session goes on. Where it does not each further item and call is refused; but where
+    /// memory is refused nothing is changed, and the item can be fed again.
     #[tactic(auto, using(crate::proofs::Told::told))]
     pub fn feed(&mut self, alloc: Global, stream: u8, last: u8, body: &[u8]) -> u32
         ensures number { self.old.failed ≡ false → result ≢ no_memory → result ≡ heard_number (after_item self.old (item_given stream 0 last body.now)) }
         ensures heard { result ≡ ok → after_item self.old (item_given stream 0 last body.now) ≡ Ok self.new }
-        ensures stops { result ≢ ok → IsStopped self.old self.new }
+        ensures memory { result ≡ no_memory → self.new ≡ self.old }
+        ensures stops { result ≢ ok → result ≢ no_memory → IsStopped self.old self.new }
         ensures refuses { self.old.failed ≡ true → (result ≡ stopped) × (self.new ≡ self.old) }
     {
         if self.failed {
@@ -256,6 +198,7 @@ impl Session {
         }
         match self.take_item(alloc, stream, last, body) {
             Ok(()) => OK,
+            Err(SessionFault::NoMemory) => NO_MEMORY,
             Err(fault) => {
                 self.failed = true;
                 session_fault_number(fault)
@@ -263,22 +206,21 @@ impl Session {
         }
     }
 
-    /// Gives the answer that is there, once, its words to the front of a buffer. Where the buffer is too short the answer stays.
+    /// Gives the answer that is there, once, its words to the front of a buffer. Where the buffer is too short the answer stays, and the number of its
+    /// words is told.
     pub fn outcome(&mut self, message: &mut XnsMessage, words: &mut [u16], count: &mut usize) -> u32
         ensures given { (m : Message) → self.old.outcome ≡ Some m → length (words_in m) ≤ length words.old →
             (result ≡ ok) × (message_given message.new (words_in m) ≡ Some m) × IsPut (words_in m) words.old words.new count.new }
         ensures rest { result ≡ ok → self.new ≡ record self.old { outcome = None } }
-        ensures short { (m : Message) → self.old.outcome ≡ Some m → length words.old < length (words_in m) → result ≡ short_buffer }
-        ensures none { self.old.outcome ≡ None → result ≡ nothing }
-        ensures unchanged { result ≢ ok → (self.new ≡ self.old) × (message.new ≡ message.old) × (words.new ≡ words.old) × (count.new ≡ count.old) }
+        ensures short { (m : Message) → self.old.outcome ≡ Some m → length words.old < length (words_in m) → (result ≡ short_buffer) × (count.new ≡ length (words_in m)) }
+        ensures none { self.old.outcome ≡ None → (result ≡ nothing) × (count.new ≡ count.old) }
+        ensures unchanged { result ≢ ok → (self.new ≡ self.old) × (message.new ≡ message.old) × (words.new ≡ words.old) }
     {
         let Some(found) = &self.outcome else {
             return NOTHING;
         };
-        let (head, rest) = parts_of(found);
-        let result = put_words(rest, words, count);
+        let result = give_message(found, message, words, count);
         if result == OK {
-            *message = head;
             self.outcome = None;
         }
         result

@@ -1,0 +1,85 @@
+//! Items on their way out, and the words of messages.
+
+ghost use Rattle.std.specs.Prelude.{◌≡◌, ◌≢◌, ◌<◌, ◌≤◌, ℕ, List, [], ◌∷◌, length, IfOk};
+ghost use Rattle.xns_spp.specs.declared.item.Item.{Item};
+ghost use Rattle.courier_messages.specs.Head.{with_words};
+ghost use Rattle.courier_messages.specs.Message.{message_words};
+ghost use Rattle.xns_c.specs.Given.{GivesItem, IsPut};
+ghost use Rattle.xns_c.specs.Results.{ok, nothing, short_buffer};
+ghost use Rattle.xns_c.specs.Views.{item_given};
+
+use crate::flag::as_byte;
+use crate::front::put_front;
+use crate::item::XnsItem;
+use crate::results::{NOTHING, OK};
+use courier_messages::Head;
+use std::alloc::{AllocError, Global};
+use std::collections::VecDeque;
+use xns_spp::{Bytes, Item};
+
+/// Gives the first item that is to go out, its bytes to the front of the buffer. Where the buffer is too short the item stays.
+pub fn give_item(out: &mut VecDeque<Item>, item: &mut XnsItem, buffer: &mut [u8]) -> u32
+    ensures given { (x : Item) (xs : List Item) → out.old.items ≡ x ∷ xs → length x.body ≤ length buffer.old →
+        (result ≡ ok) × GivesItem x item.new × IsPut x.body buffer.old buffer.new item.new.length }
+    ensures rest { (x : Item) (xs : List Item) → out.old.items ≡ x ∷ xs → length x.body ≤ length buffer.old → out.new.items ≡ xs }
+    ensures short { (x : Item) (xs : List Item) → out.old.items ≡ x ∷ xs → length buffer.old < length x.body → result ≡ short_buffer }
+    ensures none { out.old.items ≡ [] → result ≡ nothing }
+    ensures unchanged { result ≢ ok → (out.new.items ≡ out.old.items) × (item.new ≡ item.old) × (buffer.new ≡ buffer.old) }
+{
+    let Some(first) = out.front() else {
+        return NOTHING;
+    };
+    let mut length = 0;
+    let result = put_front(first.body.as_slice(), buffer, &mut length);
+    if result == OK {
+        *item = XnsItem {
+            stream: first.stream,
+            attention: as_byte(first.attention),
+            last: as_byte(first.last),
+            length,
+        };
+        let _ = out.pop_front();
+    }
+    result
+}
+
+/// An item of these parts, whose bytes are copied.
+pub fn copied_item(alloc: Global, stream: u8, last: u8, body: &[u8]) -> Result<Item, AllocError>
+    ensures { IfOk result (λ x. x ≡ item_given stream 0 last body.now) }
+{
+    let mut bytes = Vec::new(alloc);
+    bytes.extend_from_slice(body)?;
+    Ok(Item {
+        stream,
+        attention: false,
+        last: last != 0,
+        body: Bytes::new(bytes),
+    })
+}
+
+/// The words of a message with this head and these words.
+pub fn whole_words(alloc: Global, head: Head, words: &[u16]) -> Result<Vec<u16>, AllocError>
+    ensures { IfOk result (λ w. w.items ≡ message_words (with_words head words.now)) }
+{
+    let mut all = Vec::new(alloc);
+    match head {
+        Head::Call {
+            transaction,
+            program,
+            version,
+            procedure,
+        } => {
+            let high = (program / 65536) as u16;
+            let low = (program % 65536) as u16;
+            all.extend_from_slice(&[0, transaction, high, low, version, procedure])?;
+        }
+        Head::Reject {
+            transaction,
+            reason,
+        } => all.extend_from_slice(&[1, transaction, reason])?,
+        Head::Return { transaction } => all.extend_from_slice(&[2, transaction])?,
+        Head::Abort { transaction, error } => all.extend_from_slice(&[3, transaction, error])?,
+    }
+    all.extend_from_slice(words)?;
+    Ok(all)
+}

@@ -1,0 +1,195 @@
+//! The side of a Courier conversation that is called, which C holds by its handle.
+
+ghost use Rattle.std.specs.Prelude.{◌≡◌, ◌≢◌, ◌<◌, ◌≤◌, ℕ, List, [], ◌∷◌, length, true, false, IfOk, IfSome, Ok, Some, None};
+ghost use Rattle.xns_spp.specs.declared.item.Item.{Item};
+ghost use Rattle.courier_messages.specs.declared.message.Message.{Message};
+ghost use Rattle.courier_messages.specs.Head.{words_in};
+ghost use Rattle.xns_c.specs.Answering.{Answering, new_answering, is_busy, after_item, feed_number, IsStopped, after_call, call_refusal, after_reject, answer_given, answers_to, answer_number, answered};
+ghost use Rattle.xns_c.specs.Courier.{message_given};
+ghost use Rattle.xns_c.specs.Given.{GivesItem, IsPut};
+ghost use Rattle.xns_c.specs.Handle.{answering_of};
+ghost use Rattle.xns_c.specs.Results.{ok, nothing, no_memory, no_server, short_buffer};
+ghost use Rattle.xns_c.specs.Views.{item_given};
+ghost use Rattle.xns_c.specs.declared.unlisted.Unlisted.{Unlisted};
+
+use crate::item::XnsItem;
+use crate::message::XnsMessage;
+use crate::program::XnsProgram;
+use crate::results::{NO_MEMORY, NO_SERVER, OK};
+use crate::server_handle::XnsServer;
+use crate::server_session::ServerSession;
+use std::alloc::{AllocError, Global};
+
+fn make_session(alloc: Global, programs: &[XnsProgram]) -> Result<Box<ServerSession>, AllocError>
+    ensures { IfOk result (λ b. b.value ≡ new_answering programs.now) }
+{
+    let session = ServerSession::new(alloc, programs)?;
+    Ok(Box::new(alloc, session)?)
+}
+
+/// Makes a session for these programs, which are copied, whose versions are to go out, in the place of the one that the handle had, which is freed in any
+/// case. Where there are none each call is handed.
+///
+/// `NO_MEMORY` where memory is refused. The handle then has no session.
+#[unsafe(no_mangle)]
+pub extern "C" fn xns_server_new(
+    alloc: Global,
+    handle: &mut XnsServer,
+    programs: &[XnsProgram],
+) -> u32
+    ensures made { result ≡ ok → answering_of handle.new ≡ Some (new_answering programs.now) }
+    ensures memory { result ≢ ok → (result ≡ no_memory) × (answering_of handle.new ≡ None) }
+{
+    let _ = handle.take(alloc);
+    match make_session(alloc, programs) {
+        Ok(session) => {
+            handle.put(session);
+            OK
+        }
+        Err(_) => NO_MEMORY,
+    }
+}
+
+/// Frees the session, if there is one. The handle then has none, and may be used again.
+#[unsafe(no_mangle)]
+pub extern "C" fn xns_server_free(alloc: Global, handle: &mut XnsServer)
+    ensures { answering_of handle.new ≡ None }
+{
+    let _freed = handle.take(alloc);
+}
+
+/// Takes in an item of the peer's, whose bytes are copied. `last` is 0 for no.
+///
+/// `NO_SERVER`; `STOPPED`; `BUSY` while a call waits for its answer, or something is out; else why the session stops. `BAD_REPLY` is a message that is
+/// no call. After `BUSY`, and after `NO_MEMORY` where memory is refused, the session is as it was, and the item can be fed again.
+#[unsafe(no_mangle)]
+pub extern "C" fn xns_server_feed(
+    alloc: Global,
+    handle: &mut XnsServer,
+    stream: u8,
+    last: u8,
+    body: &[u8],
+) -> u32
+    ensures number { (a : Answering) → answering_of handle.old ≡ Some a → result ≢ no_memory → result ≡ feed_number a (item_given stream 0 last body.now) }
+    ensures heard { (a n : Answering) → answering_of handle.old ≡ Some a → result ≡ ok → after_item a (item_given stream 0 last body.now) ≡ Ok n → answering_of handle.new ≡ Some n }
+    ensures memory { (a : Answering) → answering_of handle.old ≡ Some a → result ≡ no_memory → (a.failed ≡ false) × (is_busy a ≡ false) × (answering_of handle.new ≡ Some a) }
+    ensures stops { (a : Answering) → answering_of handle.old ≡ Some a → a.failed ≡ false → is_busy a ≡ false → result ≢ ok → result ≢ no_memory → IfSome (answering_of handle.new) (IsStopped a) }
+    ensures stays { (a : Answering) → answering_of handle.old ≡ Some a → answering_of handle.new ≢ None }
+    ensures waits { (a : Answering) → answering_of handle.old ≡ Some a → is_busy a ≡ true → answering_of handle.new ≡ Some a }
+    ensures stopped { (a : Answering) → answering_of handle.old ≡ Some a → a.failed ≡ true → answering_of handle.new ≡ Some a }
+    ensures none { answering_of handle.old ≡ None → (result ≡ no_server) × (answering_of handle.new ≡ None) }
+{
+    let Some(mut session) = handle.take(alloc) else {
+        return NO_SERVER;
+    };
+    let result = session.feed(alloc, stream, last, body);
+    handle.put(session);
+    result
+}
+
+/// Whether a call waits to be handed or answered, or something is out: until then what is fed is answered by `BUSY`. After a feed that was answered by 0 it
+/// says that a call has come. False where there is no server.
+#[unsafe(no_mangle)]
+pub extern "C" fn xns_server_is_busy(alloc: Global, handle: &mut XnsServer) -> bool
+    ensures answer { (a : Answering) → answering_of handle.old ≡ Some a → result ≡ is_busy a }
+    ensures none { answering_of handle.old ≡ None → result ≡ false }
+    ensures same { answering_of handle.new ≡ answering_of handle.old }
+{
+    let Some(session) = handle.take(alloc) else {
+        return false;
+    };
+    let answer = session.is_busy();
+    handle.put(session);
+    answer
+}
+
+/// Hands the call that waits, once, its words to the front of a buffer. One whose program is not listed is answered by a reject of reason 0, and one of
+/// another version than are listed by a reject of reason 1 with these (XSIS 038112, Courier, Reject message); the answer is then `NOTHING`.
+///
+/// `NO_SERVER`; `NOTHING` where there is none; `SHORT_BUFFER` where it has more words than the buffer has room for: `count` is then their number;
+/// `NO_MEMORY` where memory is refused for a reject.
+#[unsafe(no_mangle)]
+pub extern "C" fn xns_server_call(
+    alloc: Global,
+    handle: &mut XnsServer,
+    call: &mut XnsMessage,
+    words: &mut [u16],
+    count: &mut usize,
+) -> u32
+    ensures given { (a : Answering) (m : Message) → answering_of handle.old ≡ Some a → a.call ≡ Some m → call_refusal a.programs m ≡ None → length (words_in m) ≤ length words.old →
+        (result ≡ ok) × (message_given call.new (words_in m) ≡ Some m) × IsPut (words_in m) words.old words.new count.new }
+    ensures rest { (a : Answering) (m : Message) → answering_of handle.old ≡ Some a → a.call ≡ Some m → result ≡ ok →
+        (call_refusal a.programs m ≡ None) × (answering_of handle.new ≡ Some (after_call a m)) }
+    ensures short { (a : Answering) (m : Message) → answering_of handle.old ≡ Some a → a.call ≡ Some m → call_refusal a.programs m ≡ None → length words.old < length (words_in m) →
+        (result ≡ short_buffer) × (count.new ≡ length (words_in m)) }
+    ensures rejects { (a : Answering) (m : Message) (u : Unlisted) → answering_of handle.old ≡ Some a → a.call ≡ Some m → call_refusal a.programs m ≡ Some u → result ≢ no_memory →
+        (result ≡ nothing) × (answering_of handle.new ≡ Some (after_reject a m u)) × (count.new ≡ count.old) }
+    ensures nothing { (a : Answering) → answering_of handle.old ≡ Some a → a.call ≡ None → (result ≡ nothing) × (answering_of handle.new ≡ Some a) × (count.new ≡ count.old) }
+    ensures none { answering_of handle.old ≡ None → (result ≡ no_server) × (answering_of handle.new ≡ None) × (count.new ≡ count.old) }
+    ensures stays { result ≢ ok → result ≢ nothing → answering_of handle.new ≡ answering_of handle.old }
+    ensures unchanged { result ≢ ok → (call.new ≡ call.old) × (words.new ≡ words.old) }
+    ensures count { result ≡ no_memory → count.new ≡ count.old }
+{
+    let Some(mut session) = handle.take(alloc) else {
+        return NO_SERVER;
+    };
+    let result = session.call(alloc, call, words, count);
+    handle.put(session);
+    result
+}
+
+/// Puts out the answer to the call that was handed, of its transaction: 2 a return, 3 an abort with its error's number, 1 a reject with its reason
+/// (XSIS 038112, Courier, Return, Abort and Reject message). A reject also answers a call that waits, is listed and was not handed, as one that is too
+/// long for the program: it is handed no more.
+///
+/// `NO_SERVER`; `NOTHING` where no such call waits; `BAD_ARGUMENT` for another kind; `TOO_LONG` over 131,072 bytes; `NO_MEMORY` where memory
+/// is refused.
+#[unsafe(no_mangle)]
+pub extern "C" fn xns_server_answer(
+    alloc: Global,
+    handle: &mut XnsServer,
+    kind: u8,
+    number: u16,
+    words: &[u16],
+) -> u32
+    ensures number { (a : Answering) → answering_of handle.old ≡ Some a → result ≢ no_memory → result ≡ answer_number (answers_to a kind) kind number words.now }
+    ensures memory { (a : Answering) → answering_of handle.old ≡ Some a → result ≡ no_memory → answer_number (answers_to a kind) kind number words.now ≡ ok }
+    ensures answered { (a : Answering) (k : ℕ) (m : Message) → answering_of handle.old ≡ Some a → answers_to a kind ≡ Some k → answer_given kind k number words.now ≡ Some m →
+        result ≡ ok → answering_of handle.new ≡ Some (answered a m) }
+    ensures none { answering_of handle.old ≡ None → result ≡ no_server }
+    ensures unchanged { result ≢ ok → answering_of handle.new ≡ answering_of handle.old }
+{
+    let Some(mut session) = handle.take(alloc) else {
+        return NO_SERVER;
+    };
+    let result = session.answer(alloc, kind, number, words);
+    handle.put(session);
+    result
+}
+
+/// Gives the next item that is to go out, its bytes to the front of the buffer. Each is given once.
+///
+/// `NO_SERVER`; `NOTHING` where there is none; `SHORT_BUFFER` where the item is longer than the buffer.
+#[unsafe(no_mangle)]
+pub extern "C" fn xns_server_next_item(
+    alloc: Global,
+    handle: &mut XnsServer,
+    item: &mut XnsItem,
+    buffer: &mut [u8],
+) -> u32
+    ensures given { (a : Answering) (x : Item) (xs : List Item) → answering_of handle.old ≡ Some a → a.out ≡ x ∷ xs → length x.body ≤ length buffer.old →
+        (result ≡ ok) × GivesItem x item.new × IsPut x.body buffer.old buffer.new item.new.length }
+    ensures rest { (a : Answering) (x : Item) (xs : List Item) → answering_of handle.old ≡ Some a → a.out ≡ x ∷ xs → length x.body ≤ length buffer.old →
+        answering_of handle.new ≡ Some (record a { out = xs }) }
+    ensures short { (a : Answering) (x : Item) (xs : List Item) → answering_of handle.old ≡ Some a → a.out ≡ x ∷ xs → length buffer.old < length x.body → result ≡ short_buffer }
+    ensures nothing { (a : Answering) → answering_of handle.old ≡ Some a → a.out ≡ [] → result ≡ nothing }
+    ensures none { answering_of handle.old ≡ None → result ≡ no_server }
+    ensures unchanged { result ≢ ok → (answering_of handle.new ≡ answering_of handle.old) × (item.new ≡ item.old) × (buffer.new ≡ buffer.old) }
+{
+    let Some(mut session) = handle.take(alloc) else {
+        return NO_SERVER;
+    };
+    let result = session.next_item(item, buffer);
+    handle.put(session);
+    result
+}

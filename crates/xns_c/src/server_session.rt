@@ -1,0 +1,317 @@
+//! The side of a Courier conversation that is called. It reads no shapes: a call is handed as a message, and its answer goes out with its words.
+
+ghost use Rattle.std.specs.Prelude.{◌≡◌, ◌≢◌, ◌<◌, ◌≤◌, ◌+◌, ◌++◌, ◌∷◌, ℕ, List, [], length, true, false, OnErr, IfOk, Some, None, Ok, Err, option_map, nat_lt, if◌then◌else◌};
+ghost use Rattle.xns_spp.specs.declared.item.Item.{Item};
+ghost use Rattle.courier_messages.specs.declared.fault.SessionFault.TheVariants.{NoMemory};
+ghost use Rattle.courier_messages.specs.declared.message.Message.{Message};
+ghost use Rattle.courier_messages.specs.Cutting.{cut};
+ghost use Rattle.courier_messages.specs.Head.{with_words, words_in};
+ghost use Rattle.courier_messages.specs.Message.{message_words};
+ghost use Rattle.courier_messages.specs.Refusal.{Follows};
+ghost use Rattle.xns_c.specs.Answering.{Answering, new_answering, is_busy, after_item, feed_number, IsStopped, is_a_call, transaction_in, after_call, call_refusal, reject_message, after_reject, answer_given, length_number, answers_to, answer_number, answered};
+ghost use Rattle.xns_c.specs.Courier.{message_given};
+ghost use Rattle.xns_c.specs.Given.{GivesItem, IsPut};
+ghost use Rattle.xns_c.specs.Results.{ok, nothing, no_memory, short_buffer, bad_argument, too_long};
+ghost use Rattle.xns_c.specs.Views.{item_given};
+ghost use Rattle.xns_c.specs.declared.unlisted.Unlisted.{Unlisted};
+
+use crate::courier::{give_message, session_fault_number};
+use crate::item::XnsItem;
+use crate::message::XnsMessage;
+use crate::outgoing::{copied_item, give_item, whole_words};
+use crate::program::XnsProgram;
+use crate::results::{BAD_ARGUMENT, BUSY, NO_MEMORY, NOTHING, OK, STOPPED, TOO_LONG};
+use crate::unlisted::{Unlisted, refusal, reject_words};
+use courier_messages::{Head, Incoming, PiecedMessage, SessionFault, VERSION, cut};
+use std::alloc::{AllocError, Global};
+use std::collections::VecDeque;
+use std::marker::Model;
+use xns_spp::Item;
+
+/// The number of a reject among the kinds of messages.
+const REJECT: u8 = 1;
+
+/// The most words that a message may have: 131,072 bytes.
+const MOST_WORDS: usize = 65_536;
+
+/// The side that is called, one call at a time.
+#[derive(Drop)]
+pub struct ServerSession {
+    programs: Vec<XnsProgram>,
+    incoming: Incoming,
+    out: VecDeque<Item>,
+    failed: bool,
+    call: Option<PiecedMessage>,
+    asked: Option<u16>,
+}
+
+impl Model for ServerSession {
+    ghost use Rattle.xns_c.specs.Answering.{Answering};
+
+    ghost Value = { Answering };
+
+    ghost view = { λ s. record { programs = s.programs.items; phase = s.incoming; out = s.out.items; failed = s.failed; call = s.call; asked = s.asked } };
+}
+
+/// Whether a message with this head is a call.
+fn is_call(head: Head) -> bool
+    ensures { (words : List ℕ) → result ≡ is_a_call (with_words head words) }
+{
+    matches!(head, Head::Call { .. })
+}
+
+/// Which call a message with this head belongs to.
+fn transaction_of(head: Head) -> u16
+    ensures { (words : List ℕ) → result ≡ transaction_in (with_words head words) }
+{
+    match head {
+        Head::Call { transaction, .. }
+        | Head::Reject { transaction, .. }
+        | Head::Return { transaction }
+        | Head::Abort { transaction, .. } => transaction,
+    }
+}
+
+/// The head of an answer, if there is a kind of this number.
+fn answer_head(kind: u8, transaction: u16, number: u16) -> Option<Head>
+    ensures { (words : List ℕ) → option_map (λ head. with_words head words) result ≡ answer_given kind transaction number words }
+{
+    match kind {
+        1 => Some(Head::Reject {
+            transaction,
+            reason: number,
+        }),
+        2 => Some(Head::Return { transaction }),
+        3 => Some(Head::Abort {
+            transaction,
+            error: number,
+        }),
+        _ => None,
+    }
+}
+
+/// Whether a message with this head and so many words has more than 131,072 bytes.
+fn is_too_long(head: Head, count: usize) -> bool
+    ensures { (words : List ℕ) → length words ≡ count → result ≡ nat_lt 65536 (length (message_words (with_words head words))) }
+{
+    count > MOST_WORDS - head.size()
+}
+
+impl ServerSession {
+    /// A session for these programs, which are copied, whose versions are out. The only error is want of memory.
+    pub fn new(alloc: Global, programs: &[XnsProgram]) -> Result<ServerSession, AllocError>
+        ensures { IfOk result (λ s. s ≡ new_answering programs.now) }
+    {
+        Ok(ServerSession {
+            programs: Vec::from_slice(alloc, programs)?,
+            incoming: Incoming::new(alloc),
+            out: cut(alloc, &[VERSION, VERSION])?,
+            failed: false,
+            call: None,
+            asked: None,
+        })
+    }
+
+    /// Whether a call waits, or something is out.
+    pub fn is_busy(&self) -> bool
+        ensures { result ≡ is_busy self.now }
+    {
+        self.call.is_some() || self.asked.is_some() || !self.out.is_empty()
+    }
+
+    /// Gives the next item that is to go out, its bytes to the front of the buffer. Where the buffer is too short the item stays.
+    pub fn next_item(&mut self, item: &mut XnsItem, buffer: &mut [u8]) -> u32
+        ensures given { (x : Item) (xs : List Item) → self.old.out ≡ x ∷ xs → length x.body ≤ length buffer.old →
+            (result ≡ ok) × GivesItem x item.new × IsPut x.body buffer.old buffer.new item.new.length }
+        ensures rest { (x : Item) (xs : List Item) → self.old.out ≡ x ∷ xs → length x.body ≤ length buffer.old → self.new ≡ record self.old { out = xs } }
+        ensures short { (x : Item) (xs : List Item) → self.old.out ≡ x ∷ xs → length buffer.old < length x.body → result ≡ short_buffer }
+        ensures none { self.old.out ≡ [] → result ≡ nothing }
+        ensures unchanged { result ≢ ok → (self.new ≡ self.old) × (item.new ≡ item.old) × (buffer.new ≡ buffer.old) }
+    {
+        give_item(&mut self.out, item, buffer)
+    }
+
+    /// Takes in one more item, whose bytes are copied, and keeps the call that it ends.
+    fn take_item(
+        &mut self,
+        alloc: Global,
+        stream: u8,
+        last: u8,
+        body: &[u8],
+    ) -> Result<(), SessionFault>
+        ensures hears { Follows result (after_item self.old (item_given stream 0 last body.now)) self.new }
+        ensures beside { self.new ≡ record self.old { phase = self.new.phase; call = self.new.call } }
+        ensures same { OnErr result (self.new.call ≡ self.old.call) }
+        ensures memory { result ≡ Err NoMemory → self.new ≡ self.old }
+    {
+        let item = copied_item(alloc, stream, last, body)?;
+        let Some(message) = self.incoming.take(alloc, item)? else {
+            return Ok(());
+        };
+        if !is_call(message.head()) {
+            return Err(SessionFault::BadReply);
+        }
+        self.call = Some(message);
+        Ok(())
+    }
+
+    /// Takes in one more item, and says by a number whether the session goes on. Where it does not each further item is refused; but while a call waits or
+    /// something is out, and where memory is refused, nothing is changed, and the item can be fed again.
+    #[tactic(auto, using(crate::proofs::Told::told))]
+    pub fn feed(&mut self, alloc: Global, stream: u8, last: u8, body: &[u8]) -> u32
+        ensures number { result ≢ no_memory → result ≡ feed_number self.old (item_given stream 0 last body.now) }
+        ensures heard { result ≡ ok → after_item self.old (item_given stream 0 last body.now) ≡ Ok self.new }
+        ensures memory { result ≡ no_memory → (self.old.failed ≡ false) × (is_busy self.old ≡ false) × (self.new ≡ self.old) }
+        ensures stops { self.old.failed ≡ false → is_busy self.old ≡ false → result ≢ ok → result ≢ no_memory → IsStopped self.old self.new }
+        ensures waits { is_busy self.old ≡ true → self.new ≡ self.old }
+        ensures stopped { self.old.failed ≡ true → self.new ≡ self.old }
+    {
+        if self.failed {
+            return STOPPED;
+        }
+        if self.is_busy() {
+            return BUSY;
+        }
+        match self.take_item(alloc, stream, last, body) {
+            Ok(()) => OK,
+            Err(SessionFault::NoMemory) => NO_MEMORY,
+            Err(fault) => {
+                self.failed = true;
+                session_fault_number(fault)
+            }
+        }
+    }
+
+    /// Hands the call that waits, which is listed, its words to the front of a buffer. Where the buffer is too short the call stays, and the number of
+    /// its words is told.
+    fn hand(&mut self, message: &mut XnsMessage, words: &mut [u16], count: &mut usize) -> u32
+        ensures given { (m : Message) → self.old.call ≡ Some m → length (words_in m) ≤ length words.old →
+            (result ≡ ok) × (message_given message.new (words_in m) ≡ Some m) × IsPut (words_in m) words.old words.new count.new }
+        ensures rest { (m : Message) → self.old.call ≡ Some m → result ≡ ok → self.new ≡ after_call self.old m }
+        ensures short { (m : Message) → self.old.call ≡ Some m → length words.old < length (words_in m) → (result ≡ short_buffer) × (count.new ≡ length (words_in m)) }
+        ensures none { self.old.call ≡ None → (result ≡ nothing) × (count.new ≡ count.old) }
+        ensures unchanged { result ≢ ok → (self.new ≡ self.old) × (message.new ≡ message.old) × (words.new ≡ words.old) }
+        ensures apart { result ≢ no_memory }
+    {
+        let Some(found) = &self.call else {
+            return NOTHING;
+        };
+        let transaction = transaction_of(found.head());
+        let result = give_message(found, message, words, count);
+        if result == OK {
+            self.call = None;
+            self.asked = Some(transaction);
+        }
+        result
+    }
+
+    /// Why the call that waits is not handed, with its transaction.
+    fn refusal(&self) -> Option<(u16, Unlisted)>
+        ensures waits { (m : Message) → self.now.call ≡ Some m → result ≡ option_map (λ u. (transaction_in m, u)) (call_refusal self.now.programs m) }
+        ensures none { self.now.call ≡ None → result ≡ None }
+    {
+        let found = self.call.as_ref()?;
+        let head = found.head();
+        let unlisted = refusal(self.programs.as_slice(), head)?;
+        Some((transaction_of(head), unlisted))
+    }
+
+    /// Puts out the reject of the call that waits.
+    fn reject(
+        &mut self,
+        alloc: Global,
+        transaction: u16,
+        unlisted: Unlisted,
+    ) -> Result<(), AllocError>
+        ensures rejected { result ≡ Ok tt → self.new ≡ record self.old { out = self.old.out ++ cut (reject_message transaction unlisted); call = None } }
+        ensures unchanged { OnErr result (self.new ≡ self.old) }
+    {
+        let all = reject_words(alloc, transaction, unlisted)?;
+        let mut items = cut(alloc, all.as_slice())?;
+        self.out.append(&mut items)?;
+        self.call = None;
+        Ok(())
+    }
+
+    /// Hands the call that waits, once, its words to the front of a buffer; one whose program or version is not listed is answered by a reject instead.
+    pub fn call(
+        &mut self,
+        alloc: Global,
+        message: &mut XnsMessage,
+        words: &mut [u16],
+        count: &mut usize,
+    ) -> u32
+        ensures given { (m : Message) → self.old.call ≡ Some m → call_refusal self.old.programs m ≡ None → length (words_in m) ≤ length words.old →
+            (result ≡ ok) × (message_given message.new (words_in m) ≡ Some m) × IsPut (words_in m) words.old words.new count.new }
+        ensures rest { (m : Message) → self.old.call ≡ Some m → result ≡ ok → (call_refusal self.old.programs m ≡ None) × (self.new ≡ after_call self.old m) }
+        ensures short { (m : Message) → self.old.call ≡ Some m → call_refusal self.old.programs m ≡ None → length words.old < length (words_in m) →
+            (result ≡ short_buffer) × (count.new ≡ length (words_in m)) }
+        ensures rejects { (m : Message) (u : Unlisted) → self.old.call ≡ Some m → call_refusal self.old.programs m ≡ Some u → result ≢ no_memory →
+            (result ≡ nothing) × (self.new ≡ after_reject self.old m u) × (count.new ≡ count.old) }
+        ensures none { self.old.call ≡ None → (result ≡ nothing) × (self.new ≡ self.old) × (count.new ≡ count.old) }
+        ensures stays { result ≢ ok → result ≢ nothing → self.new ≡ self.old }
+        ensures unchanged { result ≢ ok → (message.new ≡ message.old) × (words.new ≡ words.old) }
+        ensures count { result ≡ no_memory → count.new ≡ count.old }
+    {
+        let Some((transaction, unlisted)) = self.refusal() else {
+            return self.hand(message, words, count);
+        };
+        match self.reject(alloc, transaction, unlisted) {
+            Ok(()) => NOTHING,
+            Err(_) => NO_MEMORY,
+        }
+    }
+
+    /// Puts out the items of an answer.
+    fn put_out(&mut self, alloc: Global, head: Head, words: &[u16]) -> Result<(), AllocError>
+        ensures answered { result ≡ Ok tt → self.new ≡ answered self.old (with_words head words.now) }
+        ensures unchanged { OnErr result (self.new ≡ self.old) }
+    {
+        let all = whole_words(alloc, head, words)?;
+        let mut items = cut(alloc, all.as_slice())?;
+        self.out.append(&mut items)?;
+        self.asked = None;
+        self.call = None;
+        Ok(())
+    }
+
+    /// Which call an answer of this kind is for: the one that was handed; a reject is also for one that waits, is listed and was not handed.
+    fn answers_to(&self, kind: u8) -> Option<u16>
+        ensures { result ≡ answers_to self.now kind }
+    {
+        if self.asked.is_some() {
+            return self.asked;
+        }
+        if kind != REJECT {
+            return None;
+        }
+        let found = self.call.as_ref()?;
+        let head = found.head();
+        match refusal(self.programs.as_slice(), head) {
+            Some(_) => None,
+            None => Some(transaction_of(head)),
+        }
+    }
+
+    /// Puts out the answer to the call that was handed, or a reject of one that was not, and says by a number whether it did.
+    pub fn answer(&mut self, alloc: Global, kind: u8, number: u16, words: &[u16]) -> u32
+        ensures number { result ≢ no_memory → result ≡ answer_number (answers_to self.old kind) kind number words.now }
+        ensures memory { result ≡ no_memory → answer_number (answers_to self.old kind) kind number words.now ≡ ok }
+        ensures answered { (k : ℕ) (m : Message) → answers_to self.old kind ≡ Some k → answer_given kind k number words.now ≡ Some m → result ≡ ok → self.new ≡ answered self.old m }
+        ensures unchanged { result ≢ ok → self.new ≡ self.old }
+    {
+        let Some(transaction) = self.answers_to(kind) else {
+            return NOTHING;
+        };
+        let Some(head) = answer_head(kind, transaction, number) else {
+            return BAD_ARGUMENT;
+        };
+        if is_too_long(head, words.len()) {
+            return TOO_LONG;
+        }
+        match self.put_out(alloc, head, words) {
+            Ok(()) => OK,
+            Err(_) => NO_MEMORY,
+        }
+    }
+}
