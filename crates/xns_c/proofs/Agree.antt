@@ -13,14 +13,9 @@ use Rattle.courier_messages.specs.RawCalls.{RawCall}
 use Rattle.courier_messages.specs.RawCalls.{caller_items}
 use Rattle.courier_messages.specs.Conversation.{conversation}
 use Rattle.courier_messages.specs.RawCalls.{call_message}
-use Rattle.courier_messages.specs.Laws.{items_of, IsShort, IsFaultless, Hears}
+use Rattle.courier_messages.specs.Laws.{items_of, IsShort, IsFaultless, Hears, HearsCalls, AFrontIsHeard, CallsAreHeard, OneItemMore, AServerHearsOneItemMore}
 use Rattle.courier_messages.specs.Called.{all_calls, server_ending}
-use Rattle.courier_messages.proofs.Numbered.{hears, caller_items_are}
-use Rattle.courier_messages.proofs.Called.{well_server}
-use Rattle.courier_messages.proofs.Lists.{all_front}
-use Rattle.courier_messages.proofs.Lists.{begins_then, begins_map, front_of_map}
 use Rattle.courier_messages.specs.RawCalls.{numbered, numbered_message}
-use Rattle.courier_messages.proofs.Numbered.{calls_short, all_are_calls}
 use Rattle.xns_c.specs.declared.program.XnsProgram.{XnsProgram}
 use Rattle.xns_c.specs.Answering.{Answering, transaction_in, is_a_call, after_item as after_heard}
 use Rattle.xns_c.specs.Answerings.{HasAnswered, IsAnswer}
@@ -28,6 +23,17 @@ use Rattle.xns_c.specs.Talk.{Talk, wrong_unless, reply_fault, after_item}
 use Rattle.xns_c.specs.Talks.{HasDone, Refuses, made_messages, count_if}
 use Rattle.xns_c.proofs.Answered.{stops}
 use Rattle.xns_c.proofs.Done.{refuses}
+
+begins_then : {X : Type 0} (xs ys zs : List X) → Begins xs ys → Begins ys zs → Begins xs zs
+begins_then {X} xs ys zs p q = (p.0 ++ q.0, sym (append_assoc xs p.0 q.0) ∙ ap (λ (l : List X). l ++ q.0) p.1 ∙ q.1)
+
+begins_map : {X Y : Type 0} (f : X → Y) (xs ys : List X) → Begins xs ys → Begins (map f xs) (map f ys)
+begins_map f xs ys p = (map f p.0, sym (map-append f xs p.0) ∙ ap (map f) p.1)
+
+-- what holds of all of a list holds of all of a front of it
+all_front : {X : Type 0} (P : X → Type 0) (xs more : List X) → AllByRecursion P (xs ++ more) → AllByRecursion P xs
+all_front P [] more h = tt
+all_front P (x ∷ xs) more h = (h.0, all_front P xs more h.1)
 
 made_are : (k : ℕ) (cs : List RawCall) → made_messages k cs ≡ map numbered_message (numbered k cs)
 unfolding made_messages numbered numbered_message
@@ -39,28 +45,23 @@ made_are k (c ∷ cs) = ap (λ (ms : List Message). call_message (k % 65536) c �
 front_of : (xs ys zs all : List Item) → ys ++ zs ≡ all → Begins xs ys → Begins xs all
 front_of xs ys zs all e p = (p.0 ++ zs, sym (append_assoc xs p.0 zs) ∙ ap (λ (is : List Item). is ++ zs) p.1 ∙ e)
 
-heard : (made : List RawCall) (back given : List Item) (got : List Message) (t : Talk) (fed : List Item) → HasDone made back given got t → Begins fed given → Hears fed (map numbered_message (numbered 1 made))
-heard made back given got t fed h p =
-    let front : Begins fed (caller_items made) = front_of fed given t.out (caller_items made) h.items p in
-    hears fed (map numbered_message (numbered 1 made)) (calls_short 1 made h.short) (subst (λ (is : List Item). Begins fed is) (caller_items_are made) front)
+heard : (asks : CallsAreHeard) (made : List RawCall) (back given : List Item) (got : List Message) (t : Talk) (fed : List Item) → HasDone made back given got t → Begins fed given → HearsCalls fed made
+heard asks made back given got t fed h p = asks fed made h.short (front_of fed given t.out (caller_items made) h.items p)
 
-calls_heard : (made : List RawCall) (back given : List Item) (got : List Message) (t : Talk) (fed : List Item) → HasDone made back given got t → Begins fed given → Begins (conversation fed) (made_messages 1 made)
-calls_heard made back given got t fed h p = subst (λ (ms : List Message). Begins (conversation fed) ms) (sym (made_are 1 made)) (heard made back given got t fed h p).front
+calls_heard : (asks : CallsAreHeard) (made : List RawCall) (back given : List Item) (got : List Message) (t : Talk) (fed : List Item) → HasDone made back given got t → Begins fed given → Begins (conversation fed) (made_messages 1 made)
+calls_heard asks made back given got t fed h p = subst (λ (ms : List Message). Begins (conversation fed) ms) (sym (made_are 1 made)) (heard asks made back given got t fed h p).messages
 
-never_stops : (made : List RawCall) (back given : List Item) (got : List Message) (t : Talk) (fed : List Item) → HasDone made back given got t → Begins fed given → IsFaultless (server_ending fed)
-never_stops made back given got t fed h p =
-    let hs = heard made back given got t fed h p in
-    let front = front_of_map numbered_message (conversation fed) (numbered 1 made) hs.front in
-    well_server fed (ap all_calls front.1 ∙ all_are_calls front.0) hs.well
+never_stops : (asks : CallsAreHeard) (made : List RawCall) (back given : List Item) (got : List Message) (t : Talk) (fed : List Item) → HasDone made back given got t → Begins fed given → IsFaultless (server_ending fed)
+never_stops asks made back given got t fed h p = (heard asks made back given got t fed h p).well
 
-pub server_goes : (made : List RawCall) (back given : List Item) (got : List Message) (t : Talk) (programs : List XnsProgram) (fed sent : List Item) (taken handed answers : List Message) (a : Answering) (x : Item) → HasDone made back given got t → HasAnswered programs fed sent taken handed answers a → Begins (fed ++ x ∷ []) given → (n : Answering) × (after_heard a x ≡ Ok n)
-server_goes made back given got t programs fed sent taken handed answers a x h s p = by_result (after_heard a x) refl where
+pub server_goes : (asks : CallsAreHeard) (server : AServerHearsOneItemMore) (made : List RawCall) (back given : List Item) (got : List Message) (t : Talk) (programs : List XnsProgram) (fed sent : List Item) (taken handed answers : List Message) (a : Answering) (x : Item) → HasDone made back given got t → HasAnswered programs fed sent taken handed answers a → Begins (fed ++ x ∷ []) given → (n : Answering) × (after_heard a x ≡ Ok n)
+server_goes asks server made back given got t programs fed sent taken handed answers a x h s p = by_result (after_heard a x) refl where
   by_result : (r : Result Answering SessionFault) → after_heard a x ≡ r → (n : Answering) × (after_heard a x ≡ Ok n)
   by_result (Ok n) e = (n, e)
-  by_result (Err e) is = absurd (subst IsFaultless (stops programs fed sent taken handed answers a x e s is) (never_stops made back given got t (fed ++ x ∷ []) h p))
+  by_result (Err e) is = absurd (subst IsFaultless (stops server programs fed sent taken handed answers a x e s is) (never_stops asks made back given got t (fed ++ x ∷ []) h p))
 
-pub calls_agree : (made : List RawCall) (back given : List Item) (got : List Message) (t : Talk) (programs : List XnsProgram) (fed sent : List Item) (taken handed answers : List Message) (a : Answering) → HasDone made back given got t → HasAnswered programs fed sent taken handed answers a → Begins fed given → Begins (taken ++ option_to_list a.call) (made_messages 1 made)
-calls_agree made back given got t programs fed sent taken handed answers a h s p = subst (λ (ms : List Message). Begins ms (made_messages 1 made)) (sym s.calls) (calls_heard made back given got t fed h p)
+pub calls_agree : (asks : CallsAreHeard) (made : List RawCall) (back given : List Item) (got : List Message) (t : Talk) (programs : List XnsProgram) (fed sent : List Item) (taken handed answers : List Message) (a : Answering) → HasDone made back given got t → HasAnswered programs fed sent taken handed answers a → Begins fed given → Begins (taken ++ option_to_list a.call) (made_messages 1 made)
+calls_agree asks made back given got t programs fed sent taken handed answers a h s p = subst (λ (ms : List Message). Begins ms (made_messages 1 made)) (sym s.calls) (calls_heard asks made back given got t fed h p)
 
 -- what the caller hears
 
@@ -68,16 +69,16 @@ all_short : (ms : List Message) → AllByRecursion IsAnswer ms → AllByRecursio
 all_short [] h = tt
 all_short (m ∷ ms) h = (h.0.0, all_short ms h.1)
 
-replies_heard : (programs : List XnsProgram) (fed sent : List Item) (taken handed answers : List Message) (a : Answering) (back : List Item) → HasAnswered programs fed sent taken handed answers a → Begins back sent → Hears back answers
-replies_heard programs fed sent taken handed answers a back s p = hears back answers (all_short answers s.good) (front_of back sent a.out (items_of answers) s.items p)
+replies_heard : (hear : AFrontIsHeard) (programs : List XnsProgram) (fed sent : List Item) (taken handed answers : List Message) (a : Answering) (back : List Item) → HasAnswered programs fed sent taken handed answers a → Begins back sent → Hears back answers
+replies_heard hear programs fed sent taken handed answers a back s p = hear back answers (all_short answers s.good) (front_of back sent a.out (items_of answers) s.items p)
 
-pub answers_agree : (made : List RawCall) (back given : List Item) (got : List Message) (t : Talk) (programs : List XnsProgram) (fed sent : List Item) (taken handed answers : List Message) (a : Answering) → HasDone made back given got t → HasAnswered programs fed sent taken handed answers a → Begins back sent → Begins (got ++ option_to_list t.outcome) answers
-answers_agree made back given got t programs fed sent taken handed answers a h s p = subst (λ (ms : List Message). Begins ms answers) (sym h.messages) (replies_heard programs fed sent taken handed answers a back s p).front
+pub answers_agree : (hear : AFrontIsHeard) (made : List RawCall) (back given : List Item) (got : List Message) (t : Talk) (programs : List XnsProgram) (fed sent : List Item) (taken handed answers : List Message) (a : Answering) → HasDone made back given got t → HasAnswered programs fed sent taken handed answers a → Begins back sent → Begins (got ++ option_to_list t.outcome) answers
+answers_agree hear made back given got t programs fed sent taken handed answers a h s p = subst (λ (ms : List Message). Begins ms answers) (sym h.messages) (replies_heard hear programs fed sent taken handed answers a back s p).front
 
 -- the numbers of the answers are those of the calls made
-numbers_begin : (made : List RawCall) (back given : List Item) (got : List Message) (t : Talk) (programs : List XnsProgram) (fed sent : List Item) (taken handed answers : List Message) (a : Answering) → HasDone made back given got t → HasAnswered programs fed sent taken handed answers a → Begins fed given → Begins (map transaction_in answers) (map transaction_in (made_messages 1 made))
-numbers_begin made back given got t programs fed sent taken handed answers a h s p =
-    let of_calls = begins_map transaction_in (taken ++ option_to_list a.call) (made_messages 1 made) (calls_agree made back given got t programs fed sent taken handed answers a h s p) in
+numbers_begin : (asks : CallsAreHeard) (made : List RawCall) (back given : List Item) (got : List Message) (t : Talk) (programs : List XnsProgram) (fed sent : List Item) (taken handed answers : List Message) (a : Answering) → HasDone made back given got t → HasAnswered programs fed sent taken handed answers a → Begins fed given → Begins (map transaction_in answers) (map transaction_in (made_messages 1 made))
+numbers_begin asks made back given got t programs fed sent taken handed answers a h s p =
+    let of_calls = begins_map transaction_in (taken ++ option_to_list a.call) (made_messages 1 made) (calls_agree asks made back given got t programs fed sent taken handed answers a h s p) in
     let of_taken : Begins (map transaction_in taken) (map transaction_in (taken ++ option_to_list a.call)) = (map transaction_in (option_to_list a.call), sym (map-append transaction_in taken (option_to_list a.call))) in
     begins_then (map transaction_in answers) (map transaction_in taken) (map transaction_in (made_messages 1 made)) (option_to_list a.asked, sym s.numbers)
     (begins_then (map transaction_in taken) (map transaction_in (taken ++ option_to_list a.call)) (map transaction_in (made_messages 1 made)) of_taken of_calls)
@@ -120,17 +121,17 @@ no_fault w k (Abort transaction error words) e f g = right_one w (transaction ==
 some_is_not_none : (o : Option SessionFault) (e : SessionFault) → o ≡ Some e → o ≡ None → ⊥
 some_is_not_none o e f g = absurd cc
 
-pub caller_goes : (made : List RawCall) (back given : List Item) (got : List Message) (t : Talk) (programs : List XnsProgram) (fed sent : List Item) (taken handed answers : List Message) (a : Answering) (x : Item) → HasDone made back given got t → HasAnswered programs fed sent taken handed answers a → Begins fed given → Begins (back ++ x ∷ []) sent → (n : Talk) × (after_item t x ≡ Ok n)
-caller_goes made back given got t programs fed sent taken handed answers a x h s p q = by_result (after_item t x) refl where
+pub caller_goes : (asks : CallsAreHeard) (hear : AFrontIsHeard) (law : OneItemMore) (made : List RawCall) (back given : List Item) (got : List Message) (t : Talk) (programs : List XnsProgram) (fed sent : List Item) (taken handed answers : List Message) (a : Answering) (x : Item) → HasDone made back given got t → HasAnswered programs fed sent taken handed answers a → Begins fed given → Begins (back ++ x ∷ []) sent → (n : Talk) × (after_item t x ≡ Ok n)
+caller_goes asks hear law made back given got t programs fed sent taken handed answers a x h s p q = by_result (after_item t x) refl where
   hs : Hears (back ++ x ∷ []) answers
-  hs = replies_heard programs fed sent taken handed answers a (back ++ x ∷ []) s q
+  hs = replies_heard hear programs fed sent taken handed answers a (back ++ x ∷ []) s q
 
   by_message : (e : SessionFault) (m : Message) → conversation (back ++ x ∷ []) ≡ conversation back ++ m ∷ [] → reply_fault t.waiting t.transaction m ≡ Some e → ⊥
   by_message e m more wrong =
       let front : Begins (conversation back ++ m ∷ []) answers = subst (λ (ms : List Message). Begins ms answers) more hs.front in
       let ns : List ℕ = map transaction_in (conversation back) in
       let of_answers : Begins (ns ++ transaction_in m ∷ []) (map transaction_in answers) = subst (λ (is : List ℕ). Begins is (map transaction_in answers)) (map-append transaction_in (conversation back) (m ∷ [])) (begins_map transaction_in (conversation back ++ m ∷ []) answers front) in
-      let of_calls = begins_then (ns ++ transaction_in m ∷ []) (map transaction_in answers) (map transaction_in (made_messages 1 made)) of_answers (numbers_begin made back given got t programs fed sent taken handed answers a h s p) in
+      let of_calls = begins_then (ns ++ transaction_in m ∷ []) (map transaction_in answers) (map transaction_in (made_messages 1 made)) of_answers (numbers_begin asks made back given got t programs fed sent taken handed answers a h s p) in
       let at = number_at 1 made ns (transaction_in m) of_calls in
       let few = at.1 in
       let size : length ns ≡ length (conversation back) = length-map (conversation back) transaction_in in
@@ -146,4 +147,4 @@ caller_goes made back given got t programs fed sent taken handed answers a x h s
 
   by_result : (r : Result Talk SessionFault) → after_item t x ≡ r → (n : Talk) × (after_item t x ≡ Ok n)
   by_result (Ok n) e = (n, e)
-  by_result (Err e) is = absurd (by_fault e (refuses made back given got t x e h is))
+  by_result (Err e) is = absurd (by_fault e (refuses law made back given got t x e h is))

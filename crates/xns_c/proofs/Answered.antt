@@ -13,13 +13,11 @@ use Rattle.courier_messages.specs.declared.message.Message.{Message}
 use Rattle.courier_messages.specs.declared.message.Message.TheVariants.{Reject, Return, Abort}
 use Rattle.courier_messages.specs.Conversation.{Phase, conversation, conversation_fault, ending}
 use Rattle.courier_messages.specs.Cutting.{cut, versions_item}
-use Rattle.courier_messages.specs.Laws.{IsShort}
+use Rattle.courier_messages.specs.Laws.{IsShort, OneItemMore, AServerHearsOneItemMore}
 use Rattle.courier_messages.specs.Message.{most_words, message_words}
 use Rattle.courier_messages.specs.Phases.{run, said, ◌then◌}
 use Rattle.courier_messages.specs.Called.{all_calls, heard, server_ending}
 use Rattle.courier_messages.specs.Text.{signs}
-use Rattle.courier_messages.proofs.More.{item_one}
-use Rattle.courier_messages.proofs.Called.{goes}
 use Rattle.xns_c.proofs.Done.{two_are_no_one, all_more}
 use Rattle.xns_c.specs.declared.program.XnsProgram.{XnsProgram}
 use Rattle.xns_c.specs.declared.unlisted.Unlisted.{Unlisted}
@@ -147,29 +145,29 @@ none_there : {A : Type 0} (o : Option A) → is_there o ≡ false → o ≡ None
 none_there None h = refl
 none_there (Some m) h = absurd cc
 
-feeds_by : (programs : List XnsProgram) (fed given : List Item) (taken handed answers : List Message) (a n : Answering) (x : Item) (p : Phase) (ms : List Message) → HasAnswered programs fed given taken handed answers a → a.call ≡ None → a.asked ≡ None
+feeds_by : (law : OneItemMore) (server : AServerHearsOneItemMore) (programs : List XnsProgram) (fed given : List Item) (taken handed answers : List Message) (a n : Answering) (x : Item) (p : Phase) (ms : List Message) → HasAnswered programs fed given taken handed answers a → a.call ≡ None → a.asked ≡ None
     → said a.phase (signs x) ≡ ms → server_ending (fed ++ x ∷ []) ≡ Ok p → with_call (record a { phase = p }) ms ≡ n → HasAnswered programs (fed ++ x ∷ []) given taken handed answers n
-feeds_by programs fed given taken handed answers a n x p [] h empty idle hm ends is =
-    let more : conversation (fed ++ x ∷ []) ≡ conversation fed = (goes fed a.phase x h.ending).said_then ∙ ap (λ (ms : List Message). conversation fed ++ ms) hm ∙ append-nil (conversation fed) in
+feeds_by law server programs fed given taken handed answers a n x p [] h empty idle hm ends is =
+    let more : conversation (fed ++ x ∷ []) ≡ conversation fed = (server.goes fed a.phase x h.ending).said_then ∙ ap (λ (ms : List Message). conversation fed ++ ms) hm ∙ append-nil (conversation fed) in
     subst (HasAnswered programs (fed ++ x ∷ []) given taken handed answers) is
     (record { table = h.table; going = h.going; items = h.items; good = h.good; numbers = h.numbers; listed = h.listed; calls = h.calls ∙ sym more; single = h.single; ending = ends })
-feeds_by programs fed given taken handed answers a n x p (m ∷ []) h empty idle hm ends is =
-    let more : conversation (fed ++ x ∷ []) ≡ conversation fed ++ m ∷ [] = (goes fed a.phase x h.ending).said_then ∙ ap (λ (ms : List Message). conversation fed ++ ms) hm in
+feeds_by law server programs fed given taken handed answers a n x p (m ∷ []) h empty idle hm ends is =
+    let more : conversation (fed ++ x ∷ []) ≡ conversation fed ++ m ∷ [] = (server.goes fed a.phase x h.ending).said_then ∙ ap (λ (ms : List Message). conversation fed ++ ms) hm in
     let all : taken ≡ conversation fed = sym (append-nil taken) ∙ ap (λ (o : Option Message). taken ++ option_to_list o) (sym empty) ∙ h.calls in
     subst (HasAnswered programs (fed ++ x ∷ []) given taken handed answers) is
     (record { table = h.table; going = h.going; items = h.items; good = h.good; numbers = h.numbers; listed = h.listed; calls = ap (λ (ms : List Message). ms ++ m ∷ []) all ∙ sym more; single = idle; ending = ends })
-feeds_by programs fed given taken handed answers a n x p (m ∷ m' ∷ ms) h empty idle hm ends is = absurd (two_are_no_one (said a.phase (signs x)) m m' ms hm (item_one x a.phase))
+feeds_by law server programs fed given taken handed answers a n x p (m ∷ m' ∷ ms) h empty idle hm ends is = absurd (two_are_no_one (said a.phase (signs x)) m m' ms hm (law.single x a.phase))
 
 then_is : (q : Result Phase SessionFault) (f : Phase → Answering) (n : Answering) → (q then λ p. Ok (f p)) ≡ Ok n → (p : Phase) × (q ≡ Ok p) × (f p ≡ n)
 then_is (Ok p) f n h = (p, refl, cc)
 then_is (Err e) f n h = absurd cc
 
-pub feeds : (programs : List XnsProgram) (fed given : List Item) (taken handed answers : List Message) (a n : Answering) (x : Item) → HasAnswered programs fed given taken handed answers a → is_busy a ≡ false → after_item a x ≡ Ok n → HasAnswered programs (fed ++ x ∷ []) given taken handed answers n
-feeds programs fed given taken handed answers a n x h free is =
+pub feeds : (law : OneItemMore) (server : AServerHearsOneItemMore) (programs : List XnsProgram) (fed given : List Item) (taken handed answers : List Message) (a n : Answering) (x : Item) → HasAnswered programs fed given taken handed answers a → is_busy a ≡ false → after_item a x ≡ Ok n → HasAnswered programs (fed ++ x ∷ []) given taken handed answers n
+feeds law server programs fed given taken handed answers a n x h free is =
     let idle = idle_by (is_there a.call) (is_there a.asked) (has_items a.out) free in
     let ms : List Message = said a.phase (signs x) in
     let t = then_is (heard ms (run a.phase (signs x))) (λ p. with_call (record a { phase = p }) ms) n is in
-    feeds_by programs fed given taken handed answers a n x t.0 ms h (none_there a.call idle.0) (none_there a.asked idle.1) refl ((goes fed a.phase x h.ending).ends ∙ t.1) t.2
+    feeds_by law server programs fed given taken handed answers a n x t.0 ms h (none_there a.call idle.0) (none_there a.asked idle.1) refl ((server.goes fed a.phase x h.ending).ends ∙ t.1) t.2
 
 -- a fault
 
@@ -177,7 +175,7 @@ then_fault : (q : Result Phase SessionFault) (f : Phase → Answering) (e : Sess
 then_fault (Ok p) f e h = absurd cc
 then_fault (Err d) f e h = cc
 
-pub stops : (programs : List XnsProgram) (fed given : List Item) (taken handed answers : List Message) (a : Answering) (x : Item) (e : SessionFault) → HasAnswered programs fed given taken handed answers a → after_item a x ≡ Err e → server_ending (fed ++ x ∷ []) ≡ Err e
-stops programs fed given taken handed answers a x e h is =
+pub stops : (server : AServerHearsOneItemMore) (programs : List XnsProgram) (fed given : List Item) (taken handed answers : List Message) (a : Answering) (x : Item) (e : SessionFault) → HasAnswered programs fed given taken handed answers a → after_item a x ≡ Err e → server_ending (fed ++ x ∷ []) ≡ Err e
+stops server programs fed given taken handed answers a x e h is =
     let ms : List Message = said a.phase (signs x) in
-    (goes fed a.phase x h.ending).ends ∙ then_fault (heard ms (run a.phase (signs x))) (λ p. with_call (record a { phase = p }) ms) e is
+    (server.goes fed a.phase x h.ending).ends ∙ then_fault (heard ms (run a.phase (signs x))) (λ p. with_call (record a { phase = p }) ms) e is

@@ -13,10 +13,7 @@ use Rattle.courier_messages.specs.Cutting.{cut, versions_item}
 use Rattle.courier_messages.specs.RawCalls.{call_message}
 use Rattle.courier_messages.specs.Phases.{run, said, onwards, ◌then◌}
 use Rattle.courier_messages.specs.Text.{signs}
-use Rattle.courier_messages.proofs.More.{items_more}
-use Rattle.courier_messages.proofs.More.{item_one}
-use Rattle.courier_messages.proofs.More.{next_number}
-use Rattle.courier_messages.proofs.More.{conversation_more, ending_more}
+use Rattle.courier_messages.specs.Laws.{MoreCallsGoOut, OneItemMore}
 use Rattle.std.proofs.lemmas.Bool.{eqb-true, ltb-false}
 use Rattle.std.specs.List.{AllByRecursion}
 use Rattle.xns_c.specs.Results.{ok, stopped, busy, too_long}
@@ -46,8 +43,11 @@ none_there : (o : Option Message) → is_there o ≡ false → o ≡ None
 none_there None h = refl
 none_there (Some m) h = absurd cc
 
-pub calls : (made : List RawCall) (fed given : List Item) (handed : List Message) (t : Talk) (c : RawCall) → HasDone made fed given handed t → call_number t c ≡ ok → HasDone (made ++ c ∷ []) fed given handed (called t c)
-calls made fed given handed t c h free =
+next_number : (t n : ℕ) → t ≡ n % 65536 → (t + 1) % 65536 ≡ (1 + n) % 65536
+next_number t n h = omega (arith, h)
+
+pub calls : (out : MoreCallsGoOut) (made : List RawCall) (fed given : List Item) (handed : List Message) (t : Talk) (c : RawCall) → HasDone made fed given handed t → call_number t c ≡ ok → HasDone (made ++ c ∷ []) fed given handed (called t c)
+calls out made fed given handed t c h free =
     let f = free_by t.failed t.waiting (is_there t.outcome) (length c.words) free in
     let none : t.outcome ≡ None = none_there t.outcome f.1 in
     let last : List Item = cut (call_message (next_transaction t) c) in
@@ -56,7 +56,7 @@ calls made fed given handed t c h free =
     let idle : length made ≡ length (conversation fed) + 0 = h.count ∙ ap (λ (w : Bool). length (conversation fed) + count_if w) f.0 in
     record {
       going = h.going;
-      items = sym (append_assoc given t.out last) ∙ ap (λ (xs : List Item). xs ++ last) h.items ∙ ap (λ (n : ℕ). caller_items made ++ cut (call_message n c)) next ∙ ap (λ (xs : List Item). versions_item ∷ xs) (sym (items_more 1 made c));
+      items = sym (append_assoc given t.out last) ∙ ap (λ (xs : List Item). xs ++ last) h.items ∙ ap (λ (n : ℕ). caller_items made ++ cut (call_message n c)) next ∙ ap (λ (xs : List Item). versions_item ∷ xs) (sym (out.one 1 made c));
       short = all_more IsShortCall made c h.short f.2;
       transaction = next ∙ ap (λ (n : ℕ). n % 65536) (let e : 1 + length made ≡ length (made ++ c ∷ []) = omega (arith, more) in e);
       messages = h.messages;
@@ -96,11 +96,11 @@ hands made fed given handed t m h e = record {
 
 -- an item that is fed
 
-conversation_by : (made : List RawCall) (fed given : List Item) (handed : List Message) (t : Talk) (x : Item) → HasDone made fed given handed t → conversation (fed ++ x ∷ []) ≡ conversation fed ++ said t.phase (signs x)
-conversation_by made fed given handed t x h = conversation_more fed x ∙ ap (λ (r : Result Phase SessionFault). conversation fed ++ onwards r (λ p. said p (signs x))) h.ending
+conversation_by : (law : OneItemMore) (made : List RawCall) (fed given : List Item) (handed : List Message) (t : Talk) (x : Item) → HasDone made fed given handed t → conversation (fed ++ x ∷ []) ≡ conversation fed ++ said t.phase (signs x)
+conversation_by law made fed given handed t x h = law.messages fed x ∙ ap (λ (r : Result Phase SessionFault). conversation fed ++ onwards r (λ p. said p (signs x))) h.ending
 
-ending_by : (made : List RawCall) (fed given : List Item) (handed : List Message) (t : Talk) (x : Item) → HasDone made fed given handed t → ending (fed ++ x ∷ []) ≡ run t.phase (signs x)
-ending_by made fed given handed t x h = ending_more fed x ∙ ap (λ (r : Result Phase SessionFault). r then λ p. run p (signs x)) h.ending
+ending_by : (law : OneItemMore) (made : List RawCall) (fed given : List Item) (handed : List Message) (t : Talk) (x : Item) → HasDone made fed given handed t → ending (fed ++ x ∷ []) ≡ run t.phase (signs x)
+ending_by law made fed given handed t x h = law.kept fed x ∙ ap (λ (r : Result Phase SessionFault). r then λ p. run p (signs x)) h.ending
 
 answers_more : (k : ℕ) (ms : List Message) (m : Message) → AreAnswers k ms → answered_call m ≡ Some ((k + length ms) % 65536) → AreAnswers k (ms ++ m ∷ [])
 unfolding AreAnswers
@@ -121,9 +121,9 @@ reply_is w k (Reject transaction reason words) h = let r = right w (transaction 
 reply_is w k (Return transaction words) h = let r = right w (transaction == k) h in (r.0, number_is transaction k r.1)
 reply_is w k (Abort transaction error words) h = let r = right w (transaction == k) h in (r.0, number_is transaction k r.1)
 
-silent : (made : List RawCall) (fed given : List Item) (handed : List Message) (t : Talk) (x : Item) (p : Phase) → HasDone made fed given handed t → run t.phase (signs x) ≡ Ok p → said t.phase (signs x) ≡ [] → HasDone made (fed ++ x ∷ []) given handed (record t { phase = p })
-silent made fed given handed t x p h hq hm =
-    let same : conversation (fed ++ x ∷ []) ≡ conversation fed = conversation_by made fed given handed t x h ∙ ap (λ (ms : List Message). conversation fed ++ ms) hm ∙ append-nil (conversation fed) in
+silent : (law : OneItemMore) (made : List RawCall) (fed given : List Item) (handed : List Message) (t : Talk) (x : Item) (p : Phase) → HasDone made fed given handed t → run t.phase (signs x) ≡ Ok p → said t.phase (signs x) ≡ [] → HasDone made (fed ++ x ∷ []) given handed (record t { phase = p })
+silent law made fed given handed t x p h hq hm =
+    let same : conversation (fed ++ x ∷ []) ≡ conversation fed = conversation_by law made fed given handed t x h ∙ ap (λ (ms : List Message). conversation fed ++ ms) hm ∙ append-nil (conversation fed) in
     record {
       going = h.going;
       items = h.items;
@@ -133,13 +133,13 @@ silent made fed given handed t x p h hq hm =
       answers = subst (AreAnswers 1) (sym same) h.answers;
       count = h.count ∙ ap (λ (ms : List Message). length ms + count_if t.waiting) (sym same);
       single = h.single;
-      ending = ending_by made fed given handed t x h ∙ hq;
+      ending = ending_by law made fed given handed t x h ∙ hq;
     }
 
-replied : (made : List RawCall) (fed given : List Item) (handed : List Message) (t : Talk) (x : Item) (p : Phase) (m : Message) → HasDone made fed given handed t → run t.phase (signs x) ≡ Ok p → said t.phase (signs x) ≡ m ∷ [] → reply_fault t.waiting t.transaction m ≡ None → HasDone made (fed ++ x ∷ []) given handed (record t { phase = p; waiting = false; outcome = Some m })
-replied made fed given handed t x p m h hq hm good =
+replied : (law : OneItemMore) (made : List RawCall) (fed given : List Item) (handed : List Message) (t : Talk) (x : Item) (p : Phase) (m : Message) → HasDone made fed given handed t → run t.phase (signs x) ≡ Ok p → said t.phase (signs x) ≡ m ∷ [] → reply_fault t.waiting t.transaction m ≡ None → HasDone made (fed ++ x ∷ []) given handed (record t { phase = p; waiting = false; outcome = Some m })
+replied law made fed given handed t x p m h hq hm good =
     let is = reply_is t.waiting t.transaction m good in
-    let more : conversation (fed ++ x ∷ []) ≡ conversation fed ++ m ∷ [] = conversation_by made fed given handed t x h ∙ ap (λ (ms : List Message). conversation fed ++ ms) hm in
+    let more : conversation (fed ++ x ∷ []) ≡ conversation fed ++ m ∷ [] = conversation_by law made fed given handed t x h ∙ ap (λ (ms : List Message). conversation fed ++ ms) hm in
     let none : t.outcome ≡ None = h.single is.0 in
     let all : handed ≡ conversation fed = sym (append-nil handed) ∙ ap (λ (o : Option Message). handed ++ option_to_list o) (sym none) ∙ h.messages in
     let waited : length made ≡ length (conversation fed) + 1 = h.count ∙ ap (λ (w : Bool). length (conversation fed) + count_if w) is.0 in
@@ -155,39 +155,39 @@ replied made fed given handed t x p m h hq hm good =
       answers = subst (AreAnswers 1) (sym more) (answers_more 1 (conversation fed) m h.answers (is.1 ∙ ap (λ (n : ℕ). Some n) number));
       count = counted ∙ ap (λ (ms : List Message). length ms + 0) (sym more);
       single = λ w. absurd (let e = w in cc);
-      ending = ending_by made fed given handed t x h ∙ hq;
+      ending = ending_by law made fed given handed t x h ∙ hq;
     }
 
 pub two_are_no_one : (ms : List Message) (m n : Message) (more : List Message) → ms ≡ m ∷ n ∷ more → length ms ≤ 1 → ⊥
 two_are_no_one ms m n more e few = let l : length ms ≡ length (m ∷ n ∷ more) = ap (length {A = Message}) e in omega (arith, l, few)
 
-feeds_by : (made : List RawCall) (fed given : List Item) (handed : List Message) (t n : Talk) (x : Item) (q : Result Phase SessionFault) (ms : List Message) → HasDone made fed given handed t → run t.phase (signs x) ≡ q → said t.phase (signs x) ≡ ms → (q then λ p. answered (record t { phase = p }) ms) ≡ Ok n → HasDone made (fed ++ x ∷ []) given handed n
-feeds_by made fed given handed t n x (Err e) ms h hq hm is = absurd cc
-feeds_by made fed given handed t n x (Ok p) [] h hq hm is =
+feeds_by : (law : OneItemMore) (made : List RawCall) (fed given : List Item) (handed : List Message) (t n : Talk) (x : Item) (q : Result Phase SessionFault) (ms : List Message) → HasDone made fed given handed t → run t.phase (signs x) ≡ q → said t.phase (signs x) ≡ ms → (q then λ p. answered (record t { phase = p }) ms) ≡ Ok n → HasDone made (fed ++ x ∷ []) given handed n
+feeds_by law made fed given handed t n x (Err e) ms h hq hm is = absurd cc
+feeds_by law made fed given handed t n x (Ok p) [] h hq hm is =
     let e : record t { phase = p } ≡ n = cc in
-    subst (HasDone made (fed ++ x ∷ []) given handed) e (silent made fed given handed t x p h hq hm)
-feeds_by made fed given handed t n x (Ok p) (m ∷ []) h hq hm is = by_fault (reply_fault t.waiting t.transaction m) refl is where
+    subst (HasDone made (fed ++ x ∷ []) given handed) e (silent law made fed given handed t x p h hq hm)
+feeds_by law made fed given handed t n x (Ok p) (m ∷ []) h hq hm is = by_fault (reply_fault t.waiting t.transaction m) refl is where
   by_fault : (o : Option SessionFault) → reply_fault t.waiting t.transaction m ≡ o → answered_unless o (record t { phase = p }) m ≡ Ok n → HasDone made (fed ++ x ∷ []) given handed n
   by_fault (Some e) r is = absurd cc
   by_fault None r is =
       let e : record t { phase = p; waiting = false; outcome = Some m } ≡ n = cc in
-      subst (HasDone made (fed ++ x ∷ []) given handed) e (replied made fed given handed t x p m h hq hm r)
-feeds_by made fed given handed t n x (Ok p) (m ∷ m' ∷ ms) h hq hm is = absurd (two_are_no_one (said t.phase (signs x)) m m' ms hm (item_one x t.phase))
+      subst (HasDone made (fed ++ x ∷ []) given handed) e (replied law made fed given handed t x p m h hq hm r)
+feeds_by law made fed given handed t n x (Ok p) (m ∷ m' ∷ ms) h hq hm is = absurd (two_are_no_one (said t.phase (signs x)) m m' ms hm (law.single x t.phase))
 
-pub feeds : (made : List RawCall) (fed given : List Item) (handed : List Message) (t n : Talk) (x : Item) → HasDone made fed given handed t → after_item t x ≡ Ok n → HasDone made (fed ++ x ∷ []) given handed n
-feeds made fed given handed t n x h is = feeds_by made fed given handed t n x (run t.phase (signs x)) (said t.phase (signs x)) h refl refl is
+pub feeds : (law : OneItemMore) (made : List RawCall) (fed given : List Item) (handed : List Message) (t n : Talk) (x : Item) → HasDone made fed given handed t → after_item t x ≡ Ok n → HasDone made (fed ++ x ∷ []) given handed n
+feeds law made fed given handed t n x h is = feeds_by law made fed given handed t n x (run t.phase (signs x)) (said t.phase (signs x)) h refl refl is
 
 -- a fault
 
-refuses_by : (made : List RawCall) (fed given : List Item) (handed : List Message) (t : Talk) (x : Item) (e : SessionFault) (q : Result Phase SessionFault) (ms : List Message) → HasDone made fed given handed t → run t.phase (signs x) ≡ q → said t.phase (signs x) ≡ ms → (q then λ p. answered (record t { phase = p }) ms) ≡ Err e → Refuses fed t x e
-refuses_by made fed given handed t x e (Err d) ms h hq hm is =
-    let s : d ≡ e = cc in inl (subst (λ (f : SessionFault). ending (fed ++ x ∷ []) ≡ Err f) s (ending_by made fed given handed t x h ∙ hq))
-refuses_by made fed given handed t x e (Ok p) [] h hq hm is = absurd cc
-refuses_by made fed given handed t x e (Ok p) (m ∷ []) h hq hm is = inr (m, conversation_by made fed given handed t x h ∙ ap (λ (ms : List Message). conversation fed ++ ms) hm, by_fault (reply_fault t.waiting t.transaction m) is) where
+refuses_by : (law : OneItemMore) (made : List RawCall) (fed given : List Item) (handed : List Message) (t : Talk) (x : Item) (e : SessionFault) (q : Result Phase SessionFault) (ms : List Message) → HasDone made fed given handed t → run t.phase (signs x) ≡ q → said t.phase (signs x) ≡ ms → (q then λ p. answered (record t { phase = p }) ms) ≡ Err e → Refuses fed t x e
+refuses_by law made fed given handed t x e (Err d) ms h hq hm is =
+    let s : d ≡ e = cc in inl (subst (λ (f : SessionFault). ending (fed ++ x ∷ []) ≡ Err f) s (ending_by law made fed given handed t x h ∙ hq))
+refuses_by law made fed given handed t x e (Ok p) [] h hq hm is = absurd cc
+refuses_by law made fed given handed t x e (Ok p) (m ∷ []) h hq hm is = inr (m, conversation_by law made fed given handed t x h ∙ ap (λ (ms : List Message). conversation fed ++ ms) hm, by_fault (reply_fault t.waiting t.transaction m) is) where
   by_fault : (o : Option SessionFault) → answered_unless o (record t { phase = p }) m ≡ Err e → o ≡ Some e
   by_fault (Some d) is = let s : d ≡ e = cc in ap (λ (f : SessionFault). Some f) s
   by_fault None is = absurd cc
-refuses_by made fed given handed t x e (Ok p) (m ∷ m' ∷ ms) h hq hm is = absurd (two_are_no_one (said t.phase (signs x)) m m' ms hm (item_one x t.phase))
+refuses_by law made fed given handed t x e (Ok p) (m ∷ m' ∷ ms) h hq hm is = absurd (two_are_no_one (said t.phase (signs x)) m m' ms hm (law.single x t.phase))
 
-pub refuses : (made : List RawCall) (fed given : List Item) (handed : List Message) (t : Talk) (x : Item) (e : SessionFault) → HasDone made fed given handed t → after_item t x ≡ Err e → Refuses fed t x e
-refuses made fed given handed t x e h is = refuses_by made fed given handed t x e (run t.phase (signs x)) (said t.phase (signs x)) h refl refl is
+pub refuses : (law : OneItemMore) (made : List RawCall) (fed given : List Item) (handed : List Message) (t : Talk) (x : Item) (e : SessionFault) → HasDone made fed given handed t → after_item t x ≡ Err e → Refuses fed t x e
+refuses law made fed given handed t x e h is = refuses_by law made fed given handed t x e (run t.phase (signs x)) (said t.phase (signs x)) h refl refl is

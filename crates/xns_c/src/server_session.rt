@@ -22,7 +22,7 @@ use crate::outgoing::{copied_item, give_item, whole_words};
 use crate::program::XnsProgram;
 use crate::results::{BAD_ARGUMENT, BUSY, NO_MEMORY, NOTHING, OK, STOPPED, TOO_LONG};
 use crate::unlisted::{Unlisted, refusal, reject_words};
-use courier_messages::{Head, Incoming, PiecedMessage, SessionFault, VERSION, cut};
+use courier_messages::{Head, Incoming, PiecedMessage, SessionFault, cut, versions};
 use std::alloc::{AllocError, Global};
 use std::collections::VecDeque;
 use std::marker::Model;
@@ -105,7 +105,7 @@ impl ServerSession {
         Ok(ServerSession {
             programs: Vec::from_slice(alloc, programs)?,
             incoming: Incoming::new(alloc),
-            out: cut(alloc, &[VERSION, VERSION])?,
+            out: versions(alloc)?,
             failed: false,
             call: None,
             asked: None,

@@ -18,7 +18,7 @@ use crate::item::XnsItem;
 use crate::message::XnsMessage;
 use crate::outgoing::{copied_item, give_item, whole_words};
 use crate::results::{BUSY, NO_MEMORY, NOTHING, OK, STOPPED, TOO_LONG};
-use courier_messages::{Head, Incoming, PiecedMessage, SessionFault, VERSION, cut};
+use courier_messages::{Head, Incoming, PiecedMessage, SessionFault, cut, versions};
 use std::alloc::{AllocError, Global};
 use std::collections::VecDeque;
 use std::marker::Model;
@@ -71,7 +71,7 @@ impl Session {
     {
         Ok(Session {
             incoming: Incoming::new(alloc),
-            out: cut(alloc, &[VERSION, VERSION])?,
+            out: versions(alloc)?,
             failed: false,
             transaction: 0,
             waiting: false,
