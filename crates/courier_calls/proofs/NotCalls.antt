@@ -4,7 +4,7 @@ use Rattle.courier_messages.specs.declared.message.Message.{Message}
 use Rattle.courier_messages.specs.declared.head.Head.{Head}
 use Rattle.courier_messages.specs.declared.head.Head.TheVariants as heads
 use Rattle.courier_messages.specs.Head.{with_words, words_in}
-use Rattle.courier_calls.specs.Server.{all_calls}
+use Rattle.courier_messages.specs.Called.{all_calls}
 
 -- a head that isn't a call's
 pub not_a_call : (m : Message) (head : Head) → m ≡ with_words head (words_in m) → ((t p v q : ℕ) → head ≡ heads.Call t p v q → ⊥) → all_calls (m ∷ []) ≡ false

@@ -7,9 +7,9 @@ use Rattle.xns_idp.specs.Packet.{AreBytes}
 use Rattle.courier_calls.specs.Calls.{Serving}
 use Rattle.courier_messages.specs.Conversation.{Phase, conversation, ending}
 use Rattle.courier_calls.specs.Laws.{AnItemBringsAtMostOneAnswer}
-use Rattle.courier_calls.specs.Server.{all_calls, server_ending}
 use Rattle.courier_messages.specs.declared.fault.SessionFault.{SessionFault}
 use Rattle.courier_messages.specs.declared.fault.SessionFault.TheVariants.{BadReply}
+use Rattle.courier_messages.specs.Called.{all_calls, server_ending}
 use Rattle.xns_spp.specs.Growth.{Begins}
 use Rattle.xns_spp.specs.Item.{IsItem, IsShortItem}
 use Rattle.xns_spp.specs.Receiving.{after_receive}

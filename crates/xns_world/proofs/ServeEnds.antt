@@ -8,10 +8,11 @@ use Rattle.courier_messages.specs.Conversation.{Phase, conversation, conversatio
 use Rattle.courier_calls.specs.Laws.{FirstFaultStays}
 use Rattle.courier_messages.specs.Laws.{IsSendableItem}
 use Rattle.courier_calls.specs.Server as server
-use Rattle.courier_calls.specs.Server.{decided, server_ending, server_items, calls_of, all_calls, Feeds, call_of}
+use Rattle.courier_calls.specs.Server.{decided, server_items, Feeds, call_of}
 use Rattle.courier_calls.specs.declared.call.Call.{Call}
 use Rattle.courier_messages.specs.declared.fault.SessionFault.{SessionFault}
 use Rattle.courier_messages.specs.declared.fault.SessionFault.TheVariants.{NoCommonVersion, BadVersions, BadMessage, WrongTransaction, BadReply, Stream, NoMemory, Failed}
+use Rattle.courier_messages.specs.Called.{server_ending, calls_of, all_calls}
 use Rattle.xns_spp.specs.Held.{Held, StandsFor}
 use Rattle.xns_spp.specs.Item.{IsItem}
 use Rattle.xns_spp.specs.Sending.{is_full, waiting_count, after_send, take_answer, after_take}

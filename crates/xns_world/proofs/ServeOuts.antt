@@ -6,8 +6,9 @@ use Rattle.courier_calls.specs.Calls.{Serving}
 use Rattle.courier_messages.specs.Conversation.{conversation}
 use Rattle.courier_messages.specs.Bounds.{bytes_in}
 use Rattle.courier_messages.specs.Laws.{IsSendableItem}
+use Rattle.courier_messages.specs.Called.{calls_of}
 use Rattle.courier_calls.specs.Laws.{AnItemBringsAtMostOneAnswer, BringsAtMostOne, next_answer}
-use Rattle.courier_calls.specs.Server.{answer_items, calls_of, server_items}
+use Rattle.courier_calls.specs.Server.{answer_items, server_items}
 use Rattle.xns_spp.specs.Item.{IsItem}
 use Rattle.xns_spp.specs.Sending.{is_full, waiting_count, after_send, after_take}
 use Rattle.xns_spp.specs.State.{State}

@@ -3,7 +3,7 @@ use Rattle.std.specs.Prelude.{◌≡◌, ◌≤◌, length, None}
 use Rattle.courier_calls.specs.Calls.{last_state, outcomes}
 use Rattle.courier_calls.specs.Caller.{caller_ending}
 use Rattle.courier_messages.specs.Laws.{IsFaultless}
-use Rattle.courier_calls.specs.Server.{server_ending}
+use Rattle.courier_messages.specs.Called.{server_ending}
 use Rattle.item_world.specs.declared.side.Side.{Side}
 use Rattle.item_world.specs.declared.side.Side.TheVariants.{A, B}
 use Rattle.xns_spp.specs.Growth.{Begins}

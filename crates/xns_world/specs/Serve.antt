@@ -3,8 +3,9 @@ use Rattle.std.specs.Prelude.{◌≡◌, ℕ, List, [], ◌++◌, map, fold, Opt
 use Rattle.std.specs.Option.{option_to_list}
 use Rattle.courier_calls.specs.Calls.{Serving, last_state, raw_call}
 use Rattle.courier_messages.specs.Conversation.{Phase}
-use Rattle.courier_calls.specs.Server.{decided, server_ending, server_state, call_of}
+use Rattle.courier_calls.specs.Server.{decided, server_state, call_of}
 use Rattle.courier_messages.specs.declared.fault.SessionFault.{SessionFault}
+use Rattle.courier_messages.specs.Called.{server_ending}
 use Rattle.xns_spp.specs.Receiving.{receive_answer, after_receive}
 use Rattle.xns_spp.specs.Sending.{flush_answer, after_flush}
 use Rattle.xns_spp.specs.State.{State}

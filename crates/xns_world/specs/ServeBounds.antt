@@ -7,7 +7,8 @@ use Rattle.courier_calls.specs.Answers.{answer_message}
 use Rattle.courier_messages.specs.Message.{most_bytes}
 use Rattle.courier_messages.specs.Bounds.{IsBounded, bytes_in}
 use Rattle.courier_messages.specs.Laws.{IsShort}
-use Rattle.courier_calls.specs.Server.{server_ending, server_items, server_state}
+use Rattle.courier_messages.specs.Called.{server_ending}
+use Rattle.courier_calls.specs.Server.{server_items, server_state}
 use Rattle.xns_spp.specs.State.{State, IsState}
 use Rattle.xns_spp.specs.declared.item.Item.{Item}
 use Rattle.xns_world.specs.Serve.{Served}
