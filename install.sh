@@ -52,7 +52,7 @@ for folder in "$kit" "$kit/.." "$(dirname "$(readlink -f "$(command -v rt)")")/.
 done
 [ -n "$heap" ] || stop 'the kit has no c/liblibc_c.a'
 
-echo 'The program and the library are proved and built: 15 minutes or more the first time, then seconds. What follows is the log of the proofs.' >&2
+echo 'The program and the library are proved and built: half an hour or more the first time, then seconds. What follows is the log of the proofs.' >&2
 (cd crates/xns && rt run -- dump < /dev/null > /dev/null)
 (cd crates/xns_c && rt lib --cpu x86-64 > /dev/null)
 
