@@ -74,7 +74,7 @@ expect 'its version' grep -q "^xns $(cat VERSION): " "$work/first"
 
 if has nm; then
     nm -D --defined-only "$prefix/lib/libxns.so" 2> "$work/err" | awk '{print $3}' | sort > "$work/exported"
-    sed -n 's/^[a-z].*[ *]\(xns_[a-z_]*\)(.*;$/\1/p' include/xns.h | sort > "$work/declared"
+    sed -n '/^static/d; s/^[a-z].*[ *]\(xns_[a-z_]*\)(.*[,;]$/\1/p' include/xns.h | sort > "$work/declared"
     [ -s "$work/declared" ] || echo nothing >> "$work/declared"
     expect 'the shared library exports the calls of the header, and no other name' cmp "$work/declared" "$work/exported"
 else left_out nm 'what the shared library exports'; fi
@@ -102,6 +102,10 @@ if has pkg-config; then
         expect 'runs' "$work/plus"
         expect 'and says hello' grep -qx hello "$work/out"
     else left_out 'a C++ compiler' 'the example of docs/C.md as C++'; fi
+    # shellcheck disable=SC2086
+    expect 'what tells the version' "$compiler" $flags -std=c99 tests/c/texts.c $from -o "$work/texts"
+    expect 'the version of the library' "$work/texts"
+    expect 'is that of VERSION too' cmp VERSION "$work/out"
     expect 'a call over a connection' "$work/courier"
     expect 'is answered' grep -qx 42 "$work/out"
     expect 'the fields of a packet' sh -c "'$work/fields' < '$work/request'"

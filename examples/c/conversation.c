@@ -99,9 +99,9 @@ static void send_answers(struct xns_server *server, struct xns_endpoint *from, s
 
 /* ---- the client's side */
 
-static struct xns_caller client = XNS_CALLER_NONE;
-static struct xns_server server = XNS_SERVER_NONE;
-static struct xns_endpoint a = XNS_ENDPOINT_NONE, b = XNS_ENDPOINT_NONE;
+static struct xns_caller client;
+static struct xns_server server;
+static struct xns_endpoint a, b;
 
 static void print_answer(const char *name, const struct xns_message *message, const uint16_t *words, size_t count) {
     static const char *const kinds[] = { "call", "reject", "return", "abort" };

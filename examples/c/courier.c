@@ -52,8 +52,8 @@ static void serve(struct xns_endpoint *endpoint, struct xns_endpoint *to) {
 
 int main(void) {
     const struct xns_address here = { 1, { 0, 0, 0xaa, 0, 1, 2 }, 1000 }, there = { 1, { 0, 0, 0xaa, 0, 3, 4 }, 5 };
-    struct xns_endpoint a = XNS_ENDPOINT_NONE, b = XNS_ENDPOINT_NONE;
-    struct xns_caller caller = XNS_CALLER_NONE;
+    struct xns_endpoint a = XNS_ENDPOINT_INIT, b = XNS_ENDPOINT_INIT;
+    struct xns_caller caller = XNS_CALLER_INIT;
     struct xns_item item;
     struct xns_message answer;
     uint8_t body[XNS_LONGEST_ITEM];

@@ -110,7 +110,7 @@ static void is_rejected(struct xns_server *server, const uint8_t *bytes, size_t 
 static void converse(void) {
     static uint16_t many[65540];
     static const uint8_t full[534] = { 0, 2, 0, 5 };
-    struct xns_server server = XNS_SERVER_NONE;
+    struct xns_server server = XNS_SERVER_INIT;
     no_server(&server);
     AGAIN(xns_server_new(&server, programs, 3));
     gives(&server, 1, versions, 4);
@@ -141,7 +141,7 @@ static void converse(void) {
 
 /* The conversation stops with this number at an item behind the peer's versions, or at the first item. */
 static void stops(bool first, uint8_t stream, const void *body, size_t length, uint32_t number) {
-    struct xns_server server = XNS_SERVER_NONE;
+    struct xns_server server = XNS_SERVER_INIT;
     CHECK(xns_server_new(&server, programs, 1) == XNS_OK);
     gives(&server, 1, versions, 4);
     if (!first) CHECK(xns_server_feed(&server, 0, 1, versions, 4) == XNS_OK);
@@ -153,7 +153,7 @@ static void stops(bool first, uint8_t stream, const void *body, size_t length, u
 static void longest(void) {
     static uint16_t many[65540];
     static uint8_t bytes[534];
-    struct xns_server server = XNS_SERVER_NONE;
+    struct xns_server server = XNS_SERVER_INIT;
     struct xns_message message;
     struct xns_item item;
     size_t count, length = 0;

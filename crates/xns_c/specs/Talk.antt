@@ -7,6 +7,7 @@ use Rattle.courier_messages.specs.declared.message.Message.{Message}
 use Rattle.courier_messages.specs.declared.message.Message.TheVariants.{Call, Reject, Return, Abort}
 use Rattle.courier_messages.specs.RawCalls.{RawCall, most_call_words}
 use Rattle.courier_messages.specs.Conversation.{Phase, opening}
+use Rattle.courier_messages.specs.Message.{most_bytes}
 use Rattle.courier_messages.specs.Cutting.{cut, versions_item}
 use Rattle.courier_messages.specs.RawCalls.{call_message}
 use Rattle.courier_messages.specs.Phases.{run, said, ◌then◌}
@@ -67,6 +68,10 @@ answered_unless None t m = Ok (record t { waiting = false; outcome = Some m })
 abbrev pub answered : Talk → List Message → Result Talk SessionFault
 answered t [] = Ok t
 answered t (m ∷ ms) = answered_unless (reply_fault t.waiting t.transaction m) t m
+
+-- no item has more bytes than the versions and the longest message
+abbrev pub longest_item : ℕ
+longest_item = 4 + most_bytes
 
 -- with one more item of the peer's, or the first fault
 abbrev pub after_item : Talk → Item → Result Talk SessionFault

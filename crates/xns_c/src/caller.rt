@@ -8,8 +8,8 @@ ghost use Rattle.xns_c.specs.Handle.{talk_of};
 ghost use Rattle.courier_messages.specs.Head.{words_in};
 ghost use Rattle.xns_c.specs.Courier.{message_given, heard_number};
 ghost use Rattle.xns_c.specs.Given.{GivesItem, IsPut};
-ghost use Rattle.xns_c.specs.Results.{ok, nothing, no_memory, no_caller, short_buffer, stopped};
-ghost use Rattle.xns_c.specs.Talk.{Talk, new_talk, called, call_number, after_item, IsStopped};
+ghost use Rattle.xns_c.specs.Results.{ok, nothing, no_memory, no_caller, short_buffer, stopped, too_long};
+ghost use Rattle.xns_c.specs.Talk.{Talk, new_talk, called, call_number, longest_item, after_item, IsStopped};
 ghost use Rattle.xns_c.specs.Views.{item_given};
 
 use crate::caller_handle::XnsCaller;
@@ -46,7 +46,7 @@ pub extern "C" fn xns_caller_new(alloc: Global, handle: &mut XnsCaller) -> u32
 
 /// Frees the session, if there is one. The handle then has none, and may be used again.
 #[unsafe(no_mangle)]
-pub extern "C" fn xns_caller_free(alloc: Global, handle: &mut XnsCaller)
+pub extern "C" fn xns_caller_clear(alloc: Global, handle: &mut XnsCaller)
     ensures { talk_of handle.new ≡ None }
 {
     let _freed = handle.take(alloc);
@@ -108,8 +108,8 @@ pub extern "C" fn xns_caller_next_item(
 
 /// Takes in an item of the peer's, whose bytes are copied. `last` is 0 for no.
 ///
-/// `NO_CALLER`; else why the session stops, and from then on `STOPPED`. `NO_MEMORY` where memory is refused: the session is as it was, and the item can
-/// be fed again.
+/// `NO_CALLER`; `TOO_LONG` for more than 131,076 bytes, which no message has: they are not looked at, and the session is as it was; else why the session
+/// stops, and from then on `STOPPED`. `NO_MEMORY` where memory is refused: the session is as it was, and the item can be fed again.
 #[unsafe(no_mangle)]
 pub extern "C" fn xns_caller_feed(
     alloc: Global,
@@ -118,10 +118,13 @@ pub extern "C" fn xns_caller_feed(
     last: u8,
     body: &[u8],
 ) -> u32
-    ensures number { (t : Talk) → talk_of handle.old ≡ Some t → t.failed ≡ false → result ≢ no_memory → result ≡ heard_number (after_item t (item_given stream 0 last body.now)) }
+    ensures number { (t : Talk) → talk_of handle.old ≡ Some t → t.failed ≡ false → length body.now ≤ longest_item → result ≢ no_memory →
+        result ≡ heard_number (after_item t (item_given stream 0 last body.now)) }
     ensures heard { (t n : Talk) → talk_of handle.old ≡ Some t → result ≡ ok → after_item t (item_given stream 0 last body.now) ≡ Ok n → talk_of handle.new ≡ Some n }
-    ensures stops { (t : Talk) → talk_of handle.old ≡ Some t → result ≢ ok → result ≢ no_memory → IfSome (talk_of handle.new) (IsStopped t) }
+    ensures stops { (t : Talk) → talk_of handle.old ≡ Some t → result ≢ ok → result ≢ no_memory → result ≢ too_long → IfSome (talk_of handle.new) (IsStopped t) }
     ensures memory { result ≡ no_memory → talk_of handle.new ≡ talk_of handle.old }
+    ensures long { (t : Talk) → talk_of handle.old ≡ Some t → t.failed ≡ false → longest_item < length body.now → result ≡ too_long }
+    ensures unheard { result ≡ too_long → (longest_item < length body.now) × (talk_of handle.new ≡ talk_of handle.old) }
     ensures stays { (t : Talk) → talk_of handle.old ≡ Some t → talk_of handle.new ≢ None }
     ensures refuses { (t : Talk) → talk_of handle.old ≡ Some t → t.failed ≡ true → (result ≡ stopped) × (talk_of handle.new ≡ talk_of handle.old) }
     ensures none { talk_of handle.old ≡ None → (result ≡ no_caller) × (talk_of handle.new ≡ None) }

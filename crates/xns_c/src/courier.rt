@@ -1,6 +1,6 @@
 //! Courier's messages.
 
-ghost use Rattle.std.specs.Prelude.{◌≡◌, ◌≢◌, ◌<◌, ◌≤◌, ℕ, List, length, IfSome, Ok, Err, Some, None, MatchOption};
+ghost use Rattle.std.specs.Prelude.{◌≡◌, ◌≢◌, ◌<◌, ◌≤◌, ℕ, List, length, IfSome, IfOk, Ok, Err, Some, None, MatchOption};
 ghost use Rattle.courier_messages.specs.Message.{most_bytes, message_bytes, message_of};
 ghost use Rattle.courier_messages.specs.declared.fault.MessageFault.{MessageFault};
 ghost use Rattle.courier_messages.specs.declared.message.Message.{Message};
@@ -16,7 +16,7 @@ use courier_messages::{
     Head, MOST_BYTES, Message, MessageFault, MessageRefusal, PiecedMessage, SessionFault, Words,
     read_message, write_message,
 };
-use std::alloc::Global;
+use std::alloc::{AllocError, Global};
 
 /// The datastream of the item that asks to close the connection.
 const STREAM_END: u8 = 254;
@@ -53,6 +53,7 @@ fn stream_number(kind: u8) -> u32
 pub fn session_fault_number(fault: SessionFault) -> u32
     ensures number { result ≡ session_fault_number fault }
     ensures large { 1 < result }
+    ensures apart { result ≢ too_long }
 {
     match fault {
         SessionFault::NoCommonVersion => 51,
@@ -175,38 +176,49 @@ pub extern "C" fn xns_message_read(
     result
 }
 
-/// The message of these parts, if its kind is one of the four.
-fn message_of_parts(parts: &XnsMessage, words: Words) -> Option<Message>
-    ensures { result ≡ message_given parts.now words }
+/// What comes before the words of a message, if its kind is one of the four.
+fn head_in(parts: &XnsMessage) -> Option<Head>
+    ensures known { IfSome result (λ h. (words : List ℕ) → message_given parts.now words ≡ Some (with_words h words)) }
+    ensures unknown { result ≡ None → (words : List ℕ) → message_given parts.now words ≡ None }
 {
     let transaction = parts.transaction;
     match parts.kind {
-        0 => Some(Message::Call {
+        0 => Some(Head::Call {
             transaction,
             program: parts.program,
             version: parts.version,
             procedure: parts.procedure,
-            words,
         }),
-        1 => Some(Message::Reject {
+        1 => Some(Head::Reject {
             transaction,
             reason: parts.number,
-            words,
         }),
-        2 => Some(Message::Return { transaction, words }),
-        3 => Some(Message::Abort {
+        2 => Some(Head::Return { transaction }),
+        3 => Some(Head::Abort {
             transaction,
             error: parts.number,
-            words,
         }),
         _ => None,
     }
 }
 
+/// The bytes of a message with these words, which are copied.
+fn message_bytes(alloc: Global, head: Head, words: &[u16]) -> Result<Vec<u8>, AllocError>
+    ensures { IfOk result (λ bytes. bytes.items ≡ message_bytes (with_words head words.now)) }
+{
+    let mut copied = Vec::new(alloc);
+    copied.extend_from_slice(words)?;
+    let message = head.with_words(Words::new(copied));
+    let mut bytes = Vec::new(alloc);
+    write_message(alloc, &message, &mut bytes)?;
+    Ok(bytes)
+}
+
 /// Puts the bytes of a message to the front of the buffer.
 ///
-/// `BAD_ARGUMENT` where its kind is none of the four; `TOO_LONG` over 131,072 bytes; `SHORT_BUFFER`. `NO_MEMORY` where memory is refused, which
-/// may come in the stead of each.
+/// `BAD_ARGUMENT` where its kind is none of the four; `TOO_LONG` over 131,072 bytes; `SHORT_BUFFER`, and `written` is then how many bytes are needed. Only
+/// then the words are copied: `NO_MEMORY` where memory is refused.
+#[tactic(auto, using(crate::proofs::Messages::message_size))]
 #[unsafe(no_mangle)]
 pub extern "C" fn xns_message_write(
     alloc: Global,
@@ -217,27 +229,28 @@ pub extern "C" fn xns_message_write(
 ) -> u32
     ensures written { (m : Message) → message_given message.now words.now ≡ Some m → result ≡ ok →
         (length (message_bytes m) ≤ most_bytes) × IsPut (message_bytes m) buffer.old buffer.new written.new }
-    ensures long { (m : Message) → message_given message.now words.now ≡ Some m → most_bytes < length (message_bytes m) → result ≢ no_memory → result ≡ too_long }
+    ensures long { (m : Message) → message_given message.now words.now ≡ Some m → most_bytes < length (message_bytes m) → result ≡ too_long }
     ensures short { (m : Message) → message_given message.now words.now ≡ Some m → length (message_bytes m) ≤ most_bytes → length buffer.old < length (message_bytes m) →
-        result ≢ no_memory → result ≡ short_buffer }
+        (result ≡ short_buffer) × (written.new ≡ length (message_bytes m)) }
     ensures memory { (m : Message) → message_given message.now words.now ≡ Some m → length (message_bytes m) ≤ most_bytes → length (message_bytes m) ≤ length buffer.old →
         result ≢ ok → result ≡ no_memory }
-    ensures bad { message_given message.now words.now ≡ None → result ≢ no_memory → result ≡ bad_argument }
-    ensures unchanged { result ≢ ok → (buffer.new ≡ buffer.old) × (written.new ≡ written.old) }
+    ensures bad { message_given message.now words.now ≡ None → result ≡ bad_argument }
+    ensures unchanged { result ≢ ok → buffer.new ≡ buffer.old }
+    ensures untold { result ≢ ok → result ≢ short_buffer → written.new ≡ written.old }
 {
-    let mut copied = Vec::new(alloc);
-    if copied.extend_from_slice(words).is_err() {
-        return NO_MEMORY;
-    }
-    let Some(whole) = message_of_parts(message, Words::new(copied)) else {
+    let Some(head) = head_in(message) else {
         return BAD_ARGUMENT;
     };
-    let mut bytes = Vec::new(alloc);
-    if write_message(alloc, &whole, &mut bytes).is_err() {
-        return NO_MEMORY;
-    }
-    if bytes.len() > MOST_BYTES {
+    if words.len() > MOST_BYTES / 2 - head.size() {
         return TOO_LONG;
     }
-    put_front(bytes.as_slice(), buffer, written)
+    let needed = 2 * (head.size() + words.len());
+    if buffer.len() < needed {
+        *written = needed;
+        return SHORT_BUFFER;
+    }
+    match message_bytes(alloc, head, words) {
+        Ok(bytes) => put_front(bytes.as_slice(), buffer, written),
+        Err(_) => NO_MEMORY,
+    }
 }

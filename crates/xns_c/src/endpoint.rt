@@ -12,7 +12,7 @@ ghost use Rattle.xns_spp.specs.declared.item.Item.{Item};
 ghost use Rattle.xns_c.specs.Given.{GivesItem, IsPut, IsPutIfThere};
 ghost use Rattle.xns_c.specs.Handle.{line_of};
 ghost use Rattle.xns_c.specs.Line.{Keeps, packets_of};
-ghost use Rattle.xns_c.specs.Results.{ok, nothing, no_memory, no_endpoint, short_buffer, bad_argument, send_number, dropped_number};
+ghost use Rattle.xns_c.specs.Results.{ok, nothing, no_memory, no_endpoint, short_buffer, bad_argument, too_long, send_number, dropped_number};
 ghost use Rattle.xns_c.specs.Views.{address_in, item_given};
 
 use crate::address::XnsAddress;
@@ -27,7 +27,7 @@ use crate::results::{
     BAD_ARGUMENT, NO_ENDPOINT, NO_MEMORY, NOTHING, OK, SHORT_BUFFER, dropped_number,
 };
 use std::alloc::Global;
-use xns_spp::{Bytes, Endpoint, Item, MOST_BODY, MOST_PENDING};
+use xns_spp::{Bytes, Endpoint, MOST_BODY, MOST_PENDING};
 
 /// A reply has so many bytes.
 const REPLY: usize = 42;
@@ -125,7 +125,7 @@ pub extern "C" fn xns_endpoint_new_responder(
 
 /// Frees the endpoint, if there is one. The handle then has none, and may be used again.
 #[unsafe(no_mangle)]
-pub extern "C" fn xns_endpoint_free(alloc: Global, handle: &mut XnsEndpoint)
+pub extern "C" fn xns_endpoint_clear(alloc: Global, handle: &mut XnsEndpoint)
     ensures { line_of handle.new ≡ None }
 {
     let _freed = handle.take(alloc);
@@ -178,7 +178,8 @@ pub extern "C" fn xns_endpoint_waiting(alloc: Global, handle: &mut XnsEndpoint) 
 
 /// Accepts an item, whose bytes are copied. `attention` and `last` are 0 for no.
 ///
-/// `NO_ENDPOINT`; `NO_MEMORY` where memory is refused, and the endpoint is as it was; else 0, or why the item is refused.
+/// `NO_ENDPOINT`; `TOO_LONG` for more than 534 bytes, which are not looked at; `NO_MEMORY` where memory is refused; else 0, or why the item is refused. The
+/// endpoint is as it was, but after 0.
 #[unsafe(no_mangle)]
 pub extern "C" fn xns_endpoint_send(
     alloc: Global,
@@ -192,28 +193,21 @@ pub extern "C" fn xns_endpoint_send(
     ensures stands { (s : State) → Keeps (line_of handle.old) s → result ≢ no_memory → Keeps (line_of handle.new) (after_send s (item_given stream attention last body.now)) }
     ensures packets { packets_of (line_of handle.new) ≡ packets_of (line_of handle.old) }
     ensures none { line_of handle.old ≡ None → (result ≡ no_endpoint) × (line_of handle.new ≡ None) }
+    ensures long { line_of handle.old ≢ None → most_body < length body.now → (result ≡ too_long) × (line_of handle.new ≡ line_of handle.old) }
     ensures memory { result ≡ no_memory → line_of handle.new ≡ line_of handle.old }
 {
     let Some(mut connection) = handle.take(alloc) else {
         return NO_ENDPOINT;
     };
-    let mut bytes = Vec::new(alloc);
-    let result = match bytes.extend_from_slice(body) {
-        Ok(()) => connection.send(Item {
-            stream,
-            attention: attention != 0,
-            last: last != 0,
-            body: Bytes::new(bytes),
-        }),
-        Err(_) => NO_MEMORY,
-    };
+    let result = connection.send(alloc, stream, attention, last, body);
     handle.put(connection);
     result
 }
 
 /// Hands up the next item, its bytes to the front of the buffer.
 ///
-/// `SHORT_BUFFER` where the buffer has fewer than 534 bytes, whatever waits; else `NO_ENDPOINT`, or `NOTHING` where none waits.
+/// `SHORT_BUFFER` where the buffer has fewer than 534 bytes, whatever waits, and the item's length is then 534; else `NO_ENDPOINT`, or `NOTHING` where
+/// none waits.
 #[unsafe(no_mangle)]
 pub extern "C" fn xns_endpoint_take(
     alloc: Global,
@@ -226,11 +220,13 @@ pub extern "C" fn xns_endpoint_take(
     ensures nothing { (s : State) → Keeps (line_of handle.old) s → most_body ≤ length buffer.old → take_answer s ≡ None → result ≡ nothing }
     ensures some { (s : State) (x : Item) → Keeps (line_of handle.old) s → most_body ≤ length buffer.old → take_answer s ≡ Some x → (result ≡ ok) × GivesItem x item.new }
     ensures bytes { (s : State) (x : Item) → Keeps (line_of handle.old) s → most_body ≤ length buffer.old → take_answer s ≡ Some x → IsPut x.body buffer.old buffer.new item.new.length }
-    ensures short { length buffer.old < most_body → (result ≡ short_buffer) × (line_of handle.new ≡ line_of handle.old) }
+    ensures short { length buffer.old < most_body → (result ≡ short_buffer) × (item.new ≡ record item.old { length = most_body }) × (line_of handle.new ≡ line_of handle.old) }
     ensures none { line_of handle.old ≡ None → most_body ≤ length buffer.old → (result ≡ no_endpoint) × (line_of handle.new ≡ None) }
-    ensures unchanged { result ≢ ok → (item.new ≡ item.old) × (buffer.new ≡ buffer.old) }
+    ensures unchanged { result ≢ ok → buffer.new ≡ buffer.old }
+    ensures untold { result ≢ ok → result ≢ short_buffer → item.new ≡ item.old }
 {
     if buffer.len() < MOST_BODY {
+        item.length = MOST_BODY;
         return SHORT_BUFFER;
     }
     let Some(mut connection) = handle.take(alloc) else {
@@ -267,8 +263,8 @@ fn put_reply(buffer: &mut [u8], reply: &Option<Bytes>) -> usize
 
 /// Takes in the bytes of a packet, and puts the reply, where one is wanted, to the front of the buffer.
 ///
-/// `SHORT_BUFFER` where the buffer has fewer than 42 bytes, whatever came; else `NO_ENDPOINT`; else `NO_MEMORY` where memory is refused: the endpoint
-/// is then as it was, as if the packet were lost.
+/// `SHORT_BUFFER` where the buffer has fewer than 42 bytes, whatever came, and `received.reply` is then 42; else `NO_ENDPOINT`; else `NO_MEMORY` where
+/// memory is refused: the endpoint is then as it was, as if the packet were lost.
 #[unsafe(no_mangle)]
 pub extern "C" fn xns_endpoint_receive(
     alloc: Global,
@@ -284,11 +280,13 @@ pub extern "C" fn xns_endpoint_receive(
     ensures dropped { (s : State) → Keeps (line_of handle.old) s → result ≡ ok → received.new.dropped ≡ dropped_number (receive_answer s bytes.now).dropped }
     ensures reply { (s : State) → Keeps (line_of handle.old) s → result ≡ ok → IsPutIfThere (receive_answer s bytes.now).reply buffer.old buffer.new received.new.reply }
     ensures memory { (s : State) → Keeps (line_of handle.old) s → 42 ≤ length buffer.old → result ≢ ok → (result ≡ no_memory) × NeedsMemory s bytes.now }
-    ensures short { length buffer.old < 42 → result ≡ short_buffer }
+    ensures short { length buffer.old < 42 → (result ≡ short_buffer) × (received.new ≡ record received.old { reply = 42 }) }
     ensures none { line_of handle.old ≡ None → 42 ≤ length buffer.old → result ≡ no_endpoint }
-    ensures unchanged { result ≢ ok → (line_of handle.new ≡ line_of handle.old) × (received.new ≡ received.old) × (buffer.new ≡ buffer.old) }
+    ensures unchanged { result ≢ ok → (line_of handle.new ≡ line_of handle.old) × (buffer.new ≡ buffer.old) }
+    ensures untold { result ≢ ok → result ≢ short_buffer → received.new ≡ received.old }
 {
     if buffer.len() < REPLY {
+        received.reply = REPLY;
         return SHORT_BUFFER;
     }
     let Some(mut connection) = handle.take(alloc) else {
@@ -361,7 +359,7 @@ pub extern "C" fn xns_endpoint_tick(alloc: Global, handle: &mut XnsEndpoint) -> 
 
 /// Puts the next packet that `xns_endpoint_flush` or `xns_endpoint_tick` made to the front of the buffer. Each is given once.
 ///
-/// `NO_ENDPOINT`; `NOTHING` where there is none; `SHORT_BUFFER` where the packet is longer than the buffer.
+/// `NO_ENDPOINT`; `NOTHING` where there is none; `SHORT_BUFFER` where the packet is longer than the buffer, and `written` is then how long it is.
 #[unsafe(no_mangle)]
 pub extern "C" fn xns_endpoint_next_packet(
     alloc: Global,
@@ -371,11 +369,12 @@ pub extern "C" fn xns_endpoint_next_packet(
 ) -> u32
     ensures put { (p : List ℕ) (ps : List (List ℕ)) → packets_of (line_of handle.old) ≡ p ∷ ps → length p ≤ length buffer.old →
         (result ≡ ok) × (packets_of (line_of handle.new) ≡ ps) × IsPut p buffer.old buffer.new written.new }
-    ensures short { (p : List ℕ) (ps : List (List ℕ)) → packets_of (line_of handle.old) ≡ p ∷ ps → length buffer.old < length p → result ≡ short_buffer }
+    ensures short { (p : List ℕ) (ps : List (List ℕ)) → packets_of (line_of handle.old) ≡ p ∷ ps → length buffer.old < length p → (result ≡ short_buffer) × (written.new ≡ length p) }
     ensures nothing { (s : State) → Keeps (line_of handle.old) s → packets_of (line_of handle.old) ≡ [] → result ≡ nothing }
     ensures stands { (s : State) → Keeps (line_of handle.old) s → Keeps (line_of handle.new) s }
     ensures none { line_of handle.old ≡ None → result ≡ no_endpoint }
-    ensures unchanged { result ≢ ok → (line_of handle.new ≡ line_of handle.old) × (buffer.new ≡ buffer.old) × (written.new ≡ written.old) }
+    ensures unchanged { result ≢ ok → (line_of handle.new ≡ line_of handle.old) × (buffer.new ≡ buffer.old) }
+    ensures untold { result ≢ ok → result ≢ short_buffer → written.new ≡ written.old }
 {
     let Some(mut connection) = handle.take(alloc) else {
         return NO_ENDPOINT;

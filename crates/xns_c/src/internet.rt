@@ -57,7 +57,7 @@ pub extern "C" fn xns_decode(bytes: &[u8], packet: &mut XnsPacket) -> u32
 
 /// Puts the bytes of a packet with these data to the front of the buffer. Of the packet the last three fields are not read.
 ///
-/// `TOO_LONG` for more than 546 bytes of data, else `SHORT_BUFFER`. It takes no memory.
+/// `TOO_LONG` for more than 546 bytes of data; else `SHORT_BUFFER`, and `written` is then how many bytes are needed. It takes no memory.
 #[unsafe(no_mangle)]
 pub extern "C" fn xns_encode(
     packet: &XnsPacket,
@@ -68,14 +68,17 @@ pub extern "C" fn xns_encode(
     ensures written { length body.now ≤ 546 → made_even (30 + length body.now) ≤ length buffer.old →
         (result ≡ ok) × IsPut (packet_spelling (packet_with packet.now body.now)) buffer.old buffer.new written.new }
     ensures long { 546 < length body.now → result ≡ too_long }
-    ensures short { length body.now ≤ 546 → length buffer.old < made_even (30 + length body.now) → result ≡ short_buffer }
-    ensures unchanged { result ≢ ok → (buffer.new ≡ buffer.old) × (written.new ≡ written.old) }
+    ensures short { length body.now ≤ 546 → length buffer.old < made_even (30 + length body.now) → (result ≡ short_buffer) × (written.new ≡ made_even (30 + length body.now)) }
+    ensures unchanged { result ≢ ok → buffer.new ≡ buffer.old }
+    ensures untold { result ≢ ok → result ≢ short_buffer → written.new ≡ written.old }
 {
     let size = body.len();
     if size > 546 {
         return TOO_LONG;
     }
-    if buffer.len() < 30 + size + size % 2 {
+    let needed = 30 + size + size % 2;
+    if buffer.len() < needed {
+        *written = needed;
         return SHORT_BUFFER;
     }
     let whole = Packet {

@@ -32,7 +32,7 @@ pub extern "C" fn xns_header_read(body: &[u8], header: &mut XnsHeader) -> u32
     }
 }
 
-/// Puts the twelve bytes of a header to the front of the buffer, or answers `SHORT_BUFFER`.
+/// Puts the twelve bytes of a header to the front of the buffer. `SHORT_BUFFER`, and `written` is then 12.
 #[unsafe(no_mangle)]
 pub extern "C" fn xns_header_write(
     header: &XnsHeader,
@@ -40,7 +40,7 @@ pub extern "C" fn xns_header_write(
     written: &mut usize,
 ) -> u32
     ensures written { 12 ≤ length buffer.old → (result ≡ ok) × IsPut (header_spelling (header_in header.now)) buffer.old buffer.new written.new }
-    ensures short { length buffer.old < 12 → (result ≡ short_buffer) × (buffer.new ≡ buffer.old) × (written.new ≡ written.old) }
+    ensures short { length buffer.old < 12 → (result ≡ short_buffer) × (written.new ≡ 12) × (buffer.new ≡ buffer.old) }
 {
     put_front(&header.header().to_bytes(), buffer, written)
 }

@@ -52,7 +52,7 @@ pub extern "C" fn xns_server_new(
 
 /// Frees the session, if there is one. The handle then has none, and may be used again.
 #[unsafe(no_mangle)]
-pub extern "C" fn xns_server_free(alloc: Global, handle: &mut XnsServer)
+pub extern "C" fn xns_server_clear(alloc: Global, handle: &mut XnsServer)
     ensures { answering_of handle.new ≡ None }
 {
     let _freed = handle.take(alloc);

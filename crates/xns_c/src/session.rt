@@ -9,8 +9,8 @@ ghost use Rattle.courier_messages.specs.Head.{with_words, words_in};
 ghost use Rattle.courier_messages.specs.Refusal.{Follows};
 ghost use Rattle.xns_c.specs.Courier.{message_given, session_fault_number, heard_number};
 ghost use Rattle.xns_c.specs.Given.{GivesItem, IsPut};
-ghost use Rattle.xns_c.specs.Results.{ok, nothing, no_memory, short_buffer, stopped};
-ghost use Rattle.xns_c.specs.Talk.{Talk, new_talk, called, call_number, reply_fault, after_item, IsStopped};
+ghost use Rattle.xns_c.specs.Results.{ok, nothing, no_memory, short_buffer, stopped, too_long};
+ghost use Rattle.xns_c.specs.Talk.{Talk, new_talk, called, call_number, reply_fault, longest_item, after_item, IsStopped};
 ghost use Rattle.xns_c.specs.Views.{item_given};
 
 use crate::courier::{give_message, session_fault_number};
@@ -26,6 +26,9 @@ use xns_spp::Item;
 
 /// The most words that a call may have: with six words before them they are 131,072 bytes.
 const MOST_WORDS: usize = 65_530;
+
+/// The most bytes that an item may have: the versions and the longest message.
+const LONGEST_ITEM: usize = 131_076;
 
 /// The side that calls, one call at a time.
 #[derive(Drop)]
@@ -184,17 +187,22 @@ impl Session {
     }
 
     /// Takes in one more item, and says by a number whether the session goes on. Where it does not each further item and call is refused; but where
-    /// memory is refused nothing is changed, and the item can be fed again.
+    /// memory is refused nothing is changed, and the item can be fed again. One that is too long for any message is not looked at.
     #[tactic(auto, using(crate::proofs::Told::told))]
     pub fn feed(&mut self, alloc: Global, stream: u8, last: u8, body: &[u8]) -> u32
-        ensures number { self.old.failed ≡ false → result ≢ no_memory → result ≡ heard_number (after_item self.old (item_given stream 0 last body.now)) }
+        ensures number { self.old.failed ≡ false → length body.now ≤ longest_item → result ≢ no_memory → result ≡ heard_number (after_item self.old (item_given stream 0 last body.now)) }
         ensures heard { result ≡ ok → after_item self.old (item_given stream 0 last body.now) ≡ Ok self.new }
         ensures memory { result ≡ no_memory → self.new ≡ self.old }
-        ensures stops { result ≢ ok → result ≢ no_memory → IsStopped self.old self.new }
+        ensures stops { result ≢ ok → result ≢ no_memory → result ≢ too_long → IsStopped self.old self.new }
         ensures refuses { self.old.failed ≡ true → (result ≡ stopped) × (self.new ≡ self.old) }
+        ensures long { self.old.failed ≡ false → longest_item < length body.now → result ≡ too_long }
+        ensures unheard { result ≡ too_long → (longest_item < length body.now) × (self.new ≡ self.old) }
     {
         if self.failed {
             return STOPPED;
+        }
+        if body.len() > LONGEST_ITEM {
+            return TOO_LONG;
         }
         match self.take_item(alloc, stream, last, body) {
             Ok(()) => OK,

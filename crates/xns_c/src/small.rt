@@ -19,7 +19,8 @@ use xns_small::{Exchange, answer_echo, complain, read_error, read_exchange, writ
 
 /// Puts the answer to an Echo request to the front of the buffer (XSIS 028112, Echo Protocol).
 ///
-/// `NOTHING` where the bytes are no request to `own`; else `SHORT_BUFFER`, or `NO_MEMORY` where memory is refused.
+/// `NOTHING` where the bytes are no request to `own`; else `SHORT_BUFFER`, and `written` is then how many bytes are needed, or `NO_MEMORY` where memory is
+/// refused.
 #[unsafe(no_mangle)]
 pub extern "C" fn xns_echo_reply(
     alloc: Global,
@@ -32,10 +33,11 @@ pub extern "C" fn xns_echo_reply(
     ensures written { (x : PacketModel × ℕ) → packet_of bytes.now ≡ Ok x → result ≡ ok →
         IsAnswered (address_in own.now) x.0 × IsPut (echo_reply (address_in own.now) x.0) buffer.old buffer.new written.new }
     ensures short { (x : PacketModel × ℕ) → packet_of bytes.now ≡ Ok x → result ≡ short_buffer →
-        IsAnswered (address_in own.now) x.0 × (length buffer.old < length (echo_reply (address_in own.now) x.0)) }
+        IsAnswered (address_in own.now) x.0 × (length buffer.old < length (echo_reply (address_in own.now) x.0)) × (written.new ≡ length (echo_reply (address_in own.now) x.0)) }
     ensures memory { result ≢ ok → result ≢ nothing → result ≢ short_buffer → result ≡ no_memory }
     ensures nothing { result ≢ nothing → IsRequestTo (address_in own.now) bytes.now }
-    ensures unchanged { result ≢ ok → (buffer.new ≡ buffer.old) × (written.new ≡ written.old) }
+    ensures unchanged { result ≢ ok → buffer.new ≡ buffer.old }
+    ensures untold { result ≢ ok → result ≢ short_buffer → written.new ≡ written.old }
 {
     let Ok((packet, _)) = decode(bytes) else {
         return NOTHING;
@@ -49,7 +51,8 @@ pub extern "C" fn xns_echo_reply(
 
 /// Puts an Error packet about the offending packet to the front of the buffer (XSIS 028112, Error Protocol).
 ///
-/// `NOTHING` where one must not complain of the bytes; else `SHORT_BUFFER`, or `NO_MEMORY` where memory is refused.
+/// `NOTHING` where one must not complain of the bytes; else `SHORT_BUFFER`, and `written` is then how many bytes are needed, or `NO_MEMORY` where memory is
+/// refused.
 #[unsafe(no_mangle)]
 pub extern "C" fn xns_complain(
     alloc: Global,
@@ -62,10 +65,11 @@ pub extern "C" fn xns_complain(
 ) -> u32
     ensures complained { MayBeComplainedOf offending.now → result ≢ nothing }
     ensures written { result ≡ ok → IsPut (complaint (address_in own.now) number parameter offending.now) buffer.old buffer.new written.new }
-    ensures short { result ≡ short_buffer → length buffer.old < length (complaint (address_in own.now) number parameter offending.now) }
+    ensures short { result ≡ short_buffer → (length buffer.old < length (complaint (address_in own.now) number parameter offending.now)) × (written.new ≡ length (complaint (address_in own.now) number parameter offending.now)) }
     ensures memory { result ≢ ok → result ≢ nothing → result ≢ short_buffer → result ≡ no_memory }
     ensures nothing { result ≢ nothing → MayBeComplainedOf offending.now }
-    ensures unchanged { result ≢ ok → (buffer.new ≡ buffer.old) × (written.new ≡ written.old) }
+    ensures unchanged { result ≢ ok → buffer.new ≡ buffer.old }
+    ensures untold { result ≢ ok → result ≢ short_buffer → written.new ≡ written.old }
 {
     match complain(alloc, own.address(), number, parameter, offending) {
         Ok(Some(bytes)) => put_front(bytes.as_slice(), buffer, written),
@@ -115,7 +119,7 @@ pub extern "C" fn xns_exchange_read(body: &[u8], id: &mut u32, client: &mut u16)
 
 /// Puts the data of a Packet Exchange packet to the front of the buffer.
 ///
-/// `TOO_LONG` for more than 540 bytes, else `SHORT_BUFFER`, else `NO_MEMORY` where memory is refused.
+/// `TOO_LONG` for more than 540 bytes; else `SHORT_BUFFER`, and `written` is then how many bytes are needed; else `NO_MEMORY` where memory is refused.
 #[unsafe(no_mangle)]
 pub extern "C" fn xns_exchange_write(
     alloc: Global,
@@ -127,14 +131,17 @@ pub extern "C" fn xns_exchange_write(
 ) -> u32
     ensures written { result ≡ ok → IsPut (exchange_spelling (record { id = id; client = client; body = bytes.now })) buffer.old buffer.new written.new }
     ensures long { 540 < length bytes.now → result ≡ too_long }
-    ensures short { length bytes.now ≤ 540 → length buffer.old < 6 + length bytes.now → result ≡ short_buffer }
+    ensures short { length bytes.now ≤ 540 → length buffer.old < 6 + length bytes.now → (result ≡ short_buffer) × (written.new ≡ 6 + length bytes.now) }
     ensures memory { length bytes.now ≤ 540 → 6 + length bytes.now ≤ length buffer.old → result ≢ ok → result ≡ no_memory }
-    ensures unchanged { result ≢ ok → (buffer.new ≡ buffer.old) × (written.new ≡ written.old) }
+    ensures unchanged { result ≢ ok → buffer.new ≡ buffer.old }
+    ensures untold { result ≢ ok → result ≢ short_buffer → written.new ≡ written.old }
 {
     if bytes.len() > 540 {
         return TOO_LONG;
     }
-    if buffer.len() < 6 + bytes.len() {
+    let needed = 6 + bytes.len();
+    if buffer.len() < needed {
+        *written = needed;
         return SHORT_BUFFER;
     }
     let exchange = Exchange {
