@@ -2,6 +2,7 @@ use Rattle.std.proofs.Common.{◌≡◌, ◌∙◌, ap, sym, arith, Ok}
 use Rattle.std.proofs.lemmas.Result.{err_from_is_err_and}
 use Rattle.courier_types.specs.AnyWord.{shape_of}
 use Rattle.courier_types.specs.Value.{ValueModel, value_model}
+use Rattle.courier_types.specs.Memory.{ElementsWant}
 use Rattle.courier_types.specs.Reading.{reading_times, reading}
 use Rattle.courier_types.proofs.Loops.{times_more, times_end, times_done, any_is, any_fails, word_there}
 use Rattle.courier_types.proofs.reading.read_words.Goals as goal
@@ -11,7 +12,7 @@ returns-in_err-word g c =
     let p = err_from_is_err_and c.from_residual-in_err-word.result c.from_residual-in_err-word.ensures.1 in
     let words = g.S.WordSource.words_left in
     let one = reading (shape_of c.args.kind) in
-    rw (p.1, p.2) (times_end ⊥ c.in_err-word.field-0.0 one c.loop.values.items c.args.count c.loop.counter (words c.loop.source) (reading_times one c.args.count (words c.args.source.now)) c.loop-test.true (any_fails c.args.kind c.in_err-word.field-0.0 (words c.loop.source) c.in_err-word.ensures) c.loop.invariant.so_far)
+    rw (p.1, p.2) (times_end ⊥ (ElementsWant c.args.count (words c.args.source.now)) c.in_err-word.field-0.0 one c.loop.values.items c.args.count c.loop.counter (words c.loop.source) (reading_times one c.args.count (words c.args.source.now)) c.loop-test.true (λ (x : ⊥). absurd x) (any_fails c.args.kind c.in_err-word.field-0.0 (words c.loop.source) c.in_err-word.ensures) c.loop.invariant.so_far)
 
 pub returns : goal.returns
 returns g c =

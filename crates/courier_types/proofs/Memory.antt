@@ -1,0 +1,174 @@
+-- Where reading may be refused memory, as its functions come there.
+use Rattle.std.proofs.Common.{◌≡◌, ℕ, zero, suc, ◌+◌, ◌*◌, get_or, ◌<◌, ◌≤◌, Bool, true, false, ◌&&◌, List, [], ◌∷◌, length, drop, Option, Some, None, Result, Ok, Err, is_ok, IsOk, refl, sym, ap, subst, ◌∙◌, arith, inl, inr, ◌⊎◌, eq-eqb}
+use Rattle.std.proofs.lemmas.Bool.{cases_eq, le-ltb}
+use denote.Param.Weighed.{most, at_most}
+use Rattle.courier_types.specs.declared.read_fault.Reason.TheVariants.{Truncated}
+use Rattle.courier_types.specs.declared.shape.Shape.{Shape}
+use Rattle.courier_types.specs.declared.stop.Stop.{Stop}
+use Rattle.courier_types.specs.declared.stop.Stop.TheVariants as stops
+use Rattle.courier_types.specs.Shape.{ShapeModel, ShapeModels, no_shapes, shape_and, MemberModels, no_members, member_and, shape_model, shape_models, member_models}
+use Rattle.courier_types.specs.Value.{ValueModel, ValueModels, value_and}
+use Rattle.courier_types.specs.Check.{wordless, all_wordless, element_fault, first_fault, faults_of_parts, faults_of_members, or_else}
+use Rattle.courier_types.specs.Source.{Fails, Gives}
+use Rattle.courier_types.specs.Memory.{BytesWant, TextWants, ElementsWant, CountedWant, PartsWant, ChoiceWants, WantsMemory, MemberWants}
+use Rattle.courier_types.specs.Reading.{Fault, Reader, ◌>>=◌, over, front_bit, front_word, front_long, front_listed, front_bytes, front_text, reading_times, reading_counted, reading_choice, reading, reading_fields, reading_member}
+use Rattle.courier_types.proofs.Sound.{neither}
+use Rattle.courier_types.proofs.Loops.{at_member, past_member, failed, gives_where}
+use Rattle.courier_types.proofs.Wordless.{of_no_words}
+use Rattle.courier_types.proofs.Again.{again}
+
+-- ---- sound shapes
+
+no_words_no_fault : (b : Bool) → element_fault b ≡ None → b ≡ false
+no_words_no_fault true h = absurd cc
+no_words_no_fault false h = refl
+
+-- an element of a sound shape has words, and is sound
+pub element_has_words : (shape : ShapeModel) → or_else (element_fault (wordless shape)) (first_fault shape) ≡ None → wordless shape ≡ false
+element_has_words shape h = no_words_no_fault (wordless shape) (neither (element_fault (wordless shape)) (first_fault shape) h).0
+
+pub element_is_sound : (shape : ShapeModel) → or_else (element_fault (wordless shape)) (first_fault shape) ≡ None → first_fault shape ≡ None
+element_is_sound shape h = (neither (element_fault (wordless shape)) (first_fault shape) h).1
+
+parts_from : (parts : List Shape) (i : ℕ) → faults_of_parts (shape_models parts) ≡ None → faults_of_parts (shape_models (drop i parts)) ≡ None
+parts_from parts zero h = h
+parts_from [] (suc i) h = h
+parts_from (part ∷ parts) (suc i) h = parts_from parts i (neither (first_fault (shape_model part)) (faults_of_parts (shape_models parts)) h).1
+
+pub part_is_sound : (parts : List Shape) (i : ℕ) (part : Shape) → drop i parts ≡ part ∷ drop (i + 1) parts → faults_of_parts (shape_models parts) ≡ None → first_fault (shape_model part) ≡ None
+part_is_sound parts i part here h =
+    (neither (first_fault (shape_model part)) (faults_of_parts (shape_models (drop (i + 1) parts))) (subst (λ ps. faults_of_parts (shape_models ps) ≡ None) here (parts_from parts i h))).0
+
+members_from : (members : List (ℕ × Shape)) (i : ℕ) → faults_of_members (member_models members) ≡ None → faults_of_members (member_models (drop i members)) ≡ None
+members_from members zero h = h
+members_from [] (suc i) h = h
+members_from (member ∷ members) (suc i) h = members_from members i (neither (first_fault (shape_model member.1)) (faults_of_members (member_models members)) h).1
+
+pub member_is_sound : (members : List (ℕ × Shape)) (i : ℕ) (member : ℕ × Shape) → drop i members ≡ member ∷ drop (i + 1) members → faults_of_members (member_models members) ≡ None → first_fault (shape_model member.1) ≡ None
+member_is_sound members i member here h =
+    (neither (first_fault (shape_model member.1)) (faults_of_members (member_models (drop (i + 1) members))) (subst (λ ms. faults_of_members (member_models ms) ≡ None) here (members_from members i h))).0
+
+-- ---- a part is no deeper than what it is a part of
+
+pub part_falls : {X : Type 0} (size : X → ℕ) (xs : List X) (i : ℕ) (x : X) (t k : ℕ) → x ≡ get_or xs i x → i < length xs → 4 * most size xs + suc k ≡ t → 4 * size x + 0 < t
+part_falls size xs i x t k e lt h =
+    let h1 : size (get_or xs i x) ≤ most size xs = at_most size xs i x lt in
+    let h2 : size x ≡ size (get_or xs i x) = ap size e in
+    omega arith
+
+pub member_falls : {X Y : Type 0} (size : X → ℕ) (inner : Y → ℕ) (xs : List X) (i : ℕ) (x : X) (y : Y) (t k : ℕ) → x ≡ get_or xs i x → i < length xs → inner y ≤ size x → 4 * most size xs + suc k ≡ t → 4 * inner y + 0 < t
+member_falls size inner xs i x y t k e lt le h =
+    let h1 : size (get_or xs i x) ≤ most size xs = at_most size xs i x lt in
+    let h2 : size x ≡ size (get_or xs i x) = ap size e in
+    omega arith
+
+-- ---- at the end of the words
+
+one_or_other : (b : Bool) → (b ≡ true) ⊎ (b ≡ false)
+one_or_other true = inl refl
+one_or_other false = inr refl
+
+other_false : (a b : Bool) → a ≡ true → (a && b) ≡ false → b ≡ false
+other_false true b e h = h
+other_false false b e h = absurd cc
+
+mutual
+  unfolding reading reading_times reading_counted reading_choice front_text front_listed front_long
+
+  -- a shape whose values have words is not read of none
+  pub none_to_read : (shape : ShapeModel) → wordless shape ≡ false → first_fault shape ≡ None → reading shape [] ≡ failed (0, Truncated)
+  none_to_read ShapeModel.boolean w h = refl
+  none_to_read ShapeModel.cardinal w h = refl
+  none_to_read ShapeModel.long_cardinal w h = refl
+  none_to_read ShapeModel.integer w h = refl
+  none_to_read ShapeModel.long_integer w h = refl
+  none_to_read ShapeModel.unspecified w h = refl
+  none_to_read ShapeModel.text w h = refl
+  none_to_read (ShapeModel.enumeration listed) w h = refl
+  none_to_read (ShapeModel.array zero shape) w h = let t = eq-eqb 0 0 refl in absurd cc
+  none_to_read (ShapeModel.array (suc n) shape) w h =
+      ap (λ r. over ValueModel.array (r >>= λ first. over (value_and first.0) (reading_times (reading shape) n first.1))) (none_to_read shape (element_has_words shape h) (element_is_sound shape h))
+  none_to_read (ShapeModel.sequence most shape) w h = refl
+  none_to_read (ShapeModel.fields shapes) w h = ap (over ValueModel.fields) (no_parts_to_read shapes w h)
+  none_to_read (ShapeModel.choice some_members) w h = refl
+
+  no_parts_to_read : (shapes : ShapeModels) → all_wordless shapes ≡ false → faults_of_parts shapes ≡ None → reading_fields shapes [] ≡ failed (0, Truncated)
+  no_parts_to_read no_shapes w h = absurd cc
+  no_parts_to_read (shape_and shape shapes) w h =
+      let p = neither (first_fault shape) (faults_of_parts shapes) h in
+      elim (one_or_other (wordless shape)) [
+        | inl none ↦
+            let v = of_no_words shape none in
+            ap (λ r. r >>= λ first. over (value_and first.0) (reading_fields shapes first.1)) (again shape v.0 [] [] v.1)
+            ∙ ap (over (value_and v.0)) (no_parts_to_read shapes (other_false (wordless shape) (all_wordless shapes) none w) p.1)
+        | inr some ↦ ap (λ r. r >>= λ first. over (value_and first.0) (reading_fields shapes first.1)) (none_to_read shape some p.0)
+      ]
+
+pub no_elements_to_read : (shape : ShapeModel) (count : ℕ) (ws : List ℕ) → wordless shape ≡ false → first_fault shape ≡ None → 0 < count → length ws ≡ 0 → reading_times (reading shape) count ws ≡ failed (0, Truncated)
+unfolding reading_times
+no_elements_to_read shape zero ws w h k e = absurd (omega arith)
+no_elements_to_read shape (suc n) [] w h k e = ap (λ r. r >>= λ first. over (value_and first.0) (reading_times (reading shape) n first.1)) (none_to_read shape w h)
+no_elements_to_read shape (suc n) (x ∷ ws) w h k e = absurd (omega arith)
+
+-- ---- counts
+
+pub text_gives : {X : Type 0} (model : X → List ℕ) (result : Result X Stop) (after : List ℕ) (n : ℕ) (ws rest : List ℕ) → ws ≡ n ∷ rest
+    → Gives (BytesWant n rest) model result after (front_bytes n rest) → Gives (TextWants ws) model result after (front_text ws)
+unfolding front_text
+text_gives model result after n ws rest e h = subst (λ (u : List ℕ). Gives (TextWants u) model result after (front_text u)) (sym e) h
+
+pub counted_gives : {X : Type 0} (model : X → ValueModels) (result : Result X Stop) (after : List ℕ) (one : Reader ValueModel) (most n : ℕ) (ws rest : List ℕ) → ws ≡ n ∷ rest → n ≤ most
+    → Gives (ElementsWant n rest) model result after (reading_times one n rest) → Gives (CountedWant most ws) model result after (reading_counted one most ws)
+unfolding reading_counted
+counted_gives model result after one most n ws rest e le h =
+    rw (e, le-ltb most n le) (gives_where (ElementsWant n rest) (CountedWant most (n ∷ rest)) model result after (reading_times one n rest) (λ k. (le, k)) h)
+
+-- ---- records
+
+-- where room was refused, some was wanted
+pub room_wanted : {A E : Type 0} (r : Result A E) (e : E) (n : ℕ) → (n ≡ 0 → IsOk r) → r ≡ Err e → 0 < n
+room_wanted r e zero h k =
+    let some : is_ok r ≡ true = h refl in
+    let none : is_ok r ≡ false = ap is_ok k in
+    absurd cc
+room_wanted r e (suc n) h k = omega arith
+
+pub some_parts : (parts : List Shape) → 0 < length parts → PartsWant (shape_models parts)
+some_parts [] h = absurd (omega arith)
+some_parts (part ∷ parts) h = tt
+
+-- ---- choices
+
+pub member_here : (members : List (ℕ × Shape)) (i d : ℕ) (m : ℕ × Shape) (ws : List ℕ) → drop i members ≡ m ∷ drop (i + 1) members → m.0 ≡ d → WantsMemory (shape_model m.1) ws → MemberWants (member_models (drop i members)) d ws
+member_here members i d m ws here h w = subst (λ ms. MemberWants (member_models ms) d ws) (sym here) (inl (sym h, inl w))
+
+pub member_past : (members : List (ℕ × Shape)) (i d : ℕ) (m : ℕ × Shape) (ws : List ℕ) → drop i members ≡ m ∷ drop (i + 1) members → (m.0 ≡ d → ⊥) → MemberWants (member_models (drop (i + 1) members)) d ws → MemberWants (member_models (drop i members)) d ws
+member_past members i d m ws here h w = subst (λ ms. MemberWants (member_models ms) d ws) (sym here) (inr (λ x. h (sym x), w))
+
+is_ok_where : {A : Type 0} (a b : Result A Fault) → a ≡ b → IsOk a → IsOk b
+is_ok_where a b e h = subst (λ r. IsOk r) e h
+
+-- a value that was read is held
+read_is_held : (members : MemberModels) (d : ℕ) (ws : List ℕ) → IsOk (reading_member members d ws) → MemberWants members d ws
+unfolding reading_member reading
+read_is_held no_members d ws h = let e : false ≡ true = h in absurd cc
+read_is_held (member_and e shape members) d ws h =
+    elim (cases_eq d e) [
+      | inl g ↦ inl (g, inr (is_ok_where (reading_member (member_and e shape members) d ws) (reading shape ws) (at_member e shape members d ws (sym g)) h))
+      | inr g ↦ inr (g, read_is_held members d ws (is_ok_where (reading_member (member_and e shape members) d ws) (reading_member members d ws) (past_member e shape members d ws (λ x. g (sym x))) h))
+    ]
+
+pub held : (members : MemberModels) (d : ℕ) (ws rest : List ℕ) (v : ValueModel) (after : List ℕ) → ws ≡ d ∷ rest → reading_member members d rest ≡ Ok (v, after) → ChoiceWants (MemberWants members) ws
+held members d ws rest v after e h = subst (λ (u : List ℕ). ChoiceWants (MemberWants members) u) (sym e) (read_is_held members d rest (is_ok_where (Ok (v, after)) (reading_member members d rest) (sym h) refl))
+
+choice_fault : (one : ℕ → Reader ValueModel) (d : ℕ) (rest : List ℕ) (f : Fault) → one d rest ≡ Err f → reading_choice one (d ∷ rest) ≡ Err f
+unfolding reading_choice
+choice_fault one d rest f h = ap (over (ValueModel.choice d)) h
+
+fails_behind : (wants : ℕ → List ℕ → Type 0) (one : ℕ → Reader ValueModel) (e : Stop) (d : ℕ) (rest : List ℕ) → Fails (wants d rest) e (one d rest) → Fails (ChoiceWants wants (d ∷ rest)) e (reading_choice one (d ∷ rest))
+fails_behind wants one stops.NoMemory d rest h = h
+fails_behind wants one stops.Truncated d rest h = choice_fault one d rest (0, Truncated) h
+fails_behind wants one (stops.WrongWord n r) d rest h = choice_fault one d rest (n + 1, r) h
+
+pub choice_fails : (wants : ℕ → List ℕ → Type 0) (one : ℕ → Reader ValueModel) (e : Stop) (d : ℕ) (ws rest : List ℕ) → ws ≡ d ∷ rest → Fails (wants d rest) e (one d rest) → Fails (ChoiceWants wants ws) e (reading_choice one ws)
+choice_fails wants one e d ws rest k h = subst (λ (u : List ℕ). Fails (ChoiceWants wants u) e (reading_choice one u)) (sym k) (fails_behind wants one e d rest h)

@@ -1,0 +1,53 @@
+-- Where reading may be refused memory: this project's rule. Reading comes there from the left with no fault before it.
+use Rattle.std.specs.Prelude.{◌≡◌, ◌≢◌, ◌⊎◌, ℕ, ◌+◌, ◌/◌, ◌%◌, ◌<◌, ◌≤◌, List, [], ◌∷◌, length, IsOk}
+use Rattle.courier_types.specs.Shape.{ShapeModel, ShapeModels, no_shapes, shape_and, MemberModels, no_members, member_and}
+use Rattle.courier_types.specs.Reading.{reading}
+
+-- so many bytes: they are not none, and their words are all there
+abbrev pub BytesWant : ℕ → List ℕ → Type 0
+BytesWant n ws = (0 < n) × (n / 2 + n % 2 ≤ length ws)
+
+-- a count, then so many bytes
+abbrev pub TextWants : List ℕ → Type 0
+TextWants [] = ⊥
+TextWants (n ∷ ws) = BytesWant n ws
+
+-- so many elements: they are not none, and words are there
+abbrev pub ElementsWant : ℕ → List ℕ → Type 0
+ElementsWant n ws = (0 < n) × (0 < length ws)
+
+-- a count that is at most this one, then so many elements
+abbrev pub CountedWant : ℕ → List ℕ → Type 0
+CountedWant most [] = ⊥
+CountedWant most (n ∷ ws) = (n ≤ most) × ElementsWant n ws
+
+-- a record's components are not none
+abbrev pub PartsWant : ShapeModels → Type 0
+PartsWant no_shapes = ⊥
+PartsWant (shape_and _ _) = Unit {0}
+
+-- a designator, then what is wanted behind it
+abbrev pub ChoiceWants : (ℕ → List ℕ → Type 0) → List ℕ → Type 0
+ChoiceWants wants [] = ⊥
+ChoiceWants wants (d ∷ ws) = wants d ws
+
+-- reading a value of the shape from the words wants memory
+abbrev mutual
+  pub WantsMemory : ShapeModel → List ℕ → Type 0
+  WantsMemory ShapeModel.boolean ws = ⊥
+  WantsMemory ShapeModel.cardinal ws = ⊥
+  WantsMemory ShapeModel.long_cardinal ws = ⊥
+  WantsMemory ShapeModel.integer ws = ⊥
+  WantsMemory ShapeModel.long_integer ws = ⊥
+  WantsMemory ShapeModel.unspecified ws = ⊥
+  WantsMemory ShapeModel.text ws = TextWants ws
+  WantsMemory (ShapeModel.enumeration listed) ws = ⊥
+  WantsMemory (ShapeModel.array n element) ws = ElementsWant n ws
+  WantsMemory (ShapeModel.sequence most element) ws = CountedWant most ws
+  WantsMemory (ShapeModel.fields parts) ws = PartsWant parts
+  WantsMemory (ShapeModel.choice members) ws = ChoiceWants (MemberWants members) ws
+
+  -- the designator is listed, and its value wants memory, or is read and then held
+  pub MemberWants : MemberModels → ℕ → List ℕ → Type 0
+  MemberWants no_members _ _ = ⊥
+  MemberWants (member_and designator shape members) chosen ws = ((chosen ≡ designator) × (WantsMemory shape ws ⊎ IsOk (reading shape ws))) ⊎ ((chosen ≢ designator) × MemberWants members chosen ws)
