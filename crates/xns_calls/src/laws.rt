@@ -1,7 +1,7 @@
 //! Laws of the definitions, as functions that do nothing.
 ghost use Rattle.xns_calls.specs.Laws.{AnItemIsAnEvent, NothingIsMissing, NothingIsMissingAtTheEnd, RepeatsSayNothing, TheAnswerSaysRefused, WhatIsHeardIsTheConversation};
 
-use courier_messages::laws::conversation_is_read_sign_by_sign;
+use courier_messages::laws::{conversation_is_read_sign_by_sign, one_item_more, signs_run_on};
 
 /// What is heard of a flow from its version range on begins with the messages of the conversation of its items, and there
 /// is no more of it where the conversation has no fault.
@@ -9,6 +9,8 @@ pub fn what_is_heard_is_the_conversation()
     ensures { WhatIsHeardIsTheConversation }
 {
     conversation_is_read_sign_by_sign();
+    signs_run_on();
+    one_item_more();
 }
 
 /// The answer of `calls` is true exactly where its text has the word `refused`.
