@@ -1,5 +1,5 @@
 // The checksum of packets of 576 bytes by the standard's loop: add with end-around carry, rotate left by one, for each
-// word. Plain Rust, `rustc -O`; the peer of the program `checksum_bench`.
+// word. Plain Rust, `rustc -O`; the peer of `bench checksum`.
 const SUMMED: usize = 574;
 const PACKETS: usize = 1_000_000;
 

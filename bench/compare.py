@@ -132,7 +132,7 @@ def main():
         given = pathlib.Path(folder) / "given"
         if which == "checksum":
             given.touch()
-            compare([built_program("checksum_bench")], [built_peer("checksum_peer", folder)], given)
+            compare([built_program("bench"), "checksum"], [built_peer("checksum_peer", folder)], given)
         elif which == "dump":
             ours, peer = built_program("xns"), built_peer("dump_peer", folder)
             for which in (["data"], ["echo"], ["error"], ["exchange"], ["sequenced", "1"], ["sequenced", "1000"], ["sequenced", "65536"], ["messages"]):
@@ -157,39 +157,39 @@ def main():
                 print(f"{words[0]} calls{' with repeats' if len(words) > 1 else ''}:", end=" ", flush=True)
                 compare([ours, "sim"], [peer], given)
         elif which == "plays":
-            ours, peer = built_program("play_bench"), built_peer("sim_peer", folder)
+            ours, peer = [built_program("bench"), "play"], built_peer("sim_peer", folder)
             given.write_bytes(subprocess.run([sys.executable, BENCH / "script.py", "1000", "96"], stdout=subprocess.PIPE, check=True).stdout)
             print(f"{sum(not line.startswith(b'call') for line in given.read_bytes().splitlines())} events:", end=" ", flush=True)
-            compare([ours, "calls"], [peer], given)
+            compare([*ours, "calls"], [peer], given)
             for count in ("1000", "10000", "65535"):
-                packets = int(output_of([ours, count], given).split()[-1])
-                median = statistics.median(seconds_of([ours, count], given) for _ in range(RUNS))
+                packets = int(output_of([*ours, count], given).split()[-1])
+                median = statistics.median(seconds_of([*ours, count], given) for _ in range(RUNS))
                 print(f"{count} items each way: {median:.3f} s for {packets} packets, {median / packets * 1e9:.0f} ns each")
         elif which == "values":
-            compare_values([built_program("values_bench")], [built_peer("values_peer", folder)])
+            compare_values([built_program("bench"), "values"], [built_peer("values_peer", folder)])
         elif which == "c":
             given.touch()
             library = built_c("c_codec", folder, True)
             compare([library], [built_c("c_codec_peer", folder, False)], given)
-            medians = compare([library], [built_program("codec_bench")], given)
+            medians = compare([library], [built_program("bench"), "codec"], given)
             print(f"through C each packet takes {(medians['ours'] - medians['peer']) * 1000:.0f} ns more than in Rattle, for its two calls")
         elif which == "exchange":
             given.touch()
-            ours = built_program("exchange_bench")
+            ours = [built_program("bench"), "exchange"]
             loop, lanes = built_peer("exchange_peer", folder, "--cfg", "standard"), built_peer("exchange_peer", folder)
             for order in ("ordered", "late", "lossy"):
                 for name, peer in (("loop", loop), ("lanes", lanes)):
                     print(f"{order}, {name}:", end=" ", flush=True)
-                    compare([ours, order, "5"], [peer, order, "5"], given, runs=MANY_RUNS)
+                    compare([*ours, order, "5"], [peer, order, "5"], given, runs=MANY_RUNS)
         elif which == "calls":
             given.touch()
-            ours = built_program("calls_bench")
+            ours = [built_program("bench"), "calls"]
             plain, tuned = built_peer("calls_peer", folder, "--cfg", "plain"), built_peer("calls_peer", folder)
             for name, counts in (("adds", ["100000", "0"]), ("lists", ["0", "200"])):
                 for kind, peer in (("plain", plain), ("tuned", tuned)):
                     print(f"{name}, {kind}:", end=" ", flush=True)
-                    compare([ours, *counts], [peer, *counts], given, runs=MANY_RUNS)
-                    print(f"{name}, {kind}: ours holds {held_by([ours, *counts], given)} KiB at most, the peer {held_by([peer, *counts], given)}")
+                    compare([*ours, *counts], [peer, *counts], given, runs=MANY_RUNS)
+                    print(f"{name}, {kind}: ours holds {held_by([*ours, *counts], given)} KiB at most, the peer {held_by([peer, *counts], given)}")
         else:
             sys.exit(__doc__)
 

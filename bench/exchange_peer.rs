@@ -1,4 +1,4 @@
-//! What `exchange_bench` does, as a plain Rust program does it: two ends of a connection exchange items, each packet summed, written, read and answered.
+//! What `bench exchange` does, as a plain Rust program does it: two ends of a connection exchange items, each packet summed, written, read and answered.
 //! The checksum is in lanes, or with `--cfg standard` the standard's loop.
 use std::collections::VecDeque;
 

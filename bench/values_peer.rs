@@ -1,5 +1,5 @@
-// Courier's values read and written in plain Rust, `rustc -O`, with no proofs; the peer of the program `values_bench`, which
-// prints the same lines but those on pieces. The first word says how many times each value is read and written.
+// Courier's values read and written in plain Rust, `rustc -O`, with no proofs; the peer of `bench values`, which prints
+// the same lines but those on pieces. The first word says how many times each value is read and written.
 use std::hint::black_box;
 use std::time::Instant;
 

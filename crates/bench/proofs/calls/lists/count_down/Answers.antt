@@ -1,7 +1,7 @@
 use Rattle.std.proofs.Common.{◌≡◌, ◌+◌, ◌-◌, arith}
-use Rattle.calls_bench.specs.Lists.{counted}
-use Rattle.calls_bench.proofs.Counts.{one_more, no_more}
-use Rattle.calls_bench.proofs.lists.count_down.Goals as goal
+use Rattle.bench.specs.Lists.{counted}
+use Rattle.bench.proofs.Counts.{one_more, no_more}
+use Rattle.bench.proofs.calls.lists.count_down.Goals as goal
 
 pub loop-left-preserved : goal.loop-left-preserved
 loop-left-preserved c =

@@ -1,12 +1,10 @@
-//! Plays that are timed: items each way through a network that loses nothing, as many as the first word says, else 1,000; or, where
-//! that word is `calls`, the calls and events of the script on standard input, of however many lines.
-#![tactic(auto)]
+//! Plays: items each way through a network that loses nothing, as many as the first word says, else 1,000; or, where that word is
+//! `calls`, the calls and events of the script on standard input, of however many lines.
 
 mod calls;
 mod items;
 
 use item_world::Setup;
-use std::env;
 use xns_idp::Address;
 
 const SETUP: Setup = Setup {
@@ -26,11 +24,12 @@ const SETUP: Setup = Setup {
     backlog: 64,
 };
 
-fn main(rt: HostRuntime) -> Result<(), anyhow::Error> {
-    match env::args(&rt)?.nth(1) {
-        Some(word) if word.as_str() == "calls" => calls::play(&rt),
+/// Plays what the first word says, and prints what came of it.
+pub fn run(rt: &HostRuntime, words: &[&str]) -> Result<(), anyhow::Error> {
+    match words.first() {
+        Some(word) if *word == "calls" => calls::play(rt),
         word => items::play(
-            &rt,
+            rt,
             word.map_or(1000, |text| text.parse::<u32>().unwrap_or(1000)),
         ),
     }

@@ -1,6 +1,5 @@
-//! Reads and writes Courier values, to be timed beside `bench/values_peer.rs`: as many times as the first word says, else once.
-//! Prints how many words each value has, and with that word the least nanoseconds of a reading, one over pieces, and a writing.
-#![tactic(auto)]
+//! Courier's values are read and written, as many times as the first word says, else once. `bench/values_peer.rs` does the same.
+//! Printed are how many words each value has, and with that word the least nanoseconds of a reading, one over pieces, and a writing.
 
 ghost use Rattle.std.specs.Prelude.{OnOk};
 ghost use Rattle.courier_types.specs.Shape.{shape_model};
@@ -8,7 +7,6 @@ ghost use Rattle.courier_types.specs.Check.{IsChecked};
 
 use courier_types::{Shape, read, read_pieces, write};
 use std::alloc::{AllocError, Global};
-use std::env;
 use std::io::Print;
 use std::time::{Clock, Instant};
 
@@ -18,21 +16,23 @@ const PIECE: usize = 534;
 /// How deep the records within one another are, the value inside them among them.
 const DEPTH: usize = 16;
 
-fn main(rt: HostRuntime) -> Result<(), anyhow::Error> {
+/// Times each of the values.
+pub fn run(rt: &HostRuntime, words: &[&str]) -> Result<(), anyhow::Error> {
     let alloc = rt.alloc();
-    let word = env::args(&rt)?.nth(1);
-    let times = word.map_or(0, |text| text.parse::<u32>().unwrap_or(0));
+    let times = words
+        .first()
+        .map_or(0, |word| word.parse::<u32>().unwrap_or(0));
     time_value(
-        &rt,
+        rt,
         alloc,
         "cardinals",
         &cardinals(alloc)?,
         &cardinal_words(alloc)?,
         times,
     )?;
-    time_value(&rt, alloc, "text", &Shape::Text, &text_words(alloc)?, times)?;
+    time_value(rt, alloc, "text", &Shape::Text, &text_words(alloc)?, times)?;
     time_value(
-        &rt,
+        rt,
         alloc,
         "records",
         &records(alloc)?,
@@ -40,7 +40,7 @@ fn main(rt: HostRuntime) -> Result<(), anyhow::Error> {
         times,
     )?;
     time_value(
-        &rt,
+        rt,
         alloc,
         "nested",
         &nested(alloc, DEPTH)?,

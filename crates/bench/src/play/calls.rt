@@ -1,5 +1,5 @@
 //! Calls to a tally, through what a script says.
-use crate::SETUP;
+use crate::play::SETUP;
 use courier_calls::{Seen, Tally, tally_table};
 use courier_types::Value;
 use item_world::Setup;

@@ -1,9 +1,9 @@
 -- Counting down by one.
-use Rattle.std.proofs.Common.{◌≡◌, ◌∙◌, ap, sym, ℕ, zero, suc, ◌+◌, ◌-◌, ◌<◌, ◌≤◌, List, [], ◌∷◌, ◌++◌, map, append_assoc, rules, arith}
+use Rattle.std.proofs.Common.{◌≡◌, ◌∙◌, ap, sym, ℕ, suc, ◌+◌, List, [], ◌∷◌, ◌++◌, map, append_assoc, rules, arith}
 use Rattle.std.proofs.lemmas.List.{map-append, append-nil}
 use Rattle.courier_types.specs.declared.value.Value.{Value, Cardinal, the_lemmas}
 use Rattle.courier_types.specs.Value.{ValueModel, value_model}
-use Rattle.calls_bench.specs.Lists.{counted}
+use Rattle.bench.specs.Lists.{counted}
 
 model_cardinal : (n : ℕ) → value_model (Cardinal n) ≡ ValueModel.cardinal n
 model_cardinal n = search (rules, the_lemmas)

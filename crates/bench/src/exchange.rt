@@ -1,9 +1,7 @@
-//! Two ends exchange 65,535 items each way, to be timed: in order; with every second packet late where the first word is `late`; or with the last seven packets
+//! Two ends exchange 65,535 items each way: in order; with every second packet late where the first word is `late`; or with the last seven packets
 //! of each round lost where it is `lossy`. They do so as often as the second word says, else once.
-#![tactic(auto)]
 
 use std::alloc::{AllocError, Global};
-use std::env;
 use xns_idp::Address;
 use xns_spp::{Bytes, Endpoint, Item};
 
@@ -76,13 +74,11 @@ struct Tally {
     again: u64,
 }
 
-fn main(rt: HostRuntime) -> Result<(), anyhow::Error> {
-    let mut words = env::args(&rt)?;
-    let way = words
-        .nth(1)
-        .map_or(Way::Ordered, |word| way_named(word.as_str()));
+/// Makes as many connections as the second word says, and prints what was counted in each.
+pub fn run(rt: &HostRuntime, words: &[&str]) -> Result<(), anyhow::Error> {
+    let way = words.first().map_or(Way::Ordered, |word| way_named(word));
     let times = words
-        .next()
+        .get(1)
         .map_or(1, |word| word.parse::<u32>().unwrap_or(1));
     for _ in 0..times {
         let Tally {

@@ -1,7 +1,5 @@
-//! Sums packets of 576 bytes, to be timed beside the add-and-rotate loop of `bench/checksum_peer.rs`.
-#![tactic(auto)]
+//! Packets of 576 bytes are summed. The add-and-rotate loop of `bench/checksum_peer.rs` does the same.
 
-use std::io;
 use xns_idp::cycle_sum;
 
 /// The bytes of a packet of 576 bytes that are summed: all but the checksum field.
@@ -10,7 +8,8 @@ const SUMMED: usize = 574;
 /// So many packets are summed.
 const PACKETS: usize = 1_000_000;
 
-fn main(rt: HostRuntime) -> io::Result<()> {
+/// Sums the packets, and prints the total of the sums.
+pub fn run(rt: &HostRuntime) -> Result<(), anyhow::Error> {
     let mut bytes = [0u8; SUMMED];
     let mut state = 1u32;
     for byte in &mut bytes {
@@ -22,5 +21,6 @@ fn main(rt: HostRuntime) -> io::Result<()> {
         bytes[i % SUMMED] = (i % 251) as u8;
         total = total.wrapping_add(u64::from(cycle_sum(&bytes)));
     }
-    println!(&rt; "{PACKETS} packets, total {total}")
+    println!(rt; "{PACKETS} packets, total {total}")?;
+    Ok(())
 }

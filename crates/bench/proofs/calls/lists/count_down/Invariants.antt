@@ -1,7 +1,7 @@
 use Rattle.std.proofs.Common.{◌≡◌, ◌++◌, map}
 use Rattle.courier_types.specs.Value.{value_model}
-use Rattle.calls_bench.specs.Lists.{counted}
-use Rattle.calls_bench.proofs.lists.count_down.Given as goal
+use Rattle.bench.specs.Lists.{counted}
+use Rattle.bench.proofs.calls.lists.count_down.Given as goal
 
 abbrev pub invariant-loop-left : goal.invariant-loop-left
 invariant-loop-left l = map value_model l.values.items ++ counted l.left ≡ counted l.count

@@ -1,5 +1,5 @@
 //! Items each way.
-use crate::SETUP;
+use crate::play::SETUP;
 use item_world::{Event, Side, play_items};
 use std::alloc::{AllocError, Global};
 use xns_spp::{Bytes, Item};

@@ -3,8 +3,8 @@ ghost use Rattle.std.specs.Prelude.{ℕ, ◌≡◌, ◌≤◌, [], ◌∷◌, ma
 ghost use Rattle.courier_types.specs.Shape.{shape_model};
 ghost use Rattle.courier_types.specs.Value.{value_model};
 ghost use Rattle.courier_calls.specs.Table.{table_model};
-ghost use Rattle.calls_bench.specs.Lists.{counted, IsCount, list_shape, lists, lists_entry};
-ghost use Rattle.calls_bench.specs.ListsLaw.{lists_lawful};
+ghost use Rattle.bench.specs.Lists.{counted, IsCount, list_shape, lists, lists_entry};
+ghost use Rattle.bench.specs.ListsLaw.{lists_lawful};
 
 use courier_calls::{Entry, Outcome, Procedure, Service, Table};
 use courier_types::{Shape, Value};

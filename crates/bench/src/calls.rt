@@ -1,34 +1,33 @@
-//! Calls through a caller and a server in memory, to be timed: as many calls Add of 5 to a tally as the first word says, and then
-//! as many calls of 60,000 cardinals each way as the second says.
-//! The stored run makes 100,000 of the first, so that its transactions pass 65,535 and begin again at 0. Each must be answered: the
-//! total is then five times as much, and the sum that of 0 to 59,999.
-#![tactic(auto)]
+//! Calls through a caller and a server in memory: as many calls Add of 5 to a tally as the first word says, and then as many calls of
+//! 60,000 cardinals each way as the second says. Each must be answered: the total is then five times as much as there were calls, and the
+//! sum that of 0 to 59,999.
 
 mod carry;
 mod lists;
 
-use crate::carry::repeat;
-use crate::lists::{Lists, lists_table};
+use crate::calls::carry::repeat;
+use crate::calls::lists::{Lists, lists_table};
 use courier_calls::{Arguments, Call, Caller, Seen, Server, Tally, tally_table};
 use courier_types::Value;
 use std::alloc::{AllocError, Global};
-use std::env;
 
-fn main(rt: HostRuntime) -> Result<(), anyhow::Error> {
+/// Makes as many calls of each kind as the words say.
+pub fn run(rt: &HostRuntime, words: &[&str]) -> Result<(), anyhow::Error> {
     let alloc = rt.alloc();
-    let adds = count(&rt, 1)?;
+    let adds = count(words, 0);
     let total = sum(&add(alloc, adds)?);
     println!(rt; "{adds} calls, total {total}")?;
-    let lists = count(&rt, 2)?;
+    let lists = count(words, 1);
     let all = sum(&list(alloc, lists)?);
     println!(rt; "{lists} lists, sum {all}")?;
     Ok(())
 }
 
-/// The number that a word of the command line is, else 0.
-fn count(rt: &HostRuntime, place: usize) -> Result<u32, anyhow::Error> {
-    let word = env::args(rt)?.nth(place);
-    Ok(word.map_or(0, |text| text.parse::<u32>().unwrap_or(0)))
+/// The number that the word in this place is, else 0.
+fn count(words: &[&str], place: usize) -> u32 {
+    words
+        .get(place)
+        .map_or(0, |word| word.parse::<u32>().unwrap_or(0))
 }
 
 /// What the long cardinal, or the list of cardinals, that was returned adds up to; 0 of any other outcome, and of none.

@@ -4,11 +4,11 @@ use Rattle.std.proofs.lemmas.Bool.{le-leb}
 use Rattle.std.specs.Prelude.{if◌then◌else◌, ◌==◌, ◌||◌, ◌&&◌, nat_lt, nat_le}
 use Rattle.courier_types.specs.Shape.{ShapeModel}
 use Rattle.courier_types.specs.Value.{ValueModel, count, values_from}
-use Rattle.courier_types.specs.Spelling.{value_spelling, values_spelling}
+use Rattle.courier_types.specs.Spelling.{values_spelling}
 use Rattle.courier_types.specs.Fits.{has_shape, each_passes, AreValues}
 use Rattle.courier_calls.specs.Table.{EntryModel, ProcedureModel}
 use Rattle.courier_calls.specs.Calls.{Asked, SeenModel, OutcomeModel, found, in_entries, in_procedures, HasArguments, IsAsked, IsSent, AllowsOutcome, IsAllowed, IsLawful}
-use Rattle.calls_bench.specs.Lists.{list_shape, lists_entry, counted, IsCount, lists}
+use Rattle.bench.specs.Lists.{list_shape, lists_entry, counted, IsCount, lists}
 
 counted_count : (n : ℕ) → count (values_from (counted n)) ≡ n
 unfolding counted

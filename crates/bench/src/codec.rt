@@ -1,7 +1,5 @@
-//! Writes and reads packets of 576 bytes, to be timed beside the same through the library for C, `bench/c_codec.c`.
-#![tactic(auto)]
+//! Packets of 576 bytes are written and read. `bench/c_codec.c` does the same through the library for C.
 
-use std::io;
 use xns_idp::{Address, Packet, decode, encode_into};
 
 /// So many bytes of data has a packet.
@@ -35,7 +33,8 @@ fn mark(bytes: &[u8], index: usize) -> u64 {
     sum + u64::from(byte) + taken as u64 + u64::from(packet.source.socket)
 }
 
-fn main(rt: HostRuntime) -> io::Result<()> {
+/// Writes and reads the packets, and prints the total of their marks.
+pub fn run(rt: &HostRuntime) -> Result<(), anyhow::Error> {
     let mut body = [0u8; DATA];
     let mut bytes = [0u8; SIZE];
     let mut total = 0u64;
@@ -52,5 +51,6 @@ fn main(rt: HostRuntime) -> io::Result<()> {
         let written = encode_into(&packet, &mut bytes);
         total = total.wrapping_add(mark(&bytes[..written], i % DATA));
     }
-    println!(&rt; "{PACKETS} packets, total {total}")
+    println!(rt; "{PACKETS} packets, total {total}")?;
+    Ok(())
 }
