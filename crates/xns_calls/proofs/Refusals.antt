@@ -3,7 +3,6 @@ use Rattle.std.proofs.Common.{◌≡◌, ◌∙◌, ap, sym, refl, ℕ, ◌+◌,
 use Rattle.std.specs.Prelude.{nat_lt, slice_get}
 use Rattle.hex.specs.Hex.{decode_of}
 use Rattle.hex.specs.declared.error.FromHexError.{FromHexError}
-use Rattle.hex.specs.declared.error.FromHexError.TheVariants as hex_error
 use Rattle.courier_messages.specs.declared.message.Message.{Message}
 use Rattle.courier_messages.specs.declared.message.Message.TheVariants.{Call, Reject, Return, Abort}
 use Rattle.courier_messages.specs.declared.fault.SessionFault.{SessionFault}
@@ -16,9 +15,8 @@ use Rattle.xns_spp.specs.declared.header.Header.{Header}
 use Rattle.xns_spp.specs.declared.item.Item.{Item}
 use Rattle.xns_spp.specs.declared.spp_fault.SppFault.{SppFault}
 use Rattle.xns_lines.specs.Lines.{lines_of}
-use Rattle.xns_dump.specs.Dump.Line.{digits_of, has_word, hex_refusal}
-use Rattle.xns_dump.specs.Layers.Packets.{idp_refusal}
-use Rattle.xns_dump.proofs.Refused.{IsLoud, IsQuiet, address, alone, both, callee, either, header_loud, longer, loud, number, refused, said, word, word_list}
+use Rattle.xns_dump.specs.Dump.Line.{digits_of}
+use Rattle.xns_dump.specs.Laws.{IsLoud, IsQuiet, JoinedTextsSayRefused, OnlyRefusalsSayRefused, says_refused}
 use Rattle.xns_calls.specs.Calls.{after_body, after_bytes, after_digits, after_found, after_header, after_line, calls_text, has_refusal, known_from, line_taken, nothing_known, text_from}
 use Rattle.xns_calls.specs.Capture.{Known, after_at, after_in, after_places, after_sequenced, flow_behind, flow_of, heading_at, place_of, scene_in, with_new}
 use Rattle.xns_calls.specs.Exchange.{Scene, acknowledged, advance_other, advance_track, advanced, after_acknowledge, after_data, after_new, after_number, after_packet, begin_track, begun, item_in, keep_own, new_number, of_other, seen_from_other, told_of}
@@ -34,284 +32,266 @@ use Rattle.xns_calls.specs.declared.heard.Heard.{Heard}
 use Rattle.xns_calls.specs.declared.heard.Heard.TheVariants as heard
 use Rattle.xns_calls.specs.declared.track.Track.{Track}
 
--- ---- the texts
+cases : {A : Type 0} (P : A → Type 0) (p : Bool) (x y : A) → P x → P y → P (cond p x y)
+cases P true x y h k = h
+cases P false x y h k = k
 
-heading_is : (h : Heading) → IsQuiet (heading_text h)
-unfolding heading_text
-heading_is h = both _ _ (both _ _ (both _ _ (number h.number) (record { skips = λ ys. refl })) (number h.connection)) (either h.is_behind (codes "b") (codes "a") (record { skips = λ ys. refl }) (record { skips = λ ys. refl }))
+module _ (joined : JoinedTextsSayRefused) (only : OnlyRefusalsSayRefused) where
+  -- ---- the texts
 
-end_is : (name : List ℕ) (a : Address) (i : ℕ) → IsQuiet name → IsQuiet (end_text name a i)
-unfolding end_text
-end_is name a i h = both _ _ (both _ _ (both name _ h (address a)) (record { skips = λ ys. refl })) (word i)
+  heading_is : (h : Heading) → IsQuiet (heading_text h)
+  unfolding heading_text
+  heading_is h = joined.quiet _ _ (joined.quiet _ _ (joined.quiet _ _ (only.number h.number) (record { skips = λ ys. refl })) (only.number h.connection)) (cases IsQuiet h.is_behind (codes "b") (codes "a") (record { skips = λ ys. refl }) (record { skips = λ ys. refl }))
 
-flow_is : (h : Heading) (p : PacketModel) (f : Header) → IsQuiet (flow_line h p f)
-unfolding flow_line
-flow_is h p f = both _ _ (both _ _ (both _ _ (heading_is h) (end_is _ p.target f.target_id (record { skips = λ ys. refl }))) (end_is _ p.source f.source_id (record { skips = λ ys. refl }))) (record { skips = λ ys. refl })
+  end_is : (name : List ℕ) (a : Address) (i : ℕ) → IsQuiet name → IsQuiet (end_text name a i)
+  unfolding end_text
+  end_is name a i h = joined.quiet _ _ (joined.quiet _ _ (joined.quiet name _ h (only.address a)) (record { skips = λ ys. refl })) (only.word i)
 
-missing_is : (h : Heading) (a b : ℕ) → IsQuiet (missing_line h a b)
-unfolding missing_line
-missing_is h a b = both _ _ (both _ _ (both _ _ (both _ _ (both _ _ (heading_is h) (record { skips = λ ys. refl })) (number a)) (record { skips = λ ys. refl })) (number (b - 1))) (record { skips = λ ys. refl })
+  flow_is : (h : Heading) (p : PacketModel) (f : Header) → IsQuiet (flow_line h p f)
+  unfolding flow_line
+  flow_is h p f = joined.quiet _ _ (joined.quiet _ _ (joined.quiet _ _ (heading_is h) (end_is _ p.target f.target_id (record { skips = λ ys. refl }))) (end_is _ p.source f.source_id (record { skips = λ ys. refl }))) (record { skips = λ ys. refl })
 
-words_are : (name ws : List ℕ) → IsQuiet name → IsQuiet (words_end name ws)
-unfolding words_end
-words_are name ws h = both _ _ (both name _ h (word_list ws)) (record { skips = λ ys. refl })
+  missing_is : (h : Heading) (a b : ℕ) → IsQuiet (missing_line h a b)
+  unfolding missing_line
+  missing_is h a b = joined.quiet _ _ (joined.quiet _ _ (joined.quiet _ _ (joined.quiet _ _ (joined.quiet _ _ (heading_is h) (record { skips = λ ys. refl })) (only.number a)) (record { skips = λ ys. refl })) (only.number (b - 1))) (record { skips = λ ys. refl })
 
-call_is : (h : Heading) (t p v q : ℕ) (ws : List ℕ) → IsQuiet (call_line h t p v q ws)
-unfolding call_line
-call_is h t p v q ws =
-    both _ _ (both _ _ (both _ _ (heading_is h) (both (codes " call ") _ (record { skips = λ ys. refl }) (number t))) (callee p v q)) (words_are _ ws (record { skips = λ ys. refl }))
+  words_are : (name ws : List ℕ) → IsQuiet name → IsQuiet (words_end name ws)
+  unfolding words_end
+  words_are name ws h = joined.quiet _ _ (joined.quiet name _ h (only.words ws)) (record { skips = λ ys. refl })
 
-dash_is : (o : Option ℕ) → IsQuiet (line_or_dash o)
-dash_is (Some n) = number n
-dash_is None = record { skips = λ ys. refl }
+  call_is : (h : Heading) (t p v q : ℕ) (ws : List ℕ) → IsQuiet (call_line h t p v q ws)
+  unfolding call_line
+  call_is h t p v q ws =
+      joined.quiet _ _ (joined.quiet _ _ (joined.quiet _ _ (heading_is h) (joined.quiet (codes " call ") _ (record { skips = λ ys. refl }) (only.number t))) (only.callee p v q)) (words_are _ ws (record { skips = λ ys. refl }))
 
-answer_is : (h : Heading) (name : List ℕ) (t : ℕ) (o : Option ℕ) → IsQuiet name → IsQuiet (answer_text h name t o)
-unfolding answer_text
-answer_is h name t o q = both _ _ (both _ _ (both _ _ (heading_is h) (both name _ q (number t))) (record { skips = λ ys. refl })) (dash_is o)
+  dash_is : (o : Option ℕ) → IsQuiet (line_or_dash o)
+  dash_is (Some n) = only.number n
+  dash_is None = record { skips = λ ys. refl }
 
-message_is : (h : Heading) (calls : Calls) (m : Message) → IsQuiet (message_line h calls m)
-message_is h calls (Call t p v q ws) = call_is h t p v q ws
-message_is h calls (Reject t reason ws) =
-    both _ _ (both _ _ (answer_is h _ t _ (record { skips = λ ys. refl })) (both (codes " reason ") _ (record { skips = λ ys. refl }) (number reason))) (words_are _ ws (record { skips = λ ys. refl }))
-message_is h calls (Return t ws) = both _ _ (answer_is h _ t _ (record { skips = λ ys. refl })) (words_are _ ws (record { skips = λ ys. refl }))
-message_is h calls (Abort t error ws) =
-    both _ _ (both _ _ (answer_is h _ t _ (record { skips = λ ys. refl })) (both (codes " error ") _ (record { skips = λ ys. refl }) (number error))) (words_are _ ws (record { skips = λ ys. refl }))
+  answer_is : (h : Heading) (name : List ℕ) (t : ℕ) (o : Option ℕ) → IsQuiet name → IsQuiet (answer_text h name t o)
+  unfolding answer_text
+  answer_is h name t o q = joined.quiet _ _ (joined.quiet _ _ (joined.quiet _ _ (heading_is h) (joined.quiet name _ q (only.number t))) (record { skips = λ ys. refl })) (dash_is o)
 
-refused_is : (h : Heading) (fault : SessionFault) → IsLoud (refused_line h fault)
-unfolding refused_line
-refused_is h fault = longer _ _ (longer _ _ (loud _ _ (heading_is h) (record { says = λ ys. refl })))
+  message_is : (h : Heading) (calls : Calls) (m : Message) → IsQuiet (message_line h calls m)
+  message_is h calls (Call t p v q ws) = call_is h t p v q ws
+  message_is h calls (Reject t reason ws) =
+      joined.quiet _ _ (joined.quiet _ _ (answer_is h _ t _ (record { skips = λ ys. refl })) (joined.quiet (codes " reason ") _ (record { skips = λ ys. refl }) (only.number reason))) (words_are _ ws (record { skips = λ ys. refl }))
+  message_is h calls (Return t ws) = joined.quiet _ _ (answer_is h _ t _ (record { skips = λ ys. refl })) (words_are _ ws (record { skips = λ ys. refl }))
+  message_is h calls (Abort t error ws) =
+      joined.quiet _ _ (joined.quiet _ _ (answer_is h _ t _ (record { skips = λ ys. refl })) (joined.quiet (codes " error ") _ (record { skips = λ ys. refl }) (only.number error))) (words_are _ ws (record { skips = λ ys. refl }))
 
-idp_is : (n : ℕ) (fault : IdpFault) → IsLoud (idp_refusal n fault)
-unfolding idp_refusal
-idp_is n fault = longer _ _ (longer _ _ (loud _ _ (number n) (record { says = λ ys. refl })))
+  refused_is : (h : Heading) (fault : SessionFault) → IsLoud (refused_line h fault)
+  unfolding refused_line
+  refused_is h fault = joined.loud_before _ _ (joined.loud_before _ _ (joined.loud_behind _ _ (heading_is h) (record { says = λ ys. refl })))
 
-hex_is : (n : ℕ) (error : FromHexError) → IsLoud (hex_refusal n error)
-unfolding hex_refusal
-hex_is n (hex_error.InvalidHexCharacter digit place) = longer _ _ (longer _ _ (loud _ _ (number n) (record { says = λ ys. refl })))
-hex_is n hex_error.OddLength = loud _ _ (number n) (record { says = λ ys. refl })
-hex_is n hex_error.InvalidStringLength = loud _ _ (number n) (record { says = λ ys. refl })
-hex_is n hex_error.OutOfMemory = loud _ _ (number n) (record { says = λ ys. refl })
+  -- ---- a text and a flag
 
--- ---- a text and a flag
+  Tells : Bool → List ℕ → Type 0
+  Tells true xs = IsLoud xs
+  Tells false xs = IsQuiet xs
 
-Tells : Bool → List ℕ → Type 0
-Tells true xs = IsLoud xs
-Tells false xs = IsQuiet xs
+  tells_both : (b c : Bool) (xs ys : List ℕ) → Tells b xs → Tells c ys → Tells (b || c) (xs ++ ys)
+  unfolding Tells
+  tells_both true c xs ys h k = joined.loud_before xs ys h
+  tells_both false true xs ys h k = joined.loud_behind xs ys h k
+  tells_both false false xs ys h k = joined.quiet xs ys h k
 
-tells_both : (b c : Bool) (xs ys : List ℕ) → Tells b xs → Tells c ys → Tells (b || c) (xs ++ ys)
-unfolding Tells
-tells_both true c xs ys h k = longer xs ys h
-tells_both false true xs ys h k = loud xs ys h k
-tells_both false false xs ys h k = both xs ys h k
+  -- since the flag was b, the text has the word where the flag was set
+  record Says (b : Bool) (text : List ℕ) (flag : Bool) : Type 0 where
+    new : Bool
+    flag_is : flag ≡ (b || new)
+    tells : Tells new text
 
--- since the flag was b, the text has the word where the flag was set
-record Says (b : Bool) (text : List ℕ) (flag : Bool) : Type 0 where
-  new : Bool
-  flag_is : flag ≡ (b || new)
-  tells : Tells new text
+  or_assoc : (a b c : Bool) → ((a || b) || c) ≡ (a || (b || c))
+  or_assoc true b c = refl
+  or_assoc false b c = refl
 
-or_assoc : (a b c : Bool) → ((a || b) || c) ≡ (a || (b || c))
-or_assoc true b c = refl
-or_assoc false b c = refl
+  or_false : (b : Bool) → (b || false) ≡ b
+  or_false true = refl
+  or_false false = refl
 
-or_false : (b : Bool) → (b || false) ≡ b
-or_false true = refl
-or_false false = refl
+  or_true : (b : Bool) → true ≡ (b || true)
+  or_true true = refl
+  or_true false = refl
 
-or_true : (b : Bool) → true ≡ (b || true)
-or_true true = refl
-or_true false = refl
+  says_more : (b : Bool) (text more : List ℕ) (flag c : Bool) → Says b text flag → Tells c more → Says b (text ++ more) (flag || c)
+  says_more b text more flag c s t = record {
+    new = s.new || c;
+    flag_is = ap (λ f. f || c) s.flag_is ∙ or_assoc b s.new c;
+    tells = tells_both s.new c text more s.tells t;
+  }
 
-says_more : (b : Bool) (text more : List ℕ) (flag c : Bool) → Says b text flag → Tells c more → Says b (text ++ more) (flag || c)
-says_more b text more flag c s t = record {
-  new = s.new || c;
-  flag_is = ap (λ f. f || c) s.flag_is ∙ or_assoc b s.new c;
-  tells = tells_both s.new c text more s.tells t;
-}
+  says_quiet : (b : Bool) (text more : List ℕ) (flag : Bool) → Says b text flag → IsQuiet more → Says b (text ++ more) flag
+  unfolding Tells
+  says_quiet b text more flag s q = record {
+    new = s.new || false;
+    flag_is = s.flag_is ∙ ap (λ c. b || c) (sym (or_false s.new));
+    tells = tells_both s.new false text more s.tells q;
+  }
 
-says_quiet : (b : Bool) (text more : List ℕ) (flag : Bool) → Says b text flag → IsQuiet more → Says b (text ++ more) flag
-unfolding Tells
-says_quiet b text more flag s q = record {
-  new = s.new || false;
-  flag_is = s.flag_is ∙ ap (λ c. b || c) (sym (or_false s.new));
-  tells = tells_both s.new false text more s.tells q;
-}
+  says_loud : (b : Bool) (text more : List ℕ) (flag : Bool) → Says b text flag → IsLoud more → Says b (text ++ more) true
+  unfolding Tells
+  says_loud b text more flag s l = record {
+    new = s.new || true;
+    flag_is = or_true b ∙ ap (λ c. b || c) (or_true s.new);
+    tells = tells_both s.new true text more s.tells l;
+  }
 
-says_loud : (b : Bool) (text more : List ℕ) (flag : Bool) → Says b text flag → IsLoud more → Says b (text ++ more) true
-unfolding Tells
-says_loud b text more flag s l = record {
-  new = s.new || true;
-  flag_is = or_true b ∙ ap (λ c. b || c) (or_true s.new);
-  tells = tells_both s.new true text more s.tells l;
-}
+  -- ---- a flow
 
--- ---- a flow
+  abbrev SaysTold : Bool → Told → Type 0
+  SaysTold b t = Says b t.text t.is_refused
 
-abbrev SaysTold : Bool → Told → Type 0
-SaysTold b t = Says b t.text t.is_refused
+  passed_says : (b : Bool) (h : Heading) (n : ℕ) (t : Told) → SaysTold b t → SaysTold b (passed h n t)
+  unfolding passed
+  passed_says b h n t s = cases (SaysTold b) (nat_lt t.track.next n) (past h n t) t (says_quiet b t.text _ t.is_refused s (missing_is h t.track.next n)) s
 
-told_cases : (b p : Bool) (t u : Told) → SaysTold b t → SaysTold b u → SaysTold b (cond p t u)
-told_cases b true t u h k = h
-told_cases b false t u h k = k
+  heard_tells : (h : Heading) (calls : Calls) (x : Heard) → Tells (is_fault x) (heard_text h calls x)
+  unfolding Tells
+  heard_tells h calls heard.Nothing = record { skips = λ ys. refl }
+  heard_tells h calls (heard.Message m) = message_is h calls m
+  heard_tells h calls (heard.Fault fault) = refused_is h fault
 
-passed_says : (b : Bool) (h : Heading) (n : ℕ) (t : Told) → SaysTold b t → SaysTold b (passed h n t)
-unfolding passed
-passed_says b h n t s = told_cases b (nat_lt t.track.next n) (past h n t) t (says_quiet b t.text _ t.is_refused s (missing_is h t.track.next n)) s
+  said_says : (b : Bool) (h : Heading) (item : Item) (t : Told) → SaysTold b t → SaysTold b (said_item h item t)
+  unfolding said_item after_heard
+  said_says b h item t s = says_more b t.text _ t.is_refused _ s (heard_tells h t.calls (heard_of t.track.speech item))
 
-heard_tells : (h : Heading) (calls : Calls) (x : Heard) → Tells (is_fault x) (heard_text h calls x)
-unfolding Tells
-heard_tells h calls heard.Nothing = record { skips = λ ys. refl }
-heard_tells h calls (heard.Message m) = message_is h calls m
-heard_tells h calls (heard.Fault fault) = refused_is h fault
+  next_says : (b : Bool) (h : Heading) (n : ℕ) (item : Item) (t : Told) → SaysTold b t → SaysTold b (read_next h n item t)
+  next_says b h n item t s =
+      let onwards : Told = record t { track = record t.track { next = n } } in cases (SaysTold b) (item.stream == 0) (said_item h item onwards) onwards (said_says b h item onwards s) s
 
-said_says : (b : Bool) (h : Heading) (item : Item) (t : Told) → SaysTold b t → SaysTold b (said_item h item t)
-unfolding said_item after_heard
-said_says b h item t s = says_more b t.text _ t.is_refused _ s (heard_tells h t.calls (heard_of t.track.speech item))
+  read_says : (b : Bool) (h : Heading) (early : Early) (t : Told) → SaysTold b t → SaysTold b (item_read h early t)
+  unfolding item_read
+  read_says b h early t s = next_says b h (early.number + 1) early.item (passed h early.number t) (passed_says b h early.number t s)
 
-next_says : (b : Bool) (h : Heading) (n : ℕ) (item : Item) (t : Told) → SaysTold b t → SaysTold b (read_next h n item t)
-next_says b h n item t s =
-    let onwards : Told = record t { track = record t.track { next = n } } in told_cases b (item.stream == 0) (said_item h item onwards) onwards (said_says b h item onwards s) s
+  over_says : (b : Bool) (h : Heading) (n : ℕ) (es : List Early) (t : Told) → SaysTold b t → SaysTold b (brought_over h n es t)
+  over_says b h n [] t s = passed_says b h n t s
+  over_says b h n (early ∷ rest) t s =
+      let left : Told = record t { track = record t.track { early = rest } } in
+      cases (SaysTold b) (is_due n early t) (brought_over h n rest (item_read h early left)) (passed h n t) (over_says b h n rest (item_read h early left) (read_says b h early left s)) (passed_says b h n t s)
 
-read_says : (b : Bool) (h : Heading) (early : Early) (t : Told) → SaysTold b t → SaysTold b (item_read h early t)
-unfolding item_read
-read_says b h early t s = next_says b h (early.number + 1) early.item (passed h early.number t) (passed_says b h early.number t s)
+  brought_says : (b : Bool) (h : Heading) (n : ℕ) (t : Told) → SaysTold b t → SaysTold b (brought h n t)
+  unfolding brought
+  brought_says b h n t s = over_says b h n t.track.early t s
 
-over_says : (b : Bool) (h : Heading) (n : ℕ) (es : List Early) (t : Told) → SaysTold b t → SaysTold b (brought_over h n es t)
-over_says b h n [] t s = passed_says b h n t s
-over_says b h n (early ∷ rest) t s =
-    let left : Told = record t { track = record t.track { early = rest } } in
-    told_cases b (is_due n early t) (brought_over h n rest (item_read h early left)) (passed h n t) (over_says b h n rest (item_read h early left) (read_says b h early left s)) (passed_says b h n t s)
+  -- ---- a connection
 
-brought_says : (b : Bool) (h : Heading) (n : ℕ) (t : Told) → SaysTold b t → SaysTold b (brought h n t)
-unfolding brought
-brought_says b h n t s = over_says b h n t.track.early t s
+  abbrev SaysScene : Bool → Scene → Type 0
+  SaysScene b s = Says b s.text s.is_refused
 
--- ---- a connection
+  track_says : (b : Bool) (h : Heading) (n : ℕ) (o : Option Track) (s : Scene) → SaysScene b s → SaysScene b (advance_track h n o s)
+  track_says b h n None s k = k
+  track_says b h n (Some track) s k = brought_says b h n (told_of track s) k
 
-abbrev SaysScene : Bool → Scene → Type 0
-SaysScene b s = Says b s.text s.is_refused
+  advanced_says : (b : Bool) (h : Heading) (n : ℕ) (s : Scene) → SaysScene b s → SaysScene b (advanced h n s)
+  unfolding advanced
+  advanced_says b h n s k = track_says b h n s.own.track s k
 
-scene_cases : (b p : Bool) (s u : Scene) → SaysScene b s → SaysScene b u → SaysScene b (cond p s u)
-scene_cases b true s u h k = h
-scene_cases b false s u h k = k
+  other_says : (b : Bool) (h : Heading) (o : Option ℕ) (s : Scene) → SaysScene b s → SaysScene b (advance_other h o s)
+  other_says b h None s k = k
+  other_says b h (Some n) s k = advanced_says b (of_other h) n (seen_from_other s) k
 
-track_says : (b : Bool) (h : Heading) (n : ℕ) (o : Option Track) (s : Scene) → SaysScene b s → SaysScene b (advance_track h n o s)
-track_says b h n None s k = k
-track_says b h n (Some track) s k = brought_says b h n (told_of track s) k
+  acknowledge_says : (b : Bool) (h : Heading) (field : ℕ) (s : Scene) → SaysScene b s → SaysScene b (after_acknowledge h field s)
+  unfolding after_acknowledge
+  acknowledge_says b h field s k = other_says b h (acknowledged s.other field) s k
 
-advanced_says : (b : Bool) (h : Heading) (n : ℕ) (s : Scene) → SaysScene b s → SaysScene b (advanced h n s)
-unfolding advanced
-advanced_says b h n s k = track_says b h n s.own.track s k
+  begin_says : (b : Bool) (h : Heading) (p : PacketModel) (f : Header) (o : Option Track) (s : Scene) → SaysScene b s → SaysScene b (begin_track h p f o s)
+  begin_says b h p f (Some track) s k = k
+  begin_says b h p f None s k = says_quiet b s.text _ s.is_refused k (flow_is h p f)
 
-other_says : (b : Bool) (h : Heading) (o : Option ℕ) (s : Scene) → SaysScene b s → SaysScene b (advance_other h o s)
-other_says b h None s k = k
-other_says b h (Some n) s k = advanced_says b (of_other h) n (seen_from_other s) k
+  begun_says : (b : Bool) (h : Heading) (p : PacketModel) (f : Header) (s : Scene) → SaysScene b s → SaysScene b (begun h p f s)
+  unfolding begun
+  begun_says b h p f s k = begin_says b h p f s.own.track s k
 
-acknowledge_says : (b : Bool) (h : Heading) (field : ℕ) (s : Scene) → SaysScene b s → SaysScene b (after_acknowledge h field s)
-unfolding after_acknowledge
-acknowledge_says b h field s k = other_says b h (acknowledged s.other field) s k
+  new_says : (b : Bool) (h : Heading) (n : ℕ) (item : Item) (s : Scene) → SaysScene b s → SaysScene b (after_new h n item s)
+  unfolding after_new
+  new_says b h n item s k = advanced_says b h 0 (keep_own n item (advanced h (n - 63) s)) (advanced_says b h (n - 63) s k)
 
-begin_says : (b : Bool) (h : Heading) (p : PacketModel) (f : Header) (o : Option Track) (s : Scene) → SaysScene b s → SaysScene b (begin_track h p f o s)
-begin_says b h p f (Some track) s k = k
-begin_says b h p f None s k = says_quiet b s.text _ s.is_refused k (flow_is h p f)
+  number_says : (b : Bool) (h : Heading) (o : Option ℕ) (item : Item) (s : Scene) → SaysScene b s → SaysScene b (after_number h o item s)
+  number_says b h None item s k = k
+  number_says b h (Some n) item s k = new_says b h n item s k
 
-begun_says : (b : Bool) (h : Heading) (p : PacketModel) (f : Header) (s : Scene) → SaysScene b s → SaysScene b (begun h p f s)
-unfolding begun
-begun_says b h p f s k = begin_says b h p f s.own.track s k
+  data_says : (b : Bool) (h : Heading) (p : PacketModel) (f : Header) (content : List ℕ) (s : Scene) → SaysScene b s → SaysScene b (after_data h p f content s)
+  unfolding after_data
+  data_says b h p f content s k =
+      let u = begun h p f s in number_says b h (new_number u.own.track f.sequence) (item_in f content) u (begun_says b h p f s k)
 
-new_says : (b : Bool) (h : Heading) (n : ℕ) (item : Item) (s : Scene) → SaysScene b s → SaysScene b (after_new h n item s)
-unfolding after_new
-new_says b h n item s k = advanced_says b h 0 (keep_own n item (advanced h (n - 63) s)) (advanced_says b h (n - 63) s k)
+  packet_says : (b : Bool) (h : Heading) (p : PacketModel) (f : Header) (content : List ℕ) (s : Scene) → SaysScene b s → SaysScene b (after_packet h p f content s)
+  unfolding after_packet
+  packet_says b h p f content s k =
+      let u = after_acknowledge h f.acknowledge s in
+      let ok = acknowledge_says b h f.acknowledge s k in cases (SaysScene b) (is_system f) u (after_data h p f content u) ok (data_says b h p f content u ok)
 
-number_says : (b : Bool) (h : Heading) (o : Option ℕ) (item : Item) (s : Scene) → SaysScene b s → SaysScene b (after_number h o item s)
-number_says b h None item s k = k
-number_says b h (Some n) item s k = new_says b h n item s k
+  -- ---- a line
 
-data_says : (b : Bool) (h : Heading) (p : PacketModel) (f : Header) (content : List ℕ) (s : Scene) → SaysScene b s → SaysScene b (after_data h p f content s)
-unfolding after_data
-data_says b h p f content s k =
-    let u = begun h p f s in number_says b h (new_number u.own.track f.sequence) (item_in f content) u (begun_says b h p f s k)
+  abbrev SaysKnown : Bool → Known → Type 0
+  SaysKnown b k = Says b k.text k.is_refused
 
-packet_says : (b : Bool) (h : Heading) (p : PacketModel) (f : Header) (content : List ℕ) (s : Scene) → SaysScene b s → SaysScene b (after_packet h p f content s)
-unfolding after_packet
-packet_says b h p f content s k =
-    let u = after_acknowledge h f.acknowledge s in
-    let ok = acknowledge_says b h f.acknowledge s k in scene_cases b (is_system f) u (after_data h p f content u) ok (data_says b h p f content u ok)
+  in_says : (b : Bool) (n i : ℕ) (q : Bool) (p : PacketModel) (f : Header) (content : List ℕ) (o : Option Connection) (k : Known) → SaysKnown b k → SaysKnown b (after_in n i q p f content o k)
+  in_says b n i q p f content None k s = s
+  in_says b n i true p f content (Some c) k s = packet_says b (heading_at n i true) p f content (scene_in true c k) s
+  in_says b n i false p f content (Some c) k s = packet_says b (heading_at n i false) p f content (scene_in false c k) s
 
--- ---- a line
+  at_says : (b : Bool) (n i : ℕ) (q : Bool) (p : PacketModel) (f : Header) (content : List ℕ) (k : Known) → SaysKnown b k → SaysKnown b (after_at n i q p f content k)
+  unfolding after_at
+  at_says b n i q p f content k s = in_says b n i q p f content (slice_get k.connections i) k s
 
-abbrev SaysKnown : Bool → Known → Type 0
-SaysKnown b k = Says b k.text k.is_refused
+  places_say : (b : Bool) (n : ℕ) (p : PacketModel) (f : Header) (content : List ℕ) (o u : Option ℕ) (k : Known) → SaysKnown b k → SaysKnown b (after_places n p f content o u k)
+  places_say b n p f content (Some i) u k s = at_says b n i false p f content k s
+  places_say b n p f content None (Some i) k s = at_says b n i true p f content k s
+  places_say b n p f content None None k s =
+      cases (SaysKnown b) (is_system f) k _ s (at_says b n _ false p f content (with_new (flow_of p f) k) s)
 
-known_cases : (b p : Bool) (k u : Known) → SaysKnown b k → SaysKnown b u → SaysKnown b (cond p k u)
-known_cases b true k u h m = h
-known_cases b false k u h m = m
+  sequenced_says : (b : Bool) (n : ℕ) (p : PacketModel) (f : Header) (content : List ℕ) (k : Known) → SaysKnown b k → SaysKnown b (after_sequenced n p f content k)
+  unfolding after_sequenced
+  sequenced_says b n p f content k s = places_say b n p f content (place_of (flow_of p f) k.connections) (place_of (flow_behind (flow_of p f)) k.connections) k s
 
-in_says : (b : Bool) (n i : ℕ) (q : Bool) (p : PacketModel) (f : Header) (content : List ℕ) (o : Option Connection) (k : Known) → SaysKnown b k → SaysKnown b (after_in n i q p f content o k)
-in_says b n i q p f content None k s = s
-in_says b n i true p f content (Some c) k s = packet_says b (heading_at n i true) p f content (scene_in true c k) s
-in_says b n i false p f content (Some c) k s = packet_says b (heading_at n i false) p f content (scene_in false c k) s
+  header_says : (b : Bool) (n : ℕ) (p : PacketModel) (r : Result (Header × List ℕ) SppFault) (k : Known) → SaysKnown b k → SaysKnown b (after_header n p r k)
+  header_says b n p (Ok found) k s = cases (SaysKnown b) (found.0.target_id == 0) k (after_sequenced n p found.0 found.1 k) s (sequenced_says b n p found.0 found.1 k s)
+  header_says b n p (Err fault) k s = says_loud b k.text _ k.is_refused s (only.header n fault)
 
-at_says : (b : Bool) (n i : ℕ) (q : Bool) (p : PacketModel) (f : Header) (content : List ℕ) (k : Known) → SaysKnown b k → SaysKnown b (after_at n i q p f content k)
-unfolding after_at
-at_says b n i q p f content k s = in_says b n i q p f content (slice_get k.connections i) k s
+  body_says : (b : Bool) (n : ℕ) (p : PacketModel) (k : Known) → SaysKnown b k → SaysKnown b (after_body n p k)
+  unfolding after_body
+  body_says b n p k s = cases (SaysKnown b) (p.kind == 5) (after_header n p (header_of p.body) k) k (header_says b n p (header_of p.body) k s) s
 
-places_say : (b : Bool) (n : ℕ) (p : PacketModel) (f : Header) (content : List ℕ) (o u : Option ℕ) (k : Known) → SaysKnown b k → SaysKnown b (after_places n p f content o u k)
-places_say b n p f content (Some i) u k s = at_says b n i false p f content k s
-places_say b n p f content None (Some i) k s = at_says b n i true p f content k s
-places_say b n p f content None None k s =
-    known_cases b (is_system f) k _ s (at_says b n _ false p f content (with_new (flow_of p f) k) s)
+  found_says : (b : Bool) (n : ℕ) (r : Result (PacketModel × ℕ) IdpFault) (k : Known) → SaysKnown b k → SaysKnown b (after_found n r k)
+  found_says b n (Ok found) k s = body_says b n found.0 k s
+  found_says b n (Err fault) k s = says_loud b k.text _ k.is_refused s (only.packet n fault)
 
-sequenced_says : (b : Bool) (n : ℕ) (p : PacketModel) (f : Header) (content : List ℕ) (k : Known) → SaysKnown b k → SaysKnown b (after_sequenced n p f content k)
-unfolding after_sequenced
-sequenced_says b n p f content k s = places_say b n p f content (place_of (flow_of p f) k.connections) (place_of (flow_behind (flow_of p f)) k.connections) k s
+  bytes_say : (b : Bool) (n : ℕ) (bytes : List ℕ) (k : Known) → SaysKnown b k → SaysKnown b (after_bytes n bytes k)
+  unfolding after_bytes
+  bytes_say b n bytes k s = found_says b n (packet_of bytes) k s
 
-header_says : (b : Bool) (n : ℕ) (p : PacketModel) (r : Result (Header × List ℕ) SppFault) (k : Known) → SaysKnown b k → SaysKnown b (after_header n p r k)
-header_says b n p (Ok found) k s = known_cases b (found.0.target_id == 0) k (after_sequenced n p found.0 found.1 k) s (sequenced_says b n p found.0 found.1 k s)
-header_says b n p (Err fault) k s = says_loud b k.text _ k.is_refused s (header_loud n fault)
+  digits_say : (b : Bool) (n : ℕ) (r : Result (List ℕ) FromHexError) (k : Known) → SaysKnown b k → SaysKnown b (after_digits n r k)
+  digits_say b n (Ok bytes) k s = bytes_say b n bytes k s
+  digits_say b n (Err error) k s = says_loud b k.text _ k.is_refused s (only.hex n error)
 
-body_says : (b : Bool) (n : ℕ) (p : PacketModel) (k : Known) → SaysKnown b k → SaysKnown b (after_body n p k)
-unfolding after_body
-body_says b n p k s = known_cases b (p.kind == 5) (after_header n p (header_of p.body) k) k (header_says b n p (header_of p.body) k s) s
+  line_says : (b : Bool) (n : ℕ) (line : List ℕ) (k : Known) → SaysKnown b k → SaysKnown b (after_line n line k)
+  unfolding after_line
+  line_says b n line k s = digits_say b n (decode_of (digits_of line)) k s
 
-found_says : (b : Bool) (n : ℕ) (r : Result (PacketModel × ℕ) IdpFault) (k : Known) → SaysKnown b k → SaysKnown b (after_found n r k)
-found_says b n (Ok found) k s = body_says b n found.0 k s
-found_says b n (Err fault) k s = says_loud b k.text _ k.is_refused s (idp_is n fault)
+  -- ---- the whole
 
-bytes_say : (b : Bool) (n : ℕ) (bytes : List ℕ) (k : Known) → SaysKnown b k → SaysKnown b (after_bytes n bytes k)
-unfolding after_bytes
-bytes_say b n bytes k s = found_says b n (packet_of bytes) k s
+  none_said : (b : Bool) → Says b [] b
+  unfolding Tells
+  none_said b = record { new = false; flag_is = sym (or_false b); tells = record { skips = λ ys. refl } }
 
-digits_say : (b : Bool) (n : ℕ) (r : Result (List ℕ) FromHexError) (k : Known) → SaysKnown b k → SaysKnown b (after_digits n r k)
-digits_say b n (Ok bytes) k s = bytes_say b n bytes k s
-digits_say b n (Err error) k s = says_loud b k.text _ k.is_refused s (hex_is n error)
+  lines_say : (n : ℕ) (k : Known) (lines : List (List ℕ)) → Says k.is_refused (text_from n k lines) (known_from n k lines).is_refused
+  lines_say n k [] = none_said k.is_refused
+  lines_say n k (line ∷ lines) =
+      let k1 = line_taken n line k in
+      let first = line_says k.is_refused n line (record k { text = [] }) (none_said k.is_refused) in
+      let rest = lines_say (n + 1) k1 lines in record {
+        new = first.new || rest.new;
+        flag_is = rest.flag_is ∙ ap (λ f. f || rest.new) first.flag_is ∙ or_assoc k.is_refused first.new rest.new;
+        tells = tells_both first.new rest.new k1.text (text_from (n + 1) k1 lines) first.tells rest.tells;
+      }
 
-line_says : (b : Bool) (n : ℕ) (line : List ℕ) (k : Known) → SaysKnown b k → SaysKnown b (after_line n line k)
-unfolding after_line
-line_says b n line k s = digits_say b n (decode_of (digits_of line)) k s
+  tells_is : (c : Bool) (xs : List ℕ) → Tells c xs → says_refused xs ≡ c
+  unfolding Tells
+  tells_is true xs h = joined.said xs h
+  tells_is false xs h = joined.silent xs h
 
--- ---- the whole
-
-none_said : (b : Bool) → Says b [] b
-unfolding Tells
-none_said b = record { new = false; flag_is = sym (or_false b); tells = record { skips = λ ys. refl } }
-
-lines_say : (n : ℕ) (k : Known) (lines : List (List ℕ)) → Says k.is_refused (text_from n k lines) (known_from n k lines).is_refused
-lines_say n k [] = none_said k.is_refused
-lines_say n k (line ∷ lines) =
-    let k1 = line_taken n line k in
-    let first = line_says k.is_refused n line (record k { text = [] }) (none_said k.is_refused) in
-    let rest = lines_say (n + 1) k1 lines in record {
-      new = first.new || rest.new;
-      flag_is = rest.flag_is ∙ ap (λ f. f || rest.new) first.flag_is ∙ or_assoc k.is_refused first.new rest.new;
-      tells = tells_both first.new rest.new k1.text (text_from (n + 1) k1 lines) first.tells rest.tells;
-    }
-
-tells_is : (c : Bool) (xs : List ℕ) → Tells c xs → refused xs ≡ c
-unfolding Tells
-tells_is true xs h = said xs h
-tells_is false xs h = alone xs h
-
-pub text_says : (input : List ℕ) → has_word (codes "refused") (calls_text input) ≡ has_refusal input
-text_says input =
-    let s = lines_say 1 nothing_known (lines_of input) in tells_is s.new (calls_text input) s.tells ∙ sym s.flag_is
+  pub text_says : (input : List ℕ) → says_refused (calls_text input) ≡ has_refusal input
+  text_says input =
+      let s = lines_say 1 nothing_known (lines_of input) in tells_is s.new (calls_text input) s.tells ∙ sym s.flag_is

@@ -7,7 +7,7 @@ use Rattle.courier_messages.specs.declared.message.Message.{Message}
 use Rattle.xns_dump.specs.Dump.Line.{has_word}
 use Rattle.xns_calls.specs.Calls.{calls_text, has_refusal}
 use Rattle.xns_calls.specs.Events.{AreWithin63, Event, IsAmong, after_event, after_events, after_whole_events, captured, captured_in}
-use Rattle.xns_calls.specs.Exchange.{Scene, after_told, advance_other, take_number, told_of}
+use Rattle.xns_calls.specs.Exchange.{Scene, after_told, take_number, told_of}
 use Rattle.xns_calls.specs.Listening.{messages_heard}
 use Rattle.xns_calls.specs.Numbers.{near}
 use Rattle.xns_calls.specs.Reading.{Told}

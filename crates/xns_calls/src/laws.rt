@@ -2,6 +2,7 @@
 ghost use Rattle.xns_calls.specs.Laws.{AnItemIsAnEvent, NothingIsMissing, NothingIsMissingAtTheEnd, RepeatsSayNothing, TheAnswerSaysRefused, WhatIsHeardIsTheConversation};
 
 use courier_messages::laws::{conversation_is_read_sign_by_sign, one_item_more, signs_run_on};
+use xns_dump::laws::{joined_texts_say_refused, only_refusals_say_refused};
 
 /// What is heard of a flow from its version range on begins with the messages of the conversation of its items, and there
 /// is no more of it where the conversation has no fault.
@@ -16,7 +17,10 @@ pub fn what_is_heard_is_the_conversation()
 /// The answer of `calls` is true exactly where its text has the word `refused`.
 pub fn the_answer_says_refused()
     ensures { TheAnswerSaysRefused }
-{}
+{
+    joined_texts_say_refused();
+    only_refusals_say_refused();
+}
 
 /// What a data packet does to its flow is the event of its item, with the number that its field stands for.
 pub fn an_item_is_an_event()

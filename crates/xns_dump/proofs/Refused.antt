@@ -24,8 +24,9 @@ use Rattle.xns_spp.specs.Header.{header_of, is_system}
 use Rattle.xns_spp.specs.declared.header.Header.{Header}
 use Rattle.xns_spp.specs.declared.spp_fault.SppFault.{SppFault}
 use Rattle.xns_spp.specs.declared.spp_fault.SppFault.TheVariants as spp
-use Rattle.xns_dump.specs.Dump.Line.{are_digits_refused, digits_of, digits_text, has_word, hex_refusal, is_refusal, is_refused, report_bytes, text_of_line}
+use Rattle.xns_dump.specs.Dump.Line.{are_digits_refused, digits_of, digits_text, hex_refusal, is_refusal, is_refused, report_bytes, text_of_line}
 use Rattle.xns_dump.specs.Flows.{DataPacket}
+use Rattle.xns_dump.specs.Laws.{IsLoud, IsQuiet, says_refused}
 use Rattle.xns_dump.specs.Layers.Courier.{callee_text, courier_text, message_line, message_text, report_message}
 use Rattle.xns_dump.specs.Layers.Packets.{body_text, idp_line, idp_refusal, is_body_refused, is_fault, is_packet_refused, kind_text, packet_text, report_packet, route_text, size_text, sum_text}
 use Rattle.xns_dump.specs.Layers.Sequenced.{connection_text, content_text, header_line, header_refusal, item_line, item_of, item_text, report_sequenced, sequence_text, sequenced_text}
@@ -33,39 +34,28 @@ use Rattle.xns_dump.specs.Layers.Small.{echo_line, echo_text, error_fields, erro
 use Rattle.xns_dump.specs.Layers.Text.{address_text, data_line, words_line}
 use Rattle.xns_lines.specs.Text.{bytes_or_dash, hex_word, words_in_hex, words_or_dash, words_text}
 
-abbrev pub refused : List ℕ → Bool
-refused text = has_word (codes "refused") text
-
--- the word does not begin in these bytes, whatever follows them
-pub record IsQuiet (xs : List ℕ) : Type 0 where
-  pub skips : (ys : List ℕ) → refused (xs ++ ys) ≡ refused ys
-
 pub both : (xs ys : List ℕ) → IsQuiet xs → IsQuiet ys → IsQuiet (xs ++ ys)
-both xs ys h k = record { skips = λ zs. ap refused (append_assoc xs ys zs) ∙ h.skips (ys ++ zs) ∙ k.skips zs }
+both xs ys h k = record { skips = λ zs. ap says_refused (append_assoc xs ys zs) ∙ h.skips (ys ++ zs) ∙ k.skips zs }
 
 pub either : (p : Bool) (xs ys : List ℕ) → IsQuiet xs → IsQuiet ys → IsQuiet (cond p xs ys)
 either true xs ys h k = h
 either false xs ys h k = k
 
 -- quiet bytes in front change nothing
-before : (xs ys : List ℕ) (b : Bool) → IsQuiet xs → refused ys ≡ b → refused (xs ++ ys) ≡ b
+before : (xs ys : List ℕ) (b : Bool) → IsQuiet xs → says_refused ys ≡ b → says_refused (xs ++ ys) ≡ b
 before xs ys b h k = h.skips ys ∙ k
 
-pub alone : (xs : List ℕ) → IsQuiet xs → refused xs ≡ false
-alone xs h = ap refused (sym (append-nil xs)) ∙ h.skips []
-
--- the word stands in these bytes, whatever follows them
-pub record IsLoud (xs : List ℕ) : Type 0 where
-  pub says : (ys : List ℕ) → refused (xs ++ ys) ≡ true
+pub alone : (xs : List ℕ) → IsQuiet xs → says_refused xs ≡ false
+alone xs h = ap says_refused (sym (append-nil xs)) ∙ h.skips []
 
 pub loud : (xs ys : List ℕ) → IsQuiet xs → IsLoud ys → IsLoud (xs ++ ys)
-loud xs ys h k = record { says = λ zs. ap refused (append_assoc xs ys zs) ∙ h.skips (ys ++ zs) ∙ k.says zs }
+loud xs ys h k = record { says = λ zs. ap says_refused (append_assoc xs ys zs) ∙ h.skips (ys ++ zs) ∙ k.says zs }
 
 pub longer : (xs ys : List ℕ) → IsLoud xs → IsLoud (xs ++ ys)
-longer xs ys h = record { says = λ zs. ap refused (append_assoc xs ys zs) ∙ h.says (ys ++ zs) }
+longer xs ys h = record { says = λ zs. ap says_refused (append_assoc xs ys zs) ∙ h.says (ys ++ zs) }
 
-pub said : (xs : List ℕ) → IsLoud xs → refused xs ≡ true
-said xs h = ap refused (sym (append-nil xs)) ∙ h.says []
+pub said : (xs : List ℕ) → IsLoud xs → says_refused xs ≡ true
+said xs h = ap says_refused (sym (append-nil xs)) ∙ h.says []
 
 -- ---- bytes
 
@@ -173,15 +163,15 @@ idp : (n field : ℕ) (p : PacketModel) → IsQuiet (idp_line n field p)
 unfolding idp_line
 idp n field p = both _ _ (both _ _ (both _ _ (both _ _ (both _ _ (number n) (record { skips = λ ys. refl })) (size field p)) (kind p)) (route p)) (record { skips = λ ys. refl })
 
-no_packet : (n : ℕ) (fault : IdpFault) → refused (idp_refusal n fault) ≡ true
+pub idp_loud : (n : ℕ) (fault : IdpFault) → IsLoud (idp_refusal n fault)
 unfolding idp_refusal
-no_packet n fault = said _ (longer _ _ (longer _ _ (loud _ _ (number n) (record { says = λ ys. refl }))))
+idp_loud n fault = longer _ _ (longer _ _ (loud _ _ (number n) (record { says = λ ys. refl })))
 
 -- ---- Echo, Error and Packet Exchange
 
-inner : (n : ℕ) (fault : SmallFault) → refused (inner_refusal n fault) ≡ true
+inner_loud : (n : ℕ) (fault : SmallFault) → IsLoud (inner_refusal n fault)
 unfolding inner_refusal
-inner n fault = said _ (longer _ _ (longer _ _ (loud _ _ (number n) (record { says = λ ys. refl }))))
+inner_loud n fault = longer _ _ (longer _ _ (loud _ _ (number n) (record { says = λ ys. refl })))
 
 echo : (n : ℕ) (v : EchoModel) → IsQuiet (echo_line n v)
 unfolding echo_line
@@ -203,19 +193,19 @@ exchange : (n : ℕ) (v : ExchangeModel) → IsQuiet (exchange_line n v)
 unfolding exchange_line
 exchange n v = both _ _ (both _ _ (both _ _ (number n) (record { skips = λ ys. refl })) (exchange_numbers v)) (record { skips = λ ys. refl })
 
-line_or : {View : Type 0} (line : ℕ → View → List ℕ) (n : ℕ) (r : Result View SmallFault) → ((v : View) → IsQuiet (line n v)) → refused (line_or_refusal line n r) ≡ is_err r
+line_or : {View : Type 0} (line : ℕ → View → List ℕ) (n : ℕ) (r : Result View SmallFault) → ((v : View) → IsQuiet (line n v)) → says_refused (line_or_refusal line n r) ≡ is_err r
 line_or line n (Ok v) h = alone (line n v) (h v)
-line_or line n (Err fault) h = inner n fault
+line_or line n (Err fault) h = said _ (inner_loud n fault)
 
-echo_is : (n : ℕ) (body : List ℕ) → refused (echo_text n body) ≡ is_err (echo_of body)
+echo_is : (n : ℕ) (body : List ℕ) → says_refused (echo_text n body) ≡ is_err (echo_of body)
 unfolding echo_text
 echo_is n body = line_or echo_line n (echo_of body) (echo n)
 
-error_is : (n : ℕ) (body : List ℕ) → refused (error_text n body) ≡ is_err (error_of body)
+error_is : (n : ℕ) (body : List ℕ) → says_refused (error_text n body) ≡ is_err (error_of body)
 unfolding error_text
 error_is n body = line_or error_line n (error_of body) (error n)
 
-exchange_is : (n : ℕ) (body : List ℕ) → refused (exchange_text n body) ≡ is_err (exchange_of body)
+exchange_is : (n : ℕ) (body : List ℕ) → says_refused (exchange_text n body) ≡ is_err (exchange_of body)
 unfolding exchange_text
 exchange_is n body = line_or exchange_line n (exchange_of body) (exchange n)
 
@@ -270,55 +260,48 @@ content : (n : ℕ) (f : Header) (xs : List ℕ) → IsQuiet (content_text n f x
 unfolding content_text
 content n f xs = either (is_system f) [] _ (record { skips = λ ys. refl }) (either _ _ _ (data_is n xs) (either _ _ _ (courier n xs) (words_is n xs)))
 
-inner_loud : (n : ℕ) (fault : SmallFault) → IsLoud (inner_refusal n fault)
-unfolding inner_refusal
-inner_loud n fault = longer _ _ (longer _ _ (loud _ _ (number n) (record { says = λ ys. refl })))
-
 pub header_loud : (n : ℕ) (fault : SppFault) → IsLoud (header_refusal n fault)
 header_loud n (spp.Short have) = inner_loud n _
 
-no_header : (n : ℕ) (fault : SppFault) → refused (header_refusal n fault) ≡ true
-no_header n (spp.Short have) = inner n _
-
-sequenced_with : (n : ℕ) (numbers : DataPacket → ℕ) (p : PacketModel) (r : Result (Header × List ℕ) SppFault) → refused (report_sequenced n numbers p r) ≡ is_err r
+sequenced_with : (n : ℕ) (numbers : DataPacket → ℕ) (p : PacketModel) (r : Result (Header × List ℕ) SppFault) → says_refused (report_sequenced n numbers p r) ≡ is_err r
 sequenced_with n numbers p (Ok found) = alone _ (both _ _ (both _ _ (header n found.0) (item n numbers (item_of p found.0))) (content n found.0 found.1))
-sequenced_with n numbers p (Err fault) = no_header n fault
+sequenced_with n numbers p (Err fault) = said _ (header_loud n fault)
 
-sequenced_is : (n : ℕ) (numbers : DataPacket → ℕ) (p : PacketModel) → refused (sequenced_text n numbers p) ≡ is_err (header_of p.body)
+sequenced_is : (n : ℕ) (numbers : DataPacket → ℕ) (p : PacketModel) → says_refused (sequenced_text n numbers p) ≡ is_err (header_of p.body)
 unfolding sequenced_text
 sequenced_is n numbers p = sequenced_with n numbers p (header_of p.body)
 
 -- ---- a line
 
-choose : (p : Bool) (xs ys : List ℕ) (b c : Bool) → refused xs ≡ b → refused ys ≡ c → refused (cond p xs ys) ≡ cond p b c
+choose : (p : Bool) (xs ys : List ℕ) (b c : Bool) → says_refused xs ≡ b → says_refused ys ≡ c → says_refused (cond p xs ys) ≡ cond p b c
 choose true xs ys b c h k = h
 choose false xs ys b c h k = k
 
-body_is : (n : ℕ) (numbers : DataPacket → ℕ) (p : PacketModel) → refused (body_text n numbers p) ≡ is_body_refused p
+body_is : (n : ℕ) (numbers : DataPacket → ℕ) (p : PacketModel) → says_refused (body_text n numbers p) ≡ is_body_refused p
 unfolding body_text is_body_refused
 body_is n numbers p =
     choose (p.kind == 2) _ _ _ _ (echo_is n p.body) (choose (p.kind == 3) _ _ _ _ (error_is n p.body) (choose (p.kind == 4) _ _ _ _ (exchange_is n p.body)
     (choose (p.kind == 5) _ _ _ _ (sequenced_is n numbers p) (alone _ (data_is n p.body)))))
 
-packet_with : (n : ℕ) (numbers : DataPacket → ℕ) (xs : List ℕ) (r : Result (PacketModel × ℕ) IdpFault) → refused (report_packet n numbers xs r) ≡ is_fault r
+packet_with : (n : ℕ) (numbers : DataPacket → ℕ) (xs : List ℕ) (r : Result (PacketModel × ℕ) IdpFault) → says_refused (report_packet n numbers xs r) ≡ is_fault r
 packet_with n numbers xs (Ok found) = before (idp_line n (word_at xs 0) found.0) _ (is_body_refused found.0) (idp n (word_at xs 0) found.0) (body_is n numbers found.0)
-packet_with n numbers xs (Err fault) = no_packet n fault
+packet_with n numbers xs (Err fault) = said _ (idp_loud n fault)
 
-packet_is : (n : ℕ) (numbers : DataPacket → ℕ) (xs : List ℕ) → refused (packet_text n numbers xs) ≡ is_packet_refused xs
+packet_is : (n : ℕ) (numbers : DataPacket → ℕ) (xs : List ℕ) → says_refused (packet_text n numbers xs) ≡ is_packet_refused xs
 unfolding packet_text is_packet_refused
 packet_is n numbers xs = packet_with n numbers xs (packet_of xs)
 
-no_bytes : (n : ℕ) (error : FromHexError) → refused (hex_refusal n error) ≡ true
+pub hex_loud : (n : ℕ) (error : FromHexError) → IsLoud (hex_refusal n error)
 unfolding hex_refusal
-no_bytes n (hex_error.InvalidHexCharacter digit place) = said _ (longer _ _ (longer _ _ (loud _ _ (number n) (record { says = λ ys. refl }))))
-no_bytes n hex_error.OddLength = said _ (loud _ _ (number n) (record { says = λ ys. refl }))
-no_bytes n hex_error.InvalidStringLength = said _ (loud _ _ (number n) (record { says = λ ys. refl }))
-no_bytes n hex_error.OutOfMemory = said _ (loud _ _ (number n) (record { says = λ ys. refl }))
+hex_loud n (hex_error.InvalidHexCharacter digit place) = longer _ _ (longer _ _ (loud _ _ (number n) (record { says = λ ys. refl })))
+hex_loud n hex_error.OddLength = loud _ _ (number n) (record { says = λ ys. refl })
+hex_loud n hex_error.InvalidStringLength = loud _ _ (number n) (record { says = λ ys. refl })
+hex_loud n hex_error.OutOfMemory = loud _ _ (number n) (record { says = λ ys. refl })
 
-digits_with : (n : ℕ) (numbers : DataPacket → ℕ) (r : Result (List ℕ) FromHexError) → refused (report_bytes n numbers r) ≡ is_refusal r
+digits_with : (n : ℕ) (numbers : DataPacket → ℕ) (r : Result (List ℕ) FromHexError) → says_refused (report_bytes n numbers r) ≡ is_refusal r
 digits_with n numbers (Ok xs) = packet_is n numbers xs
-digits_with n numbers (Err error) = no_bytes n error
+digits_with n numbers (Err error) = said _ (hex_loud n error)
 
-pub line_is : (n : ℕ) (numbers : DataPacket → ℕ) (line : List ℕ) → refused (text_of_line n numbers line) ≡ is_refused line
+pub line_is : (n : ℕ) (numbers : DataPacket → ℕ) (line : List ℕ) → says_refused (text_of_line n numbers line) ≡ is_refused line
 unfolding text_of_line is_refused digits_text are_digits_refused
 line_is n numbers line = digits_with n numbers (decode_of (digits_of line))

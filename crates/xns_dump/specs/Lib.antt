@@ -1,3 +1,4 @@
 pub mod Dump
 pub mod Flows
+pub mod Laws
 pub mod Layers

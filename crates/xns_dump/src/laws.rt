@@ -1,9 +1,24 @@
 //! Laws of the definitions, as functions that do nothing.
-ghost use Rattle.std.specs.Prelude.{◌≡◌, ℕ, List, codes};
-ghost use Rattle.xns_dump.specs.Dump.Line.{has_word, is_refused, text_of_line};
-ghost use Rattle.xns_dump.specs.Flows.{DataPacket};
+ghost use Rattle.xns_dump.specs.Laws.{FlowsAreToldApart, JoinedTextsSayRefused, OnlyRefusalsSayRefused, RefusedLinesSaySo};
 
 /// The text of a line has the word `refused` exactly where the line is refused, whatever its number and those of items.
 pub fn refused_lines_say_so()
-    ensures { (n : ℕ) (number : DataPacket → ℕ) (line : List ℕ) → has_word (codes "refused") (text_of_line n number line) ≡ is_refused line }
+    ensures { RefusedLinesSaySo }
+{}
+
+/// The word `refused` stands in the lines of refusals, and neither stands nor begins in numbers, words, addresses and the
+/// names of procedures.
+pub fn only_refusals_say_refused()
+    ensures { OnlyRefusalsSayRefused }
+{}
+
+/// Texts in which the word `refused` does not begin can be joined, before one that has it too. One that has it keeps it
+/// with text behind it.
+pub fn joined_texts_say_refused()
+    ensures { JoinedTextsSayRefused }
+{}
+
+/// The order of flows holds two for equal exactly where their hosts, sockets and identifiers are, and then they are one.
+pub fn flows_are_told_apart()
+    ensures { FlowsAreToldApart }
 {}
