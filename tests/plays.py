@@ -383,10 +383,13 @@ class Play:
         pass
 
     def put_bag(self, lines):
+        if len(self.bag) > 40:
+            digest = digest_text(b"".join(side.encode() + packet for side, packet, _ in self.bag))
+            lines.put("packets %d digest %s" % (len(self.bag), digest))
+            return
         lines.put("packets %d" % len(self.bag))
-        if len(self.bag) <= 40:
-            for side, packet, _ in self.bag:
-                lines.put(packet_text(side, packet, *((A, B) if side == "a" else (B, A))))
+        for side, packet, _ in self.bag:
+            lines.put(packet_text(side, packet, *((A, B) if side == "a" else (B, A))))
 
 
 class ItemPlay(Play):
@@ -397,7 +400,7 @@ class ItemPlay(Play):
     def happen(self, step):
         words = step.split(" ")
         if words[0] == "send":
-            self.ends[words[1]].send((0, False, True, bytes.fromhex(words[2])))
+            self.ends[words[1]].send(read_item(words[2:]))
             self.settle(words[1])
         elif words[0] == "take":
             item = self.ends[words[1]].take()
@@ -502,6 +505,13 @@ def words_text(words):
     return " ".join("%04x" % word for word in words) or "-"
 
 
+def digest_text(data):
+    digest = 0
+    for byte in data:
+        digest = (digest * 31 + byte) % 2 ** 32
+    return "%08x" % digest
+
+
 def item_text(who, item):
     stream, attention, last, body = item
     return "%s %d%s%s %s" % (who, stream, " attention" if attention else "", " last" if last else "", hex_text(body))
@@ -531,6 +541,17 @@ def unfold(steps):
 def counted(group):
     count, star, rest = group.partition("*")
     return (int(count), rest.strip()) if star else (1, group)
+
+
+def read_item(words):
+    """The item that words say: of datastream 0 and the last of its message, where they say nothing else."""
+    stream, body = 0, b""
+    for word in words:
+        if word.startswith("stream="):
+            stream = int(word[7:])
+        elif word not in ("attention", "part"):
+            body = bytes.fromhex(word)
+    return stream, "attention" in words, "part" not in words, body
 
 
 def items(window, backlog, steps):
@@ -599,8 +620,9 @@ def serve(window, backlog, steps):
     for call in play.server.carried:
         lines.put(call_text(call))
     lines.put("fault %s" % (play.server.fault or "none"))
-    lines.put("replies %d" % len(play.replies))
-    for reply in play.replies if len(play.replies) <= 44 else play.replies[-2:]:
+    many = " digest " + digest_text(b"".join(play.replies)) if len(play.replies) > 44 else ""
+    lines.put("replies %d%s" % (len(play.replies), many))
+    for reply in play.replies[-2:] if many else play.replies:
         lines.put(packet_text("reply", reply, B, A))
     lines.put("total %d" % play.server.total)
     return lines.text()
@@ -668,12 +690,9 @@ def random(window, backlog, steps):
     for _ in range(blocks):
         for packet in block(generator, play):
             play.hear(packet)
-    digest = 0
-    for byte in b"".join(play.replies):
-        digest = (digest * 31 + byte) % 2 ** 32
-    return "packets %d handed %d carried %d fault %s replies %d digest %08x total %d\n" % (
-        8 * blocks, len(play.handed), len(play.server.carried), play.server.fault or "none", len(play.replies), digest,
-        play.server.total)
+    return "packets %d handed %d carried %d fault %s replies %d digest %s total %d\n" % (
+        8 * blocks, len(play.handed), len(play.server.carried), play.server.fault or "none", len(play.replies),
+        digest_text(b"".join(play.replies)), play.server.total)
 
 
 def receives(responds, window, backlog, steps, header, data):

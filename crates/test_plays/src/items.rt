@@ -1,4 +1,5 @@
 //! Plays of items.
+use crate::digest::Digest;
 use crate::draft::read_hex;
 use crate::lines::Lines;
 use crate::steps::unfold;
@@ -8,28 +9,41 @@ use std::alloc::{AllocError, Global};
 use xns_script::{Command, read_command};
 use xns_spp::{Bytes, Item};
 
-/// Of a play with more packets they are only counted.
+/// Of a play with more packets only their number and digest are told.
 const MOST_PACKETS: usize = 40;
 
 fn side(word: &str) -> Side {
     if word == "a" { Side::A } else { Side::B }
 }
 
-/// An item that ends a message.
-fn item(alloc: Global, digits: &str) -> Result<Item, AllocError> {
+/// An item of the words: its bytes, and what is special of it. It ends a message and is of datastream 0 where they say no other.
+fn item(alloc: Global, words: &str) -> Result<Item, AllocError> {
+    let (mut stream, mut attention, mut last) = (0, false, true);
+    let mut body = Vec::new(alloc);
+    for word in words.split(' ') {
+        match word {
+            "attention" => attention = true,
+            "part" => last = false,
+            _ => match word.strip_prefix("stream=") {
+                Some(number) => stream = number.parse::<u8>().unwrap_or(0),
+                None => body = read_hex(alloc, word)?,
+            },
+        }
+    }
+    let body = Bytes::new(body);
     Ok(Item {
-        stream: 0,
-        attention: false,
-        last: true,
-        body: Bytes::new(read_hex(alloc, digits)?),
+        stream,
+        attention,
+        last,
+        body,
     })
 }
 
 /// What a step does; `None` where it says nothing.
 fn event(alloc: Global, step: &str) -> Result<Option<Event>, AllocError> {
     if let Some(words) = step.strip_prefix("send ") {
-        let (word, digits) = words.split_once(' ').unwrap_or((words, ""));
-        return Ok(Some(Event::Send(side(word), item(alloc, digits)?)));
+        let (word, rest) = words.split_once(' ').unwrap_or((words, ""));
+        return Ok(Some(Event::Send(side(word), item(alloc, rest)?)));
     }
     if let Some(word) = step.strip_prefix("take ") {
         return Ok(Some(Event::Take(side(word))));
@@ -47,19 +61,27 @@ fn put_items(alloc: Global, lines: &mut Lines, who: &str, items: &Items) -> Resu
     Ok(())
 }
 
-/// How many packets were sent, and the packets.
+fn name(side: Side) -> &'static str {
+    match side {
+        Side::A => "a",
+        Side::B => "b",
+    }
+}
+
+/// How many packets were sent, and the packets, or the digest of them with their senders' names.
 pub fn put_bag(alloc: Global, lines: &mut Lines, bag: &Bag) -> Result<(), AllocError> {
     let packets = bag.as_slice();
-    lines.put(format!(in alloc; "packets {}", packets.len())?)?;
     if packets.len() > MOST_PACKETS {
-        return Ok(());
+        let mut digest = Digest::new();
+        for (side, bytes) in packets {
+            digest.add(name(*side).as_bytes());
+            digest.add(bytes.as_slice());
+        }
+        return lines.put(format!(in alloc; "packets {} digest {digest}", packets.len())?);
     }
+    lines.put(format!(in alloc; "packets {}", packets.len())?)?;
     for (side, bytes) in packets {
-        let who = match side {
-            Side::A => "a",
-            Side::B => "b",
-        };
-        lines.put(packet_text(alloc, who, *side, bytes.as_slice())?)?;
+        lines.put(packet_text(alloc, name(*side), *side, bytes.as_slice())?)?;
     }
     Ok(())
 }

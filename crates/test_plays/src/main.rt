@@ -3,7 +3,8 @@
 //!
 //! A line is a kind, the ends' window and backlog, and steps that commas part: `3* STEP; STEP` is two steps three times.
 //!
-//! - `items 4 16, STEP, ..` plays items: `tick a`, `deliver 0`, `rest`, `foreign a HEX`, `send a HEX`, `take a`.
+//! - `items 4 16, STEP, ..` plays items: `tick a`, `deliver 0`, `rest`, `foreign a HEX`, `take a`, `send a HEX`; `send a stream=7
+//!   attention part HEX` sends an item of another datastream, that asks for attention, and that does not end a message.
 //! - `calls 4 16, STEP, ..` plays calls to a tally: the lines of a simulation.
 //! - `serve 4 16, PACKET, ..` gives a server of the tally packets. A packet is a header and data in hex, `=534` for as many bytes of
 //!   0, or `whole HEX`. In `245* PACKET` each has the next sequence number.
@@ -16,6 +17,7 @@
 
 mod calls;
 mod damage;
+mod digest;
 mod draft;
 mod generator;
 mod items;

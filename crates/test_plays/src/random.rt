@@ -1,5 +1,6 @@
 //! Packets from a generator that are given to a server of the tally.
 use crate::damage::damaged;
+use crate::digest::Digest;
 use crate::draft::Draft;
 use crate::generator::Generator;
 use crate::telling::Fault;
@@ -100,17 +101,6 @@ fn push_block(
     Ok(())
 }
 
-/// A number that stands for all the bytes.
-fn digest(replies: &[Bytes]) -> u32 {
-    let mut sum = 0_u32;
-    for reply in replies {
-        for byte in reply.as_slice() {
-            sum = sum.wrapping_mul(31).wrapping_add(u32::from(*byte));
-        }
-    }
-    sum
-}
-
 fn trace_text(
     alloc: Global,
     trace: &ServeTrace<Tally>,
@@ -120,10 +110,13 @@ fn trace_text(
     let handed = trace.handed.as_slice().len();
     let carried = trace.carried.len();
     let fault = Fault(&trace.fault);
-    let sum = digest(replies);
+    let mut digest = Digest::new();
+    for reply in replies {
+        digest.add(reply.as_slice());
+    }
     let total = trace.service.total();
     format!(in alloc;
-        "packets {packets} handed {handed} carried {carried} fault {fault} replies {} digest {sum:08x} total {total}",
+        "packets {packets} handed {handed} carried {carried} fault {fault} replies {} digest {digest} total {total}",
         replies.len()
     )
 }

@@ -1,5 +1,6 @@
 //! Packets that are given to a server of the tally.
 use crate::calls::put_carried;
+use crate::digest::Digest;
 use crate::draft::{Draft, read_hex};
 use crate::lines::Lines;
 use crate::steps::counted;
@@ -10,7 +11,7 @@ use std::alloc::{AllocError, Global};
 use xns_spp::{Bytes, Header};
 use xns_world::{ServeTrace, serve_bytes};
 
-/// Of more replies only the last two are told.
+/// Of more replies only the digest and the last two are told.
 const MOST_REPLIES: usize = 44;
 
 /// Adds the packets of a group, each with the next sequence number.
@@ -34,12 +35,17 @@ fn push_group(alloc: Global, packets: &mut Vec<Bytes>, group: &str) -> Result<()
 }
 
 fn put_replies(alloc: Global, lines: &mut Lines, replies: &[Bytes]) -> Result<(), AllocError> {
-    lines.put(format!(in alloc; "replies {}", replies.len())?)?;
-    let shown = if replies.len() > MOST_REPLIES {
-        replies.len().saturating_sub(2)
+    let mut shown = 0;
+    if replies.len() > MOST_REPLIES {
+        let mut digest = Digest::new();
+        for reply in replies {
+            digest.add(reply.as_slice());
+        }
+        lines.put(format!(in alloc; "replies {} digest {digest}", replies.len())?)?;
+        shown = replies.len().saturating_sub(2);
     } else {
-        0
-    };
+        lines.put(format!(in alloc; "replies {}", replies.len())?)?;
+    }
     for reply in replies.iter().skip(shown) {
         lines.put(packet_text(alloc, "reply", Side::B, reply.as_slice())?)?;
     }
