@@ -3,7 +3,7 @@ pub mod Headers
 pub mod Numbered
 pub mod Pairs
 pub mod Places
-pub mod Printing
+pub mod Printed
 pub mod Refused
+pub mod Results
 pub mod Texts
-pub mod Writes

@@ -2,6 +2,7 @@
 use Rattle.std.proofs.Common.{◌≡◌, ◌∙◌, ap, sym, refl, arith, ℕ, ◌+◌, List, [], ◌∷◌, ◌++◌, length, length-append, ◌≤◌, add-zero, append_assoc, append-nil, Option, Some, None}
 use Rattle.std.specs.Option.{option_to_list}
 use Rattle.std.proofs.lemmas.Grind.{flat_map-append}
+use Rattle.xns_lines.specs.Faults.{Begins}
 use Rattle.xns_dump.specs.Dump.{items_in, items_of_line, text_from, text_of}
 use Rattle.xns_dump.specs.Dump.Line.{item_of_line, text_of_line}
 use Rattle.xns_dump.specs.Flows.{DataPacket, item_number}
@@ -36,3 +37,7 @@ pub text-last : (xs : List (List ℕ)) (line : List ℕ) → text_of (xs ++ line
 text-last xs line =
     let e : 1 + length xs ≡ length xs + 1 = omega arith in
     text_from-append 1 [] xs (line ∷ []) ∙ ap (λ k. text_of xs ++ (text_of_line k (item_number (items_in xs)) line ++ [])) e ∙ ap (λ t. text_of xs ++ t) (append-nil (text_of_line (length xs + 1) (item_number (items_in xs)) line))
+
+-- the text of the first lines begins the text
+pub text_behind : (lines more : List (List ℕ)) → Begins (text_of lines) (text_of (lines ++ more))
+text_behind lines more = (text_from (1 + length lines) (items_in lines) more, sym (text_from-append 1 [] lines more))

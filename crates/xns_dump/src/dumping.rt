@@ -7,7 +7,7 @@ ghost use Rattle.xns_lines.specs.Lines.{IsWithinLimits};
 use crate::printer::Printer;
 use std::alloc::Global;
 use std::io::{Read, Write};
-use xns_lines::{RunFault, take_lines};
+use xns_lines::{RunFault, print_lines};
 
 /// Reads lines of hex and prints what each says. The answer is whether a line was refused.
 ///
@@ -45,11 +45,5 @@ pub fn dump<R: Read, W: Write>(
     ensures fault { IfErr result (λ fault. IfSome (R.remaining reader.old) (λ input.
         StopsIn input (R.remaining reader.new) (W.contents writer.old) (W.contents writer.new) fault)) }
 {
-    let mut printer = Printer::new(alloc);
-    let taken = take_lines(alloc, reader, &mut printer, writer);
-    printer.flush(writer)?;
-    match taken {
-        Ok(()) => Ok(printer.refused),
-        Err(fault) => Err(fault),
-    }
+    print_lines(alloc, reader, writer, Printer::new(alloc))
 }

@@ -1,5 +1,6 @@
 pub mod Cuts
 pub mod Cutting
 pub mod Joined
+pub mod Pages
 pub mod WordsInHex
 pub mod Writes

@@ -1,0 +1,21 @@
+use Rattle.std.proofs.Common.{◌++◌, ◌∷◌, []}
+use Rattle.xns_lines.proofs.Pages.{flushed, front_left}
+use Rattle.xns_lines.proofs.Writes.{if_err_1, on_ok_1}
+use Rattle.xns_lines.proofs.page_printer.PagePrinterLineTaker.take_line.Goals as goal
+
+pub returns-in_default-clause-err : goal.returns-in_default-clause-err
+returns-in_default-clause-err g c = λ before lines number h. c.in_default.ensures.err before _ lines h
+
+pub returns-then-is_full-clause-ok : goal.returns-then-is_full-clause-ok
+returns-then-is_full-clause-ok g c =
+    on_ok_1 _ _ c.flush.result c.flush.ensures.ok (λ ok. λ before lines number h.
+    flushed _ _ _ c.print_line.new.self.page c.flush.new.self _ before _ _ (lines ++ c.args.line.now ∷ []) c.flush.ensures.text c.flush.ensures.refused ok
+    (c.in-Ok.ensures.ok before _ lines number h))
+
+pub returns-then-is_full-clause-err : goal.returns-then-is_full-clause-err
+returns-then-is_full-clause-err g c =
+    if_err_1 _ _ c.flush.result c.flush.ensures.fault (λ fault which. λ before lines number h.
+    rw which (c.flush.ensures.text, front_left _ _ _ c.print_line.new.self.page _ _ _ before (lines ++ c.args.line.now ∷ []) c.flush.ensures.front (c.in-Ok.ensures.ok before _ lines number h)))
+
+pub returns-clause-ok : goal.returns-clause-ok
+returns-clause-ok g c = λ before lines number h. c.in-Ok.ensures.ok before _ lines number h
