@@ -6,8 +6,8 @@ use Rattle.xns_spp.specs.declared.item.Item.{Item}
 use Rattle.xns_spp.specs.declared.header.Header.{Header}
 use Rattle.xns_spp.specs.Header.{attention_bit, has_bit, is_system, message_end_bit}
 use Rattle.courier_messages.specs.Conversation.{opening}
+use Rattle.xns_lines.specs.declared.page.Page.{Page}
 use Rattle.xns_calls.specs.declared.heading.Heading.{Heading}
-use Rattle.xns_calls.specs.declared.page.Page.{Page}
 use Rattle.xns_calls.specs.declared.side.Side.{Side}
 use Rattle.xns_calls.specs.declared.speech.Speech.TheVariants.{Hearing, Waiting}
 use Rattle.xns_calls.specs.declared.track.Track.{Track}

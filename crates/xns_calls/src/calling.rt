@@ -7,7 +7,7 @@ ghost use Rattle.xns_calls.specs.Calls.{StopsIn, calls_text, has_refusal};
 use crate::printer::Printer;
 use std::alloc::Global;
 use std::io::{Read, Write};
-use xns_lines::{RunFault, take_lines};
+use xns_lines::{RunFault, print_lines};
 
 /// Reads lines of hex, each an internet packet, and prints the Courier calls that they carry, and what came back. The
 /// answer is whether something was refused: whether the output has the word `refused`.
@@ -45,11 +45,5 @@ pub fn calls<R: Read, W: Write>(
     ensures fault { IfErr result (λ fault. IfSome (R.remaining reader.old) (λ input.
         StopsIn input (R.remaining reader.new) (W.contents writer.old) (W.contents writer.new) fault)) }
 {
-    let mut printer = Printer::new(alloc);
-    let taken = take_lines(alloc, reader, &mut printer, writer);
-    printer.flush(writer)?;
-    match taken {
-        Ok(()) => Ok(printer.page.is_refused),
-        Err(fault) => Err(fault),
-    }
+    print_lines(alloc, reader, writer, Printer::new(alloc))
 }

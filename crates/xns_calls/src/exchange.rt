@@ -8,7 +8,6 @@ use crate::bringing::bring;
 use crate::heading::Heading;
 use crate::item_number::ItemNumber;
 use crate::near::near;
-use crate::page::Page;
 use crate::queue::Queue;
 use crate::side::Side;
 use crate::speech::Speech;
@@ -18,6 +17,7 @@ use crate::unanswered::Calls;
 use courier_messages::Incoming;
 use std::alloc::{AllocError, Global};
 use xns_idp::Packet;
+use xns_lines::Page;
 use xns_spp::control::{ATTENTION, END_OF_MESSAGE, SYSTEM};
 use xns_spp::{Bytes, Header, Item};
 

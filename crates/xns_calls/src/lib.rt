@@ -13,7 +13,6 @@ mod item_number;
 pub mod laws;
 mod near;
 mod packet_lines;
-mod page;
 mod printer;
 mod queue;
 mod side;

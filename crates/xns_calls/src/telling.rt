@@ -6,14 +6,13 @@ ghost use Rattle.xns_calls.specs.Telling.{after_message, call_left, calls_after,
 
 use crate::heading::Heading;
 use crate::heard::Heard;
-use crate::page::Page;
 use crate::texts::{append_answer, append_call_line, append_refused_line, append_words};
 use crate::unanswered::Calls;
 use crate::waiting::Waiting;
 use courier_messages::{Head, PiecedMessage, Words};
 use std::alloc::{AllocError, Global};
 use xns_dump::layers::courier::append_field;
-use xns_lines::Report;
+use xns_lines::{Page, Report};
 
 /// Prints what is heard.
 pub fn tell(

@@ -18,13 +18,13 @@ const FULL: usize = 65536;
 pub struct Page {
     /// The text.
     pub text: Report,
-    /// Whether a line of the input was refused, of which the output says so.
+    /// Whether something was refused, which the output then says.
     pub is_refused: bool,
 }
 
 impl Page {
     /// A page with no text.
-    pub fn new(alloc: Global) -> Page
+    pub(crate) fn new(alloc: Global) -> Page
         ensures text { whole result.text ≡ [] }
         ensures refused { result.is_refused ≡ false }
     {
