@@ -17,6 +17,10 @@ int main(void) {
     const struct xns_address here = { 1, { 0, 0, 0xaa, 0, 3, 4 }, 0x400 }, there = { 1, { 0, 0, 0xaa, 0, 1, 2 }, 5 };
     struct xns_endpoint endpoint = XNS_ENDPOINT_INIT;
     struct xns_caller caller = XNS_CALLER_INIT;
+    struct xns_server server = XNS_SERVER_INIT;
+    const struct xns_program none = XNS_PROGRAM_INIT;
+    struct xns_item item;
+    uint16_t word;
     struct xns_packet packet = XNS_PACKET_INIT;
     struct xns_message message = XNS_MESSAGE_INIT;
     static uint8_t buffer[131071];
@@ -24,6 +28,7 @@ int main(void) {
     const void *closed = mmap(NULL, 4096, PROT_NONE, MAP_PRIVATE | MAP_ANONYMOUS, -1, 0);
     CHECK(closed != MAP_FAILED);
     CHECK(xns_endpoint_new_initiator(&endpoint, &here, 77, &there, 8, 8) == XNS_OK && xns_caller_new(&caller) == XNS_OK);
+    CHECK(xns_server_new(&server, &none, 0) == XNS_OK && xns_server_next_item(&server, &item, buffer, 534) == XNS_OK);
     growths = 0;
     refuse_at = 1; /* no answer needs memory */
     CHECK(xns_encode(&packet, closed, BYTES, buffer, sizeof buffer, &written) == XNS_TOO_LONG);
@@ -34,6 +39,8 @@ int main(void) {
     CHECK(xns_endpoint_send(&endpoint, 0, 0, 1, closed, BYTES) == XNS_TOO_LONG && xns_endpoint_send(&endpoint, 0, 1, 1, closed, 535) == XNS_TOO_LONG);
     CHECK(xns_caller_call(&caller, 7, 2, 1, closed, WORDS) == XNS_TOO_LONG && xns_caller_call(&caller, 7, 2, 1, closed, 65531) == XNS_TOO_LONG);
     CHECK(xns_caller_feed(&caller, 0, 1, closed, BYTES) == XNS_TOO_LONG && xns_caller_feed(&caller, 1, 0, closed, 131077) == XNS_TOO_LONG);
+    CHECK(xns_server_feed(&server, 0, 1, closed, BYTES) == XNS_TOO_LONG && xns_server_feed(&server, 1, 0, closed, 131077) == XNS_TOO_LONG);
+    CHECK(xns_server_answer(&server, XNS_KIND_RETURN, 0, closed, WORDS) == XNS_NOTHING);
     message.kind = XNS_KIND_RETURN;
     CHECK(xns_message_write(&message, closed, 65534, buffer, sizeof buffer, &written) == XNS_SHORT_BUFFER && written == 131072);
     written = 7;
@@ -42,6 +49,13 @@ int main(void) {
     refuse_at = 0;
     CHECK(xns_endpoint_unacknowledged(&endpoint) == 0 && xns_endpoint_send(&endpoint, 0, 0, 1, buffer, 534) == XNS_OK);
     CHECK(xns_caller_feed(&caller, 0, 1, (const uint8_t *)"\0\3\0\3", 4) == XNS_OK); /* nothing was changed */
+    CHECK(xns_server_feed(&server, 0, 1, (const uint8_t *)"\0\3\0\3", 4) == XNS_OK && xns_server_feed(&server, 0, 1, (const uint8_t *)"\0\0\0\5\0\0\0\7\0\2\0\1", 12) == XNS_OK);
+    CHECK(xns_server_call(&server, &message, &word, 0, &written) == XNS_OK);
+    refuse_at = 1;
+    growths = 0;
+    CHECK(xns_server_answer(&server, XNS_KIND_RETURN, 0, closed, WORDS) == XNS_TOO_LONG && xns_server_answer(&server, XNS_KIND_RETURN, 0, closed, 65535) == XNS_TOO_LONG && growths == 0);
+    refuse_at = 0;
+    xns_server_free(&server);
     xns_endpoint_free(&endpoint);
     xns_caller_free(&caller);
     puts("ok");

@@ -14,7 +14,7 @@ use Rattle.courier_messages.specs.RawCalls.{caller_items}
 use Rattle.courier_messages.specs.Conversation.{conversation}
 use Rattle.courier_messages.specs.RawCalls.{call_message}
 use Rattle.courier_messages.specs.Laws.{items_of, IsShort, IsFaultless, Hears, HearsCalls, AFrontIsHeard, CallsAreHeard, OneItemMore, AServerHearsOneItemMore}
-use Rattle.courier_messages.specs.Called.{all_calls, server_ending}
+use Rattle.courier_messages.specs.Called.{server_ending}
 use Rattle.courier_messages.specs.RawCalls.{numbered, numbered_message}
 use Rattle.xns_c.specs.declared.program.XnsProgram.{XnsProgram}
 use Rattle.xns_c.specs.Answering.{Answering, transaction_in, is_a_call, after_item as after_heard}

@@ -1,6 +1,6 @@
 -- How many words a message has that was read.
 use Rattle.std.proofs.Common.{◌≡◌, ◌∙◌, ap, sym, refl, subst, ℕ, ◌+◌, ◌*◌, ◌≤◌, List, [], ◌∷◌, ◌++◌, length, arith, Bool, true, false, Result, Ok, Err}
-use Rattle.std.specs.Prelude.{Option, Some, None, nat_lt, ◌==◌, ◌%◌, if◌then◌else◌}
+use Rattle.std.specs.Prelude.{Option, Some, nat_lt, ◌==◌, ◌%◌, if◌then◌else◌}
 use Rattle.std.specs.List.{AllByRecursion}
 use Rattle.std.specs.Option.{option_to_list}
 use Rattle.std.proofs.lemmas.Bool.{ltb-false}
@@ -16,7 +16,7 @@ use Rattle.courier_messages.specs.Message.{most_words, most_bytes, message_words
 use Rattle.courier_messages.specs.Conversation.{Phase, VersionRange, unread, refused, agreed, version_range, without_mark, said_by, message_and, messages_in, messages_of, conversation, ending}
 use Rattle.courier_messages.specs.Text.{written, pieces_behind}
 use Rattle.courier_messages.specs.RawCalls.{RawCall, most_call_words}
-use Rattle.courier_messages.specs.Called.{all_calls, heard, server_ending}
+use Rattle.courier_messages.specs.Called.{all_calls}
 use Rattle.courier_messages.specs.Head.{words_in}
 use Rattle.xns_c.specs.declared.program.XnsProgram.{XnsProgram}
 use Rattle.xns_c.specs.Answering.{Answering, is_a_call}

@@ -14,6 +14,7 @@ use Rattle.xns_c.specs.Courier.{heard_number}
 use Rattle.xns_c.specs.declared.program.XnsProgram.{XnsProgram}
 use Rattle.xns_c.specs.declared.unlisted.Unlisted.{Unlisted}
 use Rattle.xns_c.specs.declared.unlisted.Unlisted.TheVariants as unlisted
+use Rattle.xns_c.specs.Talk.{longest_item}
 use Rattle.xns_c.specs.Results.{ok, nothing, bad_argument, too_long, stopped, busy}
 
 pub record Answering : Type 0 where
@@ -62,7 +63,7 @@ after_item a x = after_messages a (said a.phase (signs x)) (run a.phase (signs x
 
 -- what is told of an item
 abbrev pub feed_number : Answering → Item → ℕ
-feed_number a x = if a.failed then stopped else if is_busy a then busy else heard_number (after_item a x)
+feed_number a x = if a.failed then stopped else if is_busy a then busy else if nat_lt longest_item (length x.body) then too_long else heard_number (after_item a x)
 
 -- stopped
 abbrev pub IsStopped : Answering → Answering → Type 0

@@ -1,21 +1,25 @@
 //! The calling side of a Courier conversation that C holds by its handle.
 
 ghost use Rattle.std.specs.Prelude.{◌≡◌, ◌≢◌, ◌<◌, ◌≤◌, ℕ, List, [], ◌∷◌, length, true, false, IfOk, IfSome, Ok, Some, None};
+ghost use Rattle.xns_spp.specs.State.{State};
 ghost use Rattle.xns_spp.specs.declared.item.Item.{Item};
 ghost use Rattle.courier_messages.specs.declared.message.Message.{Message};
 ghost use Rattle.courier_messages.specs.RawCalls.{words_call};
-ghost use Rattle.xns_c.specs.Handle.{talk_of};
+ghost use Rattle.xns_c.specs.Handle.{line_of, talk_of};
 ghost use Rattle.courier_messages.specs.Head.{words_in};
 ghost use Rattle.xns_c.specs.Courier.{message_given, heard_number};
 ghost use Rattle.xns_c.specs.Given.{GivesItem, IsPut};
-ghost use Rattle.xns_c.specs.Results.{ok, nothing, no_memory, no_caller, short_buffer, stopped, too_long};
+ghost use Rattle.xns_c.specs.Line.{Keeps, packets_of};
+ghost use Rattle.xns_c.specs.Pumping.{caller_step, Pumped, IfBoth};
+ghost use Rattle.xns_c.specs.Results.{ok, nothing, no_memory, no_endpoint, no_caller, short_buffer, stopped, too_long};
 ghost use Rattle.xns_c.specs.Talk.{Talk, new_talk, called, call_number, longest_item, after_item, IsStopped};
 ghost use Rattle.xns_c.specs.Views.{item_given};
 
 use crate::caller_handle::XnsCaller;
+use crate::handle::XnsEndpoint;
 use crate::item::XnsItem;
 use crate::message::XnsMessage;
-use crate::results::{NO_CALLER, NO_MEMORY, OK};
+use crate::results::{NO_CALLER, NO_ENDPOINT, NO_MEMORY, OK};
 use crate::session::Session;
 use std::alloc::{AllocError, Global};
 
@@ -133,6 +137,36 @@ pub extern "C" fn xns_caller_feed(
         return NO_CALLER;
     };
     let result = session.feed(alloc, stream, last, body);
+    handle.put(session);
+    result
+}
+
+/// Moves items both ways between the session and an endpoint until nothing moves. What is to go out is sent, as far as the endpoint accepts it; once
+/// nothing is out, what waits at the endpoint is fed to the session. The session's memory and the endpoint's are all that it takes.
+///
+/// `NO_CALLER`; `NO_ENDPOINT`; else 0, or what `xns_caller_feed` answers to the first item that it refuses. That one waits at the endpoint still, and so
+/// does what comes behind it; what the endpoint does not accept is still to go out. After `NO_MEMORY` the same call goes on.
+#[unsafe(no_mangle)]
+pub extern "C" fn xns_caller_pump(
+    alloc: Global,
+    handle: &mut XnsCaller,
+    endpoint: &mut XnsEndpoint,
+) -> u32
+    ensures pumped { (t : Talk) (s : State) → talk_of handle.old ≡ Some t → Keeps (line_of endpoint.old) s →
+        IfBoth (talk_of handle.new) (line_of endpoint.new) (λ n l. Pumped caller_step IsStopped (t, s) result n l.endpoint) }
+    ensures packets { packets_of (line_of endpoint.new) ≡ packets_of (line_of endpoint.old) }
+    ensures no_caller { talk_of handle.old ≡ None → (result ≡ no_caller) × (talk_of handle.new ≡ None) × (line_of endpoint.new ≡ line_of endpoint.old) }
+    ensures no_endpoint { talk_of handle.old ≢ None → line_of endpoint.old ≡ None → (result ≡ no_endpoint) × (talk_of handle.new ≡ talk_of handle.old) × (line_of endpoint.new ≡ None) }
+{
+    let Some(mut session) = handle.take(alloc) else {
+        return NO_CALLER;
+    };
+    let Some(mut connection) = endpoint.take(alloc) else {
+        handle.put(session);
+        return NO_ENDPOINT;
+    };
+    let result = session.pump(alloc, &mut connection);
+    endpoint.put(connection);
     handle.put(session);
     result
 }

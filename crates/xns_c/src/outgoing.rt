@@ -1,6 +1,9 @@
 //! Items on their way out, and the words of messages.
 
-ghost use Rattle.std.specs.Prelude.{◌≡◌, ◌≢◌, ◌<◌, ◌≤◌, ℕ, List, [], ◌∷◌, length, IfOk};
+ghost use Rattle.std.specs.Prelude.{◌≡◌, ◌≢◌, ◌<◌, ◌≤◌, ℕ, List, [], ◌∷◌, length, true, false, IfOk, None};
+ghost use Rattle.xns_spp.specs.Held.{StandsFor};
+ghost use Rattle.xns_spp.specs.Sending.{send_fault, after_send};
+ghost use Rattle.xns_spp.specs.State.{State};
 ghost use Rattle.xns_spp.specs.declared.item.Item.{Item};
 ghost use Rattle.courier_messages.specs.Head.{with_words};
 ghost use Rattle.courier_messages.specs.Message.{message_words};
@@ -8,6 +11,7 @@ ghost use Rattle.xns_c.specs.Given.{GivesItem, IsPut};
 ghost use Rattle.xns_c.specs.Results.{ok, nothing, short_buffer};
 ghost use Rattle.xns_c.specs.Views.{item_given};
 
+use crate::connection::Connection;
 use crate::flag::as_byte;
 use crate::front::put_front;
 use crate::item::XnsItem;
@@ -16,6 +20,9 @@ use courier_messages::Head;
 use std::alloc::{AllocError, Global};
 use std::collections::VecDeque;
 use xns_spp::{Bytes, Item};
+
+/// The most bytes that an item may have: the versions and the longest message.
+pub const LONGEST_ITEM: usize = 131_076;
 
 /// Gives the first item that is to go out, its bytes to the front of the buffer. Where the buffer is too short the item stays.
 pub fn give_item(out: &mut VecDeque<Item>, item: &mut XnsItem, buffer: &mut [u8]) -> u32
@@ -41,6 +48,27 @@ pub fn give_item(out: &mut VecDeque<Item>, item: &mut XnsItem, buffer: &mut [u8]
         let _ = out.pop_front();
     }
     result
+}
+
+/// Sends the first item that is to go out, if there is one and the connection accepts it; whether it did.
+pub fn send_first(out: &mut VecDeque<Item>, connection: &mut Connection) -> bool
+    ensures sent { (s : State) (x : Item) (xs : List Item) → StandsFor connection.old.endpoint s → out.old.items ≡ x ∷ xs → result ≡ true →
+        (send_fault s x ≡ None) × (out.new.items ≡ xs) × StandsFor connection.new.endpoint (after_send s x) }
+    ensures refused { (s : State) (x : Item) (xs : List Item) → StandsFor connection.old.endpoint s → out.old.items ≡ x ∷ xs → result ≡ false → send_fault s x ≢ None }
+    ensures stays { result ≡ false → (out.new.items ≡ out.old.items) × (connection.new ≡ connection.old) }
+    ensures packets { connection.new.packets ≡ connection.old.packets }
+    ensures fewer { result ≡ true → length out.new.items < length out.old.items }
+{
+    let Some(first) = out.front() else {
+        return false;
+    };
+    if connection.refuses(first) {
+        return false;
+    }
+    if let Some(item) = out.pop_front() {
+        connection.accept(item);
+    }
+    true
 }
 
 /// An item of these parts, whose bytes are copied.

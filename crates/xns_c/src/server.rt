@@ -1,21 +1,26 @@
 //! The side of a Courier conversation that is called, which C holds by its handle.
 
 ghost use Rattle.std.specs.Prelude.{◌≡◌, ◌≢◌, ◌<◌, ◌≤◌, ℕ, List, [], ◌∷◌, length, true, false, IfOk, IfSome, Ok, Some, None};
+ghost use Rattle.xns_spp.specs.State.{State};
 ghost use Rattle.xns_spp.specs.declared.item.Item.{Item};
 ghost use Rattle.courier_messages.specs.declared.message.Message.{Message};
 ghost use Rattle.courier_messages.specs.Head.{words_in};
 ghost use Rattle.xns_c.specs.Answering.{Answering, new_answering, is_busy, after_item, feed_number, IsStopped, after_call, call_refusal, after_reject, answer_given, answers_to, answer_number, answered};
 ghost use Rattle.xns_c.specs.Courier.{message_given};
 ghost use Rattle.xns_c.specs.Given.{GivesItem, IsPut};
-ghost use Rattle.xns_c.specs.Handle.{answering_of};
-ghost use Rattle.xns_c.specs.Results.{ok, nothing, no_memory, no_server, short_buffer};
+ghost use Rattle.xns_c.specs.Handle.{answering_of, line_of};
+ghost use Rattle.xns_c.specs.Line.{Keeps, packets_of};
+ghost use Rattle.xns_c.specs.Pumping.{server_step, Pumped, IfBoth};
+ghost use Rattle.xns_c.specs.Results.{ok, nothing, no_memory, no_endpoint, no_server, short_buffer, too_long};
+ghost use Rattle.xns_c.specs.Talk.{longest_item};
 ghost use Rattle.xns_c.specs.Views.{item_given};
 ghost use Rattle.xns_c.specs.declared.unlisted.Unlisted.{Unlisted};
 
+use crate::handle::XnsEndpoint;
 use crate::item::XnsItem;
 use crate::message::XnsMessage;
 use crate::program::XnsProgram;
-use crate::results::{NO_MEMORY, NO_SERVER, OK};
+use crate::results::{NO_ENDPOINT, NO_MEMORY, NO_SERVER, OK};
 use crate::server_handle::XnsServer;
 use crate::server_session::ServerSession;
 use std::alloc::{AllocError, Global};
@@ -60,8 +65,9 @@ pub extern "C" fn xns_server_clear(alloc: Global, handle: &mut XnsServer)
 
 /// Takes in an item of the peer's, whose bytes are copied. `last` is 0 for no.
 ///
-/// `NO_SERVER`; `STOPPED`; `BUSY` while a call waits for its answer, or something is out; else why the session stops. `BAD_REPLY` is a message that is
-/// no call. After `BUSY`, and after `NO_MEMORY` where memory is refused, the session is as it was, and the item can be fed again.
+/// `NO_SERVER`; `STOPPED`; `BUSY` while a call waits for its answer, or something is out; `TOO_LONG` for more than 131,076 bytes, which no message has:
+/// they are not looked at; else why the session stops. `BAD_REPLY` is a message that is no call. After `BUSY` and `TOO_LONG`, and after `NO_MEMORY`
+/// where memory is refused, the session is as it was; what was busy or without memory can be fed the item again.
 #[unsafe(no_mangle)]
 pub extern "C" fn xns_server_feed(
     alloc: Global,
@@ -73,7 +79,8 @@ pub extern "C" fn xns_server_feed(
     ensures number { (a : Answering) → answering_of handle.old ≡ Some a → result ≢ no_memory → result ≡ feed_number a (item_given stream 0 last body.now) }
     ensures heard { (a n : Answering) → answering_of handle.old ≡ Some a → result ≡ ok → after_item a (item_given stream 0 last body.now) ≡ Ok n → answering_of handle.new ≡ Some n }
     ensures memory { (a : Answering) → answering_of handle.old ≡ Some a → result ≡ no_memory → (a.failed ≡ false) × (is_busy a ≡ false) × (answering_of handle.new ≡ Some a) }
-    ensures stops { (a : Answering) → answering_of handle.old ≡ Some a → a.failed ≡ false → is_busy a ≡ false → result ≢ ok → result ≢ no_memory → IfSome (answering_of handle.new) (IsStopped a) }
+    ensures stops { (a : Answering) → answering_of handle.old ≡ Some a → a.failed ≡ false → is_busy a ≡ false → result ≢ ok → result ≢ no_memory → result ≢ too_long → IfSome (answering_of handle.new) (IsStopped a) }
+    ensures unheard { result ≡ too_long → (longest_item < length body.now) × (answering_of handle.new ≡ answering_of handle.old) }
     ensures stays { (a : Answering) → answering_of handle.old ≡ Some a → answering_of handle.new ≢ None }
     ensures waits { (a : Answering) → answering_of handle.old ≡ Some a → is_busy a ≡ true → answering_of handle.new ≡ Some a }
     ensures stopped { (a : Answering) → answering_of handle.old ≡ Some a → a.failed ≡ true → answering_of handle.new ≡ Some a }
@@ -190,6 +197,36 @@ pub extern "C" fn xns_server_next_item(
         return NO_SERVER;
     };
     let result = session.next_item(item, buffer);
+    handle.put(session);
+    result
+}
+
+/// Moves items both ways between the session and an endpoint until nothing moves. What is to go out is sent, as far as the endpoint accepts it; once
+/// nothing is out, what waits at the endpoint is fed to the session, until it is busy.
+///
+/// `NO_SERVER`; `NO_ENDPOINT`; else 0, or what `xns_server_feed` answers to the first item that it refuses for another reason than `BUSY`. What is not fed
+/// waits at the endpoint still, and what the endpoint does not accept is still to go out. After `NO_MEMORY` the same call goes on.
+#[unsafe(no_mangle)]
+pub extern "C" fn xns_server_pump(
+    alloc: Global,
+    handle: &mut XnsServer,
+    endpoint: &mut XnsEndpoint,
+) -> u32
+    ensures pumped { (a : Answering) (s : State) → answering_of handle.old ≡ Some a → Keeps (line_of endpoint.old) s →
+        IfBoth (answering_of handle.new) (line_of endpoint.new) (λ n l. Pumped server_step IsStopped (a, s) result n l.endpoint) }
+    ensures packets { packets_of (line_of endpoint.new) ≡ packets_of (line_of endpoint.old) }
+    ensures no_server { answering_of handle.old ≡ None → (result ≡ no_server) × (answering_of handle.new ≡ None) × (line_of endpoint.new ≡ line_of endpoint.old) }
+    ensures no_endpoint { answering_of handle.old ≢ None → line_of endpoint.old ≡ None → (result ≡ no_endpoint) × (answering_of handle.new ≡ answering_of handle.old) × (line_of endpoint.new ≡ None) }
+{
+    let Some(mut session) = handle.take(alloc) else {
+        return NO_SERVER;
+    };
+    let Some(mut connection) = endpoint.take(alloc) else {
+        handle.put(session);
+        return NO_ENDPOINT;
+    };
+    let result = session.pump(alloc, &mut connection);
+    endpoint.put(connection);
     handle.put(session);
     result
 }
