@@ -3,6 +3,7 @@
 
 mod asking;
 mod calls;
+mod capture;
 mod connection;
 mod counting_lines;
 mod dumping;
@@ -25,5 +26,6 @@ fn main(rt: HostRuntime) -> Result<(), anyhow::Error> {
     counting_lines::count(&rt)?;
     scripting::read(&rt)?;
     simulating::play(&rt)?;
-    dumping::show(&rt)
+    dumping::show(&rt)?;
+    capture::show(&rt)
 }

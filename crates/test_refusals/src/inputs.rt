@@ -1,7 +1,8 @@
-//! `dump` and `sim`, over an input and a text in memory.
+//! `dump`, `calls` and `sim`, over an input and a text in memory.
 
 use crate::outcome::{Outcome, done, refused};
 use std::alloc::{AllocError, Global};
+use xns_calls::calls;
 use xns_dump::dump;
 use xns_lines::RunFault;
 use xns_sim::sim;
@@ -15,6 +16,17 @@ const REPORT: &[u8] =
 1 spp control 50 stream 0 source 1234 target 5678 seq 1 ack 0 alloc 3
 1 item 1
 1 call 1 program 7 version 2 procedure 1 args 0005
+";
+
+/// The versions, and a call of two items, of which the second comes first.
+const CAPTURE: &[u8] =
+    b"cf2a002e0005000000010000aa0001020005000000010000aa000304040050001234567800000000000300030003
+ffff002e0005000000010000aa0001020005000000010000aa000304040050001234567800020000000300010005
+ffff00340005000000010000aa0001020005000000010000aa000304040040001234567800010000000300000001000000070002
+";
+
+const CALLS: &[u8] = b"1 1a flow to 00000001.0000aa000102.0005 id 5678 from 00000001.0000aa000304.0400 id 1234
+3 1a call 1 program 7 version 2 procedure 1 args 0005
 ";
 
 /// A call whose answer comes before the server's versions.
@@ -35,6 +47,20 @@ pub fn dumps(alloc: Global) -> Result<Outcome, AllocError> {
     let mut input = PACKET;
     let again = dump(alloc, &mut input, &mut text);
     Ok(refused(stood, again == Ok(false) && text.as_slice() == REPORT))
+}
+
+pub fn reads_calls(alloc: Global) -> Result<Outcome, AllocError> {
+    let mut text = Vec::with_capacity(alloc, CALLS.len())?;
+    let mut input = CAPTURE;
+    let answer = calls(alloc, &mut input, &mut text);
+    if answer == Ok(false) {
+        return Ok(done(text.as_slice() == CALLS));
+    }
+    let stood = answer == Err(RunFault::NoMemory) && CALLS.starts_with(text.as_slice());
+    text.clear();
+    let mut input = CAPTURE;
+    let again = calls(alloc, &mut input, &mut text);
+    Ok(refused(stood, again == Ok(false) && text.as_slice() == CALLS))
 }
 
 pub fn plays(alloc: Global) -> Result<Outcome, AllocError> {
