@@ -1,0 +1,47 @@
+//! The table of the tally.
+ghost use Rattle.std.specs.Prelude.{◌≡◌, IfOk};
+ghost use Rattle.courier_calls.specs.Table.{table_model, IsCheckedTable};
+ghost use Rattle.courier_calls.specs.Tally.{tally};
+
+use crate::table::{Entry, ErrorEntry, Procedure, Table};
+use courier_types::Shape;
+use std::alloc::{AllocError, Global};
+
+fn make_table(alloc: Global) -> Result<Table, AllocError>
+    ensures { IfOk result (λ t. table_model t ≡ tally.table) }
+{
+    let mut procedures = Vec::with_capacity(alloc, 2)?;
+    procedures.push(Procedure {
+        number: 1,
+        arguments: Shape::Cardinal,
+        results: Shape::LongCardinal,
+    })?;
+    procedures.push(Procedure {
+        number: 2,
+        arguments: Shape::Fields(Vec::new(alloc)),
+        results: Shape::LongCardinal,
+    })?;
+    let mut errors = Vec::with_capacity(alloc, 1)?;
+    errors.push(ErrorEntry {
+        number: 1,
+        arguments: Shape::LongCardinal,
+    })?;
+    let mut entries = Vec::with_capacity(alloc, 1)?;
+    entries.push(Entry {
+        program: 7,
+        low: 1,
+        high: 2,
+        procedures,
+        errors,
+    })?;
+    Ok(Table { entries })
+}
+
+/// The table of the tally: program 7, versions 1 to 2. Procedure 1 adds a cardinal, 2 tells the total; error 1, with
+/// the total, where it would be over a million.
+pub fn tally_table(alloc: Global) -> Result<Table, AllocError>
+    ensures names { IfOk result (λ t. table_model t ≡ tally.table) }
+    ensures checked { IfOk result (λ t. IsCheckedTable (table_model t)) }
+{
+    make_table(alloc)
+}
