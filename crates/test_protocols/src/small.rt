@@ -1,26 +1,23 @@
-//! Echo, Error and Packet Exchange over worked examples, by hand from the standard, their sums checked by a separate program.
+//! Echo, Error and Packet Exchange.
+use crate::hexed::Hexed;
 use crate::worked::{CALLER, ECHO_REQUEST, ECHO_SERVER, SERVER};
-use std::alloc::Global;
-use std::test::Fail;
+use anyhow::Context;
+use std::alloc::{AllocError, Global};
 use xns_idp::{Address, Packet, decode};
 use xns_small::{
-    Echo, ErrorReport, Exchange, Requester, SmallFault, answer_echo, complain, error_number,
-    read_echo, read_error, read_exchange, write_echo, write_error, write_exchange,
+    Echo, ErrorReport, Exchange, Requester, answer_echo, complain, error_number, read_echo,
+    read_error, read_exchange, write_echo, write_error, write_exchange,
 };
 
-/// The reply to `ECHO_REQUEST`.
-const ECHO_REPLY: [u8; 34] = [
-    0x17, 0x27, 0x00, 0x22, 0x00, 0x02, 0x00, 0x00, 0x00, 0x01, 0x00, 0x00, 0xaa, 0x00, 0x03, 0x04,
-    0x04, 0x00, 0x00, 0x00, 0x00, 0x01, 0x00, 0x00, 0xaa, 0x00, 0x01, 0x02, 0x00, 0x02, 0x00, 0x02,
-    0x48, 0x69,
-];
-
-/// A packet exchange request from `CALLER` to `SERVER`.
-const EXCHANGE_REQUEST: [u8; 38] = [
-    0x76, 0xea, 0x00, 0x26, 0x00, 0x04, 0x00, 0x00, 0x00, 0x01, 0x00, 0x00, 0xaa, 0x00, 0x01, 0x02,
-    0x00, 0x05, 0x00, 0x00, 0x00, 0x01, 0x00, 0x00, 0xaa, 0x00, 0x03, 0x04, 0x04, 0x00, 0x00, 0x01,
-    0x00, 0x02, 0x00, 0x03, 0xaa, 0xbb,
-];
+pub fn show(rt: &HostRuntime) -> Result<(), anyhow::Error> {
+    show_answers(rt)?;
+    show_complaint(rt)?;
+    show_no_complaints(rt)?;
+    show_padded_complaint(rt)?;
+    show_requester(rt)?;
+    show_bodies_read(rt)?;
+    show_bodies_written(rt)
+}
 
 /// An Echo packet from `CALLER`.
 fn echo_to(target: Address, body: &[u8]) -> Packet<'_> {
@@ -34,28 +31,40 @@ fn echo_to(target: Address, body: &[u8]) -> Packet<'_> {
     }
 }
 
-/// Whether `ECHO_SERVER` answers the packet.
-fn is_answered(alloc: Global, packet: &Packet<'_>) -> Result<bool, Fail> {
+/// The answer of the Echo server at the address, if there is one.
+fn answer(
+    alloc: Global,
+    server: Address,
+    packet: &Packet<'_>,
+) -> Result<Option<Vec<u8>>, AllocError> {
     if packet.body.len() > 546 {
-        return Ok(false);
+        return Ok(None);
     }
-    Ok(answer_echo(alloc, ECHO_SERVER, packet)?.is_some())
+    answer_echo(alloc, server, packet)
 }
 
-#[test]
-fn a_request_is_answered_with_a_right_sum(rt: HostRuntime) -> Result<(), Fail> {
-    let (request, _) = decode(&ECHO_REQUEST).ok().ok_or("no packet")?;
-    assert!(rt; request.body.len() <= 546);
-    let reply = answer_echo(rt.alloc(), ECHO_SERVER, &request)?.ok_or("no reply")?;
-    assert_eq!(rt; reply.as_slice(), ECHO_REPLY.as_slice());
+/// Bytes as digits of hex, or that there are none.
+fn show_bytes(rt: &HostRuntime, name: &str, bytes: &Option<Vec<u8>>) -> Result<(), anyhow::Error> {
+    match bytes {
+        Some(bytes) => println!(rt; "{name}: {}", Hexed(bytes))?,
+        None => println!(rt; "{name}: none")?,
+    }
     Ok(())
 }
 
-#[test]
-fn only_requests_to_this_socket_of_this_host_or_of_the_broadcast_host_are_answered(
-    rt: HostRuntime,
-) -> Result<(), Fail> {
-    let request = [0, 1, 0x48, 0x69];
+/// Only requests to this socket of this host, or of the broadcast host, are answered.
+fn show_answers(rt: &HostRuntime) -> Result<(), anyhow::Error> {
+    let (request, _) = decode(&ECHO_REQUEST).ok().context("no packet")?;
+    let reply = answer(rt.alloc(), ECHO_SERVER, &request)?;
+    show_bytes(rt, "the reply to an Echo request", &reply)?;
+    let bytes = reply.context("no reply")?;
+    let (packet, _) = decode(&bytes).ok().context("no packet")?;
+    show_bytes(
+        rt,
+        "the reply to that",
+        &answer(rt.alloc(), CALLER, &packet)?,
+    )?;
+    let body = [0, 1, 0x48, 0x69];
     let broadcast_host = Address {
         host: [255; 6],
         ..ECHO_SERVER
@@ -68,77 +77,87 @@ fn only_requests_to_this_socket_of_this_host_or_of_the_broadcast_host_are_answer
         network: 9,
         ..ECHO_SERVER
     };
+    let exchange = Packet {
+        kind: 4,
+        ..echo_to(ECHO_SERVER, &body)
+    };
     let cases = [
-        (echo_to(ECHO_SERVER, &request), true),
-        (echo_to(broadcast_host, &request), true),
-        (echo_to(other_network, &request), true),
-        (echo_to(other_host, &request), false),
-        (echo_to(SERVER, &request), false),
-        (echo_to(ECHO_SERVER, &[0, 2, 0x48, 0x69]), false),
-        (echo_to(ECHO_SERVER, &[0]), false),
-        (
-            Packet {
-                kind: 4,
-                ..echo_to(ECHO_SERVER, &request)
-            },
-            false,
-        ),
+        ("a request to the Echo server", echo_to(ECHO_SERVER, &body)),
+        ("one to the broadcast host", echo_to(broadcast_host, &body)),
+        ("one to another network", echo_to(other_network, &body)),
+        ("one to another host", echo_to(other_host, &body)),
+        ("one to another socket", echo_to(SERVER, &body)),
+        ("a reply", echo_to(ECHO_SERVER, &[0, 2, 0x48, 0x69])),
+        ("half an operation word", echo_to(ECHO_SERVER, &[0])),
+        ("another type of packet", exchange),
     ];
-    for (packet, answered) in &cases {
-        assert_eq!(rt; is_answered(rt.alloc(), packet)?, *answered);
+    for (name, packet) in &cases {
+        let is_answered = answer(rt.alloc(), ECHO_SERVER, packet)?.is_some();
+        println!(rt; "{name} is answered: {is_answered}")?;
     }
     Ok(())
 }
 
-#[test]
-fn a_reply_is_not_answered(rt: HostRuntime) -> Result<(), Fail> {
-    let (reply, _) = decode(&ECHO_REPLY).ok().ok_or("no packet")?;
-    assert!(rt; reply.body.len() <= 546);
-    assert!(rt; answer_echo(rt.alloc(), CALLER, &reply)?.is_none());
-    Ok(())
-}
-
-#[test]
-fn a_damaged_packet_is_complained_of_to_its_source(rt: HostRuntime) -> Result<(), Fail> {
-    let alloc = rt.alloc();
+/// The request with its last two words exchanged, so that its sum is wrong.
+fn damaged() -> [u8; 34] {
     let mut damaged = ECHO_REQUEST;
     damaged[30..].copy_from_slice(&[0x48, 0x69, 0x00, 0x01]);
-    let complaint = complain(alloc, ECHO_SERVER, error_number::BAD_CHECKSUM, 0, &damaged)?.ok_or(
-        "no complaint",
-    )?;
-    assert_eq!(rt; complaint.len(), 68);
-    let (packet, _) = decode(complaint.as_slice()).ok().ok_or("no packet")?;
-    assert_eq!(rt; packet.kind, 3);
-    assert_eq!(rt; packet.target, CALLER);
-    assert_eq!(rt; packet.source, ECHO_SERVER);
-    let report = read_error(packet.body).ok().ok_or("no report")?;
-    assert_eq!(rt; report.number, 1);
-    assert_eq!(rt; report.parameter, 0);
-    assert_eq!(rt; report.quoted, damaged.as_slice());
-    assert!(rt; complain(alloc, CALLER, 1, 0, complaint.as_slice())?.is_none());
-    damaged[10..16].copy_from_slice(&[255; 6]);
-    assert!(rt; complain(alloc, ECHO_SERVER, 1, 0, &damaged)?.is_none());
-    assert!(rt; complain(alloc, ECHO_SERVER, 1, 0, &damaged[..29])?.is_none());
-    Ok(())
+    damaged
 }
 
-#[test]
-fn padding_behind_the_offending_packet_is_quoted_as_given(rt: HostRuntime) -> Result<(), Fail> {
+/// A damaged packet is complained of to its source.
+fn show_complaint(rt: &HostRuntime) -> Result<(), anyhow::Error> {
+    let alloc = rt.alloc();
+    let complaint = complain(
+        alloc,
+        ECHO_SERVER,
+        error_number::BAD_CHECKSUM,
+        0,
+        &damaged(),
+    )?
+    .context("no complaint")?;
+    println!(rt; "a complaint has {} bytes", complaint.len())?;
+    let (packet, _) = decode(&complaint).ok().context("no packet")?;
+    println!(rt; "  kind {}, to {:?}", packet.kind, packet.target)?;
+    println!(rt; "  from {:?}", packet.source)?;
+    let report = read_error(packet.body).ok().context("no report")?;
+    println!(rt;
+        "  number {}, parameter {}",
+        report.number, report.parameter
+    )?;
+    println!(rt; "  it quotes {}", Hexed(report.quoted))?;
+    let again = complain(alloc, CALLER, 1, 0, &complaint)?;
+    show_bytes(rt, "a complaint of that", &again)
+}
+
+/// There is no complaint of a packet to the broadcast host, nor of what has no header.
+fn show_no_complaints(rt: &HostRuntime) -> Result<(), anyhow::Error> {
+    let mut bytes = damaged();
+    bytes[10..16].copy_from_slice(&[255; 6]);
+    let of_broadcast = complain(rt.alloc(), ECHO_SERVER, 1, 0, &bytes)?;
+    show_bytes(
+        rt,
+        "a complaint of a packet to the broadcast host",
+        &of_broadcast,
+    )?;
+    let few = bytes.get(..29).unwrap_or_default();
+    let of_few = complain(rt.alloc(), ECHO_SERVER, 1, 0, few)?;
+    show_bytes(rt, "a complaint of its first 29 bytes", &of_few)
+}
+
+/// Padding behind the offending packet is quoted as it was given.
+fn show_padded_complaint(rt: &HostRuntime) -> Result<(), anyhow::Error> {
     let mut padded = ECHO_REQUEST.to_vec(rt.alloc())?;
     padded.extend_from_slice(&[0; 12])?;
-    let complaint = complain(rt.alloc(), ECHO_SERVER, 0, 0, padded.as_slice())?.ok_or(
-        "no complaint",
+    let complaint = complain(rt.alloc(), ECHO_SERVER, 0, 0, &padded)?.context("no complaint")?;
+    let (packet, _) = decode(&complaint).ok().context("no packet")?;
+    let report = read_error(packet.body).ok().context("no report")?;
+    println!(rt;
+        "of 46 bytes a complaint quotes {}: {}",
+        report.quoted.len(),
+        Hexed(report.quoted)
     )?;
-    let (packet, _) = decode(complaint.as_slice()).ok().ok_or("no packet")?;
-    let report = read_error(packet.body).ok().ok_or("no report")?;
-    assert_eq!(rt; report.quoted.len(), 42);
-    assert_eq!(rt; report.quoted, &padded.as_slice()[..42]);
     Ok(())
-}
-
-/// The request that the next tests are about.
-fn asked(alloc: Global) -> Result<Requester, Fail> {
-    Ok(Requester::request(alloc, CALLER, SERVER, 0x0001_0002, 3, &[0xaa, 0xbb])?)
 }
 
 /// A packet exchange packet from the service to `CALLER`.
@@ -150,34 +169,27 @@ fn response(body: &[u8]) -> Packet<'_> {
     }
 }
 
-#[test]
-fn a_requester_asks_the_same_each_time(rt: HostRuntime) -> Result<(), Fail> {
-    let requester = asked(rt.alloc())?;
-    assert_eq!(rt; requester.try_again(), EXCHANGE_REQUEST.as_slice());
-    assert_eq!(rt; requester.try_again(), EXCHANGE_REQUEST.as_slice());
-    Ok(())
+/// A response from another address.
+fn response_from(source: Address, body: &[u8]) -> Packet<'_> {
+    Packet {
+        source,
+        ..response(body)
+    }
 }
 
-#[test]
-fn a_response_is_accepted_from_any_network(rt: HostRuntime) -> Result<(), Fail> {
-    let requester = asked(rt.alloc())?;
+/// A requester asks the same each time, and accepts a response from any network.
+fn show_requester(rt: &HostRuntime) -> Result<(), anyhow::Error> {
+    let requester = Requester::request(rt.alloc(), CALLER, SERVER, 0x0001_0002, 3, &[0xaa, 0xbb])?;
+    println!(rt;
+        "a request of Packet Exchange: {}",
+        Hexed(requester.try_again())
+    )?;
+    println!(rt; "it once more: {}", Hexed(requester.try_again()))?;
     let body = [0, 1, 0, 2, 0, 4, 0xcc];
-    let other_network = Packet {
-        source: Address {
-            network: 9,
-            ..SERVER
-        },
-        ..response(&body)
+    let other_network = Address {
+        network: 9,
+        ..SERVER
     };
-    assert_eq!(rt; requester.accept(&response(&body)), Some([0xcc].as_slice()));
-    assert_eq!(rt; requester.accept(&other_network), Some([0xcc].as_slice()));
-    Ok(())
-}
-
-#[test]
-fn what_is_no_response_is_not_accepted(rt: HostRuntime) -> Result<(), Fail> {
-    let requester = asked(rt.alloc())?;
-    let body = [0, 1, 0, 2, 0, 4, 0xcc];
     let other_socket = Address {
         socket: 6,
         ..SERVER
@@ -186,104 +198,78 @@ fn what_is_no_response_is_not_accepted(rt: HostRuntime) -> Result<(), Fail> {
         host: [0, 0, 0xaa, 0, 3, 4],
         ..SERVER
     };
-    let refused = [
-        response(&[0, 1, 0, 3, 0, 4, 0xcc]),
-        response(&[0, 1, 0, 2, 0]),
-        Packet {
-            source: other_socket,
-            ..response(&body)
-        },
-        Packet {
-            source: other_host,
-            ..response(&body)
-        },
-        Packet {
-            kind: 2,
-            ..response(&body)
-        },
+    let echo = Packet {
+        kind: 2,
+        ..response(&body)
+    };
+    let cases = [
+        ("a response", response(&body)),
+        (
+            "one from another network",
+            response_from(other_network, &body),
+        ),
+        ("one with another id", response(&[0, 1, 0, 3, 0, 4, 0xcc])),
+        ("one of 5 bytes", response(&[0, 1, 0, 2, 0])),
+        (
+            "one from another socket",
+            response_from(other_socket, &body),
+        ),
+        ("one from another host", response_from(other_host, &body)),
+        ("another type of packet", echo),
     ];
-    for packet in &refused {
-        assert!(rt; requester.accept(packet).is_none());
+    for (name, packet) in &cases {
+        println!(rt; "{name}: accepted {:?}", requester.accept(packet))?;
     }
     Ok(())
 }
 
-#[test]
-fn short_bodies_and_other_operations_are_refused(rt: HostRuntime) {
-    assert_eq!(rt; read_echo(&[0]).err(), Some(SmallFault::Short { have: 1 }));
-    assert_eq!(rt;
-        read_echo(&[0, 3]).err(),
-        Some(SmallFault::EchoOperation { found: 3 })
-    );
-    assert_eq!(rt;
-        read_error(&[0, 0, 0]).err(),
-        Some(SmallFault::Short { have: 3 })
-    );
-    assert_eq!(rt;
-        read_exchange(&[0, 0, 0, 0, 0]).err(),
-        Some(SmallFault::Short { have: 5 })
-    );
+/// Bodies are read; short ones and other operations are refused.
+fn show_bodies_read(rt: &HostRuntime) -> Result<(), anyhow::Error> {
+    let echoes: [&[u8]; 3] = [&[0], &[0, 3], &[0, 2, 0x48]];
+    for body in echoes {
+        println!(rt; "{} of Echo: {:?}", Hexed(body), read_echo(body))?;
+    }
+    let errors: [&[u8]; 2] = [&[0, 0, 0], &[0, 2, 0, 9, 7]];
+    for body in errors {
+        println!(rt; "{} of Error: {:?}", Hexed(body), read_error(body))?;
+    }
+    let exchanges: [&[u8]; 2] = [&[0, 0, 0, 0, 0], &[0, 1, 0, 2, 0, 3, 0xaa]];
+    for body in exchanges {
+        println!(rt;
+            "{} of Packet Exchange: {:?}",
+            Hexed(body),
+            read_exchange(body)
+        )?;
+    }
+    Ok(())
 }
 
-#[test]
-fn bodies_are_read(rt: HostRuntime) {
-    let echo = read_echo(&[0, 2, 0x48]).ok();
-    assert!(rt;
-        echo == Some(Echo {
-            reply: true,
-            body: &[0x48]
-        })
-    );
-    let report = read_error(&[0, 2, 0, 9, 7]).ok();
-    let expected = ErrorReport {
+/// Bodies are appended; an error report quotes at most 42 bytes.
+fn show_bodies_written(rt: &HostRuntime) -> Result<(), anyhow::Error> {
+    let alloc = rt.alloc();
+    let request = Echo {
+        reply: false,
+        body: &[0x48, 0x69],
+    };
+    let exchange = Exchange {
+        id: 1,
+        client: 2,
+        body: &[],
+    };
+    let mut out = vec![in alloc; 0xaa]?;
+    write_echo(alloc, &request, &mut out)?;
+    write_exchange(alloc, &exchange, &mut out)?;
+    println!(rt; "Echo and Packet Exchange behind aa: {}", Hexed(&out))?;
+    let report = ErrorReport {
         number: 2,
-        parameter: 9,
-        quoted: &[7],
+        parameter: 0,
+        quoted: &[7; 44],
     };
-    assert!(rt; report == Some(expected));
-    let exchange = read_exchange(&[0, 1, 0, 2, 0, 3, 0xaa]).ok();
-    let expected = Exchange {
-        id: 0x10002,
-        client: 3,
-        body: &[0xaa],
-    };
-    assert!(rt; exchange == Some(expected));
-}
-
-#[test]
-fn bodies_are_appended(rt: HostRuntime) -> Result<(), Fail> {
-    let mut out = vec![in rt.alloc(); 0xaa]?;
-    write_echo(
-        rt.alloc(),
-        &Echo {
-            reply: false,
-            body: &[0x48, 0x69],
-        },
-        &mut out,
+    let mut quoting = Vec::new(alloc);
+    write_error(alloc, &report, &mut quoting)?;
+    println!(rt;
+        "an error report that quotes 44 bytes has {}",
+        quoting.len()
     )?;
-    write_exchange(
-        rt.alloc(),
-        &Exchange {
-            id: 1,
-            client: 2,
-            body: &[],
-        },
-        &mut out,
-    )?;
-    assert_eq!(rt;
-        out.as_slice(),
-        [0xaa, 0, 1, 0x48, 0x69, 0, 0, 0, 1, 0, 2].as_slice()
-    );
-    let mut quoting = Vec::new(rt.alloc());
-    write_error(
-        rt.alloc(),
-        &ErrorReport {
-            number: 2,
-            parameter: 0,
-            quoted: &[7; 44],
-        },
-        &mut quoting,
-    )?;
-    assert_eq!(rt; quoting.len(), 46);
     Ok(())
 }
