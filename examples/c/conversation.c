@@ -61,47 +61,42 @@ static void carry(struct xns_endpoint *from, struct xns_endpoint *to) {
     }
 }
 
-static void send_item(struct xns_endpoint *from, struct xns_endpoint *to, const struct xns_item *item, const uint8_t *body) {
-    DO(xns_endpoint_send(from, item->stream, item->attention, item->last, body, item->length));
+/* What was sent goes out, and what tells the peer of the room that there is now. */
+static void send_packets(struct xns_endpoint *from, struct xns_endpoint *to) {
+    uint8_t packet[XNS_REPLY], reply[XNS_REPLY];
+    struct xns_received received;
+    size_t length;
     DO(xns_endpoint_flush(from));
     carry(from, to);
+    DO(xns_endpoint_system_packet(from, 0, packet, sizeof packet, &length));
+    DO(xns_endpoint_receive(to, packet, length, &received, reply, sizeof reply));
 }
 
-/* ---- the server's side: what is out goes out before the next item is fed */
-
-static void send_answers(struct xns_server *server, struct xns_endpoint *from, struct xns_endpoint *to, struct xns_caller *client);
-
-static void serve(struct xns_server *server, struct xns_endpoint *own, struct xns_endpoint *peer, struct xns_caller *client) {
-    static uint16_t words[WORDS];
-    struct xns_item item;
-    struct xns_message call;
-    uint8_t body[XNS_LONGEST_ITEM];
-    size_t count;
-    uint32_t result;
-    while (xns_endpoint_take(own, &item, body, sizeof body) == XNS_OK) {
-        DO(xns_server_feed(server, item.stream, item.last, body, item.length));
-        do result = xns_server_call(server, &call, words, WORDS, &count);
-        while (result == XNS_NO_MEMORY);
-        if (result == XNS_OK) answer(server, &call, words, count);
-        send_answers(server, own, peer, client);
-    }
-}
-
-/* The client takes each item as it comes, so that there is room for the next. */
-static void send_answers(struct xns_server *server, struct xns_endpoint *from, struct xns_endpoint *to, struct xns_caller *client) {
-    struct xns_item item;
-    uint8_t body[XNS_LONGEST_ITEM];
-    while (xns_server_next_item(server, &item, body, sizeof body) == XNS_OK) {
-        send_item(from, to, &item, body);
-        while (xns_endpoint_take(to, &item, body, sizeof body) == XNS_OK) DO(xns_caller_feed(client, item.stream, item.last, body, item.length));
-    }
-}
-
-/* ---- the client's side */
+/* ---- a turn of each side: the packets that came are in, items move, and packets go out */
 
 static struct xns_caller client;
 static struct xns_server server;
 static struct xns_endpoint a, b;
+
+static void turn_client(void) {
+    DO(xns_caller_pump(&client, &a));
+    send_packets(&a, &b);
+}
+
+static void turn_server(void) {
+    static uint16_t words[WORDS];
+    struct xns_message call;
+    size_t count;
+    uint32_t result;
+    DO(xns_server_pump(&server, &b));
+    do result = xns_server_call(&server, &call, words, WORDS, &count);
+    while (result == XNS_NO_MEMORY);
+    if (result == XNS_OK) answer(&server, &call, words, count);
+    DO(xns_server_pump(&server, &b));
+    send_packets(&b, &a);
+}
+
+/* ---- what the client asks */
 
 static void print_answer(const char *name, const struct xns_message *message, const uint16_t *words, size_t count) {
     static const char *const kinds[] = { "call", "reject", "return", "abort" };
@@ -113,15 +108,16 @@ static void print_answer(const char *name, const struct xns_message *message, co
 
 static void ask(const char *name, uint32_t program, uint16_t version, uint16_t procedure, const uint16_t *words, size_t count) {
     static uint16_t results[WORDS];
-    struct xns_item item;
     struct xns_message message;
-    uint8_t body[XNS_LONGEST_ITEM];
+    uint32_t told;
     DO(xns_caller_call(&client, program, version, procedure, words, count));
-    while (xns_caller_next_item(&client, &item, body, sizeof body) == XNS_OK) {
-        send_item(&a, &b, &item, body);
-        serve(&server, &b, &a, &client);
-    }
-    DO(xns_caller_outcome(&client, &message, results, WORDS, &count));
+    do {
+        turn_client();
+        turn_server();
+        DO(xns_caller_pump(&client, &a));
+        told = xns_caller_outcome(&client, &message, results, WORDS, &count);
+    } while (told == XNS_NOTHING);
+    if (told != XNS_OK) fail(__LINE__, told);
     print_answer(name, &message, results, count);
 }
 
@@ -129,29 +125,32 @@ static void ask(const char *name, uint32_t program, uint16_t version, uint16_t p
 
 static void send_closing(struct xns_endpoint *from, struct xns_endpoint *to, uint8_t stream) {
     const uint8_t none = 0;
-    struct xns_item item = { 0, 0, 1, 0 };
-    item.stream = stream;
-    send_item(from, to, &item, &none);
+    DO(xns_endpoint_send(from, stream, 0, 1, &none, 0));
+    send_packets(from, to);
+}
+
+/* The item that closes is next: the session stops at it, and it waits at the endpoint still. */
+static void take_closing(struct xns_endpoint *from, uint8_t stream, uint32_t told, uint32_t wanted) {
+    struct xns_item item;
+    uint8_t body[XNS_LONGEST_ITEM];
+    if (told != wanted) fail(__LINE__, told);
+    DO(xns_endpoint_take(from, &item, body, sizeof body));
+    if (item.stream != stream) fail(__LINE__, item.stream);
 }
 
 /* The client has nothing more to ask: an end, its reply, and the reply to that. */
 static void close_connection(void) {
-    struct xns_item item;
-    uint8_t body[XNS_LONGEST_ITEM];
     uint32_t told;
     send_closing(&a, &b, XNS_STREAM_END);
-    DO(xns_endpoint_take(&b, &item, body, sizeof body));
-    do told = xns_server_feed(&server, item.stream, item.last, body, item.length);
+    do told = xns_server_pump(&server, &b);
     while (told == XNS_NO_MEMORY);
-    if (told != XNS_CLOSING) fail(__LINE__, told);
+    take_closing(&b, XNS_STREAM_END, told, XNS_CLOSING);
     send_closing(&b, &a, XNS_STREAM_END_REPLY);
-    DO(xns_endpoint_take(&a, &item, body, sizeof body));
-    do told = xns_caller_feed(&client, item.stream, item.last, body, item.length);
+    do told = xns_caller_pump(&client, &a);
     while (told == XNS_NO_MEMORY);
-    if (told != XNS_CLOSING) fail(__LINE__, told);
+    take_closing(&a, XNS_STREAM_END_REPLY, told, XNS_CLOSING);
     send_closing(&a, &b, XNS_STREAM_END_REPLY);
-    DO(xns_endpoint_take(&b, &item, body, sizeof body));
-    if (item.stream != XNS_STREAM_END_REPLY) fail(__LINE__, item.stream);
+    take_closing(&b, XNS_STREAM_END_REPLY, xns_server_pump(&server, &b), XNS_STOPPED);
     puts("closed");
 }
 
@@ -167,7 +166,6 @@ int main(void) {
     carry(&a, &b);
     DO(xns_caller_new(&client));
     DO(xns_server_new(&server, programs, 1));
-    send_answers(&server, &b, &a, &client); /* the server's versions */
 
     ask("add", 7, 1, 1, many, 1);
     ask("add", 7, 2, 1, many, 1);
