@@ -1,0 +1,133 @@
+/* A Courier server over UDP, one packet a datagram, for up to 64 clients at once: server PORT. It keeps a tally: procedure 1 of program 7, version 1, adds
+ * a cardinal and returns the total. What is refused memory is tried again when the next packet comes, or a tenth of a second has passed. It ends with 0
+ * when it is told to, by SIGTERM. */
+#define _POSIX_C_SOURCE 200809L
+#include "xns.h"
+#include "udp.h"
+#include <signal.h>
+
+enum { CLIENTS = 64, MOST_TICKS = 50 };
+
+struct connection {
+    struct xns_endpoint end;
+    struct xns_server server;
+    struct sockaddr_in place;
+    int is_used, owes_reply;
+    int ticks; /* since a packet came: after MOST_TICKS the client is gone */
+};
+
+static const struct xns_address HERE = { 1, { 0, 0, 0xaa, 0, 1, 2 }, XNS_SOCKET_COURIER };
+static const struct xns_program PROGRAMS[] = { { 7, 1, 1 } };
+static struct connection connections[CLIENTS];
+static uint32_t total;
+static int udp;
+static volatile sig_atomic_t is_stopped;
+
+static void stop(int number) {
+    (void)number;
+    is_stopped = 1;
+}
+
+static void drop(struct connection *one) {
+    xns_endpoint_free(&one->end);
+    xns_server_free(&one->server);
+    one->is_used = 0;
+}
+
+/* The connection that a packet is for, or that it opens; null where there is none. */
+static struct connection *find(const uint8_t *packet, size_t length, const struct sockaddr_in *place) {
+    struct connection *one, *unused = NULL;
+    struct xns_address peer;
+    uint16_t peer_id;
+    for (one = connections; one < connections + CLIENTS; one++) {
+        if (xns_endpoint_is_ours(&one->end, packet, length)) return one;
+        if (!one->is_used) unused = one;
+    }
+    if (unused == NULL || xns_opening(packet, length, &peer, &peer_id) != XNS_OK) return NULL;
+    if (xns_endpoint_new_responder(&unused->end, &HERE, new_identifier(), &peer, peer_id, 8, 16) != XNS_OK) return NULL;
+    if (xns_server_new(&unused->server, PROGRAMS, 1) != XNS_OK) {
+        drop(unused);
+        return NULL;
+    }
+    unused->place = *place;
+    unused->is_used = 1;
+    unused->owes_reply = 0;
+    return unused;
+}
+
+/* Answers the call that was handed. One that is refused memory here is tried at once: it is handed once. */
+static void answer(struct xns_server *server, const struct xns_message *call, const uint16_t *words, size_t count) {
+    uint32_t told;
+    do {
+        if (call->procedure != 1) told = xns_server_answer(server, XNS_KIND_REJECT, XNS_REJECT_NO_SUCH_PROCEDURE, words, 0);
+        else if (count != 1) told = xns_server_answer(server, XNS_KIND_REJECT, XNS_REJECT_INVALID_ARGUMENTS, words, 0);
+        else {
+            const uint32_t sum = total + words[0];
+            const uint16_t results[] = { (uint16_t)(sum >> 16), (uint16_t)sum };
+            told = xns_server_answer(server, XNS_KIND_RETURN, 0, results, 2);
+            if (told == XNS_OK) total = sum;
+        }
+    } while (told == XNS_NO_MEMORY);
+}
+
+static void send_packets(struct connection *one) {
+    uint8_t packet[XNS_LONGEST_PACKET];
+    size_t length;
+    while (xns_endpoint_next_packet(&one->end, packet, sizeof packet, &length) == XNS_OK) udp_send(udp, packet, length, &one->place);
+}
+
+/* Items move, a call is answered, and packets go out. The item by which the client closes is answered. */
+static void turn(struct connection *one) {
+    static uint16_t words[XNS_MOST_CALL_WORDS];
+    struct xns_message call;
+    struct xns_item item;
+    uint8_t body[XNS_LONGEST_ITEM];
+    size_t count;
+    uint32_t told = xns_server_pump(&one->server, &one->end);
+    if (told == XNS_CLOSING) one->owes_reply = 1;
+    if (told == XNS_CLOSING || told == XNS_STOPPED) xns_endpoint_take(&one->end, &item, body, sizeof body);
+    else if (told != XNS_OK && told != XNS_NO_MEMORY) { /* what the client says is against the protocol */
+        drop(one);
+        return;
+    }
+    if (xns_server_call(&one->server, &call, words, XNS_MOST_CALL_WORDS, &count) == XNS_OK) answer(&one->server, &call, words, count);
+    if (told == XNS_OK) xns_server_pump(&one->server, &one->end);
+    if (one->owes_reply && xns_endpoint_send(&one->end, XNS_STREAM_END_REPLY, 0, 1, body, 0) == XNS_OK) one->owes_reply = 0;
+    if (xns_endpoint_flush(&one->end) == XNS_OK) send_packets(one);
+}
+
+static void tick(struct connection *one) {
+    if (++one->ticks == MOST_TICKS) drop(one);
+    else {
+        turn(one);
+        if (xns_endpoint_tick(&one->end) == XNS_OK) send_packets(one);
+    }
+}
+
+static void receive(struct connection *one, const uint8_t *packet, size_t length) {
+    uint8_t reply[XNS_REPLY];
+    struct xns_received received;
+    one->ticks = 0;
+    if (xns_endpoint_receive(&one->end, packet, length, &received, reply, sizeof reply) != XNS_OK) return; /* as if it were lost */
+    udp_send(udp, reply, received.reply, &one->place);
+    turn(one);
+}
+
+int main(int count, char **words) {
+    uint8_t packet[UDP_LONGEST];
+    struct sockaddr_in place;
+    struct connection *one;
+    if (count != 2) return 2;
+    signal(SIGTERM, stop);
+    udp = udp_open(words[1]);
+    while (!is_stopped) {
+        size_t length = udp_receive(udp, packet, &place);
+        one = length > 0 ? find(packet, length, &place) : NULL;
+        if (one != NULL) receive(one, packet, length);
+        if (is_tick_due())
+            for (one = connections; one < connections + CLIENTS; one++)
+                if (one->is_used) tick(one);
+    }
+    for (one = connections; one < connections + CLIENTS; one++) drop(one);
+    return 0;
+}

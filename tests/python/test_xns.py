@@ -1,0 +1,275 @@
+"""Tests of python/xns.py over the shared library: python3 -m unittest, with XNS_LIBRARY and PYTHONPATH set, as tests/c.sh does."""
+import pathlib
+import re
+import unittest
+
+import xns
+
+HEADER = (pathlib.Path(__file__).resolve().parents[2] / "include" / "xns.h").read_text(encoding="utf-8")
+HERE = xns.Address(1, bytes.fromhex("0000aa000102"), 2)
+THERE = xns.Address(1, bytes.fromhex("0000aa000304"), 1024)
+REQUEST = bytes.fromhex("532300220002000000010000aa0001020002000000010000aa000304040000014869")
+REPLY = bytes.fromhex("172700220002000000010000aa0003040400000000010000aa000102000200024869")
+OPENING = bytes.fromhex("cc1c002a0005000000010000aa0001020005000000010000aa0003040400c00012340000000000000003")
+
+
+class HeaderTest(unittest.TestCase):
+    """What the module says is what include/xns.h says."""
+
+    def numbers(self, name, prefix):
+        body = re.search(r"enum %s \{(.*?)\n\};" % name, HEADER, re.S).group(1)
+        return {found: int(number) for found, number in re.findall(r"^    XNS_%s(\w+) = (\d+)" % prefix, body, re.M)}
+
+    def test_numbers(self):
+        for name, prefix, ours in (
+            ("xns_result", "", xns.Result),
+            ("xns_dropped", "", xns.Dropped),
+            ("xns_type", "TYPE_", xns.PacketType),
+            ("xns_stream", "STREAM_", xns.Stream),
+            ("xns_message_kind", "KIND_", xns.Kind),
+            ("xns_reject", "REJECT_", xns.Reject),
+            ("xns_control", "CONTROL_", xns.Control),
+        ):
+            with self.subTest(name):
+                self.assertEqual({one.name: int(one) for one in ours}, self.numbers(name, prefix))
+        sizes = self.numbers("xns_size", "")
+        for name in ("LONGEST_PACKET", "LONGEST_ITEM", "MOST_WINDOW", "MOST_CALL_WORDS", "MOST_MESSAGE_WORDS"):
+            self.assertEqual(getattr(xns, name), sizes[name])
+
+    def test_calls(self):
+        declared = re.findall(r"^(?!static)[a-z][\w ]*[ *]xns_(\w+)\(", HEADER, re.M)
+        self.assertEqual(sorted(declared), sorted(xns._CALLS))
+
+    def test_version(self):
+        self.assertEqual(xns.version(), re.search(r'XNS_VERSION "(.*)"', HEADER).group(1))
+
+    def test_errors(self):
+        self.assertEqual(xns.NoMemory.result, xns.Result.NO_MEMORY)
+        self.assertTrue(issubclass(xns.WrongTransaction, xns.XnsError))
+        texts = dict(re.findall(r'case XNS_(\w+): return "(.*)";', HEADER))
+        self.assertEqual({"OK", "NOTHING"} | {one.name for one in xns._TEXTS}, set(texts))
+        self.assertTrue(all(texts[one.name] == text for one, text in xns._TEXTS.items()))
+
+
+class PacketTest(unittest.TestCase):
+    def test_decode(self):
+        packet = xns.decode(REQUEST + b"\xff")
+        self.assertEqual(packet, xns.Packet(HERE, THERE, xns.PacketType.ECHO, b"\0\1Hi", True, 0, 34))
+        self.assertEqual(xns.encode(packet), REQUEST)
+
+    def test_faults(self):
+        for data, error in ((REQUEST[:29], xns.Short), (REQUEST[:33], xns.Cut), (b"\x53\x24" + REQUEST[2:], xns.BadSum)):
+            with self.assertRaises(error):
+                xns.decode(data)
+        with self.assertRaises(xns.TooLong):
+            xns.encode(xns.Packet(HERE, THERE, 2, bytes(547)))
+        with self.assertRaises(xns.BadArgument):
+            xns.checksum(b"\1")
+
+    def test_numbers_are_not_cut(self):
+        with self.assertRaises(ValueError):
+            xns.encode(xns.Packet(HERE, THERE, 256, b""))
+        with self.assertRaises(ValueError):
+            xns.encode(xns.Packet(xns.Address(1, b"short", 2), THERE, 2, b""))
+
+    def test_checksum(self):
+        self.assertEqual([xns.checksum(bytes.fromhex(data)) for data in ("", "8000", "ffff", "ffff0001")], [0, 1, 0, 2])
+
+    def test_echo(self):
+        self.assertEqual(xns.echo_reply(HERE, REQUEST), REPLY)
+        self.assertIsNone(xns.echo_reply(HERE, REPLY))
+
+    def test_error(self):
+        packet = xns.decode(xns.complain(HERE, 2, 9, REQUEST))
+        self.assertEqual((packet.kind, packet.target, xns.error_read(packet.body)), (xns.PacketType.ERROR, THERE, (2, 9, REQUEST)))
+        self.assertIsNone(xns.complain(HERE, 2, 9, REQUEST[:29]))
+
+    def test_exchange(self):
+        body = xns.exchange_write(0x00010002, 3, b"\xaa\xbb")
+        self.assertEqual(body.hex(), "000100020003aabb")
+        self.assertEqual(xns.exchange_read(body), (0x00010002, 3, b"\xaa\xbb"))
+        with self.assertRaises(xns.Short):
+            xns.exchange_read(body[:5])
+
+    def test_header(self):
+        header, rest = xns.header_read(xns.decode(OPENING).body)
+        self.assertEqual((header, rest), (xns.Header(0xC0, 0, 0x1234, 0, 0, 0, 3), b""))
+        self.assertEqual(xns.header_write(header), xns.decode(OPENING).body)
+
+    def test_message(self):
+        message = xns.message_read(bytes.fromhex("00000001000000070002000100050006"))
+        self.assertEqual(message, xns.Message(xns.Kind.CALL, [5, 6], 0, 1, 7, 2, 1))
+        self.assertEqual(xns.message_write(message).hex(), "00000001000000070002000100050006")
+        for data, error in (("00", xns.OddLength), ("0000", xns.ShortMessage), ("00040001", xns.UnknownKind)):
+            with self.assertRaises(error):
+                xns.message_read(bytes.fromhex(data))
+
+
+def connected(window=8, backlog=16):
+    """Two ends of an open connection."""
+    a, b = xns.Endpoint.initiator(THERE, 0x1234, HERE, window, backlog), None
+    (packet,) = a.tick()
+    b = xns.Endpoint.responder(HERE, 0x5678, *xns.opening(packet), window, backlog)
+    a.receive(b.receive(packet).reply)
+    return a, b
+
+
+def carry(packets, to, back):
+    """The packets come to an end, and its replies back."""
+    for packet in packets:
+        reply = to.receive(packet).reply
+        if reply:
+            back.receive(reply)
+
+
+class EndpointTest(unittest.TestCase):
+    def test_opening(self):
+        self.assertEqual(xns.opening(OPENING), (xns.Address(1, bytes.fromhex("0000aa000304"), 0x400), 0x1234))
+        self.assertIsNone(xns.opening(REQUEST))
+        end = xns.Endpoint.initiator(THERE, 0x1234, HERE)
+        self.assertEqual((end.is_open, end.peer, end.own), (False, None, (THERE, 0x1234)))
+        self.assertIsNone(end.system_packet())
+        a, b = connected()
+        self.assertEqual((a.is_open, a.peer, b.peer), (True, (HERE, 0x5678), (THERE, 0x1234)))
+
+    def test_items(self):
+        a, b = connected()
+        sent = [xns.Item(b"one"), xns.Item(b"", last=False), xns.Item(b"\7", attention=True), xns.Item(bytes(534), stream=9)]
+        for item in sent:
+            a.send(*item)
+        self.assertEqual(a.unacknowledged, 4)
+        packets = a.flush()
+        self.assertTrue(all(b.is_ours(packet) and not a.is_ours(packet) for packet in packets))
+        carry(reversed(packets), b, a)
+        self.assertEqual((b.waiting, a.unacknowledged), (4, 0))
+        self.assertEqual(list(iter(b.take, None)), sent)
+        self.assertEqual(b.receive(packets[0]).dropped, xns.Dropped.REPEAT)
+
+    def test_losses(self):
+        a, b = connected(4, 4)
+        taken = []
+        for number in range(40):
+            a.send(bytes([number]))
+            a.flush()  # all are lost
+            self.assertTrue(b.is_ours(a.resend_first()))
+            carry(a.tick(), b, a)
+            taken += [item.body[0] for item in iter(b.take, None)]
+            carry([b.system_packet()], a, b)
+        self.assertEqual(taken, list(range(40)))
+
+    def test_refused_items(self):
+        a, _ = connected(8, 2)
+        for body, attention, error in ((bytes(535), False, xns.TooLong), (b"12", True, xns.AttentionSize)):
+            with self.assertRaises(error):
+                a.send(body, attention=attention)
+        a.send(b"1")
+        self.assertEqual((a.room_to_send, a.is_full), (1, False))
+        a.send(b"2")
+        self.assertTrue(a.is_full)
+        with self.assertRaises(xns.Full):
+            a.send(b"3")
+
+    def test_bad_arguments(self):
+        for identifier, window in ((0, 8), (1, 0), (1, 65)):
+            with self.assertRaises(xns.BadArgument):
+                xns.Endpoint.initiator(THERE, identifier, HERE, window)
+
+    def test_closed(self):
+        with xns.Endpoint.initiator(THERE, 1, HERE) as end:
+            pass
+        self.assertFalse(end.is_open)
+        with self.assertRaises(xns.NoEndpoint):
+            end.tick()
+        end.close()
+
+
+class CourierTest(unittest.TestCase):
+    def setUp(self):
+        self.a, self.b = connected()
+        self.caller, self.server = xns.Caller(), xns.Server([(7, 1, 2)])
+
+    def turn(self):
+        """Both sides move their items and send their packets once."""
+        self.caller.pump(self.a)
+        carry(self.a.flush(), self.b, self.a)
+        self.server.pump(self.b)
+        carry([self.b.system_packet()], self.a, self.b)
+        carry(self.b.flush(), self.a, self.b)
+        self.caller.pump(self.a)
+        carry([self.a.system_packet()], self.b, self.a)
+
+    def handed(self):
+        while True:
+            self.turn()
+            call = self.server.call()
+            if call:
+                return call
+
+    def answered(self):
+        while True:
+            self.turn()
+            answer = self.caller.outcome()
+            if answer:
+                return answer
+
+    def test_answers(self):
+        for answer, wanted in (
+            (lambda: self.server.returns([0, 5]), xns.Message(xns.Kind.RETURN, [0, 5], 0, 1)),
+            (lambda: self.server.aborts(1, [9]), xns.Message(xns.Kind.ABORT, [9], 1, 2)),
+            (lambda: self.server.rejects(xns.Reject.INVALID_ARGUMENTS), xns.Message(xns.Kind.REJECT, [], 3, 3)),
+        ):
+            self.caller.call(7, 2, 1, [5])
+            with self.assertRaises(xns.Busy):
+                self.caller.call(7, 2, 1, [5])
+            self.assertEqual(self.handed()._replace(transaction=0), xns.Message(xns.Kind.CALL, [5], 0, 0, 7, 2, 1))
+            self.assertTrue(self.server.is_busy)
+            answer()
+            self.assertEqual(self.answered(), wanted)
+            self.assertIsNone(self.caller.outcome())
+        with self.assertRaises(LookupError):
+            self.server.returns()
+
+    def test_unlisted(self):
+        for program, version, number, words in ((9, 1, xns.Reject.NO_SUCH_PROGRAM, []), (7, 3, xns.Reject.NO_SUCH_VERSION, [1, 2])):
+            self.caller.call(program, version, 1)
+            while True:
+                self.turn()
+                self.assertIsNone(self.server.call())
+                answer = self.caller.outcome()
+                if answer:
+                    break
+            self.assertEqual((answer.kind, answer.number, answer.words), (xns.Kind.REJECT, number, words))
+
+    def test_longest(self):
+        words = [number % 65536 for number in range(xns.MOST_CALL_WORDS)]
+        self.caller.call(7, 1, 1, words)
+        self.assertEqual(self.handed().words, words)
+        self.server.returns([7] * xns.MOST_MESSAGE_WORDS)
+        self.assertEqual(self.answered().words, [7] * xns.MOST_MESSAGE_WORDS)
+        with self.assertRaises(xns.TooLong):
+            self.caller.call(7, 1, 1, words + [0])
+        with self.assertRaises(ValueError):
+            self.caller.call(7, 1, 1, [65536])
+
+    def test_closing(self):
+        self.turn()
+        self.a.send(b"", stream=xns.Stream.END)
+        carry(self.a.flush(), self.b, self.a)
+        with self.assertRaises(xns.Closing):
+            self.server.pump(self.b)
+        self.assertEqual(self.b.take(), xns.Item(b"", xns.Stream.END))
+        with self.assertRaises(xns.OtherStream):
+            self.caller.feed(xns.Item(b"", 9))
+        with self.assertRaises(xns.Stopped):
+            self.caller.call(7, 1, 1)
+
+    def test_without_an_endpoint(self):
+        self.assertEqual(self.caller.next_item(), xns.Item(bytes.fromhex("00030003")))
+        versions = self.server.next_item()
+        self.server.feed(xns.Item(bytes.fromhex("00030003")))
+        self.caller.feed(versions)
+        self.assertIsNone(self.caller.next_item())
+
+
+if __name__ == "__main__":
+    unittest.main()
