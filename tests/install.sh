@@ -91,7 +91,7 @@ if has pkg-config; then
     for one in "${CXX:-g++}" g++ c++ clang++; do
         if [ -z "$plus" ] && has "$one"; then plus=$one; fi
     done
-    for example in endpoints fields echo courier; do
+    for example in endpoints fields echo courier conversation server client; do
         # shellcheck disable=SC2086
         expect "$example against the shared library" "$compiler" $flags -std=c99 examples/c/$example.c $from -o "$work/$example"
     done
