@@ -1,11 +1,11 @@
 -- Words in hex: their digits, spread.
-use Rattle.std.proofs.Common.{◌≡◌, ◌∙◌, ap, sym, ℕ, zero, suc, ◌+◌, ◌-◌, ◌*◌, ◌/◌, ◌≤◌, ◌<◌, List, [], ◌∷◌, ◌++◌, length, slice_set, take, drop, refl, arith}
-use Rattle.std.proofs.lemmas.List.{append_assoc, append-nil, drop-drop, length-append, length-drop, length-take-le, take-append-le, take-take, take_all, take_more_set, take_rest}
+use Rattle.std.proofs.Common.{◌≡◌, ◌∙◌, ap, sym, ℕ, zero, suc, ◌+◌, ◌-◌, ◌*◌, ◌/◌, ◌≤◌, ◌<◌, List, [], ◌∷◌, ◌++◌, length, get_or, slice_set, take, drop, refl, arith}
+use Rattle.std.proofs.lemmas.List.{append_assoc, append-nil, drop-drop, length-append, length-drop, length-set, length-take-le, take-append-le, take-take, take_all, take_more_set, take_rest, drop_all, drop_more}
 use Rattle.std.proofs.Math.Seq.{take-append-add, take-append_seam}
 use Rattle.std.proofs.lemmas.Slice.{take-put_mid}
 use borrow.Rule.Slice.PartMut.{post_of, put_mid}
 use Rattle.hex.specs.Hex.{encode_lower, encode_with}
-use Rattle.xns_lines.specs.Text.{spaced, words_in_hex}
+use Rattle.xns_lines.specs.Text.{hex_word, spaced, words_behind_spaces, words_in_hex}
 
 -- a word or less has nothing behind it
 words_in_hex_last : (bytes : List ℕ) → length bytes ≤ 2 → words_in_hex bytes ≡ encode_lower bytes
@@ -80,6 +80,28 @@ spread_done digits text i h len so_far =
     let few = spaced_few (drop (4 * i) digits) (omega (arith, length-drop (4 * i) digits)) in
     let all = take_all (5 * i) text (omega arith) in
     rw (few, all, append-nil) at so_far
+
+-- a word more is written behind a space
+pub word_written : (words text digits : List ℕ) (i j k : ℕ) → i < length words → length text ≡ 5 * length words → j ≡ 5 * i + 1 → length digits ≡ 4
+    → digits ≡ hex_word (get_or words i 0)
+    → take (5 * i) text ++ words_behind_spaces (drop i words) ≡ words_behind_spaces words
+    → take (5 * (i + 1)) (put_mid j k (slice_set text (5 * i) 32) digits) ++ words_behind_spaces (drop (i + 1) words) ≡ words_behind_spaces words
+word_written words text digits i j k h room ej four e so_far =
+    let held : List ℕ = slice_set text (5 * i) 32 in
+    let size : length held ≡ length text = length-set text (5 * i) 32 in
+    let front : take (5 * (i + 1)) (put_mid j k held digits) ≡ take j held ++ digits = take-put_mid j k held digits (5 * (i + 1)) (omega (arith, ej, four)) (omega (arith, ej, size, room)) in
+    let space : take j held ≡ take (5 * i) text ++ 32 ∷ [] = ap (λ (n : ℕ). take n held) ej ∙ take_more_set text (5 * i) 32 (omega (arith, room)) in
+    let next = drop_more words i 0 h in
+    rw (front, space, append_assoc, append_assoc, e) (rw next at so_far)
+
+-- all words are written
+pub words_written : (words text : List ℕ) (i : ℕ) → length words ≤ i → length text ≡ 5 * length words
+    → take (5 * i) text ++ words_behind_spaces (drop i words) ≡ words_behind_spaces words
+    → text ≡ words_behind_spaces words
+words_written words text i h room so_far =
+    let none : drop i words ≡ [] = drop_all i words h in
+    let all = take_all (5 * i) text (omega (arith, room)) in
+    rw (none, all, append-nil) at so_far
 
 -- what stays of a list that grew by some room, when the room is cut
 pub room_cut : (before now after extra room post more : List ℕ) (start end held size : ℕ) → start ≡ length before → start ≤ end → now ≡ take end before ++ extra

@@ -28,7 +28,11 @@ abbrev pub words_or_dash : List ℕ → List ℕ
 words_or_dash [] = codes "-"
 words_or_dash (byte ∷ bytes) = words_in_hex (byte ∷ bytes)
 
+-- words, each behind a space
+abbrev pub words_behind_spaces : List ℕ → List ℕ
+words_behind_spaces words = flat_map (λ word. codes " " ++ hex_word word) words
+
 -- words with one space between, and a dash where there are none
 abbrev pub words_text : List ℕ → List ℕ
 words_text [] = codes "-"
-words_text (word ∷ words) = hex_word word ++ flat_map (λ next. codes " " ++ hex_word next) words
+words_text (word ∷ words) = hex_word word ++ words_behind_spaces words

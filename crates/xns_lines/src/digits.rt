@@ -1,7 +1,7 @@
 //! Hex digits of bytes, with no branch for each byte.
 ghost use Rattle.std.specs.Prelude.{◌≡◌, ◌++◌, ◌*◌, ◌/◌, ◌%◌, ◌<◌, OnErr, OnOk, length, slice_index, take};
 ghost use Rattle.hex.specs.Hex.{encode_lower, lower_digits};
-ghost use Rattle.xns_lines.specs.Text.{spaced};
+ghost use Rattle.xns_lines.specs.Text.{spaced, words_behind_spaces};
 
 use std::alloc::AllocError;
 
@@ -48,6 +48,34 @@ pub(crate) fn append_spaced(text: &mut Vec<u8>, bytes: &[u8]) -> Result<(), Allo
     write_spaced(bytes, &mut text.as_mut_slice()[start..]);
     text.truncate(start + 5 * words);
     Ok(())
+}
+
+/// Appends words of four digits, each behind a space. Where memory is refused, nothing is appended.
+pub(crate) fn append_words(text: &mut Vec<u8>, words: &[u16]) -> Result<(), AllocError>
+    ensures ok { OnOk result (text.new.items ≡ text.old.items ++ words_behind_spaces words.now) }
+    ensures err { OnErr result (text.new.items ≡ text.old.items) }
+{
+    let start = text.len();
+    let Some(size) = words.len().checked_mul(5) else {
+        return Err(AllocError);
+    };
+    let Some(end) = start.checked_add(size) else {
+        return Err(AllocError);
+    };
+    text.resize(end, 0)?;
+    write_words(words, &mut text.as_mut_slice()[start..]);
+    Ok(())
+}
+
+/// Writes words of four digits, each behind a space.
+fn write_words(words: &[u16], text: &mut [u8])
+    requires { length text.old ≡ 5 * length words.now }
+    ensures { text.new ≡ words_behind_spaces words.now }
+{
+    for i in 0..words.len() {
+        text[5 * i] = b' ';
+        write_digits(&words[i].to_be_bytes(), &mut text[5 * i + 1..5 * i + 5]);
+    }
 }
 
 /// Writes words of four digits at the front of some room, each before a space. Their digits alone are left behind them.

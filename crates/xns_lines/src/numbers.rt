@@ -1,7 +1,5 @@
 //! Numbers, words and bytes as text, appended to the latest line of a report. The only error of each function is want of
 //! memory, after which the line may have a part of the text. The lines before it are always as they were.
-ghost use Rattle.std.specs.Prelude.{◌++◌, codes};
-ghost use Rattle.std.specs.List.{flat_map};
 ghost use Rattle.std.specs.Fmt.{decimal};
 ghost use Rattle.hex.specs.Hex.{encode_lower};
 ghost use Rattle.xns_lines.specs.Report.{Adds};
@@ -84,18 +82,7 @@ pub fn append_word_list(report: &mut Report, words: &[u16]) -> Result<(), AllocE
         [] => report.append(b"-"),
         [first, rest @ ..] => {
             append_word(report, *first)?;
-            append_more_words(report, rest)
+            report.append_words(rest)
         }
     }
-}
-
-/// Appends words, each behind a space.
-fn append_more_words(report: &mut Report, words: &[u16]) -> Result<(), AllocError>
-    ensures { Adds result report.old report.new (flat_map (λ word. codes " " ++ hex_word word) words.now) }
-{
-    for word in words {
-        report.append(b" ")?;
-        append_word(report, *word)?;
-    }
-    Ok(())
 }

@@ -2,9 +2,9 @@
 ghost use Rattle.std.specs.Prelude.{◌≡◌, ◌%◌, [], length};
 ghost use Rattle.hex.specs.Hex.{encode_lower};
 ghost use Rattle.xns_lines.specs.Report.{Adds, whole};
-ghost use Rattle.xns_lines.specs.Text.{spaced};
+ghost use Rattle.xns_lines.specs.Text.{spaced, words_behind_spaces};
 
-use crate::digits::{append_digits, append_spaced};
+use crate::digits::{append_digits, append_spaced, append_words};
 use std::alloc::{AllocError, Global};
 use std::marker::Model;
 
@@ -100,5 +100,12 @@ impl Report {
         ensures { Adds result self.old self.new (spaced (encode_lower bytes.now)) }
     {
         append_spaced(&mut self.text, bytes)
+    }
+
+    /// Appends words of four digits, each behind a space, to the latest line.
+    pub(crate) fn append_words(&mut self, words: &[u16]) -> Result<(), AllocError>
+        ensures { Adds result self.old self.new (words_behind_spaces words.now) }
+    {
+        append_words(&mut self.text, words)
     }
 }
