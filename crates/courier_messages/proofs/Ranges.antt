@@ -1,15 +1,16 @@
 -- How bytes go into a conversation, many at a time.
 use Rattle.std.proofs.Common.{◌≡◌, ◌∙◌, ap, sym, refl, ℕ, zero, suc, ◌+◌, ◌*◌, ◌<◌, ◌≤◌, Bool, true, false, List, [], ◌∷◌, ◌++◌, length, map, drop, append_assoc, append-nil, arith, length-append, ne_eqb, Result, Ok, Err}
 use Rattle.std.proofs.lemmas.Bool.{eqb-false}
-use Rattle.std.specs.Prelude.{if◌then◌else◌, ◌==◌}
+use Rattle.std.specs.Prelude.{if◌then◌else◌, ◌==◌, slice_get, Some, None}
 use Rattle.courier_types.specs.Pieces.{words_of}
 use Rattle.courier_messages.specs.declared.fault.MessageFault.TheVariants.{TooLong}
 use Rattle.courier_messages.specs.declared.fault.SessionFault.{SessionFault}
-use Rattle.courier_messages.specs.declared.fault.SessionFault.TheVariants.{BadMessage}
+use Rattle.courier_messages.specs.declared.fault.SessionFault.TheVariants.{NoCommonVersion, BadVersions, BadMessage, WrongTransaction, BadReply, Stream, NoMemory, Failed}
 use Rattle.courier_messages.specs.Text.{Sign, byte}
 use Rattle.courier_messages.specs.Conversation.{Phase, opening, fresh, inside}
 use Rattle.courier_messages.specs.Phases.{agreement, opened, step, ◌then◌, run}
 use Rattle.courier_messages.specs.Inside.{IsSkipped}
+use Rattle.courier_messages.specs.Refusal.{UnlessMemory}
 
 -- within a message
 
@@ -98,14 +99,33 @@ range_first (a ∷ b ∷ []) h = absurd (omega arith)
 range_first (a ∷ b ∷ c ∷ []) h = absurd (omega arith)
 range_first (a ∷ b ∷ c ∷ d ∷ bytes) h = refl
 
-pub still_opening : (bytes more new : List ℕ) → length bytes < 4 → new ≡ bytes ++ more → length new < 4 → run (opening bytes) (map byte more) ≡ Ok (opening new)
-still_opening bytes more new h e few = opening_on bytes more h ∙ ap (λ (l : List ℕ). run (opening []) (map byte l)) (sym e) ∙ few_bytes new few
+pub still_opening : (bytes more new : List ℕ) → length bytes < 4 → new ≡ bytes ++ more → length bytes + length more < 4 → run (opening bytes) (map byte more) ≡ Ok (opening new)
+still_opening bytes more new h e few =
+    let all = length-append bytes more in
+    opening_on bytes more h ∙ few_bytes (bytes ++ more) (omega (arith, all)) ∙ ap (λ (l : List ℕ). Ok (opening l)) (sym e)
 
-from_range : (bytes more new : List ℕ) → length bytes < 4 → new ≡ bytes ++ more → 4 ≤ length new → run (opening bytes) (map byte more) ≡ (opened new then λ q. run q (map byte (drop 4 new)))
-from_range bytes more new h e enough = opening_on bytes more h ∙ ap (λ (l : List ℕ). run (opening []) (map byte l)) (sym e) ∙ range_first new enough
+from_range : (bytes more : List ℕ) → length bytes < 4 → 4 ≤ length bytes + length more → run (opening bytes) (map byte more) ≡ (opened (bytes ++ more) then λ q. run q (map byte (drop 4 (bytes ++ more))))
+from_range bytes more h enough =
+    let all = length-append bytes more in
+    opening_on bytes more h ∙ range_first (bytes ++ more) (omega (arith, all))
 
-pub range_refused : (bytes more new : List ℕ) (f : SessionFault) → length bytes < 4 → new ≡ bytes ++ more → 4 ≤ length new → opened new ≡ Err f → run (opening bytes) (map byte more) ≡ Err f
-range_refused bytes more new f h e enough r = from_range bytes more new h e enough ∙ ap (λ (x : Result Phase SessionFault). x then λ q. run q (map byte (drop 4 new))) r
+range_refused : (bytes more : List ℕ) (f : SessionFault) → length bytes < 4 → 4 ≤ length bytes + length more → opened (bytes ++ more) ≡ Err f → run (opening bytes) (map byte more) ≡ Err f
+range_refused bytes more f h enough r = from_range bytes more h enough ∙ ap (λ (x : Result Phase SessionFault). x then λ q. run q (map byte (drop 4 (bytes ++ more)))) r
+
+pub range_faulty : (bytes more : List ℕ) (e : SessionFault) (q : Result Phase SessionFault) → length bytes < 4 → 4 ≤ length bytes + length more → opened (bytes ++ more) ≡ q → UnlessMemory e (q ≡ Err e)
+    → UnlessMemory e (run (opening bytes) (map byte more) ≡ Err e)
+range_faulty bytes more e q h enough r stops = unless e stops where
+  refused : q ≡ Err e → run (opening bytes) (map byte more) ≡ Err e
+  refused w = range_refused bytes more e h enough (r ∙ w)
+  unless : (f : SessionFault) → UnlessMemory f (q ≡ Err e) → UnlessMemory f (run (opening bytes) (map byte more) ≡ Err e)
+  unless NoMemory w = w
+  unless NoCommonVersion w = refused w
+  unless BadVersions w = refused w
+  unless (BadMessage m) w = refused w
+  unless WrongTransaction w = refused w
+  unless BadReply w = refused w
+  unless (Stream kind) w = refused w
+  unless Failed w = absurd w
 
 nothing_behind : (new : List ℕ) → length new ≡ 4 → drop 4 new ≡ []
 nothing_behind [] h = refl
@@ -115,33 +135,38 @@ nothing_behind (a ∷ b ∷ c ∷ []) h = refl
 nothing_behind (a ∷ b ∷ c ∷ d ∷ []) h = refl
 nothing_behind (a ∷ b ∷ c ∷ d ∷ x ∷ bytes) h = absurd (omega arith)
 
-pub range_alone : (bytes more new : List ℕ) → length bytes < 4 → new ≡ bytes ++ more → length new ≡ 4 → opened new ≡ Ok fresh → run (opening bytes) (map byte more) ≡ Ok fresh
+pub range_alone : (bytes more : List ℕ) → length bytes < 4 → length bytes + length more ≡ 4 → opened (bytes ++ more) ≡ Ok fresh → run (opening bytes) (map byte more) ≡ Ok fresh
 unfolding run
-range_alone bytes more new h e four r =
-    from_range bytes more new h e (omega (arith, four))
-    ∙ ap (λ (x : Result Phase SessionFault). x then λ q. run q (map byte (drop 4 new))) r
-    ∙ ap (λ (l : List ℕ). run fresh (map byte l)) (nothing_behind new four)
+range_alone bytes more h four r =
+    let all = length-append bytes more in
+    from_range bytes more h (omega (arith, four))
+    ∙ ap (λ (x : Result Phase SessionFault). x then λ q. run q (map byte (drop 4 (bytes ++ more)))) r
+    ∙ ap (λ (l : List ℕ). run fresh (map byte l)) (nothing_behind (bytes ++ more) (omega (arith, all, four)))
 
 fresh_is_inside : (more : List ℕ) → 0 < length more → run fresh (map byte more) ≡ run (inside []) (map byte more)
 unfolding run
 fresh_is_inside [] h = absurd (omega arith)
 fresh_is_inside (b ∷ more) h = refl
 
-pub range_and_more : (bytes more new : List ℕ) → length bytes < 4 → new ≡ bytes ++ more → 4 < length new → length new ≤ 131076 → opened new ≡ Ok fresh → run (opening bytes) (map byte more) ≡ Ok (inside (drop 4 new))
-range_and_more bytes more new h e over size r =
-    let n = length_behind 4 new (omega arith) in
-    from_range bytes more new h e (omega arith)
+pub range_and_more : (bytes more : List ℕ) → length bytes < 4 → 4 < length bytes + length more → length bytes + length more ≤ 131076 → opened (bytes ++ more) ≡ Ok fresh → run (opening bytes) (map byte more) ≡ Ok (inside (drop 4 (bytes ++ more)))
+range_and_more bytes more h over size r =
+    let new : List ℕ = bytes ++ more in
+    let all = length-append bytes more in
+    let n = length_behind 4 new (omega (arith, all)) in
+    from_range bytes more h (omega arith)
     ∙ ap (λ (x : Result Phase SessionFault). x then λ q. run q (map byte (drop 4 new))) r
-    ∙ fresh_is_inside (drop 4 new) (omega (arith, n))
-    ∙ inside_bytes [] (drop 4 new) (omega (arith, n))
+    ∙ fresh_is_inside (drop 4 new) (omega (arith, n, all))
+    ∙ inside_bytes [] (drop 4 new) (omega (arith, n, all))
 
-pub range_and_too_much : (bytes more new : List ℕ) → length bytes < 4 → new ≡ bytes ++ more → 131076 < length new → opened new ≡ Ok fresh → run (opening bytes) (map byte more) ≡ Err (BadMessage TooLong)
-range_and_too_much bytes more new h e over r =
-    let n = length_behind 4 new (omega arith) in
-    from_range bytes more new h e (omega arith)
+pub range_and_too_much : (bytes more : List ℕ) → length bytes < 4 → 131076 < length bytes + length more → opened (bytes ++ more) ≡ Ok fresh → run (opening bytes) (map byte more) ≡ Err (BadMessage TooLong)
+range_and_too_much bytes more h over r =
+    let new : List ℕ = bytes ++ more in
+    let all = length-append bytes more in
+    let n = length_behind 4 new (omega (arith, all)) in
+    from_range bytes more h (omega arith)
     ∙ ap (λ (x : Result Phase SessionFault). x then λ q. run q (map byte (drop 4 new))) r
-    ∙ fresh_is_inside (drop 4 new) (omega (arith, n))
-    ∙ inside_too_many [] (drop 4 new) (omega arith) (omega (arith, n))
+    ∙ fresh_is_inside (drop 4 new) (omega (arith, n, all))
+    ∙ inside_too_many [] (drop 4 new) (omega arith) (omega (arith, n, all))
 
 pub fresh_bytes : (more : List ℕ) → 0 < length more → run fresh (map byte more) ≡ run (inside []) (map byte more)
 fresh_bytes = fresh_is_inside
@@ -151,17 +176,35 @@ unfolding run
 no_more_bytes p [] h = refl
 no_more_bytes p (b ∷ more) h = absurd (omega arith)
 
--- words
+-- the four bytes of the range
 
-pub range_words : (bytes : List ℕ) (low high : ℕ) (rest : List ℕ) → 4 ≤ length bytes → words_of bytes ≡ low ∷ high ∷ rest → opened bytes ≡ agreement low high
-range_words [] low high rest h e = absurd (omega arith)
-range_words (a ∷ []) low high rest h e = absurd (omega arith)
-range_words (a ∷ b ∷ []) low high rest h e = absurd (omega arith)
-range_words (a ∷ b ∷ c ∷ []) low high rest h e = absurd (omega arith)
-range_words (a ∷ b ∷ c ∷ d ∷ bytes) low high rest h e =
-    let x : a * 256 + b ≡ low = cc in
-    let y : c * 256 + d ≡ high = cc in
-    ap (λ (n : ℕ). agreement n (c * 256 + d)) x ∙ ap (λ (n : ℕ). agreement low n) y
+pub range_bytes : (kept more : List ℕ) (a b c d : ℕ) → slice_get (kept ++ more) 0 ≡ Some a → slice_get (kept ++ more) 1 ≡ Some b → slice_get (kept ++ more) 2 ≡ Some c → slice_get (kept ++ more) 3 ≡ Some d
+    → (4 ≤ length kept + length more) × (opened (kept ++ more) ≡ agreement (a * 256 + b) (c * 256 + d))
+range_bytes kept more a b c d p q r s =
+    let four = four_bytes (kept ++ more) a b c d p q r s in
+    let all = length-append kept more in
+    (omega (arith, all, four.0), four.1)
+  where
+  four_bytes : (bytes : List ℕ) (a b c d : ℕ) → slice_get bytes 0 ≡ Some a → slice_get bytes 1 ≡ Some b → slice_get bytes 2 ≡ Some c → slice_get bytes 3 ≡ Some d
+      → (4 ≤ length bytes) × (opened bytes ≡ agreement (a * 256 + b) (c * 256 + d))
+  four_bytes [] a b c d p q r s = absurd cc
+  four_bytes (w ∷ []) a b c d p q r s = absurd cc
+  four_bytes (w ∷ x ∷ []) a b c d p q r s = absurd cc
+  four_bytes (w ∷ x ∷ y ∷ []) a b c d p q r s = absurd cc
+  four_bytes (w ∷ x ∷ y ∷ z ∷ bytes) a b c d p q r s =
+      let e : w ≡ a = cc in
+      let f : x ≡ b = cc in
+      let g : y ≡ c = cc in
+      let h : z ≡ d = cc in
+      (omega arith, rw (e, f, g, h) refl)
+
+slice_get_none : (bytes : List ℕ) (i : ℕ) → slice_get bytes i ≡ None → length bytes ≤ i
+slice_get_none [] i none = omega arith
+slice_get_none (b ∷ bytes) zero none = absurd cc
+slice_get_none (b ∷ bytes) (suc i) none = let rest = slice_get_none bytes i none in omega (arith, rest)
+
+pub range_cut : (kept more : List ℕ) (i : ℕ) → i < 4 → slice_get (kept ++ more) i ≡ None → length kept + length more < 4
+range_cut kept more i h none = let all = length-append kept more in let n = slice_get_none (kept ++ more) i none in omega (arith, all, n)
 
 pub words_skipped : (bytes : List ℕ) (x y : ℕ) (rest : List ℕ) → 4 ≤ length bytes → words_of bytes ≡ x ∷ y ∷ rest → words_of (drop 4 bytes) ≡ rest
 words_skipped [] x y rest h e = absurd (omega arith)

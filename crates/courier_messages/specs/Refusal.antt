@@ -1,5 +1,5 @@
 -- Faults, and wants of memory in their stead.
-use Rattle.std.specs.Prelude.{◌≡◌, ◌<◌, List, [], length, false, Option, Result, Ok, Err}
+use Rattle.std.specs.Prelude.{◌≡◌, ◌<◌, ℕ, List, [], length, map, false, Option, Result, Ok, Err}
 use Rattle.std.specs.Option.{option_to_list}
 use Rattle.xns_spp.specs.declared.item.Item.{Item}
 use Rattle.courier_messages.specs.declared.fault.MessageFault.{MessageFault}
@@ -9,6 +9,9 @@ use Rattle.courier_messages.specs.declared.fault.SessionFault.{SessionFault}
 use Rattle.courier_messages.specs.declared.fault.SessionFault.TheVariants.{NoCommonVersion, BadVersions, BadMessage, WrongTransaction, BadReply, Stream, NoMemory, Failed}
 use Rattle.courier_messages.specs.declared.message.Message.{Message}
 use Rattle.courier_messages.specs.Head.{words_in}
+use Rattle.courier_messages.specs.Text.{byte}
+use Rattle.courier_messages.specs.Conversation.{Phase}
+use Rattle.courier_messages.specs.Phases.{run}
 
 -- what reading a message answers, unless memory ran out
 abbrev pub Reads : Result Message MessageRefusal → Result Message MessageFault → Type 0
@@ -52,6 +55,14 @@ abbrev pub Takes : {A : Type 0} → Result (Option Message) SessionFault → Res
 Takes (Ok m) q ms new = (q ≡ Ok new) × (ms ≡ option_to_list m)
 Takes (Err e) q ms new = UnlessMemory e ((q ≡ Err e) × (ms ≡ []))
 
--- an item at which memory may be refused: it is of datastream 0, and has bytes to keep or ends a message
-abbrev pub MayGrow : Item → Type 0
-MayGrow x = (x.stream ≡ 0) × (x.last ≡ false → 0 < length x.body)
+-- bytes with which nothing is wrong, where they come
+abbrev pub AreRight : Phase → List ℕ → Type 0
+AreRight p bytes = (e : SessionFault) → run p (map byte bytes) ≡ Err e → ⊥
+
+-- bytes for which memory may be refused: there are some, and nothing is wrong with them
+abbrev pub MayBeKept : Phase → List ℕ → Type 0
+MayBeKept p bytes = (0 < length bytes) × AreRight p bytes
+
+-- an item at which memory may be refused: it is of datastream 0, has bytes to keep or ends a message, and nothing is wrong with its bytes
+abbrev pub MayGrow : Phase → Item → Type 0
+MayGrow p x = (x.stream ≡ 0) × (x.last ≡ false → 0 < length x.body) × AreRight p x.body

@@ -1,5 +1,5 @@
 //! The message that is coming in.
-ghost use Rattle.std.specs.Prelude.{◌≡◌, ◌<◌, ◌≤◌, ◌+◌, ◌/◌, ◌++◌, Ok, Err, [], map, length, drop, true, IfOk, IfErr, IfSome, OnOk, OnErr};
+ghost use Rattle.std.specs.Prelude.{◌≡◌, ◌<◌, ◌≤◌, ◌+◌, ◌/◌, ◌++◌, Ok, Err, [], map, length, drop, slice_get, true, IfOk, IfErr, IfSome, MatchOption, OnOk, OnErr};
 ghost use Rattle.courier_messages.specs.declared.incoming.Stage.TheVariants.{Inside};
 ghost use Rattle.courier_messages.specs.declared.fault.SessionFault.TheVariants.{NoMemory};
 ghost use Rattle.courier_types.specs.Pieces.{words_of};
@@ -9,7 +9,7 @@ ghost use Rattle.courier_messages.specs.Message.{most_bytes, message_of};
 ghost use Rattle.courier_messages.specs.Phases.{step, ended, run, said, agreement, opened};
 ghost use Rattle.courier_messages.specs.Bounds.{IsBounded};
 ghost use Rattle.courier_messages.specs.Inside.{phase_in, IsHeld, IsSkipped};
-ghost use Rattle.courier_messages.specs.Refusal.{Follows, Takes, UnlessMemory};
+ghost use Rattle.courier_messages.specs.Refusal.{Follows, Takes, UnlessMemory, AreRight, MayBeKept};
 ghost use Rattle.courier_messages.specs.Head.{ReadsHead, size_of};
 
 use crate::fault::{MessageFault, SessionFault};
@@ -68,18 +68,30 @@ fn agree(low: u16, high: u16) -> Result<(), SessionFault>
     }
 }
 
-/// Whether the versions that the pieces begin with are agreed on.
-#[tactic(auto, using(crate::proofs::Ranges::range_words))]
-fn agree_on(pieces: &Pieces) -> Result<(), SessionFault>
-    requires { 4 ≤ length pieces.now }
-    ensures follows { Follows result (opened pieces.now) fresh }
-    ensures memory { result ≡ Err NoMemory → ⊥ }
+/// The byte at a place of what is kept and of what comes behind it; `None` behind the last.
+#[tactic(auto, using(crate::proofs::Joins::byte_kept, crate::proofs::Joins::byte_that_comes))]
+fn byte_at(pieces: &Pieces, body: &[u8], place: usize) -> Option<u8>
+    ensures { result ≡ slice_get (pieces.now ++ body.now) place }
 {
-    let _count = pieces.len();
-    let mut words = PieceWords::new(pieces.as_slice());
-    let low = take_word(&mut words);
-    let high = take_word(&mut words);
-    agree(low, high)
+    match place.checked_sub(pieces.len()) {
+        None => pieces.byte(place),
+        Some(behind) => body.get(behind).copied(),
+    }
+}
+
+/// The lowest and the highest version, which what is kept and what comes behind it begin with; `None` for fewer than four bytes.
+#[tactic(auto, using(crate::proofs::Ranges::range_bytes, crate::proofs::Ranges::range_cut))]
+fn range_in(pieces: &Pieces, body: &[u8]) -> Option<(u16, u16)>
+    ensures { MatchOption result (length pieces.now + length body.now < 4)
+        (λ range. (4 ≤ length pieces.now + length body.now) × (opened (pieces.now ++ body.now) ≡ agreement range.0 range.1)) }
+{
+    let low_high = byte_at(pieces, body, 0)?;
+    let low_low = byte_at(pieces, body, 1)?;
+    let high_high = byte_at(pieces, body, 2)?;
+    let high_low = byte_at(pieces, body, 3)?;
+    let low = u16::from(low_high) * 256 + u16::from(low_low);
+    let high = u16::from(high_high) * 256 + u16::from(high_low);
+    Some((low, high))
 }
 
 /// The words of the pieces behind those that are skipped.
@@ -110,33 +122,31 @@ fn read_head_in(pieces: &Pieces, skipped: usize) -> Result<Head, MessageFault>
     read_head(&mut words)
 }
 
-/// More bytes of the version range, and of what comes behind it: where one is then, and how much is to be skipped.
-#[tactic(auto, using(crate::proofs::Ranges::still_opening, crate::proofs::Ranges::range_refused, crate::proofs::Ranges::range_alone, crate::proofs::Ranges::range_and_more, crate::proofs::Ranges::range_and_too_much))]
+/// More bytes of the version range, and of what comes behind it: where one is then, and how much is to be skipped. What is wrong with them is told before
+/// memory is wanted.
+#[tactic(auto, using(crate::proofs::Ranges::still_opening, crate::proofs::Ranges::range_faulty, crate::proofs::Ranges::range_alone, crate::proofs::Ranges::range_and_more, crate::proofs::Ranges::range_and_too_much))]
 fn take_range(pieces: &mut Pieces, body: Vec<u8>) -> Result<(Stage, usize), SessionFault>
     requires { length pieces.old < 4 }
     ensures runs { IfOk result (λ x. run (opening pieces.old) (map byte body.items) ≡ Ok (phase_in x.0 (drop x.1 pieces.new))) }
     ensures held { IfOk result (λ x. IsHeld x.0 x.1 pieces.new) }
     ensures stops { IfErr result (λ e. UnlessMemory e (run (opening pieces.old) (map byte body.items) ≡ Err e)) }
-    ensures few { OnErr result (length pieces.new < 4) }
-    ensures memory { result ≡ Err NoMemory → (pieces.new ≡ pieces.old) × (0 < length body.items) }
+    ensures same { OnErr result (pieces.new ≡ pieces.old) }
+    ensures memory { result ≡ Err NoMemory → MayBeKept (opening pieces.old) body.items }
 {
-    pieces.push(body)?;
-    let count = pieces.len();
-    if count < RANGE_BYTES {
+    let Some((low, high)) = range_in(pieces, body.as_slice()) else {
+        pieces.push(body)?;
         return Ok((Stage::Opening, 0));
+    };
+    agree(low, high)?;
+    let behind = pieces.len() + body.len() - RANGE_BYTES;
+    if behind > MOST_BYTES {
+        return Err(SessionFault::BadMessage(MessageFault::TooLong));
     }
-    if let Err(fault) = agree_on(pieces) {
-        pieces.clear();
-        return Err(fault);
-    }
-    if count == RANGE_BYTES {
+    if behind == 0 {
         pieces.clear();
         return Ok((Stage::Fresh, 0));
     }
-    if count > RANGE_BYTES + MOST_BYTES {
-        pieces.clear();
-        return Err(SessionFault::BadMessage(MessageFault::TooLong));
-    }
+    pieces.push(body)?;
     Ok((Stage::Inside, RANGE_BYTES))
 }
 
@@ -149,7 +159,7 @@ fn take_more(pieces: &mut Pieces, skipped: usize, body: Vec<u8>) -> Result<(), S
     ensures held { OnOk result (IsHeld Inside skipped pieces.new) }
     ensures stops { IfErr result (λ e. UnlessMemory e (run (inside (drop skipped pieces.old)) (map byte body.items) ≡ Err e)) }
     ensures same { OnErr result (pieces.new ≡ pieces.old) }
-    ensures memory { result ≡ Err NoMemory → 0 < length body.items }
+    ensures memory { result ≡ Err NoMemory → MayBeKept (inside (drop skipped pieces.old)) body.items }
 {
     if body.len() > MOST_BYTES + skipped - pieces.len() {
         return Err(SessionFault::BadMessage(MessageFault::TooLong));
@@ -166,7 +176,7 @@ fn take_first(pieces: &mut Pieces, body: Vec<u8>) -> Result<Stage, SessionFault>
     ensures held { IfOk result (λ stage. IsHeld stage 0 pieces.new) }
     ensures stops { IfErr result (λ e. UnlessMemory e (run fresh (map byte body.items) ≡ Err e)) }
     ensures same { OnErr result (pieces.new ≡ []) }
-    ensures memory { result ≡ Err NoMemory → 0 < length body.items }
+    ensures memory { result ≡ Err NoMemory → MayBeKept fresh body.items }
 {
     let more = body.len();
     if more == 0 {
@@ -210,7 +220,7 @@ impl Incoming {
     fn take_body(&mut self, body: Vec<u8>) -> Result<(), SessionFault>
         ensures follows { Follows result (run self.old (map byte body.items)) self.new }
         ensures memory { result ≡ Err NoMemory → self.new ≡ self.old }
-        ensures bytes { result ≡ Err NoMemory → 0 < length body.items }
+        ensures kept { result ≡ Err NoMemory → MayBeKept self.old body.items }
     {
         match self.stage {
             Stage::Opening => {
@@ -250,13 +260,14 @@ impl Incoming {
         }
     }
 
-    /// One more item, which may end a message. Memory is only refused to bytes that are to be kept: then nothing is
+    /// One more item, which may end a message. Memory is only refused to bytes that are to be kept and with which nothing is wrong: then nothing is
     /// changed, and the item can be given again.
     #[tactic(auto, using(crate::proofs::Runs::run_append, crate::proofs::Runs::said_append, crate::proofs::Runs::run_mark, crate::proofs::Runs::said_mark, crate::proofs::Runs::said_bytes))]
     pub fn take(&mut self, alloc: Global, item: Item) -> Result<Option<PiecedMessage>, SessionFault>
         ensures takes { Takes result (run self.old (signs item)) (said self.old (signs item)) self.new }
         ensures memory { result ≡ Err NoMemory → self.new ≡ self.old }
-        ensures bytes { result ≡ Err NoMemory → (item.stream ≡ 0) × (0 < length item.body) }
+        ensures kept { result ≡ Err NoMemory → (item.stream ≡ 0) × MayBeKept self.old item.body }
+        ensures right { OnOk result (AreRight self.old item.body) }
         ensures ends { IfOk result (λ message. IfSome message (λ m. (item.stream ≡ 0) × (item.last ≡ true))) }
     {
         if item.stream != 0 {

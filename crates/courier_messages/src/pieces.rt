@@ -1,5 +1,5 @@
 //! Bytes that came in pieces.
-ghost use Rattle.std.specs.Prelude.{ℕ, List, ◌≡◌, ◌+◌, ◌<◌, ◌^◌, ◌++◌, [], length, OnOk, OnErr};
+ghost use Rattle.std.specs.Prelude.{ℕ, List, ◌≡◌, ◌+◌, ◌<◌, ◌^◌, ◌++◌, [], length, slice_get, OnOk, OnErr};
 ghost use Rattle.courier_types.specs.Pieces.{joined};
 ghost use Rattle.courier_messages.specs.Inside.{bytes_kept};
 
@@ -58,6 +58,20 @@ impl Kept {
     }
 }
 
+/// The byte at a place of pieces in a row; `None` behind the last.
+fn byte_in(pieces: &[Vec<u8>], place: usize) -> Option<u8>
+    ensures { result ≡ slice_get (joined pieces.now) place }
+{
+    let mut left = place;
+    for piece in pieces {
+        if left < piece.len() {
+            return Some(piece[left]);
+        }
+        left -= piece.len();
+    }
+    None
+}
+
 /// Bytes that came in pieces and are kept as they came, but for pieces of no bytes. Contracts see all the bytes as one list.
 #[derive(Debug, Drop)]
 pub struct Pieces {
@@ -96,6 +110,13 @@ impl Pieces {
         ensures { joined result.now ≡ self.now }
     {
         self.kept.as_slice()
+    }
+
+    /// The byte at a place; `None` behind the last.
+    pub fn byte(&self, place: usize) -> Option<u8>
+        ensures { result ≡ slice_get self.now place }
+    {
+        byte_in(self.as_slice(), place)
     }
 
     /// The pieces; none are left behind.

@@ -37,7 +37,6 @@ pub fn converse(rt: &HostRuntime) -> Result<(), anyhow::Error> {
 }
 
 /// Feeds the server an item, where there is one and the server has nothing out.
-#[tactic(auto, using(courier_calls::specs::Outs::nothing_out))]
 fn feed_server(
     rt: &HostRuntime,
     server: &mut Server<Tally>,
@@ -60,7 +59,6 @@ fn feed_server(
 }
 
 /// Feeds the caller an item, where there is one and the caller has nothing out.
-#[tactic(auto, using(courier_calls::specs::Outs::nothing_out))]
 fn feed_caller(
     rt: &HostRuntime,
     caller: &mut Caller,

@@ -88,7 +88,6 @@ fn step_call(alloc: Global, step: &str) -> Result<Option<Call>, AllocError> {
     }
 }
 
-#[tactic(auto, using(courier_calls::specs::Outs::nothing_out))]
 fn put_step(
     alloc: Global,
     caller: &mut Caller,
@@ -128,15 +127,23 @@ fn longer_table(alloc: Global) -> Result<Table, AllocError> {
     Ok(table)
 }
 
-/// What a caller makes of the steps.
+/// What a caller makes of the steps, over the tally's table with one procedure more.
 pub fn play(alloc: Global, steps: &str) -> Result<String, AllocError> {
-    let table = longer_table(alloc)?;
+    converse(alloc, &longer_table(alloc)?, steps)
+}
+
+/// What a caller makes of the steps, over the tally's own table.
+pub fn play_own(alloc: Global, steps: &str) -> Result<String, AllocError> {
+    converse(alloc, &tally_table(alloc)?, steps)
+}
+
+fn converse(alloc: Global, table: &Table, steps: &str) -> Result<String, AllocError> {
     let mut text = String::new(alloc);
     let Ok(()) = table.check() else {
         text.push_str(" the table has a fault")?;
         return Ok(text);
     };
-    let mut caller = Caller::new(alloc, &table)?;
+    let mut caller = Caller::new(alloc, table)?;
     for step in steps.split(' ') {
         put_step(alloc, &mut caller, step, &mut text)?;
     }

@@ -18,7 +18,6 @@ fn put_call(text: &mut String, call: &Call) -> Result<(), AllocError> {
 }
 
 /// Feeds an item when nothing is out: the call that it ends, or the fault, and then what goes out.
-#[tactic(auto, using(courier_calls::specs::Outs::nothing_out))]
 fn put_fed(
     alloc: Global,
     server: &mut Server<Tally>,

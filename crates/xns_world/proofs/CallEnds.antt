@@ -1,6 +1,6 @@
 -- What the two ends of a play of calls stand for after each step.
 use Rattle.std.proofs.Common.{◌≡◌, ℕ, zero, suc, ◌+◌, ◌<◌, ◌≤◌, Bool, true, false, List, [], ◌∷◌, ◌++◌, length, map, take, Option, Some, None, Result, Ok, Err, refl, sym, ◌∙◌, ap, subst, arith, length-append}
-use Rattle.std.specs.Prelude.{slice_get, nat_lt, ◌==◌, ◌&&◌, if◌then◌else◌, IfOk, is_some}
+use Rattle.std.specs.Prelude.{slice_get, ◌≢◌, nat_lt, ◌==◌, ◌&&◌, if◌then◌else◌, IfOk, is_some}
 use Rattle.std.specs.Option.{option_to_list}
 use Rattle.std.proofs.lemmas.Bool.{le-ltb, lt-ltb, ltb-true, ltb-false, eq-eqb, ne_eqb}
 use Rattle.std.proofs.lemmas.List.{take_all, take-append-le, length-take-le, map-append, length-map}
@@ -218,12 +218,8 @@ stepped_call p w b P none is h =
     subst (λ (c : Bool). Stepped b w (if c then Some (lists w) else if may_call p w then Some (makes w) else None) P) (sym none)
     (subst (λ (c : Bool). Stepped b w (if c then Some (makes w) else None) P) is (made_or_not p w P b h))
 
-pub nothing_out : (out : List Item) → nat_lt 0 (length out) ≡ false → out ≡ []
-nothing_out [] h = refl
-nothing_out (x ∷ out) h = absurd (let l = ltb-false 0 (length (x ∷ out)) h in omega arith)
-
-pub something_out : (out : List Item) → nat_lt 0 (length out) ≡ true → (x : Item) × (slice_get out 0 ≡ Some x)
-something_out [] h = absurd (let l = ltb-true 0 (length {A = Item} []) h in omega arith)
+pub something_out : (out : List Item) → out ≢ [] → (x : Item) × (slice_get out 0 ≡ Some x)
+something_out [] h = absurd (h refl)
 something_out (x ∷ out) h = (x, refl)
 
 -- ---- what a call's clauses leave

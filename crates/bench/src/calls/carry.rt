@@ -6,7 +6,6 @@ use std::alloc::Global;
 use xns_spp::Item;
 
 /// Feeds the server, which has nothing out; else the answer is `Failed`.
-#[tactic(auto, using(courier_calls::specs::Outs::nothing_out))]
 fn feed_server<S: Service>(
     alloc: Global,
     server: &mut Server<S>,
@@ -20,7 +19,6 @@ fn feed_server<S: Service>(
 }
 
 /// Feeds the caller, which has nothing out; else the answer is `Failed`.
-#[tactic(auto, using(courier_calls::specs::Outs::nothing_out))]
 fn feed_caller(alloc: Global, caller: &mut Caller, item: Item) -> Result<(), SessionFault> {
     if caller.has_out() {
         return Err(SessionFault::Failed);
