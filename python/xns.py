@@ -315,6 +315,8 @@ _CALLS = {
     "error_read": [_BYTES, c_size_t, _WORDS, _WORDS],
     "exchange_read": [_BYTES, c_size_t, POINTER(c_uint32), _WORDS],
     "exchange_write": [c_uint32, c_uint16, _BYTES, c_size_t, _BUFFER, c_size_t, _LENGTH],
+    "exchange_request": [POINTER(_Address), POINTER(_Address), c_uint32, c_uint16, _BYTES, c_size_t, _BUFFER, c_size_t, _LENGTH],
+    "exchange_accept": [POINTER(_Address), c_uint32, _BYTES, c_size_t, _LENGTH, _LENGTH],
     "header_read": [_BYTES, c_size_t, POINTER(_Header)],
     "header_write": [POINTER(_Header), _BUFFER, c_size_t, _LENGTH],
     "message_read": [_BYTES, c_size_t, POINTER(_Message), _WORDS, c_size_t, _LENGTH],
@@ -475,6 +477,21 @@ def exchange_read(body: bytes) -> Tuple[int, int, bytes]:
 def exchange_write(identifier: int, client: int, data: bytes) -> bytes:
     """The data of a Packet Exchange packet. `TooLong` for over 540 bytes."""
     return _written("exchange_write", LONGEST_PACKET, _number(identifier, 32), _number(client, 16), data, len(data))
+
+
+def exchange_request(own: Address, target: Address, identifier: int, client: int, data: bytes) -> bytes:
+    """The request packet of a packet exchange: to be sent, and sent again until the response comes. `TooLong` for over 540 bytes; `BadArgument` where
+    the target is the broadcast host. The identifier is new for each request."""
+    ends = byref(_Address.of(own)), byref(_Address.of(target))
+    return _written("exchange_request", LONGEST_PACKET, *ends, _number(identifier, 32), _number(client, 16), data, len(data))
+
+
+def exchange_accept(target: Address, identifier: int, packet: bytes) -> Optional[bytes]:
+    """The data of the response to what was asked of `target` under this identifier; None where the packet is not the response."""
+    at, length = c_size_t(), c_size_t()
+    if not _done(_call("exchange_accept", byref(_Address.of(target)), _number(identifier, 32), packet, len(packet), byref(at), byref(length))):
+        return None
+    return packet[at.value : at.value + length.value]
 
 
 def header_read(body: bytes) -> Tuple[Header, bytes]:
