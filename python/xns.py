@@ -15,7 +15,7 @@ import ctypes.util
 import enum
 import os
 from ctypes import POINTER, byref, c_bool, c_char, c_size_t, c_uint8, c_uint16, c_uint32, c_void_p
-from typing import Iterable, List, NamedTuple, Optional, Tuple
+from typing import Iterable, List, NamedTuple, Optional, Tuple, Union
 
 LONGEST_PACKET = 576  # bytes of the longest packet
 LONGEST_ITEM = 534  # bytes of an item, at most
@@ -39,6 +39,7 @@ class Result(enum.IntEnum):
     BAD_ARGUMENT = 5
     NO_CALLER = 6
     NO_SERVER = 7
+    NO_LISTENER = 8
     SHORT = 11
     LENGTH_SMALL = 12
     LENGTH_LARGE = 13
@@ -48,6 +49,9 @@ class Result(enum.IntEnum):
     ATTENTION_SIZE = 22
     EXHAUSTED = 23
     FULL = 24
+    OPENS = 25
+    IN_USE = 26
+    NO_SLOT = 27
     ODD_LENGTH = 41
     SHORT_MESSAGE = 42
     UNKNOWN_KIND = 43
@@ -128,6 +132,7 @@ _TEXTS = {
     Result.BAD_ARGUMENT: "an argument is not allowed",
     Result.NO_CALLER: "there is no caller in the handle",
     Result.NO_SERVER: "there is no server in the handle",
+    Result.NO_LISTENER: "there is no listener in the handle",
     Result.SHORT: "there are fewer bytes than a header has",
     Result.LENGTH_SMALL: "the length field is below 30",
     Result.LENGTH_LARGE: "the length field is above 576",
@@ -137,6 +142,9 @@ _TEXTS = {
     Result.ATTENTION_SIZE: "an attention item has exactly one byte",
     Result.EXHAUSTED: "the connection has carried its last item",
     Result.FULL: "as many items are unacknowledged as the backlog holds",
+    Result.OPENS: "the packet opens a new connection",
+    Result.IN_USE: "a connection has this identifier, or this peer with its own",
+    Result.NO_SLOT: "as many connections are there as the listener has room for",
     Result.ODD_LENGTH: "the message has an odd number of bytes",
     Result.SHORT_MESSAGE: "the message has fewer bytes than its head",
     Result.UNKNOWN_KIND: "the message is of another kind than the four",
@@ -315,6 +323,8 @@ _CALLS = {
     "error_read": [_BYTES, c_size_t, _WORDS, _WORDS],
     "exchange_read": [_BYTES, c_size_t, POINTER(c_uint32), _WORDS],
     "exchange_write": [c_uint32, c_uint16, _BYTES, c_size_t, _BUFFER, c_size_t, _LENGTH],
+    "exchange_request": [POINTER(_Address), POINTER(_Address), c_uint32, c_uint16, _BYTES, c_size_t, _BUFFER, c_size_t, _LENGTH],
+    "exchange_accept": [POINTER(_Address), c_uint32, _BYTES, c_size_t, _LENGTH, _LENGTH],
     "header_read": [_BYTES, c_size_t, POINTER(_Header)],
     "header_write": [POINTER(_Header), _BUFFER, c_size_t, _LENGTH],
     "message_read": [_BYTES, c_size_t, POINTER(_Message), _WORDS, c_size_t, _LENGTH],
@@ -339,6 +349,11 @@ _CALLS = {
     "endpoint_next_packet": [_HANDLE, _BUFFER, c_size_t, _LENGTH],
     "endpoint_system_packet": [_HANDLE, c_uint8, _BUFFER, c_size_t, _LENGTH],
     "endpoint_resend_first": [_HANDLE, _BUFFER, c_size_t, _LENGTH],
+    "listener_new": [_HANDLE, POINTER(_Address), c_size_t],
+    "listener_clear": [_HANDLE],
+    "listener_find": [_HANDLE, _BYTES, c_size_t, _LENGTH, POINTER(_Address), _WORDS],
+    "listener_add": [_HANDLE, POINTER(_Address), c_uint16, c_uint16, _LENGTH],
+    "listener_remove": [_HANDLE, c_size_t],
     "caller_new": [_HANDLE],
     "caller_clear": [_HANDLE],
     "caller_call": [_HANDLE, c_uint32, c_uint16, c_uint16, _WORDS, c_size_t],
@@ -358,6 +373,7 @@ _CALLS = {
 }
 _ANSWERS = {
     "endpoint_clear": None,
+    "listener_clear": None,
     "caller_clear": None,
     "server_clear": None,
     "endpoint_is_open": c_bool,
@@ -477,6 +493,21 @@ def exchange_write(identifier: int, client: int, data: bytes) -> bytes:
     return _written("exchange_write", LONGEST_PACKET, _number(identifier, 32), _number(client, 16), data, len(data))
 
 
+def exchange_request(own: Address, target: Address, identifier: int, client: int, data: bytes) -> bytes:
+    """The request packet of a packet exchange: to be sent, and sent again until the response comes. `TooLong` for over 540 bytes; `BadArgument` where
+    the target is the broadcast host. The identifier is new for each request."""
+    ends = byref(_Address.of(own)), byref(_Address.of(target))
+    return _written("exchange_request", LONGEST_PACKET, *ends, _number(identifier, 32), _number(client, 16), data, len(data))
+
+
+def exchange_accept(target: Address, identifier: int, packet: bytes) -> Optional[bytes]:
+    """The data of the response to what was asked of `target` under this identifier; None where the packet is not the response."""
+    at, length = c_size_t(), c_size_t()
+    if not _done(_call("exchange_accept", byref(_Address.of(target)), _number(identifier, 32), packet, len(packet), byref(at), byref(length))):
+        return None
+    return packet[at.value : at.value + length.value]
+
+
 def header_read(body: bytes) -> Tuple[Header, bytes]:
     """The header at the front of a sequenced packet's data, and what follows it. `Short` under 12 bytes."""
     told = _Header()
@@ -522,7 +553,7 @@ class _Object:
         self._handle = _Handle()
 
     def close(self) -> None:
-        """Gives the memory back. Each later call raises `NoEndpoint`, `NoCaller` or `NoServer`, or answers as of none."""
+        """Gives the memory back. Each later call raises `NoEndpoint`, `NoCaller`, `NoServer` or `NoListener`, or answers as of none."""
         self._call("clear")
 
     def __enter__(self):
@@ -648,6 +679,42 @@ class Endpoint(_Object):
     def resend_first(self) -> Optional[bytes]:
         """The first of the packets that `tick` would make; None where it would make none."""
         return self._written("resend_first", LONGEST_PACKET)
+
+
+class Opening(NamedTuple):
+    """Who opens a connection, and with which identifier."""
+
+    peer: Address
+    peer_id: int
+
+
+class Listener(_Object):
+    """The connections behind one socket, each by a number from 0 on. Their endpoints are the program's, as in a list."""
+
+    _family = "listener"
+
+    def __init__(self, own: Address, most: int) -> None:
+        """At the socket of `own`, with room for so many. `BadArgument` for over 65,535."""
+        super().__init__()
+        self._done("new", byref(_Address.of(own)), most)
+
+    def find(self, packet: bytes) -> Union[int, Opening, None]:
+        """The number of the connection that a packet belongs to; or who opens a new one by it; None where it is for none."""
+        number, peer, peer_id = c_size_t(), _Address(), c_uint16()
+        result = self._call("find", packet, len(packet), byref(number), byref(peer), byref(peer_id))
+        if result == Result.OPENS:
+            return Opening(peer.told(), peer_id.value)
+        return number.value if _done(result) else None
+
+    def add(self, peer: Address, peer_id: int, own_id: int) -> int:
+        """Puts in a connection, and tells its number, the first that is free. `InUse` where one has this identifier or this peer, `NoSlot`, `BadArgument`."""
+        number = c_size_t()
+        self._done("add", byref(_Address.of(peer)), _number(peer_id, 16), _number(own_id, 16), byref(number))
+        return number.value
+
+    def remove(self, number: int) -> bool:
+        """Takes a connection away; false where there is none with this number."""
+        return self._done("remove", number)
 
 
 class _Session(_Object):

@@ -126,6 +126,40 @@ static void formats(void) {
 #define AGAIN(call) do { uint32_t result = (call); if (result == XNS_NO_MEMORY) { CHECK(growths >= refuse_at && refuse_at > 0); result = (call); } CHECK(result == XNS_OK); } while (0)
 
 /* A call of program 7, version 2, procedure 1 with the word 5, and the reject of it for its version, with the words 1 and 2. */
+/* A request of Packet Exchange from a to b, with identifier 01020304, client type 5 and the data "Hi!", and the response "Hello". */
+static const uint8_t asking[] = { 0xf6, 0xe3, 0, 0x27, 0, 4, 0, 0, 0, 1, 0, 0, 0xaa, 0, 1, 2, 0, 5, 0, 0, 0, 1, 0, 0, 0xaa, 0, 3, 4, 4, 0, 1, 2, 3, 4, 0, 5, 0x48, 0x69, 0x21, 0 };
+static const uint8_t response[] = { 0xda, 0xf5, 0, 0x29, 0, 4, 0, 0, 0, 1, 0, 0, 0xaa, 0, 3, 4, 4, 0, 0, 0, 0, 1, 0, 0, 0xaa, 0, 1, 2, 0, 5, 1, 2, 3, 4, 0, 5, 0x48, 0x65, 0x6c, 0x6c, 0x6f, 0 };
+
+static void exchange(void) {
+    const struct xns_address everyone = { 1, { 255, 255, 255, 255, 255, 255 }, 5 };
+    struct xns_address other = at_b;
+    static const uint8_t large[541];
+    uint8_t buffer[600], damaged[sizeof response];
+    size_t written = 7, body_at = 7, body_length = 7;
+
+    memset(buffer, 0xee, sizeof buffer);
+    CHECK(xns_exchange_request(&at_a, &at_b, 0x01020304, 5, (const uint8_t *)"Hi!", 3, buffer, 39, &written) == XNS_SHORT_BUFFER && written == 40 && is_left(buffer, 0, sizeof buffer));
+    CHECK(xns_exchange_request(&at_a, &at_b, 0x01020304, 5, (const uint8_t *)"Hi!", 3, buffer, 40, &written) == XNS_OK && written == sizeof asking);
+    CHECK(memcmp(buffer, asking, sizeof asking) == 0 && is_left(buffer, sizeof asking, sizeof buffer));
+    CHECK(xns_exchange_request(&at_a, &at_b, 1, 5, large, 540, buffer, 576, &written) == XNS_OK && written == 576);
+    written = 7;
+    CHECK(xns_exchange_request(&at_a, &everyone, 1, 5, large, 541, buffer, sizeof buffer, &written) == XNS_TOO_LONG && written == 7);
+    CHECK(xns_exchange_request(&at_a, &everyone, 1, 5, large, 540, buffer, 0, &written) == XNS_BAD_ARGUMENT && written == 7);
+
+    CHECK(xns_exchange_accept(&at_b, 0x01020304, response, sizeof response, &body_at, &body_length) == XNS_OK && body_at == 36 && body_length == 5);
+    other.network = 9; /* networks are not compared */
+    CHECK(xns_exchange_accept(&other, 0x01020304, response, sizeof response, &body_at, &body_length) == XNS_OK);
+    body_at = body_length = 7;
+    memcpy(damaged, response, sizeof response);
+    damaged[40] ^= 1;
+    CHECK(xns_exchange_accept(&at_b, 0x01020304, damaged, sizeof damaged, &body_at, &body_length) == XNS_NOTHING);
+    CHECK(xns_exchange_accept(&at_b, 0x01020305, response, sizeof response, &body_at, &body_length) == XNS_NOTHING);
+    other.socket = 6;
+    CHECK(xns_exchange_accept(&other, 0x01020304, response, sizeof response, &body_at, &body_length) == XNS_NOTHING);
+    CHECK(xns_exchange_accept(&at_a, 0x01020304, response, sizeof response, &body_at, &body_length) == XNS_NOTHING);
+    CHECK(xns_exchange_accept(&at_a, 0x01020304, request, sizeof request, &body_at, &body_length) == XNS_NOTHING && body_at == 7 && body_length == 7);
+}
+
 static const uint8_t call[] = { 0, 0, 0, 1, 0, 0, 0, 7, 0, 2, 0, 1, 0, 5 }, reject[] = { 0, 1, 0, 1, 0, 1, 0, 1, 0, 2 };
 
 static void messages(void) {
@@ -280,6 +314,7 @@ static void refused_writers(void) {
     AGAIN(xns_echo_reply(&own, request, 34, buffer, sizeof buffer, &written));
     AGAIN(xns_complain(&own, 1, 9, request, 34, buffer, sizeof buffer, &written));
     AGAIN(xns_exchange_write(1, 5, request, 34, buffer, sizeof buffer, &written));
+    AGAIN(xns_exchange_request(&at_a, &at_b, 7, 5, request, 34, buffer, sizeof buffer, &written));
 }
 
 /* No caller, or one that was freed, answers as none. */
@@ -379,6 +414,7 @@ static void bad_conversations(void) {
 int main(void) {
     long most;
     formats();
+    exchange();
     bad_messages();
     bad_conversations();
     for (refuse_at = 0, most = 1; refuse_at <= most; refuse_at++) {

@@ -27,14 +27,15 @@ static void initializers(void) {
     IS_INIT(xns_endpoint, XNS_ENDPOINT_INIT, one.at == NULL && unused.at == NULL);
     IS_INIT(xns_caller, XNS_CALLER_INIT, one.at == NULL);
     IS_INIT(xns_server, XNS_SERVER_INIT, one.at == NULL);
+    IS_INIT(xns_listener, XNS_LISTENER_INIT, one.at == NULL);
     IS_INIT(xns_program, XNS_PROGRAM_INIT, one.program == 0 && one.low == 0 && one.high == 0);
 }
 
 /* Each result has a text of its own, and a number that is none has another. */
 static void results(void) {
     static const enum xns_result all[] = {
-        XNS_OK, XNS_NOTHING, XNS_NO_MEMORY, XNS_NO_ENDPOINT, XNS_SHORT_BUFFER, XNS_BAD_ARGUMENT, XNS_NO_CALLER, XNS_NO_SERVER, XNS_SHORT, XNS_LENGTH_SMALL, XNS_LENGTH_LARGE, XNS_CUT,
-        XNS_BAD_SUM, XNS_TOO_LONG, XNS_ATTENTION_SIZE, XNS_EXHAUSTED, XNS_FULL, XNS_ODD_LENGTH, XNS_SHORT_MESSAGE, XNS_UNKNOWN_KIND, XNS_LONG_MESSAGE,
+        XNS_OK, XNS_NOTHING, XNS_NO_MEMORY, XNS_NO_ENDPOINT, XNS_SHORT_BUFFER, XNS_BAD_ARGUMENT, XNS_NO_CALLER, XNS_NO_SERVER, XNS_NO_LISTENER, XNS_SHORT, XNS_LENGTH_SMALL, XNS_LENGTH_LARGE, XNS_CUT,
+        XNS_BAD_SUM, XNS_TOO_LONG, XNS_ATTENTION_SIZE, XNS_EXHAUSTED, XNS_FULL, XNS_OPENS, XNS_IN_USE, XNS_NO_SLOT, XNS_ODD_LENGTH, XNS_SHORT_MESSAGE, XNS_UNKNOWN_KIND, XNS_LONG_MESSAGE,
         XNS_NO_COMMON_VERSION, XNS_BAD_VERSIONS, XNS_WRONG_TRANSACTION, XNS_BAD_REPLY, XNS_OTHER_STREAM, XNS_STOPPED, XNS_BUSY, XNS_CLOSING
     };
     const size_t count = sizeof all / sizeof all[0];
@@ -56,6 +57,7 @@ int main(void) {
     xns_endpoint_free(NULL);
     xns_caller_free(NULL);
     xns_server_free(NULL);
+    xns_listener_free(NULL);
     CHECK(memchr(version.text, 0, sizeof version.text) != NULL && strcmp(version.text, XNS_VERSION) == 0);
     puts(version.text);
     return 0;

@@ -91,6 +91,16 @@ class PacketTest(unittest.TestCase):
         with self.assertRaises(xns.Short):
             xns.exchange_read(body[:5])
 
+    def test_asking(self):
+        request = xns.exchange_request(THERE, HERE._replace(socket=5), 0x01020304, 5, b"Hi!")
+        self.assertEqual(request.hex(), "f6e300270004000000010000aa0001020005000000010000aa000304040001020304000548692100")
+        response = bytes.fromhex("daf500290004000000010000aa0003040400000000010000aa000102000501020304000548656c6c6f00")
+        self.assertEqual(xns.exchange_accept(HERE._replace(socket=5), 0x01020304, response), b"Hello")
+        self.assertIsNone(xns.exchange_accept(HERE._replace(socket=5), 0x01020305, response))
+        self.assertIsNone(xns.exchange_accept(HERE._replace(socket=5), 0x01020304, request))
+        with self.assertRaises(xns.BadArgument):
+            xns.exchange_request(THERE, xns.Address(1, b"\xff" * 6, 5), 1, 5, b"")
+
     def test_header(self):
         header, rest = xns.header_read(xns.decode(OPENING).body)
         self.assertEqual((header, rest), (xns.Header(0xC0, 0, 0x1234, 0, 0, 0, 3), b""))

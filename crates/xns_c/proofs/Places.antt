@@ -1,6 +1,6 @@
 -- What is read, by the places where it stands.
 use Rattle.std.proofs.Common.{◌≡◌, ℕ, Bool, true, false, refl, ◌+◌, ◌-◌, List, take, drop, length, ap, sym, ◌∙◌, arith, Option, Some, None, Result, Ok, Err}
-use Rattle.std.proofs.lemmas.List.{length-take, take_min}
+use Rattle.std.proofs.lemmas.List.{drop-drop, drop-take, length-take, take_min}
 use Rattle.std.specs.Prelude.{slice_range}
 use Rattle.xns_idp.specs.Packet.{PacketModel}
 use Rattle.xns_idp.specs.Reading.{packet_of, packet_fault, packet_fields, word_at, made_even, unless}
@@ -28,13 +28,22 @@ unfolding packet_of packet_fields
 body_of b x e = ap (λ (p : PacketModel × ℕ). p.0.body) (unless_ok (packet_fault b) (packet_fields b, made_even (word_at b 2)) x e)
 
 -- the data stand behind the header
-placed : (b : List ℕ) (x : PacketModel × ℕ) → packet_of b ≡ Ok x → x.0.body ≡ slice_range b 30 (30 + length x.0.body)
+pub placed : (b : List ℕ) (x : PacketModel × ℕ) → packet_of b ≡ Ok x → x.0.body ≡ slice_range b 30 (30 + length x.0.body)
 placed b x e =
     let xs : List ℕ = drop 30 b in
     let n : ℕ = word_at b 2 - 30 in
     let is : take n xs ≡ x.0.body = body_of b x e in
     let counts : 30 + length x.0.body - 30 ≡ length x.0.body = omega arith in
     sym (ap (λ (m : ℕ). take m xs) (counts ∙ sym (ap length is) ∙ length-take n xs) ∙ take_min n xs ∙ is)
+
+-- those of a packet exchange stand six bytes further
+pub exchanged : (b : List ℕ) (x : PacketModel × ℕ) (n : ℕ) → packet_of b ≡ Ok x → 6 + n ≡ length x.0.body → slice_range b 36 (36 + n) ≡ drop 6 x.0.body
+exchanged b x n e size =
+    let xs : List ℕ = drop 30 b in
+    let counts : 30 + length x.0.body - 30 ≡ 6 + n = omega arith in
+    let is : x.0.body ≡ take (6 + n) xs = placed b x e ∙ ap (λ (m : ℕ). take m xs) counts in
+    let left : 36 + n - 36 ≡ n = omega arith in
+    ap (λ (m : ℕ). take m (drop 36 b)) left ∙ ap (λ (l : List ℕ). take n l) (sym (drop-drop 6 30 b)) ∙ sym (drop-take 6 n xs) ∙ ap (λ (l : List ℕ). drop 6 l) (sym is)
 
 flag_again : (x : Bool) → is_yes (as_byte x) ≡ x
 flag_again true = refl

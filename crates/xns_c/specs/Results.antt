@@ -32,11 +32,23 @@ no_caller = 6
 abbrev pub no_server : ℕ
 no_server = 7
 
+abbrev pub no_listener : ℕ
+no_listener = 8
+
 abbrev pub short : ℕ
 short = 11
 
 abbrev pub too_long : ℕ
 too_long = 21
+
+abbrev pub opens : ℕ
+opens = 25
+
+abbrev pub in_use : ℕ
+in_use = 26
+
+abbrev pub no_slot : ℕ
+no_slot = 27
 
 abbrev pub stopped : ℕ
 stopped = 56

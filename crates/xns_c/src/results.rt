@@ -30,11 +30,23 @@ pub const NO_CALLER: u32 = 6;
 /// The handle has no server.
 pub const NO_SERVER: u32 = 7;
 
+/// The handle has no listener.
+pub const NO_LISTENER: u32 = 8;
+
 /// There are fewer bytes than a header has.
 pub const SHORT: u32 = 11;
 
 /// There are more bytes of data than a packet carries.
 pub const TOO_LONG: u32 = 21;
+
+/// The packet opens a new connection.
+pub const OPENS: u32 = 25;
+
+/// A connection has this identifier, or this peer with its own.
+pub const IN_USE: u32 = 26;
+
+/// There is room for no more connections.
+pub const NO_SLOT: u32 = 27;
 
 /// The session has stopped.
 pub const STOPPED: u32 = 56;

@@ -1,0 +1,107 @@
+//! The asking side of a packet exchange.
+
+ghost use Rattle.std.specs.Prelude.{◌≡◌, ◌≢◌, ◌<◌, ◌≤◌, ◌+◌, ℕ, length, MatchOption, Ok};
+ghost use Rattle.xns_idp.specs.Packet.{PacketModel, broadcast, packet_model};
+ghost use Rattle.xns_idp.specs.Reading.{packet_of};
+ghost use Rattle.xns_small.specs.Exchange.{IsResponse, asking_packet};
+ghost use Rattle.xns_c.specs.Exchange.{IsResponseIn, asker};
+ghost use Rattle.xns_c.specs.Given.{IsPut};
+ghost use Rattle.xns_c.specs.Results.{ok, nothing, no_memory, short_buffer, bad_argument, too_long};
+ghost use Rattle.xns_c.specs.Views.{address_in};
+
+use crate::address::XnsAddress;
+use crate::front::put_front;
+use crate::results::{BAD_ARGUMENT, NO_MEMORY, NOTHING, OK, TOO_LONG};
+use std::alloc::Global;
+use xns_idp::packet_type::PACKET_EXCHANGE;
+use xns_idp::{HEADER_BYTES, Packet, decode};
+use xns_small::{Requester, read_exchange};
+
+/// A Packet Exchange packet has so many bytes before its own data.
+const BEFORE_DATA: usize = 6;
+
+/// Puts the request packet of a packet exchange to the front of the buffer: to be sent, and sent again until the response comes
+/// (XSIS 028112, Packet Exchange Protocol).
+///
+/// `TOO_LONG` for more than 540 bytes; else `BAD_ARGUMENT` where the target is the broadcast host; else `NO_MEMORY` where memory is refused; else
+/// `SHORT_BUFFER`, and `written` is then how many bytes are needed.
+#[unsafe(no_mangle)]
+pub extern "C" fn xns_exchange_request(
+    alloc: Global,
+    own: &XnsAddress,
+    target: &XnsAddress,
+    id: u32,
+    client: u16,
+    bytes: &[u8],
+    buffer: &mut [u8],
+    written: &mut usize,
+) -> u32
+    ensures written { result ≡ ok → IsPut (asking_packet (address_in own.now) (address_in target.now) id client bytes.now) buffer.old buffer.new written.new }
+    ensures long { 540 < length bytes.now → result ≡ too_long }
+    ensures everyone { length bytes.now ≤ 540 → target.now.host ≡ broadcast → result ≡ bad_argument }
+    ensures short { result ≡ short_buffer → (length buffer.old < length (asking_packet (address_in own.now) (address_in target.now) id client bytes.now)) ×
+        (written.new ≡ length (asking_packet (address_in own.now) (address_in target.now) id client bytes.now)) }
+    ensures memory { length bytes.now ≤ 540 → target.now.host ≢ broadcast → result ≢ ok → result ≢ short_buffer → result ≡ no_memory }
+    ensures unchanged { result ≢ ok → buffer.new ≡ buffer.old }
+    ensures untold { result ≢ ok → result ≢ short_buffer → written.new ≡ written.old }
+{
+    if bytes.len() > 540 {
+        return TOO_LONG;
+    }
+    let (own, target) = (own.address(), target.address());
+    if target.is_broadcast() {
+        return BAD_ARGUMENT;
+    }
+    match Requester::request(alloc, own, target, id, client, bytes) {
+        Ok(requester) => put_front(requester.try_again(), buffer, written),
+        Err(_) => NO_MEMORY,
+    }
+}
+
+/// How many bytes the data of a response have, if the packet is the response to what was asked of `target` under this identifier.
+#[tactic(auto, unfolding(xns_small::specs::Exchange::exchange_of))]
+fn response_length(target: &XnsAddress, id: u32, packet: &Packet<'_>) -> Option<usize>
+    ensures { MatchOption result (IsResponse (asker (address_in target.now) id) (packet_model packet.now) → ⊥)
+        (λ n. IsResponse (asker (address_in target.now) id) (packet_model packet.now) × (BEFORE_DATA + n ≡ length packet.now.body.now)) }
+{
+    let source = packet.source;
+    if packet.kind != PACKET_EXCHANGE
+        || source.host != target.host
+        || source.socket != target.socket
+    {
+        return None;
+    }
+    let exchange = read_exchange(packet.body).ok()?;
+    if exchange.id != id {
+        return None;
+    }
+    Some(exchange.body.len())
+}
+
+/// Whether the bytes are the response to what was asked of `target` under this identifier, and where its data stand in them. Network numbers are not
+/// compared (XSIS 028112, Packet Exchange Protocol).
+///
+/// `NOTHING` where they are not.
+#[unsafe(no_mangle)]
+pub extern "C" fn xns_exchange_accept(
+    target: &XnsAddress,
+    id: u32,
+    bytes: &[u8],
+    body_at: &mut usize,
+    body_length: &mut usize,
+) -> u32
+    ensures accepted { (x : PacketModel × ℕ) → packet_of bytes.now ≡ Ok x → IsResponse (asker (address_in target.now) id) x.0 → result ≡ ok }
+    ensures response { result ≡ ok → IsResponseIn (asker (address_in target.now) id) bytes.now body_at.new body_length.new }
+    ensures nothing { result ≢ ok → result ≡ nothing }
+    ensures unchanged { result ≢ ok → (body_at.new ≡ body_at.old) × (body_length.new ≡ body_length.old) }
+{
+    let Ok((packet, _)) = decode(bytes) else {
+        return NOTHING;
+    };
+    let Some(length) = response_length(target, id, &packet) else {
+        return NOTHING;
+    };
+    *body_at = HEADER_BYTES + BEFORE_DATA;
+    *body_length = length;
+    OK
+}
