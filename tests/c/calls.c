@@ -336,7 +336,8 @@ static void gives(struct xns_caller *caller, const uint8_t *bytes, size_t length
     uint8_t buffer[600];
     GUARD(item);
     memset(buffer, 0xee, sizeof buffer);
-    CHECK(xns_caller_next_item(caller, &item.it, buffer, length - 1) == XNS_SHORT_BUFFER && is_left((uint8_t *)&item, 0, sizeof item) && is_left(buffer, 0, sizeof buffer));
+    CHECK(xns_caller_next_item(caller, &item.it, buffer, length - 1) == XNS_SHORT_BUFFER && item.it.length == length && is_left(buffer, 0, sizeof buffer));
+    CHECK(IS_GUARDED(item) && is_left((uint8_t *)&item.it, 0, offsetof(struct xns_item, length)));
     CHECK(xns_caller_next_item(caller, &item.it, buffer, 534) == XNS_OK && item.it.stream == 0 && item.it.attention == 0 && item.it.last == 1 && item.it.length == length);
     CHECK(IS_GUARDED(item) && memcmp(buffer, bytes, length) == 0 && is_left(buffer, length, sizeof buffer));
 }

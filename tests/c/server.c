@@ -46,7 +46,8 @@ static void gives(struct xns_server *server, uint8_t last, const void *bytes, si
     GUARD(item);
     memset(buffer, 0xee, sizeof buffer);
     CHECK(xns_server_feed(server, 0, 0, versions, 4) == XNS_BUSY);
-    CHECK(xns_server_next_item(server, &item.it, buffer, length - 1) == XNS_SHORT_BUFFER && is_left((uint8_t *)&item, 0, sizeof item) && is_left(buffer, 0, sizeof buffer));
+    CHECK(xns_server_next_item(server, &item.it, buffer, length - 1) == XNS_SHORT_BUFFER && item.it.length == length && is_left(buffer, 0, sizeof buffer));
+    CHECK(IS_GUARDED(item) && is_left((uint8_t *)&item.it, 0, offsetof(struct xns_item, length)));
     CHECK(xns_server_next_item(server, &item.it, buffer, 534) == XNS_OK && item.it.stream == 0 && item.it.attention == 0 && item.it.last == last && item.it.length == length);
     CHECK(IS_GUARDED(item) && memcmp(buffer, bytes, length) == 0 && is_left(buffer, length, sizeof buffer));
 }

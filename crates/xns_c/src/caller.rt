@@ -85,7 +85,7 @@ pub extern "C" fn xns_caller_call(
 
 /// Gives the next item that is to go out, its bytes to the front of the buffer. Each is given once.
 ///
-/// `NO_CALLER`; `NOTHING` where there is none; `SHORT_BUFFER` where the item is longer than the buffer.
+/// `NO_CALLER`; `NOTHING` where there is none; `SHORT_BUFFER` where the item is longer than the buffer, and `item.length` is then how long it is.
 #[unsafe(no_mangle)]
 pub extern "C" fn xns_caller_next_item(
     alloc: Global,
@@ -97,10 +97,12 @@ pub extern "C" fn xns_caller_next_item(
         (result ≡ ok) × GivesItem x item.new × IsPut x.body buffer.old buffer.new item.new.length }
     ensures rest { (t : Talk) (x : Item) (xs : List Item) → talk_of handle.old ≡ Some t → t.out ≡ x ∷ xs → length x.body ≤ length buffer.old →
         talk_of handle.new ≡ Some (record t { out = xs }) }
-    ensures short { (t : Talk) (x : Item) (xs : List Item) → talk_of handle.old ≡ Some t → t.out ≡ x ∷ xs → length buffer.old < length x.body → result ≡ short_buffer }
+    ensures short { (t : Talk) (x : Item) (xs : List Item) → talk_of handle.old ≡ Some t → t.out ≡ x ∷ xs → length buffer.old < length x.body →
+        (result ≡ short_buffer) × (item.new ≡ record item.old { length = length x.body }) }
     ensures nothing { (t : Talk) → talk_of handle.old ≡ Some t → t.out ≡ [] → result ≡ nothing }
     ensures none { talk_of handle.old ≡ None → result ≡ no_caller }
-    ensures unchanged { result ≢ ok → (talk_of handle.new ≡ talk_of handle.old) × (item.new ≡ item.old) × (buffer.new ≡ buffer.old) }
+    ensures unchanged { result ≢ ok → (talk_of handle.new ≡ talk_of handle.old) × (buffer.new ≡ buffer.old) }
+    ensures untold { result ≢ ok → result ≢ short_buffer → item.new ≡ item.old }
 {
     let Some(mut session) = handle.take(alloc) else {
         return NO_CALLER;

@@ -24,20 +24,23 @@ use xns_spp::{Bytes, Item};
 /// The most bytes that an item may have: the versions and the longest message.
 pub const LONGEST_ITEM: usize = 131_076;
 
-/// Gives the first item that is to go out, its bytes to the front of the buffer. Where the buffer is too short the item stays.
+/// Gives the first item that is to go out, its bytes to the front of the buffer. Where the buffer is too short the item stays, and its length is told.
 pub fn give_item(out: &mut VecDeque<Item>, item: &mut XnsItem, buffer: &mut [u8]) -> u32
     ensures given { (x : Item) (xs : List Item) → out.old.items ≡ x ∷ xs → length x.body ≤ length buffer.old →
         (result ≡ ok) × GivesItem x item.new × IsPut x.body buffer.old buffer.new item.new.length }
     ensures rest { (x : Item) (xs : List Item) → out.old.items ≡ x ∷ xs → length x.body ≤ length buffer.old → out.new.items ≡ xs }
-    ensures short { (x : Item) (xs : List Item) → out.old.items ≡ x ∷ xs → length buffer.old < length x.body → result ≡ short_buffer }
+    ensures short { (x : Item) (xs : List Item) → out.old.items ≡ x ∷ xs → length buffer.old < length x.body →
+        (result ≡ short_buffer) × (item.new ≡ record item.old { length = length x.body }) }
     ensures none { out.old.items ≡ [] → result ≡ nothing }
-    ensures unchanged { result ≢ ok → (out.new.items ≡ out.old.items) × (item.new ≡ item.old) × (buffer.new ≡ buffer.old) }
+    ensures unchanged { result ≢ ok → (out.new.items ≡ out.old.items) × (buffer.new ≡ buffer.old) }
+    ensures untold { result ≢ ok → result ≢ short_buffer → item.new ≡ item.old }
 {
     let Some(first) = out.front() else {
         return NOTHING;
     };
     let mut length = 0;
     let result = put_front(first.body.as_slice(), buffer, &mut length);
+    item.length = length;
     if result == OK {
         *item = XnsItem {
             stream: first.stream,

@@ -176,7 +176,7 @@ pub extern "C" fn xns_server_answer(
 
 /// Gives the next item that is to go out, its bytes to the front of the buffer. Each is given once.
 ///
-/// `NO_SERVER`; `NOTHING` where there is none; `SHORT_BUFFER` where the item is longer than the buffer.
+/// `NO_SERVER`; `NOTHING` where there is none; `SHORT_BUFFER` where the item is longer than the buffer, and `item.length` is then how long it is.
 #[unsafe(no_mangle)]
 pub extern "C" fn xns_server_next_item(
     alloc: Global,
@@ -188,10 +188,12 @@ pub extern "C" fn xns_server_next_item(
         (result ≡ ok) × GivesItem x item.new × IsPut x.body buffer.old buffer.new item.new.length }
     ensures rest { (a : Answering) (x : Item) (xs : List Item) → answering_of handle.old ≡ Some a → a.out ≡ x ∷ xs → length x.body ≤ length buffer.old →
         answering_of handle.new ≡ Some (record a { out = xs }) }
-    ensures short { (a : Answering) (x : Item) (xs : List Item) → answering_of handle.old ≡ Some a → a.out ≡ x ∷ xs → length buffer.old < length x.body → result ≡ short_buffer }
+    ensures short { (a : Answering) (x : Item) (xs : List Item) → answering_of handle.old ≡ Some a → a.out ≡ x ∷ xs → length buffer.old < length x.body →
+        (result ≡ short_buffer) × (item.new ≡ record item.old { length = length x.body }) }
     ensures nothing { (a : Answering) → answering_of handle.old ≡ Some a → a.out ≡ [] → result ≡ nothing }
     ensures none { answering_of handle.old ≡ None → result ≡ no_server }
-    ensures unchanged { result ≢ ok → (answering_of handle.new ≡ answering_of handle.old) × (item.new ≡ item.old) × (buffer.new ≡ buffer.old) }
+    ensures unchanged { result ≢ ok → (answering_of handle.new ≡ answering_of handle.old) × (buffer.new ≡ buffer.old) }
+    ensures untold { result ≢ ok → result ≢ short_buffer → item.new ≡ item.old }
 {
     let Some(mut session) = handle.take(alloc) else {
         return NO_SERVER;

@@ -152,14 +152,16 @@ impl Session {
         }
     }
 
-    /// Gives the next item that is to go out, its bytes to the front of the buffer. Where the buffer is too short the item stays.
+    /// Gives the next item that is to go out, its bytes to the front of the buffer. Where the buffer is too short the item stays, and its length is told.
     pub fn next_item(&mut self, item: &mut XnsItem, buffer: &mut [u8]) -> u32
         ensures given { (x : Item) (xs : List Item) → self.old.out ≡ x ∷ xs → length x.body ≤ length buffer.old →
             (result ≡ ok) × GivesItem x item.new × IsPut x.body buffer.old buffer.new item.new.length }
         ensures rest { (x : Item) (xs : List Item) → self.old.out ≡ x ∷ xs → length x.body ≤ length buffer.old → self.new ≡ record self.old { out = xs } }
-        ensures short { (x : Item) (xs : List Item) → self.old.out ≡ x ∷ xs → length buffer.old < length x.body → result ≡ short_buffer }
+        ensures short { (x : Item) (xs : List Item) → self.old.out ≡ x ∷ xs → length buffer.old < length x.body →
+            (result ≡ short_buffer) × (item.new ≡ record item.old { length = length x.body }) }
         ensures none { self.old.out ≡ [] → result ≡ nothing }
-        ensures unchanged { result ≢ ok → (self.new ≡ self.old) × (item.new ≡ item.old) × (buffer.new ≡ buffer.old) }
+        ensures unchanged { result ≢ ok → (self.new ≡ self.old) × (buffer.new ≡ buffer.old) }
+        ensures untold { result ≢ ok → result ≢ short_buffer → item.new ≡ item.old }
     {
         give_item(&mut self.out, item, buffer)
     }
