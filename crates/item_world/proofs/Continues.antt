@@ -2,7 +2,7 @@
 use Rattle.std.proofs.Common.{◌≡◌, ℕ, ◌+◌, ◌≤◌, true, false, List, [], ◌∷◌, ◌++◌, length, take, Some, None, Result, Ok, Err, refl, sym, ◌∙◌, ap, subst, arith, length-append}
 use Rattle.std.proofs.lemmas.List.{take-append-le}
 use Rattle.std.specs.Prelude.{is_ok, OnOk}
-use Rattle.xns_spp.specs.Growth.{Begins, Stays, HearsNothing}
+use Rattle.xns_spp.specs.Growth.{Stays, HearsNothing}
 use Rattle.xns_spp.specs.Held.{Held, StandsFor}
 use Rattle.xns_spp.specs.Receiving.{receive_answer, after_receive}
 use Rattle.xns_spp.specs.Sending.{send_answer, after_send, take_answer, after_take, after_flush, after_tick}
@@ -10,15 +10,10 @@ use Rattle.xns_spp.specs.State.{State}
 use Rattle.xns_spp.specs.declared.item.Item.{Item}
 use Rattle.xns_spp.specs.declared.send_fault.SendFault.{SendFault}
 use Rattle.item_world.specs.EndLaws.{EndLaws}
+use Rattle.item_world.specs.Going.{Continues}
 use Rattle.item_world.specs.declared.participant.Participant.{Participant}
 use Rattle.item_world.proofs.Fronts.{begins_itself, begins_same}
 use Rattle.item_world.specs.Play.{IsParticipant}
-
--- s goes on as t with the same items accepted and handed up
-pub record Continues (s t : State) : Type 0 where
-  pub accepted : t.accepted ≡ s.accepted
-  pub handed : t.handed ≡ s.handed
-  pub taken : Begins s.taken t.taken
 
 continues_itself : (s : State) → Continues s s
 continues_itself s = record { accepted = refl; handed = refl; taken = begins_itself s.taken }

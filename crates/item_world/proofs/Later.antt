@@ -16,6 +16,7 @@ use Rattle.item_world.specs.EndLaws.{EndLaws}
 use Rattle.item_world.specs.Events.{Step, arrival, noise, sending, taking, flushing, ticking, stepped, all_stepped, steps_of, happens, run}
 use Rattle.xns_spp.specs.Growth.{Begins, HearsNothing}
 use Rattle.item_world.specs.Landing.{answered, landed, landing, reached}
+use Rattle.item_world.specs.Going.{Later, as_sent}
 use Rattle.item_world.specs.Network.{is_settled}
 use Rattle.item_world.specs.Side.{other}
 use Rattle.item_world.specs.World.{World, end_of, moment, emitted, moved, has_passed, lifetime, flushes, ticks, receives, sends, takes, marked, sender_and_bytes, packets_of}
@@ -23,14 +24,6 @@ use Rattle.item_world.specs.declared.emitted.Emitted.{Emitted}
 use Rattle.item_world.specs.declared.event.Event.{Event}
 use Rattle.item_world.specs.declared.moment.Moment.{Moment}
 use Rattle.item_world.specs.declared.side.Side.{Side}
-
--- a packet without whether it was delivered
-abbrev pub as_sent : Emitted → Emitted
-as_sent x = record x { delivered = false }
-
-pub record Later (w v : World) : Type 0 where
-  pub taken : (side : Side) → length (end_of w side).taken ≤ length (end_of v side).taken
-  pub bag : Begins (map as_sent w.bag) (map as_sent v.bag)
 
 pub later_itself : (w : World) → Later w w
 later_itself w = record { taken = λ side. omega arith; bag = begins_itself (map as_sent w.bag) }

@@ -4,6 +4,7 @@ use Rattle.std.specs.Option.{option_to_list}
 use Rattle.std.specs.Prelude.{if◌then◌else◌}
 use Rattle.xns_spp.specs.Held.{Held, StandsFor}
 use Rattle.xns_spp.specs.Receiving.{receive_answer, after_receive}
+use Rattle.item_world.specs.Going.{Lands}
 use Rattle.item_world.specs.Landing.{answered, landed, landing}
 use Rattle.item_world.specs.Network.{IsEnd}
 use Rattle.item_world.specs.World.{receives}
@@ -191,12 +192,6 @@ end_moved w side t bs cs e n stands is net = record {
   stands = subst (λ (s : State). StandsFor e s) (sym (same_end w side t bs)) stands;
   network = subst (λ (l : List (List ℕ)). IsNetwork n (moved w side t l)) is net;
 }
-
--- what a packet is that comes to an end
-pub record Lands (w : World) (k : ℕ) (side : Side) (v : World) : Type 0 where
-  pub packet : Emitted
-  pub is : slice_get w.bag k ≡ Some packet
-  pub world : moved (marked w k packet) side (after_receive (end_of w side) packet.bytes) (option_to_list (receive_answer (end_of w side) packet.bytes).reply) ≡ v
 
 nowhere : (l : Side × World) → None ≡ Some l → ⊥
 nowhere l h = absurd (cc)

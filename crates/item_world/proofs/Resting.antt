@@ -1,17 +1,12 @@
 -- To deliver in turn what never was delivered is to deliver what is not settled, whatever an end does when a packet has landed.
-use Rattle.std.proofs.Common.{◌≡◌, ℕ, zero, suc, ◌+◌, Bool, true, false, List, [], ◌∷◌, fold, Some, None, refl, ◌∙◌, ap, subst, arith}
+use Rattle.std.proofs.Common.{◌≡◌, ℕ, zero, suc, ◌+◌, Bool, true, false, List, [], ◌∷◌, fold, Some, refl, ◌∙◌, ap, subst, arith}
 use Rattle.std.specs.Prelude.{slice_get, if◌then◌else◌, ◌||◌}
-use Rattle.item_world.proofs.Later.{Later, later_itself, later_then, lands_nowhere}
+use Rattle.item_world.proofs.Later.{later_itself, later_then, lands_nowhere}
 use Rattle.item_world.specs.Events.{undelivered}
-use Rattle.item_world.specs.Landing.{landing}
+use Rattle.item_world.specs.Going.{Later, Delivering}
 use Rattle.item_world.specs.Network.{unsettled}
 use Rattle.item_world.specs.World.{World, has_passed}
 use Rattle.item_world.specs.declared.emitted.Emitted.{Emitted}
-
--- a world of any kind with its network, and what a delivery makes of it
-pub record Delivering {W : Type 0} (net : W → World) (deliver : W → ℕ → W) : Type 0 where
-  pub later : (v : W) (k : ℕ) → Later (net v) (net (deliver v k))
-  pub nowhere : (v : W) (k : ℕ) → landing (net v) k ≡ None → deliver v k ≡ v
 
 -- these packets stand in the bag from number i on
 abbrev StandAt : World → ℕ → List Emitted → Type 0

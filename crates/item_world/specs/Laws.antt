@@ -1,5 +1,5 @@
 -- What the definitions imply: the statements of the laws, each under the name of its law.
-use Rattle.std.specs.Prelude.{◌≡◌, ℕ, Bool, false, List, take, fold, All, Some}
+use Rattle.std.specs.Prelude.{◌≡◌, ◌≤◌, ℕ, Bool, false, List, [], length, take, fold, All, Some}
 use Rattle.xns_spp.specs.Item.{IsItem}
 use Rattle.xns_spp.specs.Meant.{as_meant}
 use Rattle.xns_spp.specs.Receiving.{numbers_in}
@@ -11,10 +11,16 @@ use Rattle.item_world.specs.declared.setup.Setup.{Setup}
 use Rattle.item_world.specs.declared.side.Side.{Side}
 use Rattle.item_world.specs.Side.{other}
 use Rattle.item_world.specs.Setup.{IsSetup, IsGood}
+use Rattle.item_world.specs.Going.{Continues, Later, Lands}
+use Rattle.item_world.specs.Network.{IsNetwork}
+use Rattle.item_world.specs.declared.network.Network.{Network}
+use Rattle.xns_spp.specs.Receiving.{after_receive}
+use Rattle.xns_spp.specs.Sending.{after_flush, after_tick}
+use Rattle.xns_spp.specs.State.{State}
 use Rattle.item_world.specs.Events.{IsEvent, steps_of, all_stepped, delivers, undelivered, happens, run}
 use Rattle.item_world.specs.Landing.{landing, flushed}
 use Rattle.item_world.specs.Telling.{resends, tells}
-use Rattle.item_world.specs.World.{World, start, end_of, has_passed, flushes, ticks, sends, takes, packets_of, sent_at, handed_at}
+use Rattle.item_world.specs.World.{World, start, end_of, moved, has_passed, flushes, ticks, sends, takes, packets_of, sent_at, handed_at}
 use Rattle.xns_spp.specs.Growth.{Begins}
 use Rattle.item_world.specs.Invariant.{Holds, IsSoundSpelling}
 
@@ -48,3 +54,31 @@ ARestDeliversWhatNeverWas = (w : World) → happens w Rest ≡ fold delivers w (
 
 abbrev pub TheBagNeverShrinks : Type 0
 TheBagNeverShrinks = (w : World) (events : List Event) → Begins (packets_of w) (packets_of (run w events))
+
+-- an end that flushes, ticks or receives accepts and hands up nothing, and what it has handed up stays
+pub record WhatWasHandedUpStays : Type 0 where
+  pub flush : (s : State) → Continues s (after_flush s)
+  pub tick : (s : State) → Continues s (after_tick s)
+  pub receive : (s : State) (b : List ℕ) → Continues s (after_receive s b)
+  pub handed : (s t : State) → Continues s t → s.handed ≤ length s.taken → take t.handed t.taken ≡ take s.handed s.taken
+
+pub record AWorldOnlyGoesOn : Type 0 where
+  pub itself : (w : World) → Later w w
+  pub further : (u v w : World) → Later u v → Later v w → Later u w
+  pub moved : (w : World) (side : Side) (s : State) (bs : List (List ℕ)) → length (end_of w side).taken ≤ length s.taken → Later w (moved w side s bs)
+  pub flush : (w : World) (side : Side) → Later w (flushes w side)
+  pub land : (w : World) (k : ℕ) (l : Side × World) → landing w k ≡ Some l → Later w l.1
+
+-- an end that sends and takes nothing leaves the network as it was
+abbrev pub AQuietEndLeavesTheNetwork : Type 0
+AQuietEndLeavesTheNetwork = (n : Network) (w : World) (side : Side) (s : State) → IsNetwork n w → length s.taken ≡ length (end_of w side).taken → IsNetwork n (moved w side s [])
+
+abbrev pub APacketThatLandsIsReceived : Type 0
+APacketThatLandsIsReceived = (w : World) (k : ℕ) (side : Side) (v : World) → landing w k ≡ Some (side, v) → Lands w k side v
+
+-- what a play of its own over the network stands on
+pub record NetworkLaws : Type 0 where
+  pub stays : WhatWasHandedUpStays
+  pub goes_on : AWorldOnlyGoesOn
+  pub quiet : AQuietEndLeavesTheNetwork
+  pub lands : APacketThatLandsIsReceived
