@@ -18,10 +18,7 @@ use Rattle.xns_spp.specs.declared.item.Item.{Item}
 use Rattle.xns_world.proofs.CallQuiet.{IsQuiet, flush_quiet, tick_quiet, land_quiet}
 use Rattle.xns_world.proofs.CallRuns.{LeavesCaller, server_steps, quiet_between}
 use Rattle.xns_world.proofs.CallSettling.{steps_hold}
-use Rattle.item_world.proofs.Later.{Later, later_itself, later_then, moved_later, flushes_later, landing_later}
-use Rattle.item_world.proofs.Networks.{quiet, lands_as}
 use Rattle.xns_world.proofs.Landings.{no_landing}
-use Rattle.item_world.proofs.Resting.{Delivering}
 use Rattle.xns_world.proofs.ServeEnds.{served_on}
 use Rattle.xns_world.proofs.Sides.{same_other, same_marked}
 use Rattle.xns_world.specs.declared.call_trace.CallTrace.{CallTrace}
@@ -35,10 +32,12 @@ use Rattle.item_world.specs.declared.side.Side.{Side}
 use Rattle.item_world.specs.declared.side.Side.TheVariants.{A, B}
 use Rattle.xns_spp.specs.Growth.{Begins}
 use Rattle.item_world.specs.Invariant.{Holds}
+use Rattle.item_world.specs.Going.{Later, Delivering}
 use Rattle.item_world.specs.Landing.{landing, end_reached}
+use Rattle.item_world.specs.Laws.{NetworkLaws}
 use Rattle.item_world.specs.Network.{IsNetwork, IsEnd}
 use Rattle.item_world.specs.Side.{other}
-use Rattle.xns_world.specs.CallLaws.{Given}
+use Rattle.xns_world.specs.CallLaws.{Answering, Given}
 use Rattle.xns_world.specs.CallOrder.{IsBetween, AreOnceInOrder}
 use Rattle.xns_world.specs.CallPlay.{endpoint_at, with_endpoint, Acts, IsCalling, IsServing, IsAtSide, IsCallPair, IsCallPlaying, IsReady, IsCallTrace, IsOnceInOrder, parties}
 use Rattle.xns_world.specs.CallWorld.{Parties, CallWorld, or_caller, calls_made, next_out, outcomes_read, in_world, lists, makes, has_outcome, may_call, caller_step, step_with, settles, arrived, delivers, seen_at, carried_at, step}
@@ -55,50 +54,50 @@ pub record Leaves (side : Side) (w v : CallWorld) : Type 0 where
   pub network : (n : Network) → IsNetwork n w.world → IsNetwork n v.world
   pub later : Later w.world v.world
 
-leaves_same : (side : Side) (w v : CallWorld) → v.world ≡ w.world → Leaves side w v
-leaves_same side w v same = record {
+leaves_same : NetworkLaws → (side : Side) (w v : CallWorld) → v.world ≡ w.world → Leaves side w v
+leaves_same laws side w v same = record {
   there = ap (λ (u : World). end_of u (other side)) same;
   network = λ n h. subst (λ (u : World). IsNetwork n u) (sym same) h;
-  later = subst (λ (u : World). Later w.world u) (sym same) (later_itself w.world);
+  later = subst (λ (u : World). Later w.world u) (sym same) (laws.goes_on.itself w.world);
 }
 
 -- an end moves that sends and takes nothing
-leaves_moved : (side : Side) (w : CallWorld) (t : State) → t.taken ≡ (end_of w.world side).taken → Leaves side w (in_world w (moved w.world side t []))
-leaves_moved side w t same = record {
+leaves_moved : NetworkLaws → (side : Side) (w : CallWorld) (t : State) → t.taken ≡ (end_of w.world side).taken → Leaves side w (in_world w (moved w.world side t []))
+leaves_moved laws side w t same = record {
   there = same_other w.world side t [];
-  network = λ n h. quiet n w.world side t h (ap length same);
-  later = moved_later w.world side t [] (omega (arith, ap length same));
+  network = λ n h. laws.quiet n w.world side t h (ap length same);
+  later = laws.goes_on.moved w.world side t [] (omega (arith, ap length same));
 }
 
-calling_leaves : {S : Type 0} (p : Parties S) (w : CallWorld) (b c : Bool) → Leaves A w (onward w (if b then Some (lists w) else if c then Some (makes w) else None))
-calling_leaves p w true c = leaves_same A w (lists w) refl
-calling_leaves p w false true = leaves_same A w (makes w) refl
-calling_leaves p w false false = leaves_same A w w refl
+calling_leaves : {S : Type 0} → NetworkLaws → (p : Parties S) (w : CallWorld) (b c : Bool) → Leaves A w (onward w (if b then Some (lists w) else if c then Some (makes w) else None))
+calling_leaves laws p w true c = leaves_same laws A w (lists w) refl
+calling_leaves laws p w false true = leaves_same laws A w (makes w) refl
+calling_leaves laws p w false false = leaves_same laws A w w refl
 
-caller_leaves : {S : Type 0} (p : Parties S) (side : Side) (w : CallWorld) → Leaves side w (onward w (caller_step p w side))
-caller_leaves p A w = calling_leaves p w (has_outcome p w) (may_call p w)
-caller_leaves p B w = leaves_same B w w refl
+caller_leaves : {S : Type 0} → NetworkLaws → (p : Parties S) (side : Side) (w : CallWorld) → Leaves side w (onward w (caller_step p w side))
+caller_leaves laws p A w = calling_leaves laws p w (has_outcome p w) (may_call p w)
+caller_leaves laws p B w = leaves_same laws B w w refl
 
-send_leaves : {S : Type 0} → EndLaws → (p : Parties S) (side : Side) (w : CallWorld) (x : Item) (b : Bool) → Leaves side w (onward w (or_caller p w side (if b then None else Some (after_send (end_of w.world side) x))))
-send_leaves laws p side w x true = caller_leaves p side w
-send_leaves laws p side w x false = leaves_moved side w (after_send (end_of w.world side) x) (laws.hears.send (end_of w.world side) x).taken
+send_leaves : {S : Type 0} (p : Parties S) → Answering p.serving p.service → (side : Side) (w : CallWorld) (x : Item) (b : Bool) → Leaves side w (onward w (or_caller p w side (if b then None else Some (after_send (end_of w.world side) x))))
+send_leaves p laws side w x true = caller_leaves laws.network p side w
+send_leaves p laws side w x false = leaves_moved laws.network side w (after_send (end_of w.world side) x) (laws.ends.hears.send (end_of w.world side) x).taken
 
-feed_leaves : {S : Type 0} → EndLaws → (p : Parties S) (side : Side) (w : CallWorld) (b : Bool) → Leaves side w (onward w (or_caller p w side (if b then Some (after_take (end_of w.world side)) else None)))
-feed_leaves laws p side w true = leaves_moved side w (after_take (end_of w.world side)) (laws.hears.take (end_of w.world side)).taken
-feed_leaves laws p side w false = caller_leaves p side w
+feed_leaves : {S : Type 0} (p : Parties S) → Answering p.serving p.service → (side : Side) (w : CallWorld) (b : Bool) → Leaves side w (onward w (or_caller p w side (if b then Some (after_take (end_of w.world side)) else None)))
+feed_leaves p laws side w true = leaves_moved laws.network side w (after_take (end_of w.world side)) (laws.ends.hears.take (end_of w.world side)).taken
+feed_leaves p laws side w false = caller_leaves laws.network p side w
 
-step_leaves : {S : Type 0} → EndLaws → (p : Parties S) (side : Side) (w : CallWorld) (o : Option Item) → Leaves side w (onward w (step_with p w side o))
-step_leaves laws p side w (Some x) = send_leaves laws p side w x (is_full (end_of w.world side))
-step_leaves laws p side w None = feed_leaves laws p side w (nat_lt 0 (waiting_count (end_of w.world side)))
+step_leaves : {S : Type 0} (p : Parties S) → Answering p.serving p.service → (side : Side) (w : CallWorld) (o : Option Item) → Leaves side w (onward w (step_with p w side o))
+step_leaves p laws side w (Some x) = send_leaves p laws side w x (is_full (end_of w.world side))
+step_leaves p laws side w None = feed_leaves p laws side w (nat_lt 0 (waiting_count (end_of w.world side)))
 
-pub steps_leave : {S : Type 0} → EndLaws → (p : Parties S) (side : Side) (w : CallWorld) (n : ℕ) → Leaves side w (steps (step p side) w n)
-steps_leave laws p side w zero = leaves_same side w w refl
-steps_leave laws p side w (suc n) =
+pub steps_leave : {S : Type 0} (p : Parties S) → Answering p.serving p.service → (side : Side) (w : CallWorld) (n : ℕ) → Leaves side w (steps (step p side) w n)
+steps_leave p laws side w zero = leaves_same laws.network side w w refl
+steps_leave p laws side w (suc n) =
     let v = steps (step p side) w n in
     let u = onward v (step_with p v side (next_out p v side)) in
-    let before = steps_leave laws p side w n in
-    let now = step_leaves laws p side v (next_out p v side) in
-    record { there = now.there ∙ before.there; network = λ m h. now.network m (before.network m h); later = later_then w.world v.world u.world before.later now.later }
+    let before = steps_leave p laws side w n in
+    let now = step_leaves p laws side v (next_out p v side) in
+    record { there = now.there ∙ before.there; network = λ m h. now.network m (before.network m h); later = laws.network.goes_on.further w.world v.world u.world before.later now.later }
 
 -- ---- an end whose world goes on elsewhere
 
@@ -145,10 +144,10 @@ pub pair_of : {S : Type 0} (p : Parties S) (e : CallPair S) (w : CallWorld) → 
 pair_of p e w a b = λ side. elim side as (λ t. IsAtSide p e w t) [ A ↦ a | B ↦ b ]
 
 -- the end at a side takes its steps, and the other one stays
-pub caller_stepped : {S : Type 0} → EndLaws → (p : Parties S) (e : CallPair S) (w : CallWorld) (a : CallingEnd) → IsCallPair p e w → IsCalling p a (stepped_out (step p A) w) → IsCallPair p (record e { a = a }) (stepped_out (step p A) w)
-caller_stepped laws p e w a h i =
+pub caller_stepped : {S : Type 0} (p : Parties S) → Answering p.serving p.service → (e : CallPair S) (w : CallWorld) (a : CallingEnd) → IsCallPair p e w → IsCalling p a (stepped_out (step p A) w) → IsCallPair p (record e { a = a }) (stepped_out (step p A) w)
+caller_stepped p laws e w a h i =
     let v = stepped_out (step p A) w in
-    pair_of p (record e { a = a }) v i (other_serving p e.b w v (steps_leave laws p A w most_steps).there (h B))
+    pair_of p (record e { a = a }) v i (other_serving p e.b w v (steps_leave p laws A w most_steps).there (h B))
 
 pub server_stepped : {S : Type 0} (p : Parties S) (e : CallPair S) (w : CallWorld) (b : ServingEnd S) → IsCallPair p e w → IsServing p b (stepped_out (step p B) w) → IsCallPair p (record e { b = b }) (stepped_out (step p B) w)
 server_stepped p e w b h i =
@@ -193,13 +192,13 @@ settled p e f n m w side g b h network a =
     let v = stepped_out (step p side) w in
     let s : State = end_of v.world side in
     let holds = (steps_hold p side w most_steps g b.holds).holds in
-    acted laws p e f n m v (flushes v.world side) side (λ v u. flushes v side ≡ u) a refl (flush_quiet laws v.world side holds) (same_other v.world side (after_flush s) (flush_answer s)) h ((steps_leave laws p side w most_steps).network n network)
+    acted laws p e f n m v (flushes v.world side) side (λ v u. flushes v side ≡ u) a refl (flush_quiet g.answering.network v.world side holds) (same_other v.world side (after_flush s) (flush_answer s)) h ((steps_leave p g.answering side w most_steps).network n network)
 
 -- ---- a packet is delivered
 
-landed_other : (w v : World) (side : Side) (k : ℕ) → landing w k ≡ Some (side, v) → end_of v (other side) ≡ end_of w (other side)
-landed_other w v side k e =
-    let l = lands_as w k side v e in
+landed_other : NetworkLaws → (w v : World) (side : Side) (k : ℕ) → landing w k ≡ Some (side, v) → end_of v (other side) ≡ end_of w (other side)
+landed_other laws w v side k e =
+    let l = laws.lands w k side v e in
     let x : Emitted = l.packet in
     let s : State = end_of w side in
     ap (λ (u : World). end_of u (other side)) (sym l.world)
@@ -224,7 +223,7 @@ pub landed : {S : Type 0} (serving : Serving S) (cs : List Call) (p : Parties S)
     → landing w.world k ≡ Some (side, u) → Acts e f n m side (λ w v. landing w k ≡ Some (side, v)) → Heard serving cs p (record { ends = f; network = m }) (in_world w u)
 landed serving cs p e f n m w k u side r h came a =
     let holds = r.between.holds.holds in
-    heard serving cs p e f n m w u side (λ w v. landing w k ≡ Some (side, v)) r h a came (r.given.world.land w.world k (side, u) holds came) (land_quiet r.given.answering.ends w.world k (side, u) holds came) (landed_other w.world u side k came)
+    heard serving cs p e f n m w u side (λ w v. landing w k ≡ Some (side, v)) r h a came (r.given.world.land w.world k (side, u) holds came) (land_quiet r.given.answering.network w.world k (side, u) holds came) (landed_other r.given.answering.network w.world u side k came)
 
 pub delivers_to : {S : Type 0} (p : Parties S) (w : CallWorld) (k : ℕ) (side : Side) (u : World) → landing w.world k ≡ Some (side, u) → settles p side (in_world w u) ≡ delivers p w k
 delivers_to p w k side u lands = sym (ap (λ (o : Option (Side × World)). arrived p w o) lands)
@@ -242,21 +241,21 @@ pub ticked : {S : Type 0} (serving : Serving S) (cs : List Call) (p : Parties S)
 ticked serving cs p e f n m w side r h a =
     let holds = r.between.holds.holds in
     let s : State = end_of w.world side in
-    heard serving cs p e f n m w (ticks w.world side) side (λ w v. ticks w side ≡ v) r h a refl (r.given.world.tick w.world side holds) (tick_quiet r.given.answering.ends w.world side holds) (same_other w.world side (after_tick s) (tick_answer s))
+    heard serving cs p e f n m w (ticks w.world side) side (λ w v. ticks w side ≡ v) r h a refl (r.given.world.tick w.world side holds) (tick_quiet r.given.answering.network w.world side holds) (same_other w.world side (after_tick s) (tick_answer s))
 
 -- ---- deliveries in turn
 
-settles_later : {S : Type 0} → EndLaws → (p : Parties S) (side : Side) (w : CallWorld) → Later w.world (settles p side w).world
-settles_later laws p side w =
+settles_later : {S : Type 0} (p : Parties S) → Answering p.serving p.service → (side : Side) (w : CallWorld) → Later w.world (settles p side w).world
+settles_later p laws side w =
     let v = stepped_out (step p side) w in
-    later_then w.world v.world (flushes v.world side) (steps_leave laws p side w most_steps).later (flushes_later laws v.world side)
+    laws.network.goes_on.further w.world v.world (flushes v.world side) (steps_leave p laws side w most_steps).later (laws.network.goes_on.flush v.world side)
 
-arrived_later : {S : Type 0} → EndLaws → (p : Parties S) (w : CallWorld) (k : ℕ) (o : Option (Side × World)) → landing w.world k ≡ o → Later w.world (arrived p w o).world
-arrived_later laws p w k None e = later_itself w.world
-arrived_later laws p w k (Some l) e = later_then w.world l.1 (arrived p w (Some l)).world (landing_later laws w.world k l e) (settles_later laws p l.0 (in_world w l.1))
+arrived_later : {S : Type 0} (p : Parties S) → Answering p.serving p.service → (w : CallWorld) (k : ℕ) (o : Option (Side × World)) → landing w.world k ≡ o → Later w.world (arrived p w o).world
+arrived_later p laws w k None e = laws.network.goes_on.itself w.world
+arrived_later p laws w k (Some l) e = laws.network.goes_on.further w.world l.1 (arrived p w (Some l)).world (laws.network.goes_on.land w.world k l e) (settles_later p laws l.0 (in_world w l.1))
 
-pub delivering : {S : Type 0} (p : Parties S) → EndLaws → Delivering {W = CallWorld} (λ w. w.world) (delivers p)
-delivering p laws = record { later = λ w k. arrived_later laws p w k (landing w.world k) refl; nowhere = delivers_none p }
+pub delivering : {S : Type 0} (p : Parties S) → Answering p.serving p.service → Delivering {W = CallWorld} (λ w. w.world) (delivers p)
+delivering p laws = record { later = λ w k. arrived_later p laws w k (landing w.world k) refl; nowhere = delivers_none p }
 
 -- ---- the headline, of what the play hands over
 

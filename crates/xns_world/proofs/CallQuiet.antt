@@ -9,13 +9,13 @@ use Rattle.xns_spp.specs.Receiving.{receive_answer, after_receive}
 use Rattle.xns_spp.specs.Sending.{after_send, take_answer, after_take, flush_answer, after_flush, tick_answer, after_tick, is_full, send_answer}
 use Rattle.xns_spp.specs.State.{State}
 use Rattle.xns_spp.specs.declared.item.Item.{Item}
-use Rattle.item_world.proofs.Continues.{Continues, flush_continues, tick_continues, receive_continues, handed_same}
-use Rattle.item_world.proofs.Networks.{lands_as}
 use Rattle.xns_world.proofs.Sides.{same_end, same_other, same_marked, each_end}
 use Rattle.item_world.specs.declared.emitted.Emitted.{Emitted}
 use Rattle.item_world.specs.declared.side.Side.{Side}
 use Rattle.item_world.specs.Invariant.{Holds}
+use Rattle.item_world.specs.Going.{Continues}
 use Rattle.item_world.specs.Landing.{landing}
+use Rattle.item_world.specs.Laws.{NetworkLaws}
 use Rattle.item_world.specs.Side.{other}
 use Rattle.item_world.specs.World.{World, end_of, moved, flushes, ticks, sends, takes, marked, sent_at, handed_at}
 use Rattle.item_world.specs.EndLaws.{EndLaws}
@@ -28,17 +28,17 @@ pub record IsQuiet (w v : World) : Type 0 where
 quiet_then : (u v w : World) → IsQuiet u v → IsQuiet v w → IsQuiet u w
 quiet_then u v w p q = record { accepted = λ side. q.accepted side ∙ p.accepted side; handed = λ side. q.handed side ∙ p.handed side }
 
-moved_quiet : (w : World) (side : Side) (t : State) (bs : List (List ℕ)) → Continues (end_of w side) t → (end_of w side).handed ≤ length (end_of w side).taken → IsQuiet w (moved w side t bs)
-moved_quiet w side t bs c h = record {
+moved_quiet : NetworkLaws → (w : World) (side : Side) (t : State) (bs : List (List ℕ)) → Continues (end_of w side) t → (end_of w side).handed ≤ length (end_of w side).taken → IsQuiet w (moved w side t bs)
+moved_quiet laws w side t bs c h = record {
   accepted = λ u. each_end w side t bs (λ v s. s.accepted ≡ sent_at w v) c.accepted u refl;
-  handed = λ u. each_end w side t bs (λ v s. take s.handed s.taken ≡ handed_at w v) (handed_same (end_of w side) t c h) u refl;
+  handed = λ u. each_end w side t bs (λ v s. take s.handed s.taken ≡ handed_at w v) (laws.stays.handed (end_of w side) t c h) u refl;
 }
 
-pub flush_quiet : EndLaws → (w : World) (side : Side) → Holds w → IsQuiet w (flushes w side)
-flush_quiet laws w side h = moved_quiet w side (after_flush (end_of w side)) (flush_answer (end_of w side)) (flush_continues laws (end_of w side)) (h.ends side).fits.bounds.handed_taken
+pub flush_quiet : NetworkLaws → (w : World) (side : Side) → Holds w → IsQuiet w (flushes w side)
+flush_quiet laws w side h = moved_quiet laws w side (after_flush (end_of w side)) (flush_answer (end_of w side)) (laws.stays.flush (end_of w side)) (h.ends side).fits.bounds.handed_taken
 
-pub tick_quiet : EndLaws → (w : World) (side : Side) → Holds w → IsQuiet w (ticks w side)
-tick_quiet laws w side h = moved_quiet w side (after_tick (end_of w side)) (tick_answer (end_of w side)) (tick_continues laws (end_of w side)) (h.ends side).fits.bounds.handed_taken
+pub tick_quiet : NetworkLaws → (w : World) (side : Side) → Holds w → IsQuiet w (ticks w side)
+tick_quiet laws w side h = moved_quiet laws w side (after_tick (end_of w side)) (tick_answer (end_of w side)) (laws.stays.tick (end_of w side)) (h.ends side).fits.bounds.handed_taken
 
 marked_quiet : (w : World) (k : ℕ) (x : Emitted) → IsQuiet w (marked w k x)
 marked_quiet w k x = record {
@@ -46,19 +46,19 @@ marked_quiet w k x = record {
   handed = λ side. ap (λ (s : State). take s.handed s.taken) (same_marked w k x side);
 }
 
-pub land_quiet : EndLaws → (w : World) (k : ℕ) (l : Side × World) → Holds w → landing w k ≡ Some l → IsQuiet w l.1
+pub land_quiet : NetworkLaws → (w : World) (k : ℕ) (l : Side × World) → Holds w → landing w k ≡ Some l → IsQuiet w l.1
 land_quiet laws w k l h e =
     let side : Side = l.0 in
-    let lands = lands_as w k side l.1 e in
+    let lands = laws.lands w k side l.1 e in
     let x : Emitted = lands.packet in
     let v : World = marked w k x in
     let s : State = end_of w side in
     let t : State = after_receive s x.bytes in
     let same : s ≡ end_of v side = sym (same_marked w k x side) in
-    let on : Continues (end_of v side) t = subst (λ (q : State). Continues q t) same (receive_continues laws s x.bytes) in
+    let on : Continues (end_of v side) t = subst (λ (q : State). Continues q t) same (laws.stays.receive s x.bytes) in
     let within : (end_of v side).handed ≤ length (end_of v side).taken = subst (λ (q : State). q.handed ≤ length q.taken) same (h.ends side).fits.bounds.handed_taken in
     let bs : List (List ℕ) = option_to_list (receive_answer s x.bytes).reply in
-    subst (λ (u : World). IsQuiet w u) lands.world (quiet_then w v (moved v side t bs) (marked_quiet w k x) (moved_quiet v side t bs on within))
+    subst (λ (u : World). IsQuiet w u) lands.world (quiet_then w v (moved v side t bs) (marked_quiet w k x) (moved_quiet laws v side t bs on within))
 
 -- ---- an item is accepted
 

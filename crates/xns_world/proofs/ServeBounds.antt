@@ -16,7 +16,6 @@ use Rattle.xns_spp.specs.Receiving.{after_receive}
 use Rattle.xns_spp.specs.Sending.{after_flush, after_send, send_answer}
 use Rattle.xns_spp.specs.State.{State, IsState}
 use Rattle.xns_spp.specs.declared.item.Item.{Item}
-use Rattle.item_world.proofs.Continues.{flush_continues, receive_continues, handed_same}
 use Rattle.xns_world.proofs.ServeOuts.{IfOut, step_out, out_same}
 use Rattle.xns_world.proofs.ServeSettling.{Keeps, left_of, step_goes}
 use Rattle.xns_world.proofs.Stepping.{IfGoesOn, steps_keep}
@@ -51,18 +50,18 @@ pub settles_within : {S : Type 0} (serving : Serving S) (s : S) (w : Served) →
 settles_within serving s w a brings h =
     let v = stepped_out (serve_step serving s) w.end in
     let k = steps_within serving s w.end most_steps a brings h in
-    let on = flush_continues a.ends v in
+    let on = a.network.stays.flush v in
     record {
       fits = a.ends.bounds.flush v k.fits;
-      out = out_same serving s v (after_flush v) on.accepted (handed_same v (after_flush v) on k.fits.bounds.handed_taken) k.out;
+      out = out_same serving s v (after_flush v) on.accepted (a.network.stays.handed v (after_flush v) on k.fits.bounds.handed_taken) k.out;
     }
 
 receives_within : {S : Type 0} (serving : Serving S) (s : S) (w : Served) (b : List ℕ) → Answering serving s → Within serving s w.end → AreBytes b → Within serving s (serve_receives w b).end
 receives_within serving s w b a h bytes =
-    let on = receive_continues a.ends w.end b in
+    let on = a.network.stays.receive w.end b in
     record {
       fits = a.ends.bounds.receive w.end b h.fits bytes;
-      out = out_same serving s w.end (after_receive w.end b) on.accepted (handed_same w.end (after_receive w.end b) on h.fits.bounds.handed_taken) h.out;
+      out = out_same serving s w.end (after_receive w.end b) on.accepted (a.network.stays.handed w.end (after_receive w.end b) on h.fits.bounds.handed_taken) h.out;
     }
 
 hears_within : {S : Type 0} (serving : Serving S) (s : S) (w : Served) (b : List ℕ) → Answering serving s → AnItemBringsAtMostOneAnswer serving s → Within serving s w.end → AreBytes b → Within serving s (serve_hears serving s w b).end

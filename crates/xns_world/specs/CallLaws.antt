@@ -4,15 +4,16 @@ use Rattle.courier_calls.specs.Calls.{Serving, IsFitting}
 use Rattle.courier_calls.specs.Laws.{WhatIsHeardStays, BothSidesAgree, SessionItemsCanBeSent, FirstFaultStays}
 use Rattle.xns_world.specs.CallWorld.{Parties}
 use Rattle.item_world.specs.EndLaws.{EndLaws}
-use Rattle.item_world.specs.Laws.{EachStepKeepsTheOrder, ForeignBytesChangeNothing}
+use Rattle.item_world.specs.Laws.{EachStepKeepsTheOrder, ForeignBytesChangeNothing, NetworkLaws}
 
--- of an end, and of a server's session that began in the state s
+-- of an end, of its network, and of a server's session that began in the state s
 pub record Answering {S : Type 0} (serving : Serving S) (s : S) : Type 0 where
   pub ends : EndLaws
+  pub network : NetworkLaws
   pub pieces : SessionItemsCanBeSent serving s
   pub faults : FirstFaultStays
 
--- of an end, of the network and of these parties' sessions
+-- of each moment of the network and of these parties' sessions
 pub record Given {S : Type 0} (p : Parties S) : Type 0 where
   pub world : EachStepKeepsTheOrder
   pub foreign : ForeignBytesChangeNothing

@@ -12,6 +12,7 @@ use courier_calls::laws::{
 };
 use item_world::laws::{
     each_step_keeps_the_order, end_laws_are_given, foreign_bytes_change_nothing,
+    network_laws_are_given,
 };
 
 /// Over every list of deliveries, losses, repeats and reorderings each call is carried out at most once and in order, and the k-th outcome
@@ -34,11 +35,12 @@ pub(crate) fn laws_are_given<S: Service>()
     server_laws_are_given::<S>();
 }
 
-/// The laws of an end and of a server's session.
+/// The laws of an end, of the network and of a server's session.
 pub(crate) fn server_laws_are_given<S: Service>()
     ensures { (s : S) → S.IsServiceState s → Answering S.serving s }
 {
     end_laws_are_given();
+    network_laws_are_given();
     session_items_can_be_sent::<S>();
     first_fault_stays();
 }

@@ -17,7 +17,7 @@ returns-in-A g c =
     ok_then c.step_out.result c.step_out.ensures (λ stepped p w ready h.
     let e = c.args.self.now in
     let a = c.step_out.new.self in
-    let here = caller_stepped ready.given.answering.ends p e w a h (stepped p w ready.given ready.between.holds ready.calls_are (h A)) in
+    let here = caller_stepped p ready.given.answering e w a h (stepped p w ready.given ready.between.holds ready.calls_are (h A)) in
     subst (λ (t : Side). IsCallPair p (record e { a = a }) (stepped_out (step p t) w)) (sym c.in-A.is) here)
 
 pub returns-in-B : goal.returns-in-B

@@ -12,4 +12,4 @@ returns g c =
     let there = all p w ready (record { ends = h.ends; network = c.in_ok-numbers.ensures.network w.world h.network }) in
     let listed = c.as_slice.ensures.value ∙ c.in_ok-numbers.ensures.numbers w.world h.network in
     subst (λ (v : CallWorld). IsCallPlaying p c.deliver_all.new.self v)
-    (ap (λ (l : List ℕ). fold (delivers p) w l) listed ∙ sym (unsettled_is_enough (λ (u : CallWorld). u.world) (delivers p) (delivering p ready.given.answering.ends) w)) there)
+    (ap (λ (l : List ℕ). fold (delivers p) w l) listed ∙ sym (unsettled_is_enough (λ (u : CallWorld). u.world) (delivers p) (delivering p ready.given.answering) w)) there)

@@ -33,7 +33,7 @@ promised serving IsServiceState given = record {
   whole = run_all;
   ends = λ p side w are b. settles_end p side w (given p are) b;
   starts = λ p setup are fits good. start_between p setup (given p are) fits good;
-  lands = λ p w k l are b e. let g = given p are in quiet_between p w l.1 b (g.world.land w.world k l b.holds.holds e) (land_quiet g.answering.ends w.world k l b.holds.holds e);
+  lands = λ p w k l are b e. let g = given p are in quiet_between p w l.1 b (g.world.land w.world k l b.holds.holds e) (land_quiet g.answering.network w.world k l b.holds.holds e);
   tick = λ p w side are b. tick_between p w side (given p are) b;
 }
 
