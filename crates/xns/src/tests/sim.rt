@@ -9,6 +9,36 @@ const INPUT: &[u8] =
 
 const TEXT: &[u8] = b"calls 1\ncarried 1\n1 returned 5\ntotal 5\npackets 10\n";
 
+/// What a play of nothing prints.
+const NOTHING: &[u8] = b"calls 0\ncarried 0\ntotal 0\npackets 0\n";
+
+/// Scripts, whether a line is refused, and what is printed.
+const SCRIPTS: [(&[u8], bool, &[u8]); 12] = [
+    (b"", false, NOTHING),
+    (b"# x\n\n#", false, NOTHING),
+    (b"call add 1\r\ntick a\r\nrest", false, b"calls 1\ncarried 0\ntotal 0\npackets 3\n"),
+    (b"deliver 01\n", true, b"1 refused\n"),
+    (b"deliver 4294967296\n", true, b"1 refused\n"),
+    (b"call add 65536\n", true, b"1 refused\n"),
+    (b"call raw 1 1 1\n", true, b"1 refused\n"),
+    (b"call raw 1 1 1 005\n", true, b"1 refused\n"),
+    (b"foreign a 5\n", true, b"1 refused\n"),
+    (b"rest \n", true, b"1 refused\n"),
+    (b"Rest", true, b"1 refused\n"),
+    (b"call add 5\n\ntick a\ntick c\nrest\ndeliver 01\n", true, b"4 refused\n"),
+];
+
+#[test]
+fn scripts_of_nothing_are_played_and_bad_lines_are_refused(rt: HostRuntime) {
+    let alloc = rt.alloc();
+    for (script, is_refused, text) in SCRIPTS {
+        let mut reader = script;
+        let mut writer = Vec::new(alloc);
+        assert_eq!(rt; sim(alloc, &mut reader, &mut writer), Ok(is_refused));
+        assert_eq!(rt; writer.as_slice(), text);
+    }
+}
+
 #[test]
 fn each_read_of_a_script_fails(rt: HostRuntime) {
     let alloc = rt.alloc();
