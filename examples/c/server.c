@@ -18,6 +18,7 @@ struct connection {
 
 static const struct xns_address HERE = { 1, { 0, 0, 0xaa, 0, 1, 2 }, XNS_SOCKET_COURIER };
 static const struct xns_program PROGRAMS[] = { { 7, 1, 1 } };
+static struct xns_listener listener; /* a connection has the same number in it and in the array */
 static struct connection connections[CLIENTS];
 static uint32_t total;
 static int udp;
@@ -29,6 +30,7 @@ static void stop(int number) {
 }
 
 static void drop(struct connection *one) {
+    xns_listener_remove(&listener, (size_t)(one - connections));
     xns_endpoint_free(&one->end);
     xns_server_free(&one->server);
     one->is_used = 0;
@@ -36,23 +38,27 @@ static void drop(struct connection *one) {
 
 /* The connection that a packet is for, or that it opens; null where there is none. */
 static struct connection *find(const uint8_t *packet, size_t length, const struct sockaddr_in *place) {
-    struct connection *one, *unused = NULL;
+    struct connection *one;
     struct xns_address peer;
-    uint16_t peer_id;
-    for (one = connections; one < connections + CLIENTS; one++) {
-        if (xns_endpoint_is_ours(&one->end, packet, length)) return one;
-        if (!one->is_used) unused = one;
-    }
-    if (unused == NULL || xns_opening(packet, length, &peer, &peer_id) != XNS_OK) return NULL;
-    if (xns_endpoint_new_responder(&unused->end, &HERE, new_identifier(), &peer, peer_id, 8, 16) != XNS_OK) return NULL;
-    if (xns_server_new(&unused->server, PROGRAMS, 1) != XNS_OK) {
-        drop(unused);
+    uint16_t peer_id, id;
+    size_t number;
+    uint32_t told = xns_listener_find(&listener, packet, length, &number, &peer, &peer_id);
+    if (told == XNS_NO_LISTENER && xns_listener_new(&listener, &HERE, CLIENTS) == XNS_OK) /* the first packet */
+        told = xns_listener_find(&listener, packet, length, &number, &peer, &peer_id);
+    if (told == XNS_OK) return &connections[number];
+    if (told != XNS_OPENS) return NULL;
+    do told = xns_listener_add(&listener, &peer, peer_id, id = new_identifier(), &number);
+    while (told == XNS_IN_USE);
+    if (told != XNS_OK) return NULL;
+    one = &connections[number];
+    if (xns_endpoint_new_responder(&one->end, &HERE, id, &peer, peer_id, 8, 16) != XNS_OK || xns_server_new(&one->server, PROGRAMS, 1) != XNS_OK) {
+        drop(one);
         return NULL;
     }
-    unused->place = *place;
-    unused->is_used = 1;
-    unused->owes_reply = 0;
-    return unused;
+    one->place = *place;
+    one->is_used = 1;
+    one->owes_reply = 0;
+    return one;
 }
 
 /* Answers the call that was handed. One that is refused memory here is tried at once: it is handed once. */
@@ -129,5 +135,6 @@ int main(int count, char **words) {
                 if (one->is_used) tick(one);
     }
     for (one = connections; one < connections + CLIENTS; one++) drop(one);
+    xns_listener_free(&listener);
     return 0;
 }

@@ -115,6 +115,29 @@ class PacketTest(unittest.TestCase):
                 xns.message_read(bytes.fromhex(data))
 
 
+class ListenerTest(unittest.TestCase):
+    def test_connections(self):
+        own = HERE._replace(socket=5)
+        with xns.Listener(own, 2) as listener:
+            self.assertEqual(listener.find(OPENING), xns.Opening(THERE, 0x1234))
+            self.assertIsNone(listener.find(REQUEST))
+            self.assertEqual(listener.add(THERE, 0x1234, 0x5678), 0)
+            self.assertEqual(listener.find(OPENING), 0)
+            for peer_id, own_id, error in ((0x1234, 1, xns.InUse), (1, 0x5678, xns.InUse), (1, 0, xns.BadArgument)):
+                with self.assertRaises(error):
+                    listener.add(THERE, peer_id, own_id)
+            self.assertEqual(listener.add(THERE, 1, 1), 1)
+            with self.assertRaises(xns.NoSlot):
+                listener.add(THERE, 2, 2)
+            self.assertTrue(listener.remove(0))
+            self.assertFalse(listener.remove(0))
+            self.assertEqual(listener.find(OPENING), xns.Opening(THERE, 0x1234))
+        with self.assertRaises(xns.NoListener):
+            listener.find(OPENING)
+        with self.assertRaises(xns.BadArgument):
+            xns.Listener(own, 65536)
+
+
 def connected(window=8, backlog=16):
     """Two ends of an open connection."""
     a, b = xns.Endpoint.initiator(THERE, 0x1234, HERE, window, backlog), None

@@ -10,12 +10,14 @@ use Rattle.std.proofs.lemmas.List.Quantifiers.{position-Some}
 use Rattle.std.proofs.lemmas.Option.{same_Some, get_or_from_slice_get, slice_get-get_or, slice_get_within}
 use Rattle.std.proofs.lemmas.Slice.Eq.{bytes_eq-Decides}
 use Rattle.xns_idp.specs.declared.address.Address.{Address}
+use Rattle.xns_spp.specs.Ends as ends
 use Rattle.xns_spp.specs.Ends.{same_place}
 use Rattle.xns_spp.specs.Packet.{SppPacketModel, spp_packet_of}
 use Rattle.xns_spp.specs.Receiving.{is_ours, is_ours_in}
-use Rattle.xns_spp.specs.State.{responder_state}
+use Rattle.xns_spp.specs.State.{State, responder_state}
+use Rattle.xns_spp.specs.declared.ends.Ends.{Ends}
 use Rattle.xns_spp.specs.declared.dropped.Dropped.{Dropped}
-use Rattle.xns_c.specs.Listening.{Listening, IsFor, OpensNew, IsSound, envelope_of, envelope_in, is_for, slot_is_for, opener_at, arrival_by, arrival_of, arrival, clashes, slot_clashes}
+use Rattle.xns_c.specs.Listening.{Listening, Answers, IsFor, OpensNew, IsSound, envelope_of, envelope_in, is_for, slot_is_for, opener_at, arrival_by, arrival_of, arrival, clashes, slot_clashes}
 use Rattle.xns_c.specs.declared.arrived.Arrived.TheVariants.{For, Opens}
 use Rattle.xns_c.specs.declared.envelope.Envelope.{Envelope}
 use Rattle.xns_c.specs.declared.guest.Guest.{Guest}
@@ -89,9 +91,12 @@ reads_of b (Err f) e reads told = absurd (cc)
 read : (b : List ℕ) (e : Envelope) → envelope_in b ≡ Some e → Reads b e
 read b e told = reads_of b (spp_packet_of b) e refl told
 
-ours_is : (own : Address) (g : Guest) (window backlog : ℕ) (b : List ℕ) (p : SppPacketModel) → spp_packet_of b ≡ Ok p
-    → is_ours (responder_state own g.id g.peer g.peer_id window backlog) b ≡ is_for own (envelope_of p) g
-ours_is own g window backlog b p e = ap (is_ours_in (responder_state own g.id g.peer g.peer_id window backlog)) e
+ours_is : (own : Address) (g : Guest) (s : State) (b : List ℕ) (p : SppPacketModel) → Answers s own g → spp_packet_of b ≡ Ok p → is_ours s b ≡ is_for own (envelope_of p) g
+ours_is own g s b p answers e = ap (is_ours_in s) e ∙ ap (λ (x : Ends). ends.is_ours x p) answers
+
+-- the end that answers a peer, when it is new
+abbrev new_end : Address → Guest → State
+new_end own g = responder_state own g.id g.peer g.peer_id 1 1
 
 record Given (own : Address) (e : Envelope) (slot : Option Guest) : Type 0 where
   pub guest : Guest
@@ -110,18 +115,18 @@ found_is_for l b e k told at =
     record {
       guest = s.guest;
       there = slice_get-get_or l.slots k None first.0 ∙ ap Some s.is;
-      ours = λ window backlog. ours_is l.own s.guest window backlog b r.packet r.reads ∙ ap (λ (x : Envelope). is_for l.own x s.guest) r.is ∙ s.passes;
+      ours = λ x answers. ours_is l.own s.guest x b r.packet answers r.reads ∙ ap (λ (x : Envelope). is_for l.own x s.guest) r.is ∙ s.passes;
     }
 
 only_found : (l : Listening) (b : List ℕ) (e : Envelope) (k : ℕ) → IsSound l.slots → envelope_in b ≡ Some e → IsFor l b k → position (slot_is_for l.own e) l.slots ≡ Some k
 only_found l b e k sound told h =
     let r = read b e told in
     let p : Option Guest → Bool = slot_is_for l.own e in
-    let passes : is_for l.own e h.guest ≡ true = ap (λ (x : Envelope). is_for l.own x h.guest) (sym r.is) ∙ sym (ours_is l.own h.guest 1 1 b r.packet r.reads) ∙ h.ours 1 1 in
+    let passes : is_for l.own e h.guest ≡ true = ap (λ (x : Envelope). is_for l.own x h.guest) (sym r.is) ∙ sym (ours_is l.own h.guest (new_end l.own h.guest) b r.packet refl r.reads) ∙ h.ours (new_end l.own h.guest) refl in
     let at : position p l.slots ≡ Some (position_or_len p l.slots) =
     found p l.slots k None (slice_get_within l.slots k (Some h.guest) h.there) (ap p (get_or_from_slice_get l.slots k (Some h.guest) None h.there) ∙ passes) in
     let first = found_is_for l b e (position_or_len p l.slots) told at in
-    let passes_first : is_for l.own e first.guest ≡ true = ap (λ (x : Envelope). is_for l.own x first.guest) (sym r.is) ∙ sym (ours_is l.own first.guest 1 1 b r.packet r.reads) ∙ first.ours 1 1 in
+    let passes_first : is_for l.own e first.guest ≡ true = ap (λ (x : Envelope). is_for l.own x first.guest) (sym r.is) ∙ sym (ours_is l.own first.guest (new_end l.own first.guest) b r.packet refl r.reads) ∙ first.ours (new_end l.own first.guest) refl in
     at ∙ ap Some (sound (position_or_len p l.slots) k first.guest h.guest first.there h.there (both_clash l.own e first.guest h.guest passes_first passes))
 
 -- ---- what is said of a packet
@@ -145,7 +150,7 @@ record Seen (b : List ℕ) : Type 0 where
 seen_in : (l : Listening) (b : List ℕ) (k : ℕ) (o : Result SppPacketModel Dropped) → spp_packet_of b ≡ o → IsFor l b k → Seen b
 seen_in l b k (Ok p) e h = record { envelope = envelope_of p; told = ap (λ (o : Result SppPacketModel Dropped). option_map envelope_of (result_ok o)) e }
 seen_in l b k (Err f) e h =
-    let no : true ≡ false = sym (h.ours 1 1) ∙ ap (is_ours_in (responder_state l.own h.guest.id h.guest.peer h.guest.peer_id 1 1)) e in
+    let no : true ≡ false = sym (h.ours (new_end l.own h.guest) refl) ∙ ap (is_ours_in (new_end l.own h.guest)) e in
     absurd (cc)
 
 pub only : (l : Listening) (b : List ℕ) (k : ℕ) → IsSound l.slots → IsFor l b k → arrival l b ≡ For k

@@ -6,7 +6,7 @@ use Rattle.xns_idp.specs.declared.address.Address.{Address}
 use Rattle.xns_spp.specs.Ends.{same_place}
 use Rattle.xns_spp.specs.Packet.{SppPacketModel, spp_packet_of, opener_of}
 use Rattle.xns_spp.specs.Receiving.{is_ours}
-use Rattle.xns_spp.specs.State.{responder_state}
+use Rattle.xns_spp.specs.State.{State, responder_state}
 use Rattle.xns_c.specs.Results.{ok, bad_argument, in_use, no_slot}
 use Rattle.xns_c.specs.declared.arrived.Arrived.{Arrived}
 use Rattle.xns_c.specs.declared.arrived.Arrived.TheVariants.{For, Opens, ForNone}
@@ -35,11 +35,15 @@ has_guest (Some (Some g)) = true
 
 -- ---- to whom a packet belongs
 
--- the packet belongs to the connection with this number: it is one of the end that answers this peer, whatever its window and backlog
+-- the end is the one that answers this peer, whatever its window and backlog, and whatever it has done since
+abbrev pub Answers : State → Address → Guest → Type 0
+Answers s own g = s.ends ≡ (responder_state own g.id g.peer g.peer_id s.ends.window s.ends.backlog).ends
+
+-- the packet belongs to the connection with this number: its end says so
 pub record IsFor (l : Listening) (bytes : List ℕ) (k : ℕ) : Type 0 where
   pub guest : Guest
   pub there : slice_get l.slots k ≡ Some (Some guest)
-  pub ours : (window backlog : ℕ) → is_ours (responder_state l.own guest.id guest.peer guest.peer_id window backlog) bytes ≡ true
+  pub ours : (s : State) → Answers s l.own guest → is_ours s bytes ≡ true
 
 -- by the packet, which comes to the socket, this peer opens a connection that there is not yet
 pub record OpensNew (l : Listening) (bytes : List ℕ) (peer : Address) (peer_id : ℕ) : Type 0 where

@@ -1,7 +1,8 @@
 ghost use Rattle.std.specs.Prelude.{◌≡◌, ◌≢◌, ℕ, true, false, position, length, ◌<◌, IfOk, IfSome, MatchOption, Some, None, slice_get};
 ghost use Rattle.std.specs.Option.{is_none};
 ghost use Rattle.xns_idp.specs.declared.address.Address.{Address};
-ghost use Rattle.xns_c.specs.Listening.{add_number, arrival, has_guest, new_listening, opener_at, slot_is_for, slot_clashes, IsFor, IsSound, OpensNew, with_slot};
+ghost use Rattle.xns_c.specs.Listening.{IsFor, IsSound, OpensNew, add_number, arrival, has_guest, new_listening, opener_at, slot_clashes};
+ghost use Rattle.xns_c.specs.Listening.{slot_is_for, with_slot};
 ghost use Rattle.xns_c.specs.Results.{ok};
 
 use crate::arrived::Arrived;
