@@ -26,7 +26,7 @@ use Rattle.item_world.specs.declared.side.Side.TheVariants.{A, B}
 use Rattle.item_world.specs.EndLaws.{EndLaws}
 use Rattle.item_world.specs.Events.{happens, delivers, run, IsEvent}
 use Rattle.xns_spp.specs.Growth.{Begins}
-use Rattle.item_world.specs.Going.{Continues, Later, Delivering}
+use Rattle.item_world.specs.Going.{Continues, Later}
 use Rattle.item_world.specs.Landing.{landing, flushed, end_reached}
 use Rattle.item_world.specs.Network.{IsNetwork, IsEnd}
 use Rattle.item_world.specs.Play.{at_side, with_side, IsParticipant, IsPlaying, IsPlayed}
@@ -93,14 +93,11 @@ flushed_later : EndLaws → (w : World) (k : ℕ) (o : Option (Side × World)) �
 flushed_later laws w k None e = later_itself w
 flushed_later laws w k (Some l) e = later_then w l.1 (flushed w (Some l)) (landing_later laws w k l e) (flushes_later laws l.1 l.0)
 
-delivers_later : EndLaws → (w : World) (k : ℕ) → Later w (delivers w k)
+pub delivers_later : EndLaws → (w : World) (k : ℕ) → Later w (delivers w k)
 delivers_later laws w k = subst (λ (v : World). Later w v) (sym (delivers_lands w k)) (flushed_later laws w k (landing w k) refl)
 
 pub delivers_nowhere : (w : World) (k : ℕ) → landing w k ≡ None → delivers w k ≡ w
 delivers_nowhere w k none = delivers_lands w k ∙ ap (flushed w) none
-
-pub delivering : EndLaws → Delivering {W = World} (λ w. w) delivers
-delivering laws = record { later = delivers_later laws; nowhere = delivers_nowhere }
 
 -- ---- a list of events
 

@@ -1,5 +1,5 @@
 -- How an end and a world go on.
-use Rattle.std.specs.Prelude.{◌≡◌, ◌≤◌, ℕ, false, length, map, slice_get, Some, None}
+use Rattle.std.specs.Prelude.{◌≡◌, ◌≤◌, ℕ, Bool, false, length, map, slice_get, is_some, Some, None}
 use Rattle.std.specs.Option.{option_to_list}
 use Rattle.xns_spp.specs.Growth.{Begins}
 use Rattle.xns_spp.specs.Receiving.{receive_answer, after_receive}
@@ -30,7 +30,10 @@ pub record Lands (w : World) (k : ℕ) (side : Side) (v : World) : Type 0 where
   pub is : slice_get w.bag k ≡ Some packet
   pub world : moved (marked w k packet) side (after_receive (end_of w side) packet.bytes) (option_to_list (receive_answer (end_of w side) packet.bytes).reply) ≡ v
 
--- worlds of any kind, each with its network, and what a delivery makes of them
-pub record Delivering {W : Type 0} (net : W → World) (deliver : W → ℕ → W) : Type 0 where
-  pub later : (v : W) (k : ℕ) → Later (net v) (net (deliver v k))
-  pub nowhere : (v : W) (k : ℕ) → landing (net v) k ≡ None → deliver v k ≡ v
+-- whether packet k lands
+abbrev pub does_land : World → ℕ → Bool
+does_land w k = is_some (landing w k)
+
+-- where packet k lands nowhere, it never does again
+abbrev pub StaysAway : World → ℕ → Type 0
+StaysAway w k = landing w k ≡ None → (v : World) → Later w v → landing v k ≡ None

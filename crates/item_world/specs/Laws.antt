@@ -1,5 +1,6 @@
 -- What the definitions imply: the statements of the laws, each under the name of its law.
 use Rattle.std.specs.Prelude.{◌≡◌, ◌≤◌, ℕ, Bool, false, List, [], length, take, fold, All, Some}
+use Rattle.std.specs.List.{filter}
 use Rattle.xns_spp.specs.Item.{IsItem}
 use Rattle.xns_spp.specs.Meant.{as_meant}
 use Rattle.xns_spp.specs.Receiving.{numbers_in}
@@ -11,8 +12,8 @@ use Rattle.item_world.specs.declared.setup.Setup.{Setup}
 use Rattle.item_world.specs.declared.side.Side.{Side}
 use Rattle.item_world.specs.Side.{other}
 use Rattle.item_world.specs.Setup.{IsSetup, IsGood}
-use Rattle.item_world.specs.Going.{Continues, Later, Lands}
-use Rattle.item_world.specs.Network.{IsNetwork}
+use Rattle.item_world.specs.Going.{Continues, Later, Lands, StaysAway, does_land}
+use Rattle.item_world.specs.Network.{IsNetwork, unsettled}
 use Rattle.item_world.specs.declared.network.Network.{Network}
 use Rattle.xns_spp.specs.Receiving.{after_receive}
 use Rattle.xns_spp.specs.Sending.{after_flush, after_tick}
@@ -76,9 +77,15 @@ AQuietEndLeavesTheNetwork = (n : Network) (w : World) (side : Side) (s : State) 
 abbrev pub APacketThatLandsIsReceived : Type 0
 APacketThatLandsIsReceived = (w : World) (k : ℕ) (side : Side) (v : World) → landing w k ≡ Some (side, v) → Lands w k side v
 
+-- a rest may leave out what lands nowhere as it begins: that never lands again, however the world goes on
+pub record ARestLeavesOutWhatIsSettled : Type 0 where
+  pub left_out : (w : World) → unsettled w 0 w.bag ≡ filter (does_land w) (undelivered 0 w.bag)
+  pub away : (w : World) → All (StaysAway w) (undelivered 0 w.bag)
+
 -- what a play of its own over the network stands on
 pub record NetworkLaws : Type 0 where
   pub stays : WhatWasHandedUpStays
   pub goes_on : AWorldOnlyGoesOn
   pub quiet : AQuietEndLeavesTheNetwork
   pub lands : APacketThatLandsIsReceived
+  pub rest : ARestLeavesOutWhatIsSettled

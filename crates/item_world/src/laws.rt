@@ -1,7 +1,8 @@
 //! What the definitions imply, each as the contract of a function that does nothing.
 
 ghost use Rattle.item_world.specs.EndLaws.{EndLaws};
-ghost use Rattle.item_world.specs.Laws.{EachStepKeepsTheOrder, ItemsComeInOrder, ForeignBytesChangeNothing, ARestDeliversWhatNeverWas, TheBagNeverShrinks, NetworkLaws};
+ghost use Rattle.item_world.specs.Laws.{EachStepKeepsTheOrder, ItemsComeInOrder, ForeignBytesChangeNothing, ARestDeliversWhatNeverWas};
+ghost use Rattle.item_world.specs.Laws.{TheBagNeverShrinks, NetworkLaws};
 
 use xns_spp::laws::{
     accepted_items_go_out, an_end_only_grows, bounds_hold_after_each_step,
@@ -81,7 +82,8 @@ pub fn the_bag_never_shrinks()
 /// The laws of the network, for a play that does more at its ends than hand items up.
 ///
 /// An end that flushes, ticks or receives keeps what it accepted and handed up. A world goes on with each move: its ends take no less,
-/// and its bag keeps what was sent. An end that sends and takes nothing leaves the network as it was. A packet that lands is received.
+/// and its bag keeps what was sent. An end that sends and takes nothing leaves the network as it was. A packet that lands is received. One
+/// that lands nowhere as a rest begins never lands again, so a rest may leave it out.
 pub fn network_laws_are_given()
     ensures { NetworkLaws }
 {

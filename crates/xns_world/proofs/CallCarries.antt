@@ -65,7 +65,7 @@ begun_items xs ys b h =
     All-weaker IsShortItem IsItem (λ x i. i.fits) xs (subst (All IsShortItem) front (All-take IsShortItem (length xs) (xs ++ b.0) all))
 
 out_pieces : {S : Type 0} (p : Parties S) (w : CallWorld) (side : Side) → Given p → CallsHold p w → All IsSendableItem (put_out p w side)
-out_pieces p w A g h = g.answering.pieces.caller (calls_made p w) (All-take IsFitting w.made p.calls g.fitting)
+out_pieces p w A g h = g.pieces (calls_made p w) (All-take IsFitting w.made p.calls g.fitting)
 out_pieces p w B g h =
     g.answering.pieces.server (handed_at w.world B)
     (begun_items (handed_at w.world B) (sent_at w.world A) (g.world.order w.world B h.holds) (h.holds.ends A).fits.items)

@@ -1,7 +1,7 @@
 -- The laws that the proofs stand on, for parties whose service is the given one.
 use Rattle.std.proofs.Common.{sym, subst}
 use Rattle.courier_calls.specs.Calls.{Serving}
-use Rattle.courier_calls.specs.Laws.{WhatIsHeardStays, BothSidesAgree}
+use Rattle.courier_calls.specs.Laws.{WhatIsHeardStays, BothSidesAgree, CallerItemsCanBeSent}
 use Rattle.xns_world.specs.CallLaws.{Answering, Given}
 use Rattle.xns_world.specs.CallPromises.{AreParties}
 use Rattle.xns_world.specs.CallWorld.{Parties}
@@ -10,6 +10,7 @@ use Rattle.item_world.specs.Laws.{EachStepKeepsTheOrder, ForeignBytesChangeNothi
 -- the laws of a service's sessions, in each state that it can be in
 pub record SessionLaws {S : Type 0} (serving : Serving S) (IsServiceState : S → Type 0) : Type 0 where
   pub heard : WhatIsHeardStays serving
+  pub pieces : CallerItemsCanBeSent
   pub agree : (s : S) → IsServiceState s → BothSidesAgree serving s
   pub answering : (s : S) → IsServiceState s → Answering serving s
 
@@ -18,6 +19,7 @@ given {S} serving IsServiceState w foreign l p are = record {
   world = w;
   foreign = foreign;
   heard = subst (λ (v : Serving S). WhatIsHeardStays v) (sym are.serving_is) l.heard;
+  pieces = l.pieces;
   agree = subst (λ (v : Serving S). BothSidesAgree v p.service) (sym are.serving_is) (l.agree p.service are.state);
   answering = subst (λ (v : Serving S). Answering v p.service) (sym are.serving_is) (l.answering p.service are.state);
   fitting = are.calls;

@@ -1,7 +1,9 @@
 -- What a play of calls stands for after each event.
-use Rattle.std.proofs.Common.{◌≡◌, ℕ, zero, suc, Bool, true, false, List, [], ◌∷◌, length, map, take, Option, Some, None, refl, sym, ◌∙◌, ap, subst, arith}
+use Rattle.std.proofs.Common.{◌≡◌, ℕ, zero, suc, Bool, true, false, List, [], ◌∷◌, length, map, take, fold, Option, Some, None, refl, sym, ◌∙◌, ap, subst, arith}
 use Rattle.std.specs.Option.{option_to_list}
-use Rattle.std.specs.Prelude.{nat_lt, if◌then◌else◌}
+use Rattle.std.specs.List.{filter}
+use Rattle.std.specs.Prelude.{All, nat_lt, if◌then◌else◌, is_some}
+use Rattle.std.proofs.lemmas.List.Elements.{All-head, All-tail}
 use Rattle.std.proofs.lemmas.List.{length-map}
 use Rattle.courier_messages.specs.RawCalls.{RawCall}
 use Rattle.courier_calls.specs.Calls.{SeenModel, Serving, last_state, outcomes, seen_model, raw_call}
@@ -32,10 +34,11 @@ use Rattle.item_world.specs.declared.side.Side.{Side}
 use Rattle.item_world.specs.declared.side.Side.TheVariants.{A, B}
 use Rattle.xns_spp.specs.Growth.{Begins}
 use Rattle.item_world.specs.Invariant.{Holds}
-use Rattle.item_world.specs.Going.{Later, Delivering}
+use Rattle.item_world.specs.Going.{Later, StaysAway, does_land}
 use Rattle.item_world.specs.Landing.{landing, end_reached}
 use Rattle.item_world.specs.Laws.{NetworkLaws}
-use Rattle.item_world.specs.Network.{IsNetwork, IsEnd}
+use Rattle.item_world.specs.Events.{undelivered}
+use Rattle.item_world.specs.Network.{IsNetwork, IsEnd, unsettled}
 use Rattle.item_world.specs.Side.{other}
 use Rattle.xns_world.specs.CallLaws.{Answering, Given}
 use Rattle.xns_world.specs.CallOrder.{IsBetween, AreOnceInOrder}
@@ -254,8 +257,25 @@ arrived_later : {S : Type 0} (p : Parties S) → Answering p.serving p.service �
 arrived_later p laws w k None e = laws.network.goes_on.itself w.world
 arrived_later p laws w k (Some l) e = laws.network.goes_on.further w.world l.1 (arrived p w (Some l)).world (laws.network.goes_on.land w.world k l e) (settles_later p laws l.0 (in_world w l.1))
 
-pub delivering : {S : Type 0} (p : Parties S) → Answering p.serving p.service → Delivering {W = CallWorld} (λ w. w.world) (delivers p)
-delivering p laws = record { later = λ w k. arrived_later p laws w k (landing w.world k) refl; nowhere = delivers_none p }
+-- the number k comes first, which lands or stays away
+one_passed : {S : Type 0} (p : Parties S) (w : World) (v : CallWorld) (k : ℕ) (ks : List ℕ) (o : Option (Side × World)) → landing w k ≡ o → StaysAway w k → Later w v.world
+    → fold (delivers p) (delivers p v k) ks ≡ fold (delivers p) (delivers p v k) (filter (does_land w) ks) → fold (delivers p) v ks ≡ fold (delivers p) v (filter (does_land w) ks)
+    → fold (delivers p) (delivers p v k) ks ≡ fold (delivers p) v (if is_some o then k ∷ filter (does_land w) ks else filter (does_land w) ks)
+one_passed p w v k ks (Some l) is away later next same = next
+one_passed p w v k ks None is away later next same = ap (λ (u : CallWorld). fold (delivers p) u ks) (delivers_none p v k (away is v.world later)) ∙ same
+
+-- what lands nowhere as they begin is passed over
+pass_over : {S : Type 0} (p : Parties S) → Answering p.serving p.service → (w : World) (v : CallWorld) (ks : List ℕ) → All (StaysAway w) ks → Later w v.world → fold (delivers p) v ks ≡ fold (delivers p) v (filter (does_land w) ks)
+pass_over p laws w v [] stay later = refl
+pass_over p laws w v (k ∷ ks) stay later =
+    let rest = All-tail (StaysAway w) k ks stay in
+    let on = laws.network.goes_on.further w v.world (delivers p v k).world later (arrived_later p laws v k (landing v.world k) refl) in
+    one_passed p w v k ks (landing w k) refl (All-head (StaysAway w) k ks stay) later (pass_over p laws w (delivers p v k) ks rest on) (pass_over p laws w v ks rest later)
+
+pub unsettled_is_enough : {S : Type 0} (p : Parties S) → Answering p.serving p.service → (w : CallWorld) → fold (delivers p) w (undelivered 0 w.world.bag) ≡ fold (delivers p) w (unsettled w.world 0 w.world.bag)
+unsettled_is_enough p laws w =
+    pass_over p laws w.world w (undelivered 0 w.world.bag) (laws.network.rest.away w.world) (laws.network.goes_on.itself w.world)
+    ∙ ap (fold (delivers p) w) (sym (laws.network.rest.left_out w.world))
 
 -- ---- the headline, of what the play hands over
 

@@ -32,6 +32,7 @@ pub(crate) fn laws_are_given<S: Service>()
     foreign_bytes_change_nothing();
     what_is_heard_stays::<S>();
     both_sides_agree::<S>();
+    session_items_can_be_sent::<S>();
     server_laws_are_given::<S>();
 }
 

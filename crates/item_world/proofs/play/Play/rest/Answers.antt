@@ -1,6 +1,5 @@
 use Rattle.std.proofs.Common.{ℕ, List, fold, ◌∙◌, ap, sym, subst}
 use Rattle.item_world.proofs.Continues.{ok_then}
-use Rattle.item_world.proofs.Plays.{delivering}
 use Rattle.item_world.proofs.Resting.{unsettled_is_enough}
 use Rattle.item_world.proofs.Runs.{deliveries}
 use Rattle.item_world.proofs.play.Play.rest.Goals as goal
@@ -14,4 +13,4 @@ returns c =
     let there = all laws w (record { ends = h.ends; network = c.in_ok-numbers.ensures.network w h.network }) in
     let listed = c.as_slice.ensures.value ∙ c.in_ok-numbers.ensures.numbers w h.network in
     subst (λ (v : World). IsPlaying c.deliver_all.new.self v)
-    (ap (λ (l : List ℕ). fold delivers w l) listed ∙ (sym (unsettled_is_enough (λ u. u) delivers (delivering laws) w) ∙ sym (deliveries w (undelivered 0 w.bag)))) there)
+    (ap (λ (l : List ℕ). fold delivers w l) listed ∙ (sym (unsettled_is_enough laws w) ∙ sym (deliveries w (undelivered 0 w.bag)))) there)
