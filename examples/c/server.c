@@ -63,15 +63,18 @@ static struct connection *find(const uint8_t *packet, size_t length, const struc
 
 /* Answers the call that was handed. One that is refused memory here is tried at once: it is handed once. */
 static void answer(struct xns_server *server, const struct xns_message *call, const uint16_t *words, size_t count) {
+    struct xns_cursor in = XNS_CURSOR_INIT, out = XNS_CURSOR_INIT;
+    uint16_t number = 0, results[2];
     uint32_t told;
+    xns_read_cardinal(words, count, &in, &number);
+    xns_read_end(words, count, &in);
+    xns_write_long_cardinal(results, 2, &out, total + number);
     do {
         if (call->procedure != 1) told = xns_server_answer(server, XNS_KIND_REJECT, XNS_REJECT_NO_SUCH_PROCEDURE, words, 0);
-        else if (count != 1) told = xns_server_answer(server, XNS_KIND_REJECT, XNS_REJECT_INVALID_ARGUMENTS, words, 0);
+        else if (in.fault != XNS_OK) told = xns_server_answer(server, XNS_KIND_REJECT, XNS_REJECT_INVALID_ARGUMENTS, words, 0);
         else {
-            const uint32_t sum = total + words[0];
-            const uint16_t results[] = { (uint16_t)(sum >> 16), (uint16_t)sum };
-            told = xns_server_answer(server, XNS_KIND_RETURN, 0, results, 2);
-            if (told == XNS_OK) total = sum;
+            told = xns_server_answer(server, XNS_KIND_RETURN, 0, results, out.place);
+            if (told == XNS_OK) total += number;
         }
     } while (told == XNS_NO_MEMORY);
 }

@@ -28,6 +28,7 @@ static void initializers(void) {
     IS_INIT(xns_caller, XNS_CALLER_INIT, one.at == NULL);
     IS_INIT(xns_server, XNS_SERVER_INIT, one.at == NULL);
     IS_INIT(xns_listener, XNS_LISTENER_INIT, one.at == NULL);
+    IS_INIT(xns_cursor, XNS_CURSOR_INIT, one.place == 0 && one.fault == 0);
     IS_INIT(xns_program, XNS_PROGRAM_INIT, one.program == 0 && one.low == 0 && one.high == 0);
 }
 
@@ -36,17 +37,18 @@ static void results(void) {
     static const enum xns_result all[] = {
         XNS_OK, XNS_NOTHING, XNS_NO_MEMORY, XNS_NO_ENDPOINT, XNS_SHORT_BUFFER, XNS_BAD_ARGUMENT, XNS_NO_CALLER, XNS_NO_SERVER, XNS_NO_LISTENER, XNS_SHORT, XNS_LENGTH_SMALL, XNS_LENGTH_LARGE, XNS_CUT,
         XNS_BAD_SUM, XNS_TOO_LONG, XNS_ATTENTION_SIZE, XNS_EXHAUSTED, XNS_FULL, XNS_OPENS, XNS_IN_USE, XNS_NO_SLOT, XNS_ODD_LENGTH, XNS_SHORT_MESSAGE, XNS_UNKNOWN_KIND, XNS_LONG_MESSAGE,
-        XNS_NO_COMMON_VERSION, XNS_BAD_VERSIONS, XNS_WRONG_TRANSACTION, XNS_BAD_REPLY, XNS_OTHER_STREAM, XNS_STOPPED, XNS_BUSY, XNS_CLOSING
+        XNS_NO_COMMON_VERSION, XNS_BAD_VERSIONS, XNS_WRONG_TRANSACTION, XNS_BAD_REPLY, XNS_OTHER_STREAM, XNS_STOPPED, XNS_BUSY, XNS_CLOSING,
+        XNS_TRUNCATED, XNS_NOT_BOOLEAN, XNS_OVER_MAXIMUM, XNS_NOT_LISTED, XNS_LEFT_OVER
     };
     const size_t count = sizeof all / sizeof all[0];
-    const char *none = xns_result_text((enum xns_result)63);
+    const char *none = xns_result_text((enum xns_result)127);
     int number, named = 0;
     for (size_t i = 0; i < count; i++) {
         const char *text = xns_result_text(all[i]);
         CHECK(text[0] != 0 && strcmp(text, none) != 0);
         for (size_t k = 0; k < i; k++) CHECK(strcmp(text, xns_result_text(all[k])) != 0);
     }
-    for (number = 0; number < 64; number++) named += strcmp(xns_result_text((enum xns_result)number), none) != 0;
+    for (number = 0; number < 127; number++) named += strcmp(xns_result_text((enum xns_result)number), none) != 0;
     CHECK((size_t)named == count);
 }
 

@@ -59,6 +59,21 @@ busy = 57
 abbrev pub closing : ℕ
 closing = 58
 
+abbrev pub truncated : ℕ
+truncated = 71
+
+abbrev pub not_boolean : ℕ
+not_boolean = 72
+
+abbrev pub over_maximum : ℕ
+over_maximum = 73
+
+abbrev pub not_listed : ℕ
+not_listed = 74
+
+abbrev pub left_over : ℕ
+left_over = 75
+
 -- why bytes are no internet packet
 abbrev pub idp_fault_number : IdpFault → ℕ
 idp_fault_number (Short h) = short

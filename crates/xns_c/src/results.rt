@@ -57,6 +57,18 @@ pub const BUSY: u32 = 57;
 /// The peer closes the connection.
 pub const CLOSING: u32 = 58;
 
+/// The words end before the value does.
+pub const TRUNCATED: u32 = 71;
+
+/// The word of a boolean is neither 0 nor 1.
+pub const NOT_BOOLEAN: u32 = 72;
+
+/// The count of a sequence is over its maximum.
+pub const OVER_MAXIMUM: u32 = 73;
+
+/// Words are left behind the last value.
+pub const LEFT_OVER: u32 = 75;
+
 /// Why bytes are no internet packet.
 pub fn idp_fault_number(fault: IdpFault) -> u32
     ensures { result ≡ idp_fault_number fault }

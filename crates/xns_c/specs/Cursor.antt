@@ -1,0 +1,42 @@
+-- Courier's values in words, read and written at a cursor (XSIS 038112, Courier, Standard representation).
+use Rattle.std.specs.Prelude.{◌≡◌, ◌<◌, ◌≤◌, ℕ, ◌+◌, List, ◌++◌, drop, take, length, Result, Ok, Err}
+use Rattle.courier_types.specs.declared.read_fault.ReadFault.{ReadFault}
+use Rattle.courier_types.specs.declared.read_fault.Reason.{Reason}
+use Rattle.courier_types.specs.declared.read_fault.Reason.TheVariants.{Truncated, NotBoolean, NotListed, OverMaximum}
+use Rattle.courier_types.specs.Value.{ValueModel}
+use Rattle.xns_c.specs.Results.{ok, short_buffer, truncated, not_boolean, over_maximum, not_listed}
+use Rattle.xns_c.specs.declared.cursor.XnsCursor.{XnsCursor}
+
+-- why words are no value
+abbrev pub reason_number : Reason → ℕ
+reason_number Truncated = truncated
+reason_number NotBoolean = not_boolean
+reason_number OverMaximum = over_maximum
+reason_number NotListed = not_listed
+
+-- the words from the cursor's place on
+abbrev pub ahead : List ℕ → XnsCursor → List ℕ
+ahead words cursor = drop cursor.place words
+
+-- behind so many words more
+abbrev pub moved : XnsCursor → ℕ → XnsCursor
+moved cursor count = record cursor { place = cursor.place + count }
+
+-- with a fault
+abbrev pub faulted : XnsCursor → ℕ → XnsCursor
+faulted cursor number = record cursor { fault = number }
+
+-- what is answered where the words ahead are such a value or have such a fault, and where the cursor is then
+abbrev pub IsRead : Result (ValueModel × ℕ) ReadFault → XnsCursor → XnsCursor → ℕ → ValueModel → Type 0
+IsRead (Ok found) before after number value = (number ≡ ok) × (value ≡ found.0) × (after ≡ moved before found.1)
+IsRead (Err fault) before after number value = (number ≡ reason_number fault.reason) × (after ≡ faulted before (reason_number fault.reason))
+
+-- words were put at a place of a buffer; what stood before and behind them stands there still
+abbrev pub IsPutAt : ℕ → List ℕ → List ℕ → List ℕ → Type 0
+IsPutAt place words before after = after ≡ take place before ++ words ++ drop (place + length words) before
+
+-- what is answered where these words are to be put, and where the cursor is then: with no room for all of them none is put
+abbrev pub IsWritten : List ℕ → XnsCursor → XnsCursor → List ℕ → List ℕ → ℕ → Type 0
+IsWritten words before after old new number =
+    (before.place + length words ≤ length old → (number ≡ ok) × IsPutAt before.place words old new × (after ≡ moved before (length words)))
+    × (length old < before.place + length words → (number ≡ short_buffer) × (new ≡ old) × (after ≡ faulted before short_buffer))

@@ -1,0 +1,111 @@
+//! Courier's values, written as words at a cursor (XSIS 038112, Courier, Standard representation).
+//!
+//! After a fault each call answers that fault, and changes nothing. `SHORT_BUFFER` where the buffer has no room for all words of the value.
+
+ghost use Rattle.std.specs.Prelude.{◌≡◌, ◌≢◌, ◌<◌, ◌≤◌, [], ◌∷◌};
+ghost use Rattle.courier_types.specs.Spelling.{value_spelling};
+ghost use Rattle.courier_types.specs.Value.{ValueModel};
+ghost use Rattle.xns_c.specs.Cursor.{faulted, IsWritten};
+ghost use Rattle.xns_c.specs.Given.{is_yes};
+ghost use Rattle.xns_c.specs.Results.{ok, over_maximum};
+
+use crate::cursor::XnsCursor;
+use crate::results::{OK, OVER_MAXIMUM, SHORT_BUFFER};
+
+/// Puts these words at the place of the cursor, which is behind them then.
+fn put(words: &[u16], buffer: &mut [u16], cursor: &mut XnsCursor) -> u32
+    ensures written { cursor.old.fault ≡ ok → IsWritten words.now cursor.old cursor.new buffer.old buffer.new result }
+    ensures stays { cursor.old.fault ≢ ok → (result ≡ cursor.old.fault) × (cursor.new ≡ cursor.old) × (buffer.new ≡ buffer.old) }
+{
+    if cursor.fault != OK {
+        return cursor.fault;
+    }
+    let size = words.len();
+    if cursor.place > buffer.len() || buffer.len() - cursor.place < size {
+        return cursor.fail(SHORT_BUFFER);
+    }
+    let end = cursor.place + size;
+    buffer[cursor.place..end].copy_from_slice(words);
+    cursor.place = end;
+    OK
+}
+
+/// Writes a cardinal, one word.
+#[unsafe(no_mangle)]
+pub extern "C" fn xns_write_cardinal(buffer: &mut [u16], cursor: &mut XnsCursor, value: u16) -> u32
+    ensures written { cursor.old.fault ≡ ok → IsWritten (value_spelling (ValueModel.cardinal value)) cursor.old cursor.new buffer.old buffer.new result }
+    ensures stays { cursor.old.fault ≢ ok → (result ≡ cursor.old.fault) × (cursor.new ≡ cursor.old) × (buffer.new ≡ buffer.old) }
+{
+    put(&[value], buffer, cursor)
+}
+
+/// Writes a long cardinal, two words.
+#[unsafe(no_mangle)]
+pub extern "C" fn xns_write_long_cardinal(
+    buffer: &mut [u16],
+    cursor: &mut XnsCursor,
+    value: u32,
+) -> u32
+    ensures written { cursor.old.fault ≡ ok → IsWritten (value_spelling (ValueModel.long_cardinal value)) cursor.old cursor.new buffer.old buffer.new result }
+    ensures stays { cursor.old.fault ≢ ok → (result ≡ cursor.old.fault) × (cursor.new ≡ cursor.old) × (buffer.new ≡ buffer.old) }
+{
+    put(
+        &[(value / 65536) as u16, (value % 65536) as u16],
+        buffer,
+        cursor,
+    )
+}
+
+/// Writes an integer, one word.
+#[unsafe(no_mangle)]
+pub extern "C" fn xns_write_integer(buffer: &mut [u16], cursor: &mut XnsCursor, value: i16) -> u32
+    ensures written { cursor.old.fault ≡ ok → IsWritten (value_spelling (ValueModel.integer value)) cursor.old cursor.new buffer.old buffer.new result }
+    ensures stays { cursor.old.fault ≢ ok → (result ≡ cursor.old.fault) × (cursor.new ≡ cursor.old) × (buffer.new ≡ buffer.old) }
+{
+    put(&[value.cast_unsigned()], buffer, cursor)
+}
+
+/// Writes a long integer, two words.
+#[unsafe(no_mangle)]
+pub extern "C" fn xns_write_long_integer(
+    buffer: &mut [u16],
+    cursor: &mut XnsCursor,
+    value: i32,
+) -> u32
+    ensures written { cursor.old.fault ≡ ok → IsWritten (value_spelling (ValueModel.long_integer value)) cursor.old cursor.new buffer.old buffer.new result }
+    ensures stays { cursor.old.fault ≢ ok → (result ≡ cursor.old.fault) × (cursor.new ≡ cursor.old) × (buffer.new ≡ buffer.old) }
+{
+    xns_write_long_cardinal(buffer, cursor, value.cast_unsigned())
+}
+
+/// Writes a boolean, one word. `value` is 0 for no.
+#[unsafe(no_mangle)]
+pub extern "C" fn xns_write_boolean(buffer: &mut [u16], cursor: &mut XnsCursor, value: u8) -> u32
+    ensures written { cursor.old.fault ≡ ok → IsWritten (value_spelling (ValueModel.boolean (is_yes value))) cursor.old cursor.new buffer.old buffer.new result }
+    ensures stays { cursor.old.fault ≢ ok → (result ≡ cursor.old.fault) × (cursor.new ≡ cursor.old) × (buffer.new ≡ buffer.old) }
+{
+    put(&[u16::from(value != 0)], buffer, cursor)
+}
+
+/// Writes the count of a sequence, one word, which is at most this one: so many elements are to be written.
+///
+/// `OVER_MAXIMUM` where it is above.
+#[unsafe(no_mangle)]
+pub extern "C" fn xns_write_count(
+    buffer: &mut [u16],
+    cursor: &mut XnsCursor,
+    most: u16,
+    count: usize,
+) -> u32
+    ensures written { cursor.old.fault ≡ ok → count ≤ most → IsWritten (count ∷ []) cursor.old cursor.new buffer.old buffer.new result }
+    ensures over { cursor.old.fault ≡ ok → most < count → (result ≡ over_maximum) × (cursor.new ≡ faulted cursor.old over_maximum) × (buffer.new ≡ buffer.old) }
+    ensures stays { cursor.old.fault ≢ ok → (result ≡ cursor.old.fault) × (cursor.new ≡ cursor.old) × (buffer.new ≡ buffer.old) }
+{
+    if cursor.fault != OK {
+        return cursor.fault;
+    }
+    if count > usize::from(most) {
+        return cursor.fail(OVER_MAXIMUM);
+    }
+    put(&[count as u16], buffer, cursor)
+}

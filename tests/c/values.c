@@ -1,0 +1,114 @@
+/* Courier's values in words: what each reader and writer takes and leaves, and that a fault stays. Prints ok, or ends with 1 at the first that is not so. */
+#include "xns.h"
+#include <stdio.h>
+#include <stdlib.h>
+#include <string.h>
+
+#define CHECK(x) do { if (!(x)) { fprintf(stderr, "values.c, line %d: %s\n", __LINE__, #x); exit(1); } } while (0)
+
+/* 513, 70,000, -2, -70,000, true, false and the count 3, as XSIS 038112 spells them. */
+static const uint16_t spelled[] = { 0x0201, 0x0001, 0x1170, 0xfffe, 0xfffe, 0xee90, 1, 0, 3 };
+enum { WORDS = sizeof spelled / sizeof spelled[0] };
+
+static void readers(void) {
+    struct xns_cursor at = XNS_CURSOR_INIT;
+    uint16_t cardinal = 7, count = 7;
+    uint32_t long_cardinal = 7;
+    int16_t integer = 7;
+    int32_t long_integer = 7;
+    uint8_t boolean = 7;
+    CHECK(xns_read_cardinal(spelled, WORDS, &at, &cardinal) == XNS_OK && cardinal == 513 && at.place == 1);
+    CHECK(xns_read_long_cardinal(spelled, WORDS, &at, &long_cardinal) == XNS_OK && long_cardinal == 70000 && at.place == 3);
+    CHECK(xns_read_integer(spelled, WORDS, &at, &integer) == XNS_OK && integer == -2 && at.place == 4);
+    CHECK(xns_read_long_integer(spelled, WORDS, &at, &long_integer) == XNS_OK && long_integer == -70000 && at.place == 6);
+    CHECK(xns_read_boolean(spelled, WORDS, &at, &boolean) == XNS_OK && boolean == 1 && at.place == 7);
+    CHECK(xns_read_boolean(spelled, WORDS, &at, &boolean) == XNS_OK && boolean == 0 && at.place == 8);
+    CHECK(xns_read_count(spelled, WORDS, &at, 3, &count) == XNS_OK && count == 3 && at.place == 9 && at.fault == 0);
+    CHECK(xns_read_end(spelled, WORDS, &at) == XNS_OK && at.place == 9 && at.fault == 0);
+    CHECK(xns_read_cardinal(spelled, WORDS, &at, &cardinal) == XNS_TRUNCATED && cardinal == 513 && at.place == 9 && at.fault == XNS_TRUNCATED);
+}
+
+/* The call answers this, the cursor stays with it as its fault, and each call answers it from then on. */
+#define REFUSED(call, at, where, number) do { \
+    CHECK((call) == (number) && (at).place == (where) && (at).fault == (number)); \
+    CHECK((call) == (number) && (at).place == (where) && (at).fault == (number)); \
+    stays(&(at)); \
+} while (0)
+
+static void stays(struct xns_cursor *at) {
+    const struct xns_cursor before = *at;
+    uint16_t cardinal = 7, count = 7, buffer[WORDS] = { 7 };
+    uint32_t long_cardinal = 7;
+    int16_t integer = 7;
+    int32_t long_integer = 7;
+    uint8_t boolean = 7;
+    CHECK(xns_read_cardinal(spelled, WORDS, at, &cardinal) == before.fault && xns_read_long_cardinal(spelled, WORDS, at, &long_cardinal) == before.fault);
+    CHECK(xns_read_integer(spelled, WORDS, at, &integer) == before.fault && xns_read_long_integer(spelled, WORDS, at, &long_integer) == before.fault);
+    CHECK(xns_read_boolean(spelled, WORDS, at, &boolean) == before.fault && xns_read_count(spelled, WORDS, at, 9, &count) == before.fault);
+    CHECK(xns_read_end(spelled, WORDS, at) == before.fault && xns_write_cardinal(buffer, WORDS, at, 1) == before.fault);
+    CHECK(xns_write_long_cardinal(buffer, WORDS, at, 1) == before.fault && xns_write_integer(buffer, WORDS, at, 1) == before.fault);
+    CHECK(xns_write_long_integer(buffer, WORDS, at, 1) == before.fault && xns_write_boolean(buffer, WORDS, at, 1) == before.fault);
+    CHECK(xns_write_count(buffer, WORDS, at, 9, 1) == before.fault && at->place == before.place && at->fault == before.fault);
+    CHECK(cardinal == 7 && long_cardinal == 7 && integer == 7 && long_integer == 7 && boolean == 7 && count == 7 && buffer[0] == 7 && buffer[1] == 0);
+}
+
+static void faults(void) {
+    const struct xns_cursor last = { WORDS - 1, 0 }, behind = { SIZE_MAX, 0 };
+    struct xns_cursor at;
+    uint16_t count = 7;
+    uint32_t long_cardinal = 7;
+    int16_t integer = 7;
+    int32_t long_integer = 7;
+    uint8_t boolean = 7;
+    at = last;
+    REFUSED(xns_read_boolean(spelled, WORDS, &at, &boolean), at, WORDS - 1, XNS_NOT_BOOLEAN);
+    at = last;
+    REFUSED(xns_read_count(spelled, WORDS, &at, 2, &count), at, WORDS - 1, XNS_OVER_MAXIMUM);
+    at = last;
+    REFUSED(xns_read_long_cardinal(spelled, WORDS, &at, &long_cardinal), at, WORDS - 1, XNS_TRUNCATED);
+    at = last;
+    REFUSED(xns_read_long_integer(spelled, WORDS, &at, &long_integer), at, WORDS - 1, XNS_TRUNCATED);
+    at = last;
+    REFUSED(xns_read_end(spelled, WORDS, &at), at, WORDS - 1, XNS_LEFT_OVER);
+    at = behind;
+    REFUSED(xns_read_integer(spelled, WORDS, &at, &integer), at, SIZE_MAX, XNS_TRUNCATED);
+    at = behind;
+    REFUSED(xns_read_count(spelled, WORDS, &at, 9, &count), at, SIZE_MAX, XNS_TRUNCATED);
+    at = behind;
+    REFUSED(xns_read_boolean(spelled, 0, &at, &boolean), at, SIZE_MAX, XNS_TRUNCATED);
+    at = behind;
+    at.fault = XNS_NOT_LISTED; /* as a program sets it */
+    stays(&at);
+    CHECK(count == 7 && long_cardinal == 7 && integer == 7 && long_integer == 7 && boolean == 7);
+}
+
+static void writers(void) {
+    struct xns_cursor at = XNS_CURSOR_INIT;
+    uint16_t words[WORDS + 1];
+    memset(words, 0xee, sizeof words);
+    CHECK(xns_write_cardinal(words, WORDS, &at, 513) == XNS_OK && at.place == 1 && xns_write_long_cardinal(words, WORDS, &at, 70000) == XNS_OK && at.place == 3);
+    CHECK(xns_write_integer(words, WORDS, &at, -2) == XNS_OK && at.place == 4 && xns_write_long_integer(words, WORDS, &at, -70000) == XNS_OK && at.place == 6);
+    CHECK(xns_write_boolean(words, WORDS, &at, 2) == XNS_OK && at.place == 7 && xns_write_boolean(words, WORDS, &at, 0) == XNS_OK && at.place == 8);
+    CHECK(words[8] == 0xeeee && xns_write_count(words, WORDS, &at, 3, 3) == XNS_OK && at.place == 9 && at.fault == 0);
+    CHECK(memcmp(words, spelled, sizeof spelled) == 0 && words[WORDS] == 0xeeee);
+    REFUSED(xns_write_cardinal(words, WORDS, &at, 1), at, WORDS, XNS_SHORT_BUFFER);
+    at.fault = XNS_OK;
+    at.place = WORDS - 1;
+    REFUSED(xns_write_long_cardinal(words, WORDS, &at, 1), at, WORDS - 1, XNS_SHORT_BUFFER);
+    at.fault = XNS_OK;
+    REFUSED(xns_write_count(words, WORDS, &at, 3, 4), at, WORDS - 1, XNS_OVER_MAXIMUM);
+    at.fault = XNS_OK;
+    REFUSED(xns_write_count(words, WORDS, &at, 3, 65537), at, WORDS - 1, XNS_OVER_MAXIMUM);
+    at.fault = XNS_OK;
+    at.place = SIZE_MAX;
+    REFUSED(xns_write_long_integer(words, WORDS, &at, 1), at, SIZE_MAX, XNS_SHORT_BUFFER);
+    CHECK(memcmp(words, spelled, sizeof spelled) == 0 && words[WORDS] == 0xeeee);
+}
+
+int main(void) {
+    readers();
+    faults();
+    writers();
+    puts("ok");
+    return 0;
+}
