@@ -14,7 +14,7 @@ import ctypes
 import ctypes.util
 import enum
 import os
-from ctypes import POINTER, byref, c_bool, c_char, c_size_t, c_uint8, c_uint16, c_uint32, c_void_p
+from ctypes import POINTER, byref, c_bool, c_char, c_int16, c_int32, c_size_t, c_uint8, c_uint16, c_uint32, c_void_p
 from typing import Iterable, List, NamedTuple, Optional, Tuple, Union
 
 LONGEST_PACKET = 576  # bytes of the longest packet
@@ -64,6 +64,11 @@ class Result(enum.IntEnum):
     STOPPED = 56
     BUSY = 57
     CLOSING = 58
+    TRUNCATED = 71
+    NOT_BOOLEAN = 72
+    OVER_MAXIMUM = 73
+    NOT_LISTED = 74
+    LEFT_OVER = 75
 
 
 class Dropped(enum.IntEnum):
@@ -138,7 +143,7 @@ _TEXTS = {
     Result.LENGTH_LARGE: "the length field is above 576",
     Result.CUT: "there are fewer bytes than the length field says",
     Result.BAD_SUM: "the checksum is another one",
-    Result.TOO_LONG: "there are more data than a packet or a message carries",
+    Result.TOO_LONG: "there are more data than a packet, a message or a text carries",
     Result.ATTENTION_SIZE: "an attention item has exactly one byte",
     Result.EXHAUSTED: "the connection has carried its last item",
     Result.FULL: "as many items are unacknowledged as the backlog holds",
@@ -157,6 +162,11 @@ _TEXTS = {
     Result.STOPPED: "the conversation has stopped",
     Result.BUSY: "a call waits for its answer, or an answer or what is out was not picked up",
     Result.CLOSING: "the peer closes the connection",
+    Result.TRUNCATED: "the words end before the value does",
+    Result.NOT_BOOLEAN: "the word of a boolean is neither 0 nor 1",
+    Result.OVER_MAXIMUM: "the count of a sequence is over its maximum",
+    Result.NOT_LISTED: "the word of an enumeration or the designator of a choice is not listed",
+    Result.LEFT_OVER: "words are left behind the last value",
 }
 
 
@@ -307,6 +317,10 @@ class _Handle(ctypes.Structure):
     _fields_ = [("at", c_void_p)]
 
 
+class _Cursor(ctypes.Structure):
+    _fields_ = [("place", c_size_t), ("fault", c_uint32)]
+
+
 class _Version(ctypes.Structure):
     _fields_ = [("text", c_char * 16)]
 
@@ -369,6 +383,20 @@ _CALLS = {
     "server_answer": [_HANDLE, c_uint8, c_uint16, _WORDS, c_size_t],
     "server_next_item": [_HANDLE, POINTER(_Item), _BUFFER, c_size_t],
     "server_pump": [_HANDLE, _HANDLE],
+    "read_cardinal": [_WORDS, c_size_t, POINTER(_Cursor), _WORDS],
+    "read_long_cardinal": [_WORDS, c_size_t, POINTER(_Cursor), POINTER(c_uint32)],
+    "read_integer": [_WORDS, c_size_t, POINTER(_Cursor), POINTER(c_int16)],
+    "read_long_integer": [_WORDS, c_size_t, POINTER(_Cursor), POINTER(c_int32)],
+    "read_boolean": [_WORDS, c_size_t, POINTER(_Cursor), _BUFFER],
+    "read_count": [_WORDS, c_size_t, POINTER(_Cursor), c_uint16, _WORDS],
+    "read_end": [_WORDS, c_size_t, POINTER(_Cursor)],
+    "write_cardinal": [_WORDS, c_size_t, POINTER(_Cursor), c_uint16],
+    "write_long_cardinal": [_WORDS, c_size_t, POINTER(_Cursor), c_uint32],
+    "write_integer": [_WORDS, c_size_t, POINTER(_Cursor), c_int16],
+    "write_long_integer": [_WORDS, c_size_t, POINTER(_Cursor), c_int32],
+    "write_boolean": [_WORDS, c_size_t, POINTER(_Cursor), c_uint8],
+    "write_count": [_WORDS, c_size_t, POINTER(_Cursor), c_uint16, c_size_t],
+    "write_text": [_WORDS, c_size_t, POINTER(_Cursor), _BYTES, c_size_t],
     "version": [],
 }
 _ANSWERS = {
@@ -828,3 +856,79 @@ class Connection:
         """Closes from this side, once all that it wants to say is said. It is closed when the other side has answered, and all is acknowledged."""
         self.endpoint.send(b"", stream=Stream.END)
         return self.turn()
+
+
+# ---- Courier's values, in words
+
+
+class Reader:
+    """Reads values from words, one behind the other. A value that is not there raises, as does each call after it."""
+
+    def __init__(self, words: Iterable[int]):
+        self._words, self._count = _words(words)
+        self._cursor = _Cursor()
+
+    def _value(self, name: str, kind: type, *arguments) -> int:
+        value = kind()
+        _done(_call(name, self._words, self._count, byref(self._cursor), *arguments, byref(value)))
+        return value.value
+
+    def cardinal(self) -> int:
+        """A cardinal; also an unspecified word, the word of an enumeration, and the designator of a choice."""
+        return self._value("read_cardinal", c_uint16)
+
+    def long_cardinal(self) -> int:
+        return self._value("read_long_cardinal", c_uint32)
+
+    def integer(self) -> int:
+        return self._value("read_integer", c_int16)
+
+    def long_integer(self) -> int:
+        return self._value("read_long_integer", c_int32)
+
+    def boolean(self) -> bool:
+        return self._value("read_boolean", c_uint8) == 1
+
+    def count(self, most: int = 65535) -> int:
+        """How many elements a sequence has, which are to be read then."""
+        return self._value("read_count", c_uint16, _number(most, 16))
+
+    def end(self) -> None:
+        """No word may be left."""
+        _done(_call("read_end", self._words, self._count, byref(self._cursor)))
+
+
+class Writer:
+    """Writes values to `words`, one behind the other."""
+
+    def __init__(self) -> None:
+        self.words: List[int] = []
+
+    def _value(self, name: str, room: int, *arguments) -> "Writer":
+        words, cursor = (c_uint16 * room)(), _Cursor()
+        _done(_call(name, words, room, byref(cursor), *arguments))
+        self.words += words[: cursor.place]
+        return self
+
+    def cardinal(self, value: int) -> "Writer":
+        """A cardinal; also an unspecified word, the word of an enumeration, and the designator of a choice."""
+        return self._value("write_cardinal", 1, _number(value, 16))
+
+    def long_cardinal(self, value: int) -> "Writer":
+        return self._value("write_long_cardinal", 2, _number(value, 32))
+
+    def integer(self, value: int) -> "Writer":
+        return self._value("write_integer", 1, _number(value + 0x8000, 16) - 0x8000)
+
+    def long_integer(self, value: int) -> "Writer":
+        return self._value("write_long_integer", 2, _number(value + 0x80000000, 32) - 0x80000000)
+
+    def boolean(self, value: bool) -> "Writer":
+        return self._value("write_boolean", 1, 1 if value else 0)
+
+    def count(self, elements: int, most: int = 65535) -> "Writer":
+        """How many elements a sequence has, which are to be written then."""
+        return self._value("write_count", 1, _number(most, 16), _number(elements, 64))
+
+    def text(self, text: bytes) -> "Writer":
+        return self._value("write_text", 1 + (len(text) + 1) // 2, text, len(text))

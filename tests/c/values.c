@@ -48,6 +48,7 @@ static void stays(struct xns_cursor *at) {
     CHECK(xns_read_end(spelled, WORDS, at) == before.fault && xns_write_cardinal(buffer, WORDS, at, 1) == before.fault);
     CHECK(xns_write_long_cardinal(buffer, WORDS, at, 1) == before.fault && xns_write_integer(buffer, WORDS, at, 1) == before.fault);
     CHECK(xns_write_long_integer(buffer, WORDS, at, 1) == before.fault && xns_write_boolean(buffer, WORDS, at, 1) == before.fault);
+    CHECK(xns_write_text(buffer, WORDS, at, (const uint8_t *)"abc", 3) == before.fault);
     CHECK(xns_write_count(buffer, WORDS, at, 9, 1) == before.fault && at->place == before.place && at->fault == before.fault);
     CHECK(cardinal == 7 && long_cardinal == 7 && integer == 7 && long_integer == 7 && boolean == 7 && count == 7 && buffer[0] == 7 && buffer[1] == 0);
 }
@@ -105,10 +106,31 @@ static void writers(void) {
     CHECK(memcmp(words, spelled, sizeof spelled) == 0 && words[WORDS] == 0xeeee);
 }
 
+/* The string of XSIS 038112's form: a count of bytes, then two a word, the spare one 0. */
+static void texts(void) {
+    static const uint8_t bytes[65536];
+    static const uint16_t odd[] = { 5, 0x4865, 0x6c6c, 0x6f00 }, even[] = { 2, 0x4869 };
+    struct xns_cursor at = XNS_CURSOR_INIT;
+    static uint16_t words[32770];
+    memset(words, 0xee, sizeof words);
+    CHECK(xns_write_text(words, 7, &at, (const uint8_t *)"Hello", 5) == XNS_OK && at.place == 4 && memcmp(words, odd, sizeof odd) == 0 && words[4] == 0xeeee);
+    CHECK(xns_write_text(words, 7, &at, (const uint8_t *)"Hi", 2) == XNS_OK && at.place == 6 && memcmp(words + 4, even, sizeof even) == 0 && words[6] == 0xeeee);
+    CHECK(memcmp(words, odd, sizeof odd) == 0 && xns_write_text(words, 7, &at, bytes, 0) == XNS_OK && at.place == 7 && words[6] == 0 && words[7] == 0xeeee);
+    at.place = 4;
+    REFUSED(xns_write_text(words, 7, &at, (const uint8_t *)"Hello", 5), at, 4, XNS_SHORT_BUFFER);
+    at.fault = XNS_OK;
+    REFUSED(xns_write_text(words, 7, &at, bytes, 65536), at, 4, XNS_TOO_LONG);
+    CHECK(memcmp(words + 4, even, sizeof even) == 0);
+    at.fault = XNS_OK;
+    at.place = 0;
+    CHECK(xns_write_text(words, 32770, &at, bytes, 65535) == XNS_OK && at.place == 32769 && words[0] == 65535 && words[32768] == 0 && words[32769] == 0xeeee);
+}
+
 int main(void) {
     readers();
     faults();
     writers();
+    texts();
     puts("ok");
     return 0;
 }

@@ -51,6 +51,33 @@ class HeaderTest(unittest.TestCase):
         self.assertTrue(all(texts[one.name] == text for one, text in xns._TEXTS.items()))
 
 
+class ValueTest(unittest.TestCase):
+    """Values as XSIS 038112 spells them."""
+
+    WORDS = [0x0201, 0x0001, 0x1170, 0xFFFE, 0xFFFE, 0xEE90, 1, 0, 3]
+
+    def test_read(self):
+        reader = xns.Reader(self.WORDS)
+        values = [reader.cardinal(), reader.long_cardinal(), reader.integer(), reader.long_integer(), reader.boolean(), reader.boolean()]
+        self.assertEqual(values, [513, 70000, -2, -70000, True, False])
+        self.assertRaises(xns.LeftOver, reader.end)
+        self.assertRaises(xns.LeftOver, reader.count)
+        reader = xns.Reader([3])
+        self.assertEqual(reader.count(3), 3)
+        reader.end()
+        self.assertRaises(xns.Truncated, reader.cardinal)
+        self.assertRaises(xns.OverMaximum, xns.Reader([3]).count, 2)
+        self.assertRaises(xns.NotBoolean, xns.Reader([2]).boolean)
+
+    def test_write(self):
+        writer = xns.Writer().cardinal(513).long_cardinal(70000).integer(-2).long_integer(-70000)
+        self.assertEqual(writer.boolean(True).boolean(False).count(3, 3).words, self.WORDS)
+        self.assertEqual(xns.Writer().text(b"Hello").words, [5, 0x4865, 0x6C6C, 0x6F00])
+        self.assertRaises(xns.OverMaximum, writer.count, 4, 3)
+        self.assertRaises(xns.TooLong, writer.text, bytes(65536))
+        self.assertRaises(ValueError, writer.integer, 32768)
+
+
 class PacketTest(unittest.TestCase):
     def test_decode(self):
         packet = xns.decode(REQUEST + b"\xff")

@@ -1,9 +1,10 @@
 -- What is read at the front of words.
-use Rattle.std.proofs.Common.{◌≡◌, ◌<◌, ◌≤◌, ℕ, ℤ, zero, suc, ◌+◌, ◌*◌, ◌-◌, List, [], ◌∷◌, length, slice_index_or, ap, subst, sym, refl, arith}
+use Rattle.std.proofs.Common.{◌≡◌, ◌<◌, ◌≤◌, ℕ, ℤ, zero, suc, ◌+◌, ◌*◌, ◌-◌, List, [], ◌∷◌, length, slice_index_or, ap, subst, sym, refl, arith, ◌/◌, ◌%◌, ◌++◌, ◌∙◌, take, slice_set}
 use Rattle.std.specs.Int.{w16, w32, cast_signed}
 use Rattle.courier_types.specs.Front.{value_of}
 use Rattle.courier_types.specs.Reading.{reading, front_long}
 use Rattle.courier_types.specs.Shape.{ShapeModel}
+use Rattle.courier_types.specs.Spelling.{bytes_spelling}
 use Rattle.courier_types.specs.Value.{ValueModel}
 use Rattle.xns_c.specs.Cursor.{moved, faulted, IsRead}
 use Rattle.xns_c.specs.Given.{is_yes}
@@ -83,3 +84,28 @@ boolean_wrong [] before after number value h high told = absurd (omega (arith, h
 boolean_wrong (zero ∷ ws) before after number value h high told = absurd (omega (arith, high))
 boolean_wrong (suc zero ∷ ws) before after number value h high told = absurd (omega (arith, high))
 boolean_wrong (suc (suc n) ∷ ws) before after number value h high told = told
+
+pub bytes_count : (bytes : List ℕ) → length (bytes_spelling bytes) ≡ length bytes / 2 + length bytes % 2
+bytes_count [] = refl
+bytes_count (b ∷ []) = refl
+bytes_count (b ∷ c ∷ bytes) = let h = bytes_count bytes in omega (arith, h)
+
+pub text_begun : (words : List ℕ) (count more : ℕ) → length words ≡ 1 + more → take 1 (slice_set words 0 count) ≡ count ∷ []
+text_begun [] count more h = absurd (omega (arith, h))
+text_begun (w ∷ ws) count more h = refl
+
+pub text_room : (words : List ℕ) (count more : ℕ) → length words ≡ 1 + more → 1 + more ≡ length (slice_set words 0 count)
+text_room [] count more h = absurd (omega (arith, h))
+text_room (w ∷ ws) count more h = sym h
+
+set_last : (words : List ℕ) (place word : ℕ) → place + 1 ≡ length words → slice_set words place word ≡ take place words ++ word ∷ []
+set_last [] place word h = absurd (omega (arith, h))
+set_last (w ∷ []) zero word h = refl
+set_last (w ∷ v ∷ ws) zero word h = absurd (omega (arith, h))
+set_last (w ∷ ws) (suc place) word h = ap (λ (l : List ℕ). w ∷ l) (set_last ws place word (omega (arith, h)))
+
+-- an odd last byte is the high one of the last word
+pub text_ended : (words rest : List ℕ) (place last : ℕ) → 1 ≤ length rest → length rest < 2 → last ≡ slice_index_or rest 0 0 → place + length (bytes_spelling rest) ≡ length words → slice_set words place (last * 256) ≡ take place words ++ bytes_spelling rest
+text_ended words [] place last one two e h = absurd (omega (arith, one))
+text_ended words (b ∷ []) place last one two e h = ap (λ (n : ℕ). slice_set words place (n * 256)) e ∙ set_last words place (b * 256) h
+text_ended words (b ∷ c ∷ bytes) place last one two e h = absurd (omega (arith, two))

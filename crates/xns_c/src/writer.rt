@@ -2,15 +2,18 @@
 //!
 //! After a fault each call answers that fault, and changes nothing. `SHORT_BUFFER` where the buffer has no room for all words of the value.
 
-ghost use Rattle.std.specs.Prelude.{◌≡◌, ◌≢◌, ◌<◌, ◌≤◌, [], ◌∷◌};
-ghost use Rattle.courier_types.specs.Spelling.{value_spelling};
+ghost use Rattle.std.specs.Prelude.{◌≡◌, ◌≢◌, ◌<◌, ◌≤◌, ◌+◌, ◌^◌, [], ◌∷◌, length};
+ghost use Rattle.courier_types.specs.Spelling.{bytes_spelling, value_spelling};
 ghost use Rattle.courier_types.specs.Value.{ValueModel};
 ghost use Rattle.xns_c.specs.Cursor.{faulted, IsWritten};
 ghost use Rattle.xns_c.specs.Given.{is_yes};
-ghost use Rattle.xns_c.specs.Results.{ok, over_maximum};
+ghost use Rattle.xns_c.specs.Results.{ok, over_maximum, too_long};
 
 use crate::cursor::XnsCursor;
-use crate::results::{OK, OVER_MAXIMUM, SHORT_BUFFER};
+use crate::results::{OK, OVER_MAXIMUM, SHORT_BUFFER, TOO_LONG};
+
+/// The most bytes that a text has.
+const MOST_TEXT: usize = 65_535;
 
 /// Puts these words at the place of the cursor, which is behind them then.
 fn put(words: &[u16], buffer: &mut [u16], cursor: &mut XnsCursor) -> u32
@@ -28,6 +31,25 @@ fn put(words: &[u16], buffer: &mut [u16], cursor: &mut XnsCursor) -> u32
     buffer[cursor.place..end].copy_from_slice(words);
     cursor.place = end;
     OK
+}
+
+/// Fills words with a text: the number of its bytes, then the bytes, two a word, the first one high. The spare byte of an odd number is 0.
+fn fill_text(bytes: &[u8], words: &mut [u16])
+    requires short { length bytes.now < 2 ^ 16 }
+    requires room { length words.old ≡ 1 + length (bytes_spelling bytes.now) }
+    ensures { words.new ≡ length bytes.now ∷ bytes_spelling bytes.now }
+{
+    words[0] = bytes.len() as u16;
+    let mut rest = bytes;
+    let mut place = 1;
+    while let [high, low, others @ ..] = rest {
+        words[place] = u16::from(*high) * 256 + u16::from(*low);
+        place += 1;
+        rest = others;
+    }
+    if let [high] = rest {
+        words[place] = u16::from(*high) * 256;
+    }
 }
 
 /// Writes a cardinal, one word.
@@ -108,4 +130,31 @@ pub extern "C" fn xns_write_count(
         return cursor.fail(OVER_MAXIMUM);
     }
     put(&[count as u16], buffer, cursor)
+}
+
+/// Writes a text: the number of its bytes, then the bytes, two a word. The spare byte of an odd number is 0.
+///
+/// `TOO_LONG` for more than 65,535 bytes, which are not looked at.
+#[unsafe(no_mangle)]
+#[tactic(auto, using(crate::proofs::Spelled::bytes_count))]
+pub extern "C" fn xns_write_text(buffer: &mut [u16], cursor: &mut XnsCursor, bytes: &[u8]) -> u32
+    ensures written { cursor.old.fault ≡ ok → length bytes.now < 2 ^ 16 → IsWritten (value_spelling (ValueModel.text bytes.now)) cursor.old cursor.new buffer.old buffer.new result }
+    ensures long { cursor.old.fault ≡ ok → 2 ^ 16 ≤ length bytes.now → (result ≡ too_long) × (cursor.new ≡ faulted cursor.old too_long) × (buffer.new ≡ buffer.old) }
+    ensures stays { cursor.old.fault ≢ ok → (result ≡ cursor.old.fault) × (cursor.new ≡ cursor.old) × (buffer.new ≡ buffer.old) }
+{
+    if cursor.fault != OK {
+        return cursor.fault;
+    }
+    let count = bytes.len();
+    if count > MOST_TEXT {
+        return cursor.fail(TOO_LONG);
+    }
+    let size = 1 + (count / 2 + count % 2);
+    if cursor.place > buffer.len() || buffer.len() - cursor.place < size {
+        return cursor.fail(SHORT_BUFFER);
+    }
+    let end = cursor.place + size;
+    fill_text(bytes, &mut buffer[cursor.place..end]);
+    cursor.place = end;
+    OK
 }
