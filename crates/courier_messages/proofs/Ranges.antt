@@ -117,6 +117,7 @@ pub range_faulty : (bytes more : List ℕ) (e : SessionFault) (q : Result Phase 
 range_faulty bytes more e q h enough r stops = unless e stops where
   refused : q ≡ Err e → run (opening bytes) (map byte more) ≡ Err e
   refused w = range_refused bytes more e h enough (r ∙ w)
+
   unless : (f : SessionFault) → UnlessMemory f (q ≡ Err e) → UnlessMemory f (run (opening bytes) (map byte more) ≡ Err e)
   unless NoMemory w = w
   unless NoCommonVersion w = refused w
@@ -185,18 +186,18 @@ range_bytes kept more a b c d p q r s =
     let all = length-append kept more in
     (omega (arith, all, four.0), four.1)
   where
-  four_bytes : (bytes : List ℕ) (a b c d : ℕ) → slice_get bytes 0 ≡ Some a → slice_get bytes 1 ≡ Some b → slice_get bytes 2 ≡ Some c → slice_get bytes 3 ≡ Some d
-      → (4 ≤ length bytes) × (opened bytes ≡ agreement (a * 256 + b) (c * 256 + d))
-  four_bytes [] a b c d p q r s = absurd cc
-  four_bytes (w ∷ []) a b c d p q r s = absurd cc
-  four_bytes (w ∷ x ∷ []) a b c d p q r s = absurd cc
-  four_bytes (w ∷ x ∷ y ∷ []) a b c d p q r s = absurd cc
-  four_bytes (w ∷ x ∷ y ∷ z ∷ bytes) a b c d p q r s =
-      let e : w ≡ a = cc in
-      let f : x ≡ b = cc in
-      let g : y ≡ c = cc in
-      let h : z ≡ d = cc in
-      (omega arith, rw (e, f, g, h) refl)
+    four_bytes : (bytes : List ℕ) (a b c d : ℕ) → slice_get bytes 0 ≡ Some a → slice_get bytes 1 ≡ Some b → slice_get bytes 2 ≡ Some c → slice_get bytes 3 ≡ Some d
+        → (4 ≤ length bytes) × (opened bytes ≡ agreement (a * 256 + b) (c * 256 + d))
+    four_bytes [] a b c d p q r s = absurd cc
+    four_bytes (w ∷ []) a b c d p q r s = absurd cc
+    four_bytes (w ∷ x ∷ []) a b c d p q r s = absurd cc
+    four_bytes (w ∷ x ∷ y ∷ []) a b c d p q r s = absurd cc
+    four_bytes (w ∷ x ∷ y ∷ z ∷ bytes) a b c d p q r s =
+        let e : w ≡ a = cc in
+        let f : x ≡ b = cc in
+        let g : y ≡ c = cc in
+        let h : z ≡ d = cc in
+        (omega arith, rw (e, f, g, h) refl)
 
 slice_get_none : (bytes : List ℕ) (i : ℕ) → slice_get bytes i ≡ None → length bytes ≤ i
 slice_get_none [] i none = omega arith

@@ -16,7 +16,11 @@ const NOTHING: &[u8] = b"calls 0\ncarried 0\ntotal 0\npackets 0\n";
 const SCRIPTS: [(&[u8], bool, &[u8]); 12] = [
     (b"", false, NOTHING),
     (b"# x\n\n#", false, NOTHING),
-    (b"call add 1\r\ntick a\r\nrest", false, b"calls 1\ncarried 0\ntotal 0\npackets 3\n"),
+    (
+        b"call add 1\r\ntick a\r\nrest",
+        false,
+        b"calls 1\ncarried 0\ntotal 0\npackets 3\n",
+    ),
     (b"deliver 01\n", true, b"1 refused\n"),
     (b"deliver 4294967296\n", true, b"1 refused\n"),
     (b"call add 65536\n", true, b"1 refused\n"),
@@ -25,7 +29,11 @@ const SCRIPTS: [(&[u8], bool, &[u8]); 12] = [
     (b"foreign a 5\n", true, b"1 refused\n"),
     (b"rest \n", true, b"1 refused\n"),
     (b"Rest", true, b"1 refused\n"),
-    (b"call add 5\n\ntick a\ntick c\nrest\ndeliver 01\n", true, b"4 refused\n"),
+    (
+        b"call add 5\n\ntick a\ntick c\nrest\ndeliver 01\n",
+        true,
+        b"4 refused\n",
+    ),
 ];
 
 #[test]
