@@ -1,5 +1,6 @@
 #!/bin/sh
-# Tries the commands of docs/CAPTURES.md, whose functions it takes from there, on captures that it makes itself. It builds the program first.
+# Tries the commands of docs/CAPTURES.md, whose functions it takes from there, and that of the manual page, on captures that it makes
+# itself. It builds the program first.
 # Without tshark or text2pcap it says so and ends with 0; without tcpdump that one command is passed over.
 # Its last line is 'N passed, M failed', and it ends with 1 where one failed.
 set -u
@@ -87,6 +88,10 @@ for link in $ethernet_links; do cat in.hex; done | xns dump > mixture_expected
 text2pcap -q -r '^(?<data>[0-9a-f]+)$' mixture.hex mixture.pcap 2> /dev/null
 xns_hex -r mixture.pcap 2> /dev/null | xns dump > from_mixture
 same 'a mixture' mixture_expected from_mixture
+
+sed -n '/^tshark .*x\.pcap/,/^xns dump/p' "$root/docs/xns.1" | sed "s/\\\\-/-/g; s/\\\\(aq/'/g; s/\\\\e\$/\\\\/; s/x\.pcap/mixture.pcap/" > from_manual.sh
+. ./from_manual.sh > from_manual 2> /dev/null
+same 'the command of the manual page' mixture_expected from_manual
 
 # ---- calls, and one conversation of them
 
