@@ -735,7 +735,7 @@ class Listener(_Object):
         return number.value if _done(result) else None
 
     def add(self, peer: Address, peer_id: int, own_id: int) -> int:
-        """Puts in a connection, and tells its number, the first that is free. `InUse` where one has this identifier or this peer, `NoSlot`, `BadArgument`."""
+        """Puts in a connection, and tells its number, the first that is free. `InUse` where one has this identifier or this peer, `NoSlot`, `BadArgument`; `NoMemory` leaves all as it was."""
         number = c_size_t()
         self._done("add", byref(_Address.of(peer)), _number(peer_id, 16), _number(own_id, 16), byref(number))
         return number.value

@@ -50,7 +50,12 @@ static enum xns_result finds(const struct xns_listener *listener, uint16_t socke
 
 static enum xns_result adds(struct xns_listener *listener, uint16_t socket, uint16_t peer_id, uint16_t id, size_t *number) {
     const struct xns_address peer = client(socket);
+    const size_t before = *number;
     enum xns_result told = xns_listener_add(listener, &peer, peer_id, id, number);
+    if (told == XNS_NO_MEMORY) { /* all is as it was */
+        CHECK(refuse_at > 0 && *number == before && finds(listener, socket, peer_id, 0, number) == XNS_OPENS);
+        told = xns_listener_add(listener, &peer, peer_id, id, number);
+    }
     if (told == XNS_OK) AGAIN(xns_endpoint_new_responder(&ends[*number], &own, id, &peer, peer_id, 4, 4));
     return told;
 }

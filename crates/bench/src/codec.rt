@@ -1,6 +1,7 @@
 //! Packets of 576 bytes are written and read. `bench/c_codec.c` does the same through the library for C.
 
-use xns_idp::{Address, Packet, decode, encode_into};
+use test_setting::{CALLER, SERVER};
+use xns_idp::{Packet, decode, encode_into};
 
 /// So many bytes of data has a packet.
 const DATA: usize = 546;
@@ -10,18 +11,6 @@ const SIZE: usize = 576;
 
 /// So many packets are written and read.
 const PACKETS: usize = 1_000_000;
-
-const TARGET: Address = Address {
-    network: 1,
-    host: [0, 0, 0xaa, 0, 1, 2],
-    socket: 5,
-};
-
-const SOURCE: Address = Address {
-    network: 1,
-    host: [0, 0, 0xaa, 0, 3, 4],
-    socket: 0x400,
-};
 
 /// A number that each of the fields and the checksum has a part in.
 fn mark(bytes: &[u8], index: usize) -> u64 {
@@ -44,8 +33,8 @@ pub fn run(rt: &HostRuntime) -> Result<(), anyhow::Error> {
             summed: true,
             control: 0,
             kind: 5,
-            target: TARGET,
-            source: SOURCE,
+            target: SERVER,
+            source: CALLER,
             body: &body,
         };
         let written = encode_into(&packet, &mut bytes);

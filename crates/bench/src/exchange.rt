@@ -2,20 +2,8 @@
 //! of each round lost where it is `lossy`. They do so as often as the second word says, else once.
 
 use std::alloc::{AllocError, Global};
-use xns_idp::Address;
-use xns_spp::{Bytes, Endpoint, Item};
-
-const CALLER: Address = Address {
-    network: 1,
-    host: [0, 0, 0xaa, 0, 3, 4],
-    socket: 0x400,
-};
-
-const SERVER: Address = Address {
-    network: 1,
-    host: [0, 0, 0xaa, 0, 1, 2],
-    socket: 5,
-};
+use test_setting::{caller, item, server};
+use xns_spp::{Bytes, Endpoint};
 
 /// So many items go out one way before as many go out the other way.
 const ROUND: usize = 51;
@@ -106,8 +94,8 @@ fn way_named(name: &str) -> Way {
 
 /// Opens a connection and exchanges the items.
 fn connection(alloc: Global, way: Way) -> Result<Tally, AllocError> {
-    let mut caller = Endpoint::initiator(alloc, CALLER, 0x1234, SERVER, 64, 64)?;
-    let mut server = Endpoint::responder(alloc, SERVER, 0x5678, CALLER, 0x1234, 64, 64)?;
+    let mut caller = caller(alloc, 64, 64)?;
+    let mut server = server(alloc, 64, 64)?;
     let _ = tick(alloc, &mut caller, &mut server)?;
     let mut tally = Tally {
         handed: 0,
@@ -132,13 +120,7 @@ fn exchange(
     tally: &mut Tally,
 ) -> Result<(), AllocError> {
     for _ in 0..ROUND {
-        let body = Bytes::new(Vec::from_slice(alloc, &BODY)?);
-        let _ = from.send(Item {
-            stream: 0,
-            attention: false,
-            last: true,
-            body,
-        });
+        let _ = from.send(item(alloc, &BODY)?);
     }
     let packets = from.flush(alloc)?;
     for (place, packet) in packets.iter().enumerate() {

@@ -4,26 +4,6 @@
 mod calls;
 mod items;
 
-use item_world::Setup;
-use xns_idp::Address;
-
-const SETUP: Setup = Setup {
-    a: Address {
-        network: 1,
-        host: [0, 0, 0xaa, 0, 3, 4],
-        socket: 0x400,
-    },
-    b: Address {
-        network: 1,
-        host: [0, 0, 0xaa, 0, 1, 2],
-        socket: 5,
-    },
-    a_id: 0x1234,
-    b_id: 0x5678,
-    window: 64,
-    backlog: 64,
-};
-
 /// Plays what the first word says, and prints what came of it.
 pub fn run(rt: &HostRuntime, words: &[&str]) -> Result<(), anyhow::Error> {
     match words.first() {

@@ -33,9 +33,10 @@ pub fn outcome_words(
         }
         Outcome::Aborted(error, value) => {
             words.extend_from_slice(&[3, transaction, *error])?;
-            if let Some(listed) = entry.error(*error) {
-                write(alloc, &listed.arguments, value, &mut words)?;
-            }
+            let Some(listed) = entry.error(*error) else {
+                unreachable!()
+            };
+            write(alloc, &listed.arguments, value, &mut words)?;
         }
     }
     Ok(words)
@@ -84,9 +85,10 @@ pub fn call_words(
     match &call.arguments {
         Arguments::Raw(given) => words.extend_from_slice(given.as_slice())?,
         Arguments::Typed(value) => {
-            if let Ok((_, listed)) = table.find(call.program, call.version, call.procedure) {
-                write(alloc, &listed.arguments, value, &mut words)?;
-            }
+            let Ok((_, listed)) = table.find(call.program, call.version, call.procedure) else {
+                unreachable!()
+            };
+            write(alloc, &listed.arguments, value, &mut words)?;
         }
     }
     Ok(words)

@@ -1,5 +1,5 @@
 -- Faults, and wants of memory in their stead.
-use Rattle.std.specs.Prelude.{◌≡◌, ◌<◌, ℕ, List, [], length, map, false, Option, Result, Ok, Err}
+use Rattle.std.specs.Prelude.{◌≡◌, ◌<◌, ℕ, List, [], length, map, Option, Result, Ok, Err}
 use Rattle.std.specs.Option.{option_to_list}
 use Rattle.xns_spp.specs.declared.item.Item.{Item}
 use Rattle.courier_messages.specs.declared.fault.MessageFault.{MessageFault}
@@ -9,9 +9,9 @@ use Rattle.courier_messages.specs.declared.fault.SessionFault.{SessionFault}
 use Rattle.courier_messages.specs.declared.fault.SessionFault.TheVariants.{NoCommonVersion, BadVersions, BadMessage, WrongTransaction, BadReply, Stream, NoMemory, Failed}
 use Rattle.courier_messages.specs.declared.message.Message.{Message}
 use Rattle.courier_messages.specs.Head.{words_in}
-use Rattle.courier_messages.specs.Text.{byte}
+use Rattle.courier_messages.specs.Text.{byte, signs}
 use Rattle.courier_messages.specs.Conversation.{Phase}
-use Rattle.courier_messages.specs.Phases.{run}
+use Rattle.courier_messages.specs.Phases.{run, said}
 
 -- what reading a message answers, unless memory ran out
 abbrev pub Reads : Result Message MessageRefusal → Result Message MessageFault → Type 0
@@ -65,4 +65,4 @@ MayBeKept p bytes = (0 < length bytes) × AreRight p bytes
 
 -- an item at which memory may be refused: it is of datastream 0, has bytes to keep or ends a message, and nothing is wrong with its bytes
 abbrev pub MayGrow : Phase → Item → Type 0
-MayGrow p x = (x.stream ≡ 0) × (x.last ≡ false → 0 < length x.body) × AreRight p x.body
+MayGrow p x = (x.stream ≡ 0) × (said p (signs x) ≡ [] → 0 < length x.body) × AreRight p x.body

@@ -1,35 +1,21 @@
 //! A connection of the Sequenced Packet Protocol: one item goes from one end to the other.
 
 use crate::hex_lines::print_hex;
+use crate::hosts::{CALLER, SERVER};
 use std::alloc::{AllocError, Global};
-use xns_idp::Address;
 use xns_spp::{Bytes, Endpoint, Item};
-
-/// The end that opens the connection.
-const HERE: Address = Address {
-    network: 1,
-    host: [0, 0, 0xaa, 0, 3, 4],
-    socket: 0x400,
-};
-
-/// The end that answers.
-const THERE: Address = Address {
-    network: 1,
-    host: [0, 0, 0xaa, 0, 1, 2],
-    socket: 5,
-};
 
 /// Opens a connection, sends an item across, and prints each packet as a line of hex.
 pub fn send_an_item(rt: &HostRuntime) -> Result<(), anyhow::Error> {
     let alloc = rt.alloc();
-    let mut here = Endpoint::initiator(alloc, HERE, 0x1234, THERE, 4, 16)?;
-    let mut there = Endpoint::responder(alloc, THERE, 0x5678, HERE, 0x1234, 4, 16)?;
-    carry(rt, &here.tick(alloc)?, &mut there, &mut here)?;
-    if let Err((fault, _)) = here.send(hello(alloc)?) {
+    let mut caller = Endpoint::initiator(alloc, CALLER, 0x1234, SERVER, 4, 16)?;
+    let mut server = Endpoint::responder(alloc, SERVER, 0x5678, CALLER, 0x1234, 4, 16)?;
+    carry(rt, &caller.tick(alloc)?, &mut server, &mut caller)?;
+    if let Err((fault, _)) = caller.send(hello(alloc)?) {
         println!(rt; "not sent: {fault}")?;
     }
-    carry(rt, &here.flush(alloc)?, &mut there, &mut here)?;
-    if let Some(item) = there.take() {
+    carry(rt, &caller.flush(alloc)?, &mut server, &mut caller)?;
+    if let Some(item) = server.take() {
         println!(rt; "{} bytes came", item.body.as_slice().len())?;
     }
     Ok(())

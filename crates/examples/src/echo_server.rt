@@ -1,14 +1,14 @@
 //! An Echo server, and who complains of a damaged packet.
 
 use crate::hex_lines::print_hex;
+use crate::hosts::SERVER;
 use xns_idp::{Address, decode};
 use xns_small::{answer_echo, complain, error_number};
 
 /// The server's address, at the Echo socket.
-const SERVER: Address = Address {
-    network: 1,
-    host: [0, 0, 0xaa, 0, 1, 2],
+const ECHO_SERVER: Address = Address {
     socket: 2,
+    ..SERVER
 };
 
 /// An Echo request to the server.
@@ -30,8 +30,8 @@ pub fn answer(rt: &HostRuntime) -> Result<(), anyhow::Error> {
 fn respond(rt: &HostRuntime, bytes: &[u8]) -> Result<(), anyhow::Error> {
     let alloc = rt.alloc();
     let response = match decode(bytes) {
-        Ok((packet, _)) => answer_echo(alloc, SERVER, &packet)?,
-        Err(_) => complain(alloc, SERVER, error_number::BAD_CHECKSUM, 0, bytes)?,
+        Ok((packet, _)) => answer_echo(alloc, ECHO_SERVER, &packet)?,
+        Err(_) => complain(alloc, ECHO_SERVER, error_number::BAD_CHECKSUM, 0, bytes)?,
     };
     if let Some(packet) = response {
         print_hex(rt, packet.as_slice())?;

@@ -9,6 +9,7 @@ mod counting_lines;
 mod dumping;
 mod echo_server;
 mod hex_lines;
+mod hosts;
 mod network;
 mod packet;
 mod scripting;

@@ -1,23 +1,15 @@
 //! A call over a network that delivers packets late, and more than once: it is carried out once.
 
 use crate::calls::add_five;
+use crate::hosts::{CALLER, SERVER};
 use courier_calls::{Tally, call_fits, tally_table};
 use item_world::{Event, Setup, Side};
-use xns_idp::Address;
 use xns_world::play_calls;
 
 /// The two ends: the caller is at A.
 const SETUP: Setup = Setup {
-    a: Address {
-        network: 1,
-        host: [0, 0, 0xaa, 0, 3, 4],
-        socket: 0x400,
-    },
-    b: Address {
-        network: 1,
-        host: [0, 0, 0xaa, 0, 1, 2],
-        socket: 5,
-    },
+    a: CALLER,
+    b: SERVER,
     a_id: 0x1234,
     b_id: 0x5678,
     window: 4,

@@ -1,5 +1,4 @@
-//! What faults say, what is told of a message and of tables with faults, and plays of items: a line for each value that came. The packets are by hand from
-//! the standard.
+//! What faults say, what is told of a message and of tables with faults, and plays of items: a line for each value that came.
 #![tactic(auto)]
 
 mod calls;

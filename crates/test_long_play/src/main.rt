@@ -1,27 +1,9 @@
 //! Plays 140,000 items each way through a network that loses, repeats and reorders packets, and delivers old ones again.
 #![tactic(auto)]
 
-use item_world::{Event, Items, Setup, Side, play_items};
+use item_world::{Event, Items, Side, play_items};
 use std::alloc::{AllocError, Global};
-use xns_idp::Address;
-use xns_spp::{Bytes, Item};
-
-const SETUP: Setup = Setup {
-    a: Address {
-        network: 1,
-        host: [0, 0, 0xaa, 0, 3, 4],
-        socket: 0x400,
-    },
-    b: Address {
-        network: 1,
-        host: [0, 0, 0xaa, 0, 1, 2],
-        socket: 5,
-    },
-    a_id: 0x1234,
-    b_id: 0x5678,
-    window: 64,
-    backlog: 64,
-};
+use test_setting::{WIDE_SETUP, numbered};
 
 /// So many items go out each way in a round.
 const ITEMS: usize = 8;
@@ -37,7 +19,7 @@ const PAST: usize = 4_000;
 
 fn main(rt: HostRuntime) -> Result<(), anyhow::Error> {
     let alloc = rt.alloc();
-    let setup = SETUP;
+    let setup = WIDE_SETUP;
     if !setup.is_good() {
         return Ok(());
     }
@@ -137,15 +119,7 @@ fn push_sends(
     let first = round.saturating_mul(ITEMS);
     for place in 0..ITEMS {
         let number = u32::try_from(first.saturating_add(place)).unwrap_or(u32::MAX);
-        events.push(Event::Send(
-            side,
-            Item {
-                stream: 0,
-                attention: false,
-                last: true,
-                body: Bytes::new(Vec::from_slice(alloc, &number.to_be_bytes())?),
-            },
-        ))?;
+        events.push(Event::Send(side, numbered(alloc, number)?))?;
     }
     Ok(())
 }

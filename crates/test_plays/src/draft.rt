@@ -1,7 +1,7 @@
 //! Packets that are given to an end.
-use crate::setting::{A, B};
 use hex::FromHexError;
 use std::alloc::{AllocError, Global};
+use test_setting::{CALLER, SERVER};
 use xns_idp::{Packet, encode, packet_type};
 use xns_spp::{Bytes, Header, read_header, write_header};
 
@@ -62,8 +62,8 @@ impl Draft {
                 summed: false,
                 control: 0,
                 kind: packet_type::SEQUENCED_PACKET,
-                target: B,
-                source: A,
+                target: SERVER,
+                source: CALLER,
                 body: body.as_slice(),
             };
             encode(alloc, &packet, &mut bytes)?;

@@ -1,11 +1,11 @@
 //! What an end makes of a packet, field by field.
 use crate::draft::{Draft, read_hex};
 use crate::lines::Lines;
-use crate::setting::{A, B};
 use crate::telling::{dropped_text, packet_text};
 use item_world::{Setup, Side};
 use std::alloc::{AllocError, Global};
-use xns_spp::{Bytes, Endpoint, Header, Item, Received};
+use test_setting::item;
+use xns_spp::{Bytes, Endpoint, Header, Received};
 
 /// The numbers that each field is given.
 const NUMBERS: [u16; 5] = [0, 1, 32_767, 32_768, 65_535];
@@ -141,13 +141,7 @@ impl Trial<'_> {
 
 /// Accepts an item and sends what may go out.
 fn send(alloc: Global, end: &mut Endpoint, digits: &str) -> Result<(), AllocError> {
-    let item = Item {
-        stream: 0,
-        attention: false,
-        last: true,
-        body: Bytes::new(read_hex(alloc, digits)?),
-    };
-    let _ = end.send(item);
+    let _ = end.send(item(alloc, &read_hex(alloc, digits)?)?);
     end.flush(alloc)?;
     Ok(())
 }

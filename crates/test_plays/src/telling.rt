@@ -1,11 +1,11 @@
 //! Items, calls, outcomes and packets as text.
-use crate::setting::{A, B};
 use courier_calls::{Arguments, Call, Seen};
 use courier_messages::{MessageFault, SessionFault};
 use courier_types::Value;
 use item_world::Side;
 use std::alloc::{AllocError, Global};
 use std::fmt;
+use test_setting::{CALLER, SERVER};
 use xns_idp::{Address, decode, packet_type};
 use xns_spp::{Dropped, Header, Item, read_header};
 
@@ -148,8 +148,8 @@ pub fn packet_text(
     bytes: &[u8],
 ) -> Result<String, AllocError> {
     match side {
-        Side::A => packet_between(alloc, who, bytes, &A, &B),
-        Side::B => packet_between(alloc, who, bytes, &B, &A),
+        Side::A => packet_between(alloc, who, bytes, &CALLER, &SERVER),
+        Side::B => packet_between(alloc, who, bytes, &SERVER, &CALLER),
     }
 }
 

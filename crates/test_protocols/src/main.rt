@@ -6,7 +6,6 @@ mod connection;
 mod hexed;
 mod packets;
 mod small;
-mod worked;
 
 fn main(rt: HostRuntime) -> Result<(), anyhow::Error> {
     packets::show(&rt)?;

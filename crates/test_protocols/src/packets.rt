@@ -1,8 +1,8 @@
 //! Packets and checksums.
 use crate::hexed::Hexed;
-use crate::worked::ECHO_REQUEST;
 use anyhow::Context;
 use std::alloc::{AllocError, Global};
+use test_setting::ECHO_REQUEST;
 use xns_idp::{IdpFault, Packet, cycle_sum, decode, encode};
 
 pub fn show(rt: &HostRuntime) -> Result<(), anyhow::Error> {

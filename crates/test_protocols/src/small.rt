@@ -1,8 +1,8 @@
 //! Echo, Error and Packet Exchange.
 use crate::hexed::Hexed;
-use crate::worked::{CALLER, ECHO_REQUEST, ECHO_SERVER, SERVER};
 use anyhow::Context;
 use std::alloc::{AllocError, Global};
+use test_setting::{CALLER, ECHO_REQUEST, ECHO_SERVER, SERVER};
 use xns_idp::{Address, Packet, decode};
 use xns_small::{
     Echo, ErrorReport, Exchange, Requester, answer_echo, complain, error_number, read_echo,

@@ -2,39 +2,21 @@
 
 use crate::outcome::{Outcome, done, refused};
 use std::alloc::{AllocError, Global};
-use xns_idp::{Address, Packet, encode, encode_parts};
+use test_setting::{CALLER, ECHO_REQUEST, ECHO_SERVER};
+use xns_idp::{Packet, encode, encode_parts};
 use xns_small::{
     Echo, ErrorReport, Exchange, Requester, answer_echo, complain, write_echo, write_error,
     write_exchange,
 };
 
-const CLIENT: Address = Address {
-    network: 1,
-    host: [0, 0, 0xaa, 0, 3, 4],
-    socket: 0x400,
-};
-
-const SERVER: Address = Address {
-    network: 1,
-    host: [0, 0, 0xaa, 0, 1, 2],
-    socket: 2,
-};
-
-/// An Echo request from the client to the server.
-const REQUEST: [u8; 34] = [
-    0x53, 0x23, 0x00, 0x22, 0x00, 0x02, 0x00, 0x00, 0x00, 0x01, 0x00, 0x00, 0xaa, 0x00, 0x01, 0x02,
-    0x00, 0x02, 0x00, 0x00, 0x00, 0x01, 0x00, 0x00, 0xaa, 0x00, 0x03, 0x04, 0x04, 0x00, 0x00, 0x01,
-    0x48, 0x69,
-];
-
-/// A packet of the client to the server.
+/// A packet from `CALLER` to `ECHO_SERVER`.
 fn packet(body: &[u8]) -> Packet<'_> {
     Packet {
         summed: true,
         control: 0,
         kind: 2,
-        target: SERVER,
-        source: CLIENT,
+        target: ECHO_SERVER,
+        source: CALLER,
         body,
     }
 }
@@ -57,7 +39,7 @@ pub fn encodes(alloc: Global) -> Result<Outcome, AllocError> {
     let again = encode(alloc, &packet, &mut out).is_ok();
     Ok(refused(
         stood,
-        again && out.as_slice().get(1..) == Some(REQUEST.as_slice()),
+        again && out.as_slice().get(1..) == Some(ECHO_REQUEST.as_slice()),
     ))
 }
 
@@ -75,7 +57,7 @@ pub fn encodes_parts(alloc: Global) -> Result<Outcome, AllocError> {
     let again = encode_parts(alloc, &packet, &rest, &mut out).is_ok();
     Ok(refused(
         stood,
-        again && out.as_slice().get(1..) == Some(REQUEST.as_slice()),
+        again && out.as_slice().get(1..) == Some(ECHO_REQUEST.as_slice()),
     ))
 }
 
@@ -97,7 +79,7 @@ pub fn writes_an_error(alloc: Global) -> Result<Outcome, AllocError> {
     let report = ErrorReport {
         number: 1,
         parameter: 0,
-        quoted: &REQUEST,
+        quoted: &ECHO_REQUEST,
     };
     let mut out = vec![in alloc; 0xaa]?;
     if write_error(alloc, &report, &mut out).is_ok() {
@@ -136,25 +118,25 @@ pub fn answers(alloc: Global) -> Result<Outcome, AllocError> {
         body: &[0, 1, 0x48, 0x69],
         ..packet(&[])
     };
-    if let Ok(answer) = answer_echo(alloc, SERVER, &request) {
+    if let Ok(answer) = answer_echo(alloc, ECHO_SERVER, &request) {
         return Ok(done(has_size(&answer, 34)));
     }
-    let answer = answer_echo(alloc, SERVER, &request)?;
+    let answer = answer_echo(alloc, ECHO_SERVER, &request)?;
     Ok(refused(true, has_size(&answer, 34)))
 }
 
 pub fn complains(alloc: Global) -> Result<Outcome, AllocError> {
-    if let Ok(complaint) = complain(alloc, SERVER, 1, 0, &REQUEST) {
+    if let Ok(complaint) = complain(alloc, ECHO_SERVER, 1, 0, &ECHO_REQUEST) {
         return Ok(done(has_size(&complaint, 68)));
     }
-    let complaint = complain(alloc, SERVER, 1, 0, &REQUEST)?;
+    let complaint = complain(alloc, ECHO_SERVER, 1, 0, &ECHO_REQUEST)?;
     Ok(refused(true, has_size(&complaint, 68)))
 }
 
 pub fn requests(alloc: Global) -> Result<Outcome, AllocError> {
-    if let Ok(requester) = Requester::request(alloc, CLIENT, SERVER, 7, 3, &[1, 2]) {
+    if let Ok(requester) = Requester::request(alloc, CALLER, ECHO_SERVER, 7, 3, &[1, 2]) {
         return Ok(done(requester.try_again().len() == 38));
     }
-    let requester = Requester::request(alloc, CLIENT, SERVER, 7, 3, &[1, 2])?;
+    let requester = Requester::request(alloc, CALLER, ECHO_SERVER, 7, 3, &[1, 2])?;
     Ok(refused(true, requester.try_again().len() == 38))
 }

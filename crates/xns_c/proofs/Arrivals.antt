@@ -7,7 +7,7 @@ use Rattle.std.specs.Str.{bytes_eq}
 use Rattle.std.proofs.lemmas.Bool.{eqb-true, eqb-false, eq-eqb, lt-ltb}
 use Rattle.std.proofs.lemmas.List.{get_or-set_other, get_or-set_same, length-set}
 use Rattle.std.proofs.lemmas.List.Quantifiers.{position-Some}
-use Rattle.std.proofs.lemmas.Option.{same_Some, get_or_from_slice_get, slice_get-get_or, slice_get_within}
+use Rattle.std.proofs.lemmas.Option.{none-some, same_Some, get_or_from_slice_get, slice_get-get_or, slice_get_within}
 use Rattle.std.proofs.lemmas.Slice.Eq.{bytes_eq-Decides}
 use Rattle.xns_idp.specs.declared.address.Address.{Address}
 use Rattle.xns_spp.specs.Ends as ends
@@ -24,15 +24,15 @@ use Rattle.xns_c.specs.declared.guest.Guest.{Guest}
 
 -- ---- tests
 
-and_left : (a b : Bool) → (a && b) ≡ true → a ≡ true
+pub and_left : (a b : Bool) → (a && b) ≡ true → a ≡ true
 and_left true b h = refl
 and_left false b h = h
 
-and_right : (a b : Bool) → (a && b) ≡ true → b ≡ true
+pub and_right : (a b : Bool) → (a && b) ≡ true → b ≡ true
 and_right true b h = h
 and_right false b h = cc
 
-and_both : (a b : Bool) → a ≡ true → b ≡ true → (a && b) ≡ true
+pub and_both : (a b : Bool) → a ≡ true → b ≡ true → (a && b) ≡ true
 and_both true b p q = q
 and_both false b p q = p
 
@@ -40,7 +40,7 @@ or_left : (a b : Bool) → a ≡ true → (a || b) ≡ true
 or_left true b h = refl
 or_left false b h = absurd (cc)
 
-or_right : (a b : Bool) → b ≡ true → (a || b) ≡ true
+pub or_right : (a b : Bool) → b ≡ true → (a || b) ≡ true
 or_right true b h = refl
 or_right false b h = h
 
@@ -52,7 +52,7 @@ same_two a b c p q =
     and_both (bytes_eq b.host c.host) (b.socket == c.socket) ((bytes_eq-Decides b.host c.host).1 hosts) (eq-eqb b.socket c.socket sockets)
 
 -- two connections that one packet belongs to
-both_clash : (own : Address) (e : Envelope) (g h : Guest) → is_for own e g ≡ true → is_for own e h ≡ true → clashes g h ≡ true
+pub both_clash : (own : Address) (e : Envelope) (g h : Guest) → is_for own e g ≡ true → is_for own e h ≡ true → clashes g h ≡ true
 both_clash own e g h p q =
     let from : (x : Guest) → is_for own e x ≡ true → (same_place e.source x.peer && e.source_id == x.peer_id) ≡ true =
     λ x t. and_right (e.target_id == x.id || e.target_id == 0) (same_place e.source x.peer && e.source_id == x.peer_id)
@@ -214,7 +214,7 @@ clashes_by g h false e clash =
 clashes_turned : (g h : Guest) → clashes g h ≡ true → clashes h g ≡ true
 clashes_turned g h clash = clashes_by g h (g.id == h.id) refl clash
 
-no_clash : (slots : List (Option Guest)) (g h : Guest) (k : ℕ) → position (slot_clashes g) slots ≡ None → slice_get slots k ≡ Some (Some h) → clashes g h ≡ true → ⊥
+pub no_clash : (slots : List (Option Guest)) (g h : Guest) (k : ℕ) → position (slot_clashes g) slots ≡ None → slice_get slots k ≡ Some (Some h) → clashes g h ≡ true → ⊥
 no_clash slots g h k none there clash =
     let at : position (slot_clashes g) slots ≡ Some (position_or_len (slot_clashes g) slots) =
     found (slot_clashes g) slots k None (slice_get_within slots k (Some h) there) (ap (slot_clashes g) (get_or_from_slice_get slots k (Some h) None there) ∙ clash) in
@@ -222,7 +222,7 @@ no_clash slots g h k none there clash =
     cc
 
 -- what stands in a slot after a write to slot k
-read_by : (slots : List (Option Guest)) (k i : ℕ) (v x : Option Guest) (same : Bool) → (i == k) ≡ same → slice_get (slice_set slots k v) i ≡ Some x
+pub read_by : (slots : List (Option Guest)) (k i : ℕ) (v x : Option Guest) (same : Bool) → (i == k) ≡ same → slice_get (slice_set slots k v) i ≡ Some x
     → ((i ≡ k) × (v ≡ x)) ⊎ (slice_get slots i ≡ Some x)
 read_by slots k i v x true e h =
     let is : i ≡ k = eqb-true i k e in
@@ -242,6 +242,14 @@ sound_by slots k i j new g h sound none (inr a) (inr b) clash = sound i j g h a 
 pub sound_with : (slots : List (Option Guest)) (k : ℕ) (new : Guest) → IsSound slots → position (slot_clashes new) slots ≡ None → IsSound (slice_set slots k (Some new))
 sound_with slots k new sound none i j g h at_i at_j clash =
     sound_by slots k i j new g h sound none (read_by slots k i (Some new) (Some g) (i == k) refl at_i) (read_by slots k j (Some new) (Some h) (j == k) refl at_j) clash
+
+pub emptied : (slots : List (Option Guest)) (k i : ℕ) (g : Guest) → ((i ≡ k) × (None ≡ Some g)) ⊎ (slice_get slots i ≡ Some (Some g)) → slice_get slots i ≡ Some (Some g)
+emptied slots k i g (inl a) = absurd (none-some g a.1)
+emptied slots k i g (inr a) = a
+
+pub sound_without : (slots : List (Option Guest)) (k : ℕ) → IsSound slots → IsSound (slice_set slots k None)
+sound_without slots k sound i j g h at_i at_j clash =
+    sound i j g h (emptied slots k i g (read_by slots k i None (Some g) (i == k) refl at_i)) (emptied slots k j h (read_by slots k j None (Some h) (j == k) refl at_j)) clash
 
 -- ---- what was taken out of its handle
 

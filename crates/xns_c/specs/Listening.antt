@@ -12,6 +12,7 @@ use Rattle.xns_c.specs.declared.arrived.Arrived.{Arrived}
 use Rattle.xns_c.specs.declared.arrived.Arrived.TheVariants.{For, Opens, ForNone}
 use Rattle.xns_c.specs.declared.envelope.Envelope.{Envelope}
 use Rattle.xns_c.specs.declared.guest.Guest.{Guest}
+use Rattle.xns_c.specs.declared.peer.Peer.{Peer}
 
 -- the socket, and by their numbers the connections that there are
 pub record Listening : Type 0 where
@@ -20,6 +21,9 @@ pub record Listening : Type 0 where
 
 abbrev pub new_listening : Address → ℕ → Listening
 new_listening own most = record { own = own; slots = replicate most None }
+
+abbrev pub peer_at : Address → ℕ → Peer
+peer_at a id = record { host = a.host; socket = a.socket; id = id }
 
 abbrev pub guest_of : Address → ℕ → ℕ → Guest
 guest_of peer peer_id id = record { peer = peer; peer_id = peer_id; id = id }

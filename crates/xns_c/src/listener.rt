@@ -1,15 +1,17 @@
-ghost use Rattle.std.specs.Prelude.{◌≡◌, ◌≢◌, ℕ, true, false, position, length, ◌<◌, IfOk, IfSome, MatchOption, Some, None, slice_get};
-ghost use Rattle.std.specs.Option.{is_none};
+ghost use Rattle.std.specs.Prelude.{◌≡◌, ◌≢◌, ℕ, true, false, position, length, ◌<◌, IfOk, IfSome, OnOk, OnErr, Some, None, slice_get};
+ghost use Rattle.std.specs.Option.{is_none, is_some};
 ghost use Rattle.xns_idp.specs.declared.address.Address.{Address};
 ghost use Rattle.xns_c.specs.Listening.{IsFor, IsSound, OpensNew, add_number, arrival, has_guest, new_listening, opener_at, slot_clashes};
 ghost use Rattle.xns_c.specs.Listening.{slot_is_for, with_slot};
-ghost use Rattle.xns_c.specs.Results.{ok};
+ghost use Rattle.xns_c.specs.Results.{ok, no_memory};
 
 use crate::arrived::Arrived;
 use crate::envelope::{Envelope, read_envelope};
 use crate::guest::{Guest, is_same_place};
-use crate::results::{BAD_ARGUMENT, IN_USE, NO_SLOT, OK};
+use crate::peer::Peer;
+use crate::results::{BAD_ARGUMENT, IN_USE, NO_MEMORY, NO_SLOT, OK};
 use std::alloc::{AllocError, Global};
+use std::collections::BTreeMap;
 use std::marker::Model;
 use xns_idp::Address;
 
@@ -18,16 +20,19 @@ use xns_idp::Address;
 pub struct Listener {
     own: Address,
     slots: Vec<Option<Guest>>,
+    /// The number of each connection by its peer.
+    peers: BTreeMap<Peer, usize>,
 }
 
 impl Model for Listener {
-    ghost use Rattle.xns_c.specs.Listening.{Listening, IsSound};
+    ghost use Rattle.xns_c.specs.Listening.{Listening};
+    ghost use Rattle.xns_c.specs.Peers.{IsKept};
 
     ghost Value = { Listening };
 
     ghost view = { λ l. record { own = l.own; slots = l.slots.items } };
 
-    ghost invariant = { λ l. IsSound l.slots.items };
+    ghost invariant = { λ l. IsKept l.slots.items l.peers };
 }
 
 impl Listener {
@@ -36,17 +41,25 @@ impl Listener {
         ensures { IfOk result (λ l. l ≡ new_listening own most) }
     {
         let slots = vec![in alloc; None; most]?;
-        Ok(Listener { own, slots })
+        Ok(Listener {
+            own,
+            slots,
+            peers: BTreeMap::new(alloc),
+        })
     }
 
     /// The number of the connection that a packet belongs to.
     fn find(&self, envelope: &Envelope) -> Option<usize>
         ensures { result ≡ position (slot_is_for self.now.own envelope.now) self.now.slots }
     {
-        let own = self.own;
-        self.slots
-            .iter()
-            .position(|slot| is_slot_for(slot, &own, envelope))
+        let peer = Peer::at(&envelope.source, envelope.source_id);
+        let number = *self.peers.get(&peer)?;
+        let slot = self.slots.get(number)?;
+        if is_slot_for(slot, &self.own, envelope) {
+            Some(number)
+        } else {
+            None
+        }
     }
 
     /// What `look` says. No two connections clash.
@@ -94,20 +107,27 @@ impl Listener {
         self.slots.iter().position(|slot| is_free(slot))
     }
 
-    /// Puts a connection into the first free slot, and says its number. `None` where there is no room.
-    fn add(&mut self, guest: Guest) -> Option<usize>
-        requires { position (slot_clashes guest) self.old.slots ≡ None }
-        ensures { MatchOption result ((position is_none self.old.slots ≡ None) × (self.new ≡ self.old))
-            (λ k. (position is_none self.old.slots ≡ Some k) × (self.new ≡ with_slot self.old k (Some guest))) }
+    /// Puts a connection into a free slot. The only error is want of memory: nothing is changed then.
+    fn put(&mut self, guest: Guest, free: usize) -> Result<(), AllocError>
+        requires free { position is_none self.old.slots ≡ Some free }
+        requires apart { position (slot_clashes guest) self.old.slots ≡ None }
+        ensures put { OnOk result (self.new ≡ with_slot self.old free (Some guest)) }
+        ensures unchanged { OnErr result (self.new ≡ self.old) }
     {
-        let free = self.first_free()?;
-        self.slots[free] = Some(guest);
-        Some(free)
+        let peer = Peer::at(&guest.peer, guest.peer_id);
+        match self.peers.insert(peer, free) {
+            Ok(_) => {
+                self.slots[free] = Some(guest);
+                Ok(())
+            }
+            Err(_) => Err(AllocError),
+        }
     }
 
     /// Puts in a connection if it may stand there, and says its number; and by a number of `results` whether it did.
     pub fn enter(&mut self, guest: Guest, number: &mut usize) -> u32
-        ensures answer { result ≡ add_number self.old guest }
+        ensures answer { result ≢ no_memory → result ≡ add_number self.old guest }
+        ensures memory { result ≡ no_memory → add_number self.old guest ≡ ok }
         ensures added { result ≡ ok → (position is_none self.old.slots ≡ Some number.new) × (self.new ≡ with_slot self.old number.new (Some guest)) }
         ensures unchanged { result ≢ ok → (self.new ≡ self.old) × (number.new ≡ number.old) }
     {
@@ -117,23 +137,24 @@ impl Listener {
         if self.clashing(&guest).is_some() {
             return IN_USE;
         }
-        match self.add(guest) {
-            Some(added) => {
-                *number = added;
+        let Some(free) = self.first_free() else {
+            return NO_SLOT;
+        };
+        match self.put(guest, free) {
+            Ok(()) => {
+                *number = free;
                 OK
             }
-            None => NO_SLOT,
+            Err(_) => NO_MEMORY,
         }
     }
 
-    /// Whether there is a connection with this number.
-    fn has(&self, number: usize) -> bool
-        ensures { result ≡ has_guest (slice_get self.now.slots number) }
+    /// The connection with this number.
+    fn guest(&self, number: usize) -> Option<Guest>
+        ensures there { IfSome result (λ g. slice_get self.now.slots number ≡ Some (Some g)) }
+        ensures answer { is_some result ≡ has_guest (slice_get self.now.slots number) }
     {
-        match self.slots.get(number) {
-            Some(slot) => slot.is_some(),
-            None => false,
-        }
+        *self.slots.get(number)?
     }
 
     /// Takes a connection away, and says whether there was one with this number.
@@ -142,11 +163,12 @@ impl Listener {
         ensures removed { result ≡ true → self.new ≡ with_slot self.old number None }
         ensures none { result ≡ false → self.new ≡ self.old }
     {
-        let is_there = self.has(number);
-        if is_there {
-            self.slots[number] = None;
-        }
-        is_there
+        let Some(guest) = self.guest(number) else {
+            return false;
+        };
+        let _ = self.peers.remove(&Peer::at(&guest.peer, guest.peer_id));
+        self.slots[number] = None;
+        true
     }
 }
 

@@ -109,7 +109,7 @@ pub extern "C" fn xns_listener_find(
 /// Puts in a connection with this peer, whose identifier is `peer_id`, under the identifier `id` of ours, and says its number: the first that is free.
 ///
 /// `NO_LISTENER`; `BAD_ARGUMENT` where `id` or `peer_id` is 0; `IN_USE` where a connection has this `id`, or this peer with this identifier; `NO_SLOT`
-/// where there is no room.
+/// where there is no room; `NO_MEMORY` where memory is refused: all is then as it was.
 #[unsafe(no_mangle)]
 pub extern "C" fn xns_listener_add(
     alloc: Global,
@@ -119,7 +119,8 @@ pub extern "C" fn xns_listener_add(
     id: u16,
     number: &mut usize,
 ) -> u32
-    ensures number { (l : Listening) → listening_of handle.old ≡ Some l → result ≡ add_number l (guest_of (address_in peer.now) peer_id id) }
+    ensures number { (l : Listening) → listening_of handle.old ≡ Some l → result ≢ no_memory → result ≡ add_number l (guest_of (address_in peer.now) peer_id id) }
+    ensures memory { (l : Listening) → listening_of handle.old ≡ Some l → result ≡ no_memory → add_number l (guest_of (address_in peer.now) peer_id id) ≡ ok }
     ensures added { (l : Listening) → listening_of handle.old ≡ Some l → result ≡ ok → (position is_none l.slots ≡ Some number.new) ×
         (listening_of handle.new ≡ Some (with_slot l number.new (Some (guest_of (address_in peer.now) peer_id id)))) }
     ensures none { listening_of handle.old ≡ None → result ≡ no_listener }

@@ -8,7 +8,7 @@ use Rattle.xns_spp.specs.declared.item.Item.{Item}
 use Rattle.xns_calls.specs.declared.early.Early.{Early}
 use Rattle.xns_calls.specs.declared.heading.Heading.{Heading}
 use Rattle.xns_calls.specs.declared.track.Track.{Track}
-use Rattle.xns_calls.specs.Events.{AreWithin63, Event, IsAmong, IsLate, acknowledged, after_event, after_events, after_whole_event, after_whole_events, brought_if, captured, captured_in, read_on, read_on_over, with_captured, with_kept_item}
+use Rattle.xns_calls.specs.Events.{AreWithin63, Event, IsAmong, IsLate, acknowledged, after_event, after_events, after_whole_event, after_whole_events, brought_if, captured, captured_in, meanwhile, read_on, read_on_over, with_captured, with_kept_item}
 use Rattle.xns_calls.specs.Exchange.{Scene, advanced, after_new, after_number, after_told, is_repeat, new_number, take_number, told_of, unless_repeat, up_to}
 use Rattle.xns_calls.specs.Numbers.{near}
 use Rattle.xns_calls.specs.Queue.{below, kept, last_number}
@@ -21,7 +21,7 @@ by_test : {A : Type 0} (P : A → Type 0) (p : Bool) (a b : A) → (p ≡ true �
 by_test P true a b f g = f refl
 by_test P false a b f g = g refl
 
-lt_false : (a b : ℕ) → b ≤ a → nat_lt a b ≡ false
+pub lt_false : (a b : ℕ) → b ≤ a → nat_lt a b ≡ false
 lt_false a b le = grind (arith, nat_tests)
 
 lt_true : (a b : ℕ) → a < b → nat_lt a b ≡ true
@@ -341,6 +341,7 @@ event_ordered (captured h k item) t ordered =
     by_test IsOrdered (is_repeat k t.track) t (brought h 0 (with_item k item (brought h (k - 63) t))) (λ old. ordered)
     (λ new. brought_ordered h 0 (with_item k item (brought h (k - 63) t)) (kept_ready k item (brought h (k - 63) t) (ready h k t ordered new)))
 event_ordered (acknowledged h n) t ordered = brought_if_ordered h (up_to (last_number t.track.early) (Some n)) t ordered
+event_ordered (meanwhile calls text is_refused) t ordered = ordered
 
 brought_known : (m : ℕ) (h : Heading) (n : ℕ) (t : Told) → AreFrom (next_of t) (early_of t) → IsKnown m t → IsKnown m (brought h n t)
 brought_known m h n t from known = brought_bears (IsKnown m) h n t (known_bears m h n) from known
@@ -359,6 +360,7 @@ event_known m (captured h k item) t ordered known =
     (λ new. brought_known m h 0 (with_item k item (brought h (k - 63) t)) (kept_ready k item (brought h (k - 63) t) (ready h k t ordered new))
     (kept_known m k item (brought h (k - 63) t) (brought_known m h (k - 63) t (from_ordered t ordered) known)))
 event_known m (acknowledged h n) t ordered known = brought_if_known m h (up_to (last_number t.track.early) (Some n)) t ordered known
+event_known m (meanwhile calls text is_refused) t ordered known = known
 
 -- a captured item is known
 captured_known : (h : Heading) (k : ℕ) (item : Item) (t : Told) → IsOrdered t → IsKnown k (after_event (captured h k item) t)
@@ -377,6 +379,7 @@ known_step : (before : List ℕ) (e : Event) (t : Told) → IsOrdered t → ((n 
 known_step before (captured h k item) t ordered known n (inl is) = subst (λ m. IsKnown m (after_event (captured h k item) t)) (sym is) (captured_known h k item t ordered)
 known_step before (captured h k item) t ordered known n (inr old) = event_known n (captured h k item) t ordered (known n old)
 known_step before (acknowledged h k) t ordered known n old = event_known n (acknowledged h k) t ordered (known n old)
+known_step before (meanwhile calls text is_refused) t ordered known n old = known n old
 
 events_ordered : (events : List Event) (t : Told) → IsOrdered t → IsOrdered (after_events events t)
 events_ordered [] t ordered = ordered
@@ -443,6 +446,7 @@ event_whole first before (captured h k item) t ordered low known late =
     (λ new. ap (λ (u : Told). brought h 0 (with_item k item u)) same ∙ read_new h k item t (new_ready k t ordered new))
 event_whole first before (acknowledged h n) t ordered low known late =
     acknowledged_same h (last_number t.track.early) n t ordered (not_less (next_of t) n (in_time first before t ordered low known (λ m. m < n) late))
+event_whole first before (meanwhile calls text is_refused) t ordered low known late = refl
 
 none_missing : (first : ℕ) (before : List ℕ) (events : List Event) (t : Told) → IsOrdered t → ((n : ℕ) → n < first → IsKnown n t) → ((n : ℕ) → IsAmong n before → IsKnown n t) → AreWithin63 first before events
     → after_events events t ≡ after_whole_events events t
@@ -509,16 +513,19 @@ event_to most (captured h k item) t ordered up b =
     by_test (IsTo most) (is_repeat k t.track) t (brought h 0 (with_item k item u)) (λ old. b)
     (λ new. brought_to most h 0 (with_item k item u) (kept_ready k item u (ready h k t ordered new)) (omega arith) (record { next = at.next; kept = kept_to most k item (early_of u) le at.kept }))
 event_to most (acknowledged h n) t ordered up b = acknowledged_to most h (last_number t.track.early) n t ordered (got_to most t.track.early (length t.track.early - 1) b.kept) b
+event_to most (meanwhile calls text is_refused) t ordered up b = record { next = b.next; kept = b.kept }
 
 still_among : (n : ℕ) (events : List Event) (before : List ℕ) → IsAmong n before → IsAmong n (captured_in events before)
 still_among n [] before among = among
 still_among n (captured h k item ∷ more) before among = still_among n more (k ∷ before) (inr among)
 still_among n (acknowledged h k ∷ more) before among = still_among n more before among
+still_among n (meanwhile calls text is_refused ∷ more) before among = still_among n more before among
 
 one_among : (n : ℕ) (e : Event) (before : List ℕ) → IsAmong n (with_captured e []) → IsAmong n (with_captured e before)
 one_among n (captured h k item) before (inl is) = inl is
 one_among n (captured h k item) before (inr none) = absurd none
 one_among n (acknowledged h k) before none = absurd none
+one_among n (meanwhile calls text is_refused) before none = absurd none
 
 events_to : (most : ℕ) (before : List ℕ) (events : List Event) (t : Told) → IsOrdered t → ((n : ℕ) → IsAmong n (captured_in events before) → n ≤ most) → IsTo most t → IsTo most (after_events events t)
 events_to most before [] t ordered up b = b
@@ -531,6 +538,65 @@ pub not_beyond : (events : List Event) (t : Told) (most : ℕ) → t.track.early
 unfolding AreTo
 not_beyond events t most none le up =
     (events_to most [] events t (new_ordered t none) up (record { next = le; kept = subst (AreTo most) (sym none) tt })).next
+
+-- ---- where nothing behind the next item is captured, nothing is missing
+
+-- the last item kept is none where none is kept
+none_to : (m : ℕ) (es : List Early) → AreFrom (m + 1) es → AreTo m es → es ≡ []
+unfolding AreTo
+none_to m [] from to = refl
+none_to m (e ∷ rest) from to = absurd (omega (arith, from.0, to.0))
+
+abbrev Holds : ℕ → Told → Type 0
+Holds most t = AreTo most (early_of t)
+
+holds_bears : (most : ℕ) (h : Heading) (n : ℕ) → Bears (Holds most) h n
+holds_bears most h n = record {
+  reads = λ e rest t same from due b. subst (AreTo most) (sym (read_early h e (with_early rest t))) (first_to most e rest (subst (AreTo most) same b)).1;
+  passes = λ t b. subst (AreTo most) (sym (passed_early h n t)) b;
+}
+
+holds_if : (most : ℕ) (h : Heading) (o : Option ℕ) (t : Told) → IsOrdered t → Holds most t → Holds most (brought_if h o t)
+holds_if most h None t ordered b = b
+holds_if most h (Some n) t ordered b = brought_bears (Holds most) h n t (holds_bears most h n) (from_ordered t ordered) b
+
+event_kept : (most : ℕ) (e : Event) (t : Told) → IsOrdered t → ((n : ℕ) → IsAmong n (with_captured e []) → n ≤ most) → Holds most t → Holds most (after_event e t)
+event_kept most (captured h k item) t ordered up b =
+    let u = brought h (k - 63) t in
+    by_test (Holds most) (is_repeat k t.track) t (brought h 0 (with_item k item u)) (λ old. b)
+    (λ new. brought_bears (Holds most) h 0 (with_item k item u) (holds_bears most h 0) (kept_ready k item u (ready h k t ordered new))
+    (kept_to most k item (early_of u) (up k (inl refl)) (brought_bears (Holds most) h (k - 63) t (holds_bears most h (k - 63)) (from_ordered t ordered) b)))
+event_kept most (acknowledged h n) t ordered up b = holds_if most h (up_to (last_number t.track.early) (Some n)) t ordered b
+event_kept most (meanwhile calls text is_refused) t ordered up b = b
+
+events_kept : (most : ℕ) (before : List ℕ) (events : List Event) (t : Told) → IsOrdered t → ((n : ℕ) → IsAmong n (captured_in events before) → n ≤ most) → AreTo most (early_of t) → AreTo most (early_of (after_events events t))
+events_kept most before [] t ordered up b = b
+events_kept most before (e ∷ more) t ordered up b =
+    events_kept most (with_captured e before) more (after_event e t) (event_ordered e t ordered) up
+    (event_kept most e t ordered (λ n among. up n (still_among n more (with_captured e before) (one_among n e before among))) b)
+
+with_before : (n : ℕ) (e : Event) (before : List ℕ) → IsAmong n before → IsAmong n (with_captured e before)
+with_before n (captured h k item) before among = inr among
+with_before n (acknowledged h k) before among = among
+with_before n (meanwhile calls text is_refused) before among = among
+
+-- an event of a flow that keeps nothing, and of which no item behind the next one is captured
+event_first : (e : Event) (t : Told) → IsOrdered t → early_of t ≡ [] → ((n : ℕ) → IsAmong n (with_captured e []) → n ≤ next_of t) → after_event e t ≡ after_whole_event e t
+event_first (captured h k item) t ordered none up =
+    let same : brought h (k - 63) t ≡ t = brought_same h (k - 63) t ordered (omega (arith, up k (inl refl))) in
+    cond_same (is_repeat k t.track) t (brought h 0 (with_item k item (brought h (k - 63) t))) (read_on h (with_item k item t))
+    (λ new. ap (λ (u : Told). brought h 0 (with_item k item u)) same ∙ read_new h k item t (new_ready k t ordered new))
+event_first (acknowledged h n) t ordered none up = ap (λ es. brought_if h (up_to (last_number es) (Some n)) t) none
+event_first (meanwhile calls text is_refused) t ordered none up = refl
+
+pub none_before : (events : List Event) (e : Event) (t : Told) → t.track.early ≡ [] → ((n : ℕ) → IsAmong n (with_captured e (captured_in events [])) → n ≤ (after_events events t).track.next)
+    → after_event e (after_events events t) ≡ after_whole_event e (after_events events t)
+unfolding AreTo
+none_before events e t none up =
+    let u = after_events events t in
+    let ordered = events_ordered events t (new_ordered t none) in
+    let kept : AreTo (next_of u) (early_of u) = events_kept (next_of u) [] events t (new_ordered t none) (λ n among. up n (with_before n e (captured_in events []) among)) (subst (AreTo (next_of u)) (sym none) tt) in
+    event_first e u ordered (none_to (next_of u) (early_of u) ordered kept) (λ n among. up n (one_among n e (captured_in events []) among))
 
 -- ---- what a data packet does is an event
 

@@ -1,19 +1,29 @@
 -- What happens to one flow, with numbers in the place of fields.
-use Rattle.std.specs.Prelude.{◌≡◌, ℕ, ◌+◌, ◌-◌, ◌≤◌, ◌<◌, ◌==◌, ◌⊎◌, if◌then◌else◌, List, [], ◌∷◌, Option, Some, None}
+use Rattle.std.specs.Prelude.{◌≡◌, ℕ, ◌+◌, ◌-◌, ◌≤◌, ◌<◌, ◌==◌, ◌⊎◌, Bool, if◌then◌else◌, List, [], ◌∷◌, Option, Some, None}
+use Rattle.xns_spp.specs.Header.{is_system}
+use Rattle.xns_spp.specs.declared.header.Header.{Header}
 use Rattle.xns_spp.specs.declared.item.Item.{Item}
-use Rattle.xns_calls.specs.Exchange.{is_repeat, up_to}
+use Rattle.xns_calls.specs.Exchange.{Scene, is_repeat, item_in, up_to}
+use Rattle.xns_calls.specs.Numbers.{near}
 use Rattle.xns_calls.specs.Queue.{kept, last_number}
 use Rattle.xns_calls.specs.Reading.{Told, brought, read_next}
 use Rattle.xns_calls.specs.declared.early.Early.{Early}
 use Rattle.xns_calls.specs.declared.heading.Heading.{Heading}
+use Rattle.xns_calls.specs.declared.track.Track.{Track}
+use Rattle.xns_calls.specs.declared.unanswered.Calls.{Calls}
 
--- an item of the flow is captured, or a packet that acknowledges all its items below a number
+-- an item of the flow is captured, or a packet that acknowledges all its items below a number; or what other packets and lines do meanwhile,
+-- by which the calls without an answer, the text of the line, and whether something was refused, are others
 pub data Event : Type 0 where
   captured : Heading → ℕ → Item → Event
   acknowledged : Heading → ℕ → Event
+  meanwhile : Calls → List ℕ → Bool → Event
 
 abbrev pub with_kept_item : ℕ → Item → Told → Told
 with_kept_item number item t = record t { track = record t.track { early = kept number item t.track.early } }
+
+abbrev pub with_others : Calls → List ℕ → Bool → Told → Told
+with_others calls text is_refused t = record t { calls = calls; text = text; is_refused = is_refused }
 
 abbrev pub brought_if : Heading → Option ℕ → Told → Told
 brought_if heading None t = t
@@ -25,10 +35,28 @@ after_event (captured heading number item) t =
     if is_repeat number t.track then t
     else brought heading 0 (with_kept_item number item (brought heading (number - 63) t))
 after_event (acknowledged heading number) t = brought_if heading (up_to (last_number t.track.early) (Some number)) t
+after_event (meanwhile calls text is_refused) t = with_others calls text is_refused t
 
 abbrev pub after_events : List Event → Told → Told
 after_events [] t = t
 after_events (e ∷ more) t = after_events more (after_event e t)
+
+-- ---- the events of packets
+
+abbrev pub captured_event : Heading → Option ℕ → Item → List Event
+captured_event heading None item = []
+captured_event heading (Some number) item = captured heading number item ∷ []
+
+-- those of a packet of the flow, once the flow behind is brought to what it acknowledges
+abbrev pub own_events : Heading → Header → List ℕ → Track → Scene → List Event
+own_events heading f content track s =
+    meanwhile (record { own = s.own.call; asked = s.other.call }) s.text s.is_refused
+    ∷ (if is_system f then [] else captured_event heading (near track.next f.sequence) (item_in f content))
+
+-- those of a packet of the flow behind
+abbrev pub acknowledged_event : Heading → Option ℕ → List Event
+acknowledged_event heading None = []
+acknowledged_event heading (Some number) = acknowledged heading number ∷ []
 
 -- ---- the same where nothing is missing: the items that are kept are read while they come next
 
@@ -44,6 +72,7 @@ read_on heading t = read_on_over heading t.track.early t
 abbrev pub after_whole_event : Event → Told → Told
 after_whole_event (captured heading number item) t = if is_repeat number t.track then t else read_on heading (with_kept_item number item t)
 after_whole_event (acknowledged heading number) t = t
+after_whole_event (meanwhile calls text is_refused) t = with_others calls text is_refused t
 
 abbrev pub after_whole_events : List Event → Told → Told
 after_whole_events [] t = t
@@ -58,6 +87,7 @@ IsAmong number (n ∷ more) = (number ≡ n) ⊎ IsAmong number more
 abbrev pub with_captured : Event → List ℕ → List ℕ
 with_captured (captured heading number item) before = number ∷ before
 with_captured (acknowledged heading number) before = before
+with_captured (meanwhile calls text is_refused) before = before
 
 -- the numbers of the items that are captured, those of `before` among them
 abbrev pub captured_in : List Event → List ℕ → List ℕ
@@ -69,6 +99,7 @@ captured_in (e ∷ more) before = captured_in more (with_captured e before)
 abbrev pub IsLate : Event → ℕ → Type 0
 IsLate (captured heading number item) n = n + 63 < number
 IsLate (acknowledged heading number) n = n < number
+IsLate (meanwhile calls text is_refused) n = ⊥
 
 -- each item from `first` on is captured within 63 numbers of its place, and before it is acknowledged
 abbrev pub AreWithin63 : ℕ → List ℕ → List Event → Type 0

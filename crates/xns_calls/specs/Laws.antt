@@ -1,13 +1,16 @@
 -- What the laws say: of what is heard, and of items that the capture lacks.
-use Rattle.std.specs.Prelude.{◌≡◌, ℕ, ◌+◌, ◌≤◌, ◌<◌, ◌⊎◌, List, [], ◌++◌, IfOk, codes, Some}
+use Rattle.std.specs.Prelude.{◌≡◌, ℕ, ◌+◌, ◌%◌, ◌≤◌, ◌<◌, ◌⊎◌, List, [], ◌++◌, IfOk, codes, Some}
+use Rattle.xns_idp.specs.Packet.{PacketModel}
+use Rattle.xns_spp.specs.Nearest.{field_round, half_round}
+use Rattle.xns_spp.specs.Numbers.{most_items}
 use Rattle.xns_spp.specs.declared.item.Item.{Item}
 use Rattle.xns_spp.specs.declared.header.Header.{Header}
 use Rattle.courier_messages.specs.Conversation.{conversation, ending, opening}
 use Rattle.courier_messages.specs.declared.message.Message.{Message}
 use Rattle.xns_dump.specs.Dump.Line.{has_word}
 use Rattle.xns_calls.specs.Calls.{calls_text, has_refusal}
-use Rattle.xns_calls.specs.Events.{AreWithin63, Event, IsAmong, after_event, after_events, after_whole_events, captured, captured_in}
-use Rattle.xns_calls.specs.Exchange.{Scene, after_told, take_number, told_of}
+use Rattle.xns_calls.specs.Events.{AreWithin63, Event, IsAmong, acknowledged_event, after_event, after_events, after_whole_event, after_whole_events, captured, captured_in, own_events, with_captured}
+use Rattle.xns_calls.specs.Exchange.{Scene, after_acknowledge, after_packet, after_told, of_other, seen_from_other, take_number, told_of}
 use Rattle.xns_calls.specs.Listening.{messages_heard}
 use Rattle.xns_calls.specs.Numbers.{near}
 use Rattle.xns_calls.specs.Reading.{Told}
@@ -29,6 +32,21 @@ abbrev pub AnItemIsAnEvent : Type 0
 AnItemIsAnEvent = (h : Heading) (f : Header) (item : Item) (s : Scene) (track : Track) (number : ℕ) → s.own.track ≡ Some track → near track.next f.sequence ≡ Some number
     → take_number h f item s ≡ after_told (after_event (captured h number item) (told_of track s)) s
 
+-- what a packet does to a flow are its events: one of the flow itself, and one of the flow behind, of which nothing else changes the flow
+pub record PacketsAreEvents : Type 0 where
+  pub own : (h : Heading) (packet : PacketModel) (f : Header) (content : List ℕ) (s : Scene) (track : Track) → s.own.track ≡ Some track
+      → after_packet h packet f content s
+      ≡ after_told (after_events (own_events h f content track (after_acknowledge h f.acknowledge s)) (told_of track s)) (after_acknowledge h f.acknowledge s)
+  pub behind : (h : Heading) (field : ℕ) (s : Scene) (track : Track) → s.other.track ≡ Some track
+      → after_acknowledge h field s
+      ≡ seen_from_other (after_told (after_events (acknowledged_event (of_other h) (near track.next field)) (told_of track (seen_from_other s))) (seen_from_other s))
+  pub only : (h : Heading) (packet : PacketModel) (f : Header) (content : List ℕ) (s : Scene)
+      → (after_packet h packet f content s).other.track ≡ (after_acknowledge h f.acknowledge s).other.track
+
+-- the field of an item within half a round of the next one is read as the item's number
+abbrev pub NumbersAreReadBack : Type 0
+NumbersAreReadBack = (next number : ℕ) → next ≤ most_items → next ≤ number + half_round → number < next + half_round → near next (number % field_round) ≡ Some number
+
 -- where each item of a flow is captured within 63 numbers of its place, and before it is acknowledged, none is missing: what is said is what is said without the line of missing items
 abbrev pub NothingIsMissing : Type 0
 NothingIsMissing = (events : List Event) (t : Told) → t.track.early ≡ [] → AreWithin63 t.track.next [] events → after_events events t ≡ after_whole_events events t
@@ -38,7 +56,11 @@ abbrev pub RepeatsSayNothing : Type 0
 RepeatsSayNothing = (events : List Event) (h : Heading) (number : ℕ) (item : Item) (t : Told) → t.track.early ≡ [] → (number < t.track.next) ⊎ IsAmong number (captured_in events [])
     → after_event (captured h number item) (after_events events t) ≡ after_events events t
 
--- no item is passed over but before one that is captured: the next item is never more than one behind the last that is
-abbrev pub NothingIsMissingAtTheEnd : Type 0
-NothingIsMissingAtTheEnd = (events : List Event) (t : Told) (most : ℕ) → t.track.early ≡ [] → t.track.next ≤ most + 1 → ((n : ℕ) → IsAmong n (captured_in events []) → n ≤ most)
-    → (after_events events t).track.next ≤ most + 1
+-- no item is passed over but before one that is captured: the next item is never more than one behind the last that is, and where no item behind the
+-- next one is captured, an event says what it says without the line of missing items
+pub record MissingItemsAreBeforeCapturedOnes : Type 0 where
+  pub next : (events : List Event) (t : Told) (most : ℕ) → t.track.early ≡ [] → t.track.next ≤ most + 1 → ((n : ℕ) → IsAmong n (captured_in events []) → n ≤ most)
+      → (after_events events t).track.next ≤ most + 1
+  pub none : (events : List Event) (e : Event) (t : Told) → t.track.early ≡ []
+      → ((n : ℕ) → IsAmong n (with_captured e (captured_in events [])) → n ≤ (after_events events t).track.next)
+      → after_event e (after_events events t) ≡ after_whole_event e (after_events events t)

@@ -9,6 +9,7 @@ use crate::heading::Heading;
 use crate::item_number::ItemNumber;
 use crate::near::near;
 use crate::queue::Queue;
+use crate::scratch::Scratch;
 use crate::side::Side;
 use crate::speech::Speech;
 use crate::texts::append_flow_line;
@@ -27,7 +28,7 @@ const KEPT: u64 = 64;
 /// Brings a flow to a number, if it has begun.
 #[tactic(auto, unfolding(crate::specs::Exchange::advanced))]
 fn advance(
-    alloc: Global,
+    scratch: &mut Scratch,
     page: &mut Page,
     heading: Heading,
     own: &mut Side,
@@ -44,7 +45,7 @@ fn advance(
         own: own.call,
         asked: other.call,
     };
-    bring(alloc, page, heading, track, &mut calls, number)?;
+    bring(scratch, page, heading, track, &mut calls, number)?;
     own.call = calls.own;
     other.call = calls.asked;
     Ok(())
@@ -140,7 +141,7 @@ fn keep(side: &mut Side, number: u64, item: Item) -> Result<(), AllocError>
 /// Takes an item of a number that is no repeat.
 #[tactic(auto, unfolding(crate::specs::Exchange::after_new))]
 fn take_new(
-    alloc: Global,
+    scratch: &mut Scratch,
     page: &mut Page,
     heading: Heading,
     own: &mut Side,
@@ -153,7 +154,7 @@ fn take_new(
     ensures scene { OnOk result (scene own.new other.new page.new ≡ after_new heading number item (scene own.old other.old page.old)) }
 {
     advance(
-        alloc,
+        scratch,
         page,
         heading,
         own,
@@ -161,13 +162,13 @@ fn take_new(
         number.saturating_sub(KEPT - 1),
     )?;
     keep(own, number, item)?;
-    advance(alloc, page, heading, own, other, 0)
+    advance(scratch, page, heading, own, other, 0)
 }
 
 /// Takes the item of a data packet.
 #[tactic(auto, unfolding(crate::specs::Exchange::after_data))]
 fn take_item(
-    alloc: Global,
+    scratch: &mut Scratch,
     page: &mut Page,
     heading: Heading,
     own: &mut Side,
@@ -179,18 +180,18 @@ fn take_item(
     ensures front { page.new.text.front ≡ page.old.text.front }
     ensures scene { OnOk result (scene own.new other.new page.new ≡ after_data heading (packet_model packet.now) header.now content.now (scene own.old other.old page.old)) }
 {
-    begin(alloc, page, heading, own, packet, header)?;
+    begin(scratch.alloc, page, heading, own, packet, header)?;
     let Some(number) = new_number(own, header.sequence) else {
         return Ok(());
     };
-    let item = item_in(alloc, header, content)?;
-    take_new(alloc, page, heading, own, other, number, item)
+    let item = item_in(scratch.alloc, header, content)?;
+    take_new(scratch, page, heading, own, other, number, item)
 }
 
 /// Takes what a packet acknowledges of the flow behind its own.
 #[tactic(auto, unfolding(crate::specs::Exchange::after_acknowledge))]
 fn take_acknowledge(
-    alloc: Global,
+    scratch: &mut Scratch,
     page: &mut Page,
     heading: Heading,
     own: &mut Side,
@@ -203,13 +204,13 @@ fn take_acknowledge(
     let Some(number) = acknowledged(other, field) else {
         return Ok(());
     };
-    advance(alloc, page, heading.of_other(), other, own, number)
+    advance(scratch, page, heading.of_other(), other, own, number)
 }
 
 /// Takes a packet of a flow: what it acknowledges, and then its item, if it brings one.
 #[tactic(auto, unfolding(crate::specs::Exchange::after_packet))]
 pub fn take_packet(
-    alloc: Global,
+    scratch: &mut Scratch,
     page: &mut Page,
     heading: Heading,
     own: &mut Side,
@@ -221,9 +222,9 @@ pub fn take_packet(
     ensures front { page.new.text.front ≡ page.old.text.front }
     ensures scene { OnOk result (scene own.new other.new page.new ≡ after_packet heading (packet_model packet.now) header.now content.now (scene own.old other.old page.old)) }
 {
-    take_acknowledge(alloc, page, heading, own, other, header.acknowledge)?;
+    take_acknowledge(scratch, page, heading, own, other, header.acknowledge)?;
     if header.control & SYSTEM != 0 {
         return Ok(());
     }
-    take_item(alloc, page, heading, own, other, packet, header, content)
+    take_item(scratch, page, heading, own, other, packet, header, content)
 }

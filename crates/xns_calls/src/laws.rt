@@ -1,5 +1,5 @@
 //! Laws of the definitions, as functions that do nothing.
-ghost use Rattle.xns_calls.specs.Laws.{AnItemIsAnEvent, NothingIsMissing, NothingIsMissingAtTheEnd, RepeatsSayNothing, TheAnswerSaysRefused, WhatIsHeardIsTheConversation};
+ghost use Rattle.xns_calls.specs.Laws.{AnItemIsAnEvent, MissingItemsAreBeforeCapturedOnes, NothingIsMissing, NumbersAreReadBack, PacketsAreEvents, RepeatsSayNothing, TheAnswerSaysRefused, WhatIsHeardIsTheConversation};
 
 use courier_messages::laws::{conversation_is_read_sign_by_sign, one_item_more, signs_run_on};
 use xns_dump::laws::{joined_texts_say_refused, only_refusals_say_refused};
@@ -27,6 +27,20 @@ pub fn an_item_is_an_event()
     ensures { AnItemIsAnEvent }
 {}
 
+/// What a packet does to a flow are its events: to its own flow and to the flow behind. Of the flow behind it changes nothing else but
+/// its call without an answer.
+pub fn packets_are_events()
+    ensures { PacketsAreEvents }
+{}
+
+/// The field of an item is read as the item's number, where that is at most 32,768 below the next one and at most 32,767
+/// above it.
+pub fn numbers_are_read_back()
+    ensures { NumbersAreReadBack }
+{
+    xns_spp::laws::nearest_number_is_read_back();
+}
+
 /// Where each item of a flow is captured within 63 numbers of its place, and before it is acknowledged, no item is said to
 /// be missing.
 pub fn nothing_is_missing()
@@ -39,6 +53,6 @@ pub fn repeats_say_nothing()
 {}
 
 /// Items are said to be missing only where a later one was captured.
-pub fn nothing_is_missing_at_the_end()
-    ensures { NothingIsMissingAtTheEnd }
+pub fn missing_items_are_before_captured_ones()
+    ensures { MissingItemsAreBeforeCapturedOnes }
 {}

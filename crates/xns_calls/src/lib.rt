@@ -15,6 +15,7 @@ mod near;
 mod packet_lines;
 mod printer;
 mod queue;
+mod scratch;
 mod side;
 mod speech;
 mod telling;

@@ -6,17 +6,18 @@ ghost use Rattle.xns_calls.specs.Telling.{after_message, call_left, calls_after,
 
 use crate::heading::Heading;
 use crate::heard::Heard;
+use crate::scratch::Scratch;
 use crate::texts::{append_answer, append_call_line, append_refused_line, append_words};
 use crate::unanswered::Calls;
 use crate::waiting::Waiting;
-use courier_messages::{Head, PiecedMessage, Words};
-use std::alloc::{AllocError, Global};
+use courier_messages::{Head, PiecedMessage};
+use std::alloc::AllocError;
 use xns_dump::layers::courier::append_field;
 use xns_lines::{Page, Report};
 
 /// Prints what is heard.
 pub fn tell(
-    alloc: Global,
+    scratch: &mut Scratch,
     page: &mut Page,
     heading: Heading,
     calls: &mut Calls,
@@ -28,7 +29,7 @@ pub fn tell(
 {
     match heard {
         Heard::Nothing => Ok(()),
-        Heard::Message(message) => tell_message(alloc, &mut page.text, heading, calls, &message),
+        Heard::Message(message) => tell_message(scratch, &mut page.text, heading, calls, &message),
         Heard::Fault(fault) => {
             append_refused_line(&mut page.text, heading, fault)?;
             page.is_refused = true;
@@ -39,7 +40,7 @@ pub fn tell(
 
 /// Prints a message. A call waits for its answer then, and the call of an answer no longer.
 fn tell_message(
-    alloc: Global,
+    scratch: &mut Scratch,
     report: &mut Report,
     heading: Heading,
     calls: &mut Calls,
@@ -48,8 +49,8 @@ fn tell_message(
     ensures text { Adds result report.old report.new (message_line heading calls.old message.now) }
     ensures calls { OnOk result (calls.new ≡ after_message heading calls.old message.now) }
 {
-    let words = message.words(alloc)?;
-    tell_words(report, heading, calls, message.head(), &words)
+    let words = scratch.words_of(message)?;
+    tell_words(report, heading, calls, message.head(), words)
 }
 
 /// Prints the message of these words.
@@ -58,7 +59,7 @@ fn tell_words(
     heading: Heading,
     calls: &mut Calls,
     head: Head,
-    words: &Words,
+    words: &[u16],
 ) -> Result<(), AllocError>
     ensures text { Adds result report.old report.new (message_line heading calls.old (with_words head words.now)) }
     ensures calls { OnOk result (calls.new ≡ after_message heading calls.old (with_words head words.now)) }

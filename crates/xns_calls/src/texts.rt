@@ -5,7 +5,7 @@ ghost use Rattle.xns_lines.specs.Report.{Adds};
 ghost use Rattle.xns_calls.specs.Texts.{answer_text, call_line, end_text, flow_line, heading_text, missing_line, reason_text, refused_line, words_end};
 
 use crate::heading::Heading;
-use courier_messages::{MessageFault, SessionFault, Words};
+use courier_messages::{MessageFault, SessionFault};
 use std::alloc::AllocError;
 use xns_dump::layers::courier::{append_callee, append_field};
 use xns_dump::layers::text::append_address;
@@ -88,7 +88,7 @@ pub fn append_call_line(
     program: u32,
     version: u16,
     procedure: u16,
-    words: &Words,
+    words: &[u16],
 ) -> Result<(), AllocError>
     ensures { Adds result report.old report.new (call_line heading transaction program version procedure words.now) }
 {
@@ -100,11 +100,11 @@ pub fn append_call_line(
 
 /// Appends words behind what they are, and ends the line.
 #[tactic(auto, unfolding(crate::specs::Texts::words_end))]
-pub fn append_words(report: &mut Report, name: &[u8], words: &Words) -> Result<(), AllocError>
+pub fn append_words(report: &mut Report, name: &[u8], words: &[u16]) -> Result<(), AllocError>
     ensures { Adds result report.old report.new (words_end name.now words.now) }
 {
     report.append(name)?;
-    append_word_list(report, words.as_slice())?;
+    append_word_list(report, words)?;
     report.append(b"\n")
 }
 

@@ -1,8 +1,7 @@
 //! Items each way.
-use crate::play::SETUP;
 use item_world::{Event, Side, play_items};
 use std::alloc::{AllocError, Global};
-use xns_spp::{Bytes, Item};
+use test_setting::{WIDE_SETUP, numbered};
 
 /// So many items go out each way before packets are delivered.
 const ROUND: u32 = 16;
@@ -10,7 +9,7 @@ const ROUND: u32 = 16;
 /// Plays so many items each way, and prints how many came through.
 pub fn play(rt: &HostRuntime, count: u32) -> Result<(), anyhow::Error> {
     let alloc = rt.alloc();
-    let setup = SETUP;
+    let setup = WIDE_SETUP;
     if !setup.is_good() {
         return Ok(());
     }
@@ -36,8 +35,8 @@ fn events(alloc: Global, count: u32) -> Result<Vec<Event>, AllocError> {
     events.push(Event::Tick(Side::A))?;
     push_rest(&mut events)?;
     for number in 0..count {
-        events.push(send(alloc, Side::A, number)?)?;
-        events.push(send(alloc, Side::B, number)?)?;
+        events.push(Event::Send(Side::A, numbered(alloc, number)?))?;
+        events.push(Event::Send(Side::B, numbered(alloc, number)?))?;
         if number % ROUND == ROUND - 1 {
             push_rest(&mut events)?;
             push_takes(&mut events)?;
@@ -46,16 +45,6 @@ fn events(alloc: Global, count: u32) -> Result<Vec<Event>, AllocError> {
     push_rest(&mut events)?;
     push_takes(&mut events)?;
     Ok(events)
-}
-
-fn send(alloc: Global, side: Side, number: u32) -> Result<Event, AllocError> {
-    let item = Item {
-        stream: 0,
-        attention: false,
-        last: true,
-        body: Bytes::new(Vec::from_slice(alloc, &number.to_be_bytes())?),
-    };
-    Ok(Event::Send(side, item))
 }
 
 /// All packets arrive, and the replies to them.
