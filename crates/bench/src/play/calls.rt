@@ -1,8 +1,7 @@
 //! Calls to a tally, through what a script says.
-use crate::play::SETUP;
 use courier_calls::{Seen, Tally, tally_table};
 use courier_types::Value;
-use item_world::Setup;
+use test_setting::SETUP;
 use xns_script::Script;
 use xns_world::play_calls;
 
@@ -13,7 +12,7 @@ const MOST_BYTES: usize = 4_096;
 pub fn play(rt: &HostRuntime) -> Result<(), anyhow::Error> {
     let alloc = rt.alloc();
     let script = read_script(rt)?;
-    let setup = setup();
+    let setup = SETUP;
     if script.refused().is_some() || !setup.is_good() {
         return Ok(());
     }
@@ -47,15 +46,6 @@ fn read_script(rt: &HostRuntime) -> Result<Script, anyhow::Error> {
         }
     }
     Ok(script)
-}
-
-/// The ends of `xns sim`.
-fn setup() -> Setup {
-    Setup {
-        window: 4,
-        backlog: 16,
-        ..SETUP
-    }
 }
 
 /// The total that a call returned, and 0 of any other outcome.
