@@ -1,11 +1,11 @@
 -- A line's text has the word `refused` exactly where the line is refused.
 use Rattle.std.proofs.Common.{◌≡◌, ◌∙◌, ap, sym, refl, arith, ℕ, zero, suc, ◌+◌, ◌/◌, ◌%◌, ◌<◌, ◌==◌, Bool, true, false, cond, List, [], ◌∷◌, ◌++◌, codes, length, append_assoc, append-nil, Option, Some, None, Result, Ok, Err}
-use Rattle.std.specs.Prelude.{nat_lt, slice_index, is_err}
+use Rattle.std.specs.Prelude.{nat_lt, slice_index}
 use Rattle.std.specs.List.{flat_map}
 use Rattle.std.specs.Fmt.{decimal, digit_glyph, digits, digits_onto}
 use Rattle.std.specs.Int.{w16, w32, to_be_bytes}
 use Rattle.std.proofs.lemmas.Bool.Decides.{nat_tests}
-use Rattle.hex.specs.Hex.{decode_of, encode_lower, encode_with, lower_digits}
+use Rattle.hex.specs.Hex.{encode_lower, encode_with, lower_digits}
 use Rattle.hex.specs.declared.error.FromHexError.{FromHexError}
 use Rattle.hex.specs.declared.error.FromHexError.TheVariants as hex_error
 use Rattle.courier_messages.specs.Message.{message_of}
@@ -13,24 +13,24 @@ use Rattle.courier_messages.specs.declared.fault.MessageFault.{MessageFault}
 use Rattle.courier_messages.specs.declared.message.Message.{Message}
 use Rattle.courier_messages.specs.declared.message.Message.TheVariants.{Call, Reject, Return, Abort}
 use Rattle.xns_idp.specs.Packet.{PacketModel}
-use Rattle.xns_idp.specs.Reading.{packet_of, word_at}
 use Rattle.xns_idp.specs.declared.address.Address.{Address}
 use Rattle.xns_idp.specs.declared.fault.IdpFault.{IdpFault}
-use Rattle.xns_small.specs.Echo.{EchoModel, echo_of}
-use Rattle.xns_small.specs.ErrorReport.{ErrorReportModel, error_of}
-use Rattle.xns_small.specs.Exchange.{ExchangeModel, exchange_of}
+use Rattle.xns_small.specs.Echo.{EchoModel}
+use Rattle.xns_small.specs.ErrorReport.{ErrorReportModel}
+use Rattle.xns_small.specs.Exchange.{ExchangeModel}
 use Rattle.xns_small.specs.declared.fault.SmallFault.{SmallFault}
-use Rattle.xns_spp.specs.Header.{header_of, is_system}
+use Rattle.xns_spp.specs.Header.{is_system}
 use Rattle.xns_spp.specs.declared.header.Header.{Header}
 use Rattle.xns_spp.specs.declared.spp_fault.SppFault.{SppFault}
 use Rattle.xns_spp.specs.declared.spp_fault.SppFault.TheVariants as spp
-use Rattle.xns_dump.specs.Dump.Line.{are_digits_refused, digits_of, digits_text, hex_refusal, is_refusal, is_refused, report_bytes, text_of_line}
+use Rattle.xns_dump.specs.Dump.Line.{Said, hex_refusal, is_refused, is_said_refused, said_by, said_text, text_of_line}
 use Rattle.xns_dump.specs.Flows.{DataPacket}
 use Rattle.xns_dump.specs.Laws.{IsLoud, IsQuiet, says_refused}
+use Rattle.xns_dump.specs.Layers.Body.{BodyModel, body_text, is_body_refused}
 use Rattle.xns_dump.specs.Layers.Courier.{callee_text, courier_text, message_line, message_text, report_message}
-use Rattle.xns_dump.specs.Layers.Packets.{body_text, idp_line, idp_refusal, is_body_refused, is_fault, is_packet_refused, kind_text, packet_text, report_packet, route_text, size_text, sum_text}
-use Rattle.xns_dump.specs.Layers.Sequenced.{connection_text, content_text, header_line, header_refusal, item_line, item_of, item_text, report_sequenced, sequence_text, sequenced_text}
-use Rattle.xns_dump.specs.Layers.Small.{echo_line, echo_text, error_fields, error_line, error_text, exchange_fields, exchange_line, exchange_text, inner_refusal, line_or_refusal}
+use Rattle.xns_dump.specs.Layers.Packets.{idp_line, idp_refusal, kind_text, route_text, size_text, sum_text}
+use Rattle.xns_dump.specs.Layers.Sequenced.{connection_text, content_text, header_line, header_refusal, item_line, item_of, item_text, sequence_text, sequenced_text}
+use Rattle.xns_dump.specs.Layers.Small.{echo_line, error_fields, error_line, exchange_fields, exchange_line, inner_refusal}
 use Rattle.xns_dump.specs.Layers.Text.{address_text, data_line, words_line}
 use Rattle.xns_lines.specs.Text.{bytes_or_dash, hex_word, words_in_hex, words_or_dash, words_text}
 
@@ -193,22 +193,6 @@ exchange : (n : ℕ) (v : ExchangeModel) → IsQuiet (exchange_line n v)
 unfolding exchange_line
 exchange n v = both _ _ (both _ _ (both _ _ (number n) (record { skips = λ ys. refl })) (exchange_numbers v)) (record { skips = λ ys. refl })
 
-line_or : {View : Type 0} (line : ℕ → View → List ℕ) (n : ℕ) (r : Result View SmallFault) → ((v : View) → IsQuiet (line n v)) → says_refused (line_or_refusal line n r) ≡ is_err r
-line_or line n (Ok v) h = alone (line n v) (h v)
-line_or line n (Err fault) h = said _ (inner_loud n fault)
-
-echo_is : (n : ℕ) (body : List ℕ) → says_refused (echo_text n body) ≡ is_err (echo_of body)
-unfolding echo_text
-echo_is n body = line_or echo_line n (echo_of body) (echo n)
-
-error_is : (n : ℕ) (body : List ℕ) → says_refused (error_text n body) ≡ is_err (error_of body)
-unfolding error_text
-error_is n body = line_or error_line n (error_of body) (error n)
-
-exchange_is : (n : ℕ) (body : List ℕ) → says_refused (exchange_text n body) ≡ is_err (exchange_of body)
-unfolding exchange_text
-exchange_is n body = line_or exchange_line n (exchange_of body) (exchange n)
-
 -- ---- Courier
 
 pub callee : (program version procedure : ℕ) → IsQuiet (callee_text program version procedure)
@@ -263,33 +247,20 @@ content n f xs = either (is_system f) [] _ (record { skips = λ ys. refl }) (eit
 pub header_loud : (n : ℕ) (fault : SppFault) → IsLoud (header_refusal n fault)
 header_loud n (spp.Short have) = inner_loud n _
 
-sequenced_with : (n : ℕ) (numbers : DataPacket → ℕ) (p : PacketModel) (r : Result (Header × List ℕ) SppFault) → says_refused (report_sequenced n numbers p r) ≡ is_err r
-sequenced_with n numbers p (Ok found) = alone _ (both _ _ (both _ _ (header n found.0) (item n numbers (item_of p found.0))) (content n found.0 found.1))
-sequenced_with n numbers p (Err fault) = said _ (header_loud n fault)
-
-sequenced_is : (n : ℕ) (numbers : DataPacket → ℕ) (p : PacketModel) → says_refused (sequenced_text n numbers p) ≡ is_err (header_of p.body)
+sequenced : (n : ℕ) (numbers : DataPacket → ℕ) (o : Option DataPacket) (f : Header) (xs : List ℕ) → IsQuiet (sequenced_text n numbers o f xs)
 unfolding sequenced_text
-sequenced_is n numbers p = sequenced_with n numbers p (header_of p.body)
+sequenced n numbers o f xs = both _ _ (both _ _ (header n f) (item n numbers o)) (content n f xs)
 
 -- ---- a line
 
-choose : (p : Bool) (xs ys : List ℕ) (b c : Bool) → says_refused xs ≡ b → says_refused ys ≡ c → says_refused (cond p xs ys) ≡ cond p b c
-choose true xs ys b c h k = h
-choose false xs ys b c h k = k
-
-body_is : (n : ℕ) (numbers : DataPacket → ℕ) (p : PacketModel) → says_refused (body_text n numbers p) ≡ is_body_refused p
-unfolding body_text is_body_refused
-body_is n numbers p =
-    choose (p.kind == 2) _ _ _ _ (echo_is n p.body) (choose (p.kind == 3) _ _ _ _ (error_is n p.body) (choose (p.kind == 4) _ _ _ _ (exchange_is n p.body)
-    (choose (p.kind == 5) _ _ _ _ (sequenced_is n numbers p) (alone _ (data_is n p.body)))))
-
-packet_with : (n : ℕ) (numbers : DataPacket → ℕ) (xs : List ℕ) (r : Result (PacketModel × ℕ) IdpFault) → says_refused (report_packet n numbers xs r) ≡ is_fault r
-packet_with n numbers xs (Ok found) = before (idp_line n (word_at xs 0) found.0) _ (is_body_refused found.0) (idp n (word_at xs 0) found.0) (body_is n numbers found.0)
-packet_with n numbers xs (Err fault) = said _ (idp_loud n fault)
-
-packet_is : (n : ℕ) (numbers : DataPacket → ℕ) (xs : List ℕ) → says_refused (packet_text n numbers xs) ≡ is_packet_refused xs
-unfolding packet_text is_packet_refused
-packet_is n numbers xs = packet_with n numbers xs (packet_of xs)
+body_is : (n : ℕ) (numbers : DataPacket → ℕ) (p : PacketModel) (b : BodyModel) → says_refused (body_text n numbers p b) ≡ is_body_refused b
+body_is n numbers p (BodyModel.echo v) = alone _ (echo n v)
+body_is n numbers p (BodyModel.error v) = alone _ (error n v)
+body_is n numbers p (BodyModel.exchange v) = alone _ (exchange n v)
+body_is n numbers p (BodyModel.sequenced f xs) = alone _ (sequenced n numbers (item_of p f) f xs)
+body_is n numbers p (BodyModel.no_header fault) = said _ (header_loud n fault)
+body_is n numbers p (BodyModel.refused fault) = said _ (inner_loud n fault)
+body_is n numbers p (BodyModel.other xs) = alone _ (data_is n xs)
 
 pub hex_loud : (n : ℕ) (error : FromHexError) → IsLoud (hex_refusal n error)
 unfolding hex_refusal
@@ -298,10 +269,10 @@ hex_loud n hex_error.OddLength = loud _ _ (number n) (record { says = λ ys. ref
 hex_loud n hex_error.InvalidStringLength = loud _ _ (number n) (record { says = λ ys. refl })
 hex_loud n hex_error.OutOfMemory = loud _ _ (number n) (record { says = λ ys. refl })
 
-digits_with : (n : ℕ) (numbers : DataPacket → ℕ) (r : Result (List ℕ) FromHexError) → says_refused (report_bytes n numbers r) ≡ is_refusal r
-digits_with n numbers (Ok xs) = packet_is n numbers xs
-digits_with n numbers (Err error) = said _ (hex_loud n error)
+said_is : (n : ℕ) (numbers : DataPacket → ℕ) (s : Said) → says_refused (said_text n numbers s) ≡ is_said_refused s
+said_is n numbers (Said.no_bytes error) = said _ (hex_loud n error)
+said_is n numbers (Said.no_packet fault) = said _ (idp_loud n fault)
+said_is n numbers (Said.packet field p b) = before (idp_line n field p) _ (is_body_refused b) (idp n field p) (body_is n numbers p b)
 
 pub line_is : (n : ℕ) (numbers : DataPacket → ℕ) (line : List ℕ) → says_refused (text_of_line n numbers line) ≡ is_refused line
-unfolding text_of_line is_refused digits_text are_digits_refused
-line_is n numbers line = digits_with n numbers (decode_of (digits_of line))
+line_is n numbers line = said_is n numbers (said_by line)

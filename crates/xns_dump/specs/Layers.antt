@@ -1,4 +1,5 @@
 -- What each layer of a packet says.
+pub mod Body
 pub mod Courier
 pub mod Packets
 pub mod Sequenced

@@ -6,7 +6,11 @@ use Rattle.hex.specs.Hex.{decode_of}
 use Rattle.hex.specs.declared.error.FromHexError.{FromHexError}
 use Rattle.hex.specs.declared.error.FromHexError.TheVariants.{InvalidHexCharacter}
 use Rattle.xns_dump.specs.Flows.{DataPacket}
-use Rattle.xns_dump.specs.Layers.Packets.{is_packet_refused, packet_item, packet_text}
+use Rattle.xns_idp.specs.Packet.{PacketModel}
+use Rattle.xns_idp.specs.Reading.{packet_of, word_at}
+use Rattle.xns_idp.specs.declared.fault.IdpFault.{IdpFault}
+use Rattle.xns_dump.specs.Layers.Body.{BodyModel, body_of, body_text, body_item, is_body_refused}
+use Rattle.xns_dump.specs.Layers.Packets.{idp_line, idp_refusal}
 use Rattle.xns_lines.specs.Lines.{without_return}
 
 -- a space or a tab
@@ -22,40 +26,52 @@ unfoldable pub hex_refusal : ℕ → FromHexError → List ℕ
 hex_refusal n (InvalidHexCharacter digit place) = decimal n ++ codes " hex refused Digit " ++ decimal place ++ codes "\n"
 hex_refusal n _ = decimal n ++ codes " hex refused OddLength\n"
 
-abbrev pub report_bytes : ℕ → (DataPacket → ℕ) → Result (List ℕ) FromHexError → List ℕ
-report_bytes n number (Ok bytes) = packet_text n number bytes
-report_bytes n number (Err error) = hex_refusal n error
+-- what a line says: why its digits spell no bytes, why the bytes are no packet, or the packet at their front, with its checksum field and what its body says
+pub data Said : Type 0 where
+  no_bytes : FromHexError → Said
+  no_packet : IdpFault → Said
+  packet : ℕ → PacketModel → BodyModel → Said
 
--- the lines of digits: those of the bytes that they spell
-unfoldable pub digits_text : ℕ → (DataPacket → ℕ) → List ℕ → List ℕ
-digits_text n number digits = report_bytes n number (decode_of digits)
+abbrev pub packet_or_fault : List ℕ → Result (PacketModel × ℕ) IdpFault → Said
+packet_or_fault bytes (Ok found) = Said.packet (word_at bytes 0) found.0 (body_of found.0)
+packet_or_fault bytes (Err fault) = Said.no_packet fault
 
--- the data packet at the front of the bytes that were read, if one is there
-abbrev pub item_of_read_digits : Result (List ℕ) FromHexError → Option DataPacket
-item_of_read_digits (Ok bytes) = packet_item bytes
-item_of_read_digits (Err error) = None
+unfoldable pub said_by_bytes : List ℕ → Said
+said_by_bytes bytes = packet_or_fault bytes (packet_of bytes)
 
-unfoldable pub digits_item : List ℕ → Option DataPacket
-digits_item digits = item_of_read_digits (decode_of digits)
+abbrev pub bytes_or_fault : Result (List ℕ) FromHexError → Said
+bytes_or_fault (Ok bytes) = said_by_bytes bytes
+bytes_or_fault (Err error) = Said.no_bytes error
 
-abbrev pub is_refusal : Result (List ℕ) FromHexError → Bool
-is_refusal (Ok bytes) = is_packet_refused bytes
-is_refusal (Err error) = true
+unfoldable pub said_by : List ℕ → Said
+said_by line = bytes_or_fault (decode_of (digits_of line))
 
-unfoldable pub are_digits_refused : List ℕ → Bool
-are_digits_refused digits = is_refusal (decode_of digits)
+-- ---- what is made of it
 
--- what line n says, where `number` gives the numbers of items
-unfoldable pub text_of_line : ℕ → (DataPacket → ℕ) → List ℕ → List ℕ
-text_of_line n number line = digits_text n number (digits_of line)
+abbrev pub said_text : ℕ → (DataPacket → ℕ) → Said → List ℕ
+said_text n number (Said.no_bytes error) = hex_refusal n error
+said_text n number (Said.no_packet fault) = idp_refusal n fault
+said_text n number (Said.packet field p body) = idp_line n field p ++ body_text n number p body
 
--- the data packet of a flow that a line spells, if it spells one
-unfoldable pub item_of_line : List ℕ → Option DataPacket
-item_of_line line = digits_item (digits_of line)
+abbrev pub is_said_refused : Said → Bool
+is_said_refused (Said.packet field p body) = is_body_refused body
+is_said_refused _ = true
+
+abbrev pub said_item : Said → Option DataPacket
+said_item (Said.packet field p body) = body_item p body
+said_item _ = None
+
+-- what line n prints, where `number` gives the numbers of items
+abbrev pub text_of_line : ℕ → (DataPacket → ℕ) → List ℕ → List ℕ
+text_of_line n number line = said_text n number (said_by line)
 
 -- whether a line is refused
-unfoldable pub is_refused : List ℕ → Bool
-is_refused line = are_digits_refused (digits_of line)
+abbrev pub is_refused : List ℕ → Bool
+is_refused line = is_said_refused (said_by line)
+
+-- the data packet of a flow that a line spells, if it spells one
+abbrev pub item_of_line : List ℕ → Option DataPacket
+item_of_line line = said_item (said_by line)
 
 -- the text begins with the word
 abbrev pub begins_with : List ℕ → List ℕ → Bool

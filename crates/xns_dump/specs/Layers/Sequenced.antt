@@ -1,9 +1,9 @@
 -- The lines of sequenced packets.
-use Rattle.std.specs.Prelude.{ℕ, ◌==◌, not, if◌then◌else◌, List, [], ◌∷◌, ◌++◌, codes, Option, Some, None, Result, Ok, Err}
+use Rattle.std.specs.Prelude.{ℕ, ◌==◌, not, if◌then◌else◌, List, [], ◌∷◌, ◌++◌, codes, Option, Some, None}
 use Rattle.std.specs.Fmt.{decimal}
 use Rattle.hex.specs.Hex.{encode_lower}
 use Rattle.xns_idp.specs.Packet.{PacketModel}
-use Rattle.xns_spp.specs.Header.{brings_item, has_bit, header_of, is_system, message_end_bit}
+use Rattle.xns_spp.specs.Header.{brings_item, has_bit, is_system, message_end_bit}
 use Rattle.xns_spp.specs.declared.header.Header.{Header}
 use Rattle.xns_spp.specs.declared.spp_fault.SppFault.{SppFault}
 use Rattle.xns_spp.specs.declared.spp_fault.SppFault.TheVariants.{Short}
@@ -59,19 +59,6 @@ content_text n f content =
 abbrev pub header_refusal : ℕ → SppFault → List ℕ
 header_refusal n (Short have) = inner_refusal n (small.Short have)
 
-abbrev pub report_sequenced : ℕ → (DataPacket → ℕ) → PacketModel → Result (Header × List ℕ) SppFault → List ℕ
-report_sequenced n number packet (Ok found) = header_line n found.0 ++ item_text n number (item_of packet found.0) ++ content_text n found.0 found.1
-report_sequenced n number packet (Err fault) = header_refusal n fault
-
 -- the lines of a sequenced packet, where `number` gives the numbers of items
-unfoldable pub sequenced_text : ℕ → (DataPacket → ℕ) → PacketModel → List ℕ
-sequenced_text n number packet = report_sequenced n number packet (header_of packet.body)
-
--- the data packet that a packet with the header that was read is, if it is one
-abbrev pub item_of_read_header : PacketModel → Result (Header × List ℕ) SppFault → Option DataPacket
-item_of_read_header packet (Ok found) = item_of packet found.0
-item_of_read_header packet (Err fault) = None
-
--- the data packet that a sequenced packet is, if it is one
-unfoldable pub sequenced_item : PacketModel → Option DataPacket
-sequenced_item packet = item_of_read_header packet (header_of packet.body)
+unfoldable pub sequenced_text : ℕ → (DataPacket → ℕ) → Option DataPacket → Header → List ℕ → List ℕ
+sequenced_text n number item header content = header_line n header ++ item_text n number item ++ content_text n header content

@@ -1,11 +1,11 @@
 -- The lines of Echo, Error and Packet Exchange.
-use Rattle.std.specs.Prelude.{ℕ, if◌then◌else◌, List, ◌++◌, codes, Result, Ok, Err}
+use Rattle.std.specs.Prelude.{ℕ, if◌then◌else◌, List, ◌++◌, codes}
 use Rattle.std.specs.Int.{w32, to_be_bytes}
 use Rattle.std.specs.Fmt.{decimal}
 use Rattle.hex.specs.Hex.{encode_lower}
-use Rattle.xns_small.specs.Echo.{EchoModel, echo_of}
-use Rattle.xns_small.specs.ErrorReport.{ErrorReportModel, error_of}
-use Rattle.xns_small.specs.Exchange.{ExchangeModel, exchange_of}
+use Rattle.xns_small.specs.Echo.{EchoModel}
+use Rattle.xns_small.specs.ErrorReport.{ErrorReportModel}
+use Rattle.xns_small.specs.Exchange.{ExchangeModel}
 use Rattle.xns_small.specs.declared.fault.SmallFault.{SmallFault}
 use Rattle.xns_small.specs.declared.fault.SmallFault.TheVariants.{Short, EchoOperation}
 use Rattle.xns_lines.specs.Text.{bytes_or_dash}
@@ -36,17 +36,3 @@ exchange_fields exchange =
 
 unfoldable pub exchange_line : ℕ → ExchangeModel → List ℕ
 exchange_line n exchange = decimal n ++ codes " exchange id " ++ exchange_fields exchange ++ codes "\n"
-
--- the line of what was read, or of its fault
-abbrev pub line_or_refusal : {View : Type 0} → (ℕ → View → List ℕ) → ℕ → Result View SmallFault → List ℕ
-line_or_refusal line n (Ok view) = line n view
-line_or_refusal line n (Err fault) = inner_refusal n fault
-
-unfoldable pub echo_text : ℕ → List ℕ → List ℕ
-echo_text n body = line_or_refusal echo_line n (echo_of body)
-
-unfoldable pub error_text : ℕ → List ℕ → List ℕ
-error_text n body = line_or_refusal error_line n (error_of body)
-
-unfoldable pub exchange_text : ℕ → List ℕ → List ℕ
-exchange_text n body = line_or_refusal exchange_line n (exchange_of body)

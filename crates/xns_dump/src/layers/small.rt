@@ -1,87 +1,25 @@
 //! The lines of Echo, Error and Packet Exchange, each a function.
-ghost use Rattle.std.specs.Prelude.{◌≡◌, ◌++◌, codes, if◌then◌else◌, IfOk, is_err};
+ghost use Rattle.std.specs.Prelude.{◌++◌, codes, if◌then◌else◌};
 ghost use Rattle.std.specs.Fmt.{decimal};
-ghost use Rattle.xns_small.specs.Echo.{echo_model, echo_of};
-ghost use Rattle.xns_small.specs.ErrorReport.{error_report_model, error_of};
-ghost use Rattle.xns_small.specs.Exchange.{exchange_model, exchange_of};
-ghost use Rattle.xns_dump.specs.Layers.Small.{echo_line, echo_text, error_fields, error_line, error_text, exchange_fields, exchange_line, exchange_text, inner_fault_text, inner_refusal};
+ghost use Rattle.xns_small.specs.Echo.{echo_model};
+ghost use Rattle.xns_small.specs.ErrorReport.{error_report_model};
+ghost use Rattle.xns_small.specs.Exchange.{exchange_model};
+ghost use Rattle.xns_dump.specs.Layers.Small.{echo_line, error_fields, error_line, exchange_fields, exchange_line, inner_fault_text, inner_refusal};
 ghost use Rattle.xns_lines.specs.Report.{Adds};
 
 use crate::layers::text::append_named;
 use std::alloc::AllocError;
 use xns_lines::Report;
 use xns_lines::numbers::{append_bytes_or_dash, append_decimal, append_hex};
-use xns_small::{Echo, ErrorReport, Exchange, SmallFault, read_echo, read_error, read_exchange};
-
-/// Appends the line of an Echo packet's body, and says whether it is refused.
-#[tactic(auto, unfolding(crate::specs::Layers::Small::echo_text))]
-pub(crate) fn append_echo(
-    report: &mut Report,
-    number: usize,
-    body: &[u8],
-) -> Result<bool, AllocError>
-    ensures text { Adds result report.old report.new (echo_text number body.now) }
-    ensures refused { IfOk result (λ refused. refused ≡ is_err (echo_of body.now)) }
-{
-    match read_echo(body) {
-        Ok(echo) => {
-            append_echo_line(report, number, &echo)?;
-            Ok(false)
-        }
-        Err(fault) => {
-            append_inner_refusal(report, number, fault)?;
-            Ok(true)
-        }
-    }
-}
-
-/// Appends the line of an Error packet's body, and says whether it is refused.
-#[tactic(auto, unfolding(crate::specs::Layers::Small::error_text))]
-pub(crate) fn append_error(
-    report: &mut Report,
-    number: usize,
-    body: &[u8],
-) -> Result<bool, AllocError>
-    ensures text { Adds result report.old report.new (error_text number body.now) }
-    ensures refused { IfOk result (λ refused. refused ≡ is_err (error_of body.now)) }
-{
-    match read_error(body) {
-        Ok(error) => {
-            append_error_line(report, number, &error)?;
-            Ok(false)
-        }
-        Err(fault) => {
-            append_inner_refusal(report, number, fault)?;
-            Ok(true)
-        }
-    }
-}
-
-/// Appends the line of a Packet Exchange packet's body, and says whether it is refused.
-#[tactic(auto, unfolding(crate::specs::Layers::Small::exchange_text))]
-pub(crate) fn append_exchange(
-    report: &mut Report,
-    number: usize,
-    body: &[u8],
-) -> Result<bool, AllocError>
-    ensures text { Adds result report.old report.new (exchange_text number body.now) }
-    ensures refused { IfOk result (λ refused. refused ≡ is_err (exchange_of body.now)) }
-{
-    match read_exchange(body) {
-        Ok(exchange) => {
-            append_exchange_line(report, number, &exchange)?;
-            Ok(false)
-        }
-        Err(fault) => {
-            append_inner_refusal(report, number, fault)?;
-            Ok(true)
-        }
-    }
-}
+use xns_small::{Echo, ErrorReport, Exchange, SmallFault};
 
 /// Appends the line of a request or reply.
 #[tactic(auto, unfolding(crate::specs::Layers::Small::echo_line))]
-fn append_echo_line(report: &mut Report, number: usize, echo: &Echo<'_>) -> Result<(), AllocError>
+pub(crate) fn append_echo_line(
+    report: &mut Report,
+    number: usize,
+    echo: &Echo<'_>,
+) -> Result<(), AllocError>
     ensures { Adds result report.old report.new (echo_line number (echo_model echo.now)) }
 {
     append_decimal(report, number)?;
@@ -103,7 +41,7 @@ fn append_operation(report: &mut Report, reply: bool) -> Result<(), AllocError>
 
 /// Appends the line of an Error report.
 #[tactic(auto, unfolding(crate::specs::Layers::Small::error_line))]
-fn append_error_line(
+pub(crate) fn append_error_line(
     report: &mut Report,
     number: usize,
     error: &ErrorReport<'_>,
@@ -129,7 +67,7 @@ fn append_error_fields(report: &mut Report, error: &ErrorReport<'_>) -> Result<(
 
 /// Appends the line of a packet exchange.
 #[tactic(auto, unfolding(crate::specs::Layers::Small::exchange_line))]
-fn append_exchange_line(
+pub(crate) fn append_exchange_line(
     report: &mut Report,
     number: usize,
     exchange: &Exchange<'_>,
