@@ -97,7 +97,7 @@ moments_are c w side s here there =
     ap (λ (m : ℕ). at m (count_of c (other side))) here ∙ ap (at (length s.taken)) there
 
 pub emits : (n m : Network) (w : World) (side : Side) (s : State) (at : Moment) (bs : List (List ℕ)) → IsNetwork n w → length s.taken ≡ length (end_of w side).taken → at ≡ moment_of n.taken side
-    → m.packets.items ≡ joined n.packets.items side at bs → m.taken ≡ n.taken → m.rested ≡ n.rested → IsNetwork m (moved w side s bs)
+    → m.packets ≡ joined n.packets side at bs → m.taken ≡ n.taken → m.rested ≡ n.rested → IsNetwork m (moved w side s bs)
 emits n m w side s at bs h is at_is joins taken rested =
     let v : World = moved w side s bs in
     let now : at ≡ moment s (end_of w (other side)) = at_is ∙ moments_are n.taken w side s (h.taken side ∙ sym is) (h.taken (other side)) in
@@ -119,7 +119,7 @@ quiet n w side s h is = record {
 
 pub delivers_it : (n m : Network) (w : World) (side : Side) (k : ℕ) (x : Emitted) (s : State) (took : ℕ) (at : Moment) (counts : Counts) (bs : List (List ℕ)) → IsNetwork n w → slice_get w.bag k ≡ Some x → length (end_of w side).taken + took ≡ length s.taken
     → counts ≡ with_count n.taken side (length s.taken) → at ≡ moment_of counts side
-    → m.packets.items ≡ joined (slice_set w.bag k (record x { delivered = true })) side at bs → m.taken ≡ counts → m.rested ≡ n.rested → IsNetwork m (moved (marked w k x) side s bs)
+    → m.packets ≡ joined (slice_set w.bag k (record x { delivered = true })) side at bs → m.taken ≡ counts → m.rested ≡ n.rested → IsNetwork m (moved (marked w k x) side s bs)
 delivers_it n m w side k x s took at counts bs h is more counts_are at_is joins taken rested =
     let u : World = marked w k x in
     let v : World = moved u side s bs in

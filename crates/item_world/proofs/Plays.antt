@@ -118,7 +118,7 @@ pub played_all : (p : Play) (setup : Setup) (events : List Event) (n : ℕ) → 
 played_all p setup events n l h = subst (IsPlayed p setup) (take_all n events l) h
 
 -- what the play hands over is the trace
-pub trace_of : (p : Play) (w : World) (bag : List (Side × List ℕ)) → IsPlaying p w → bag ≡ map sender_and_bytes p.network.packets.items
+pub trace_of : (p : Play) (w : World) (bag : List (Side × List ℕ)) → IsPlaying p w → bag ≡ map sender_and_bytes p.network.packets
     → ◌≡◌ {A = ItemTrace} (record { a_sent = p.ends.a.sent; b_sent = p.ends.b.sent; a_handed = p.ends.a.handed; b_handed = p.ends.b.handed; bag = bag }) (item_trace w)
 trace_of p w bag h is =
     let t : ItemTrace = item_trace w in

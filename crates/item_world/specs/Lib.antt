@@ -7,6 +7,7 @@ pub mod Going
 pub mod Events
 pub mod Trace
 pub mod Invariant
+pub mod NetworkModel
 pub mod Network
 pub mod Play
 pub mod Laws

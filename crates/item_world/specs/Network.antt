@@ -38,7 +38,7 @@ unsettled w i (x ∷ xs) = if is_settled w x then unsettled w (i + 1) xs else i 
 
 -- the packets are those of the world, and so are the counts of what its ends have taken
 pub record IsNetwork (n : Network) (w : World) : Type 0 where
-  pub bag : n.packets.items ≡ w.bag
+  pub bag : n.packets ≡ w.bag
   pub taken : (side : Side) → count_of n.taken side ≡ length (end_of w side).taken
   pub rested : AreRested n.rested w
 

@@ -45,7 +45,7 @@ pub fn land(
     network: &mut Network,
     number: usize,
 ) -> Result<(), AllocError>
-    requires { number < length network.old.packets.items }
+    requires { number < length network.old.packets }
     ensures { OnOk result (EndLaws → (w v : World) → IsEnd endpoint.old network.old w side → landing w number ≡ Some (side, v) → IsEnd endpoint.new network.new v side) }
 {
     let received = endpoint.receive(alloc, network.bytes(number))?;

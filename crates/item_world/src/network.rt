@@ -13,6 +13,7 @@ use crate::emitted::Emitted;
 use crate::moment::Moment;
 use crate::side::Side;
 use std::alloc::{AllocError, Global};
+use std::marker::Model;
 use xns_spp::Bytes;
 
 /// Every packet that was ever sent between two ends, in order, and how many items both have taken from them.
@@ -24,10 +25,18 @@ pub struct Network {
     rested: usize,
 }
 
+impl Model for Network {
+    ghost use Rattle.item_world.specs.NetworkModel.{NetworkModel};
+
+    ghost Value = { NetworkModel };
+
+    ghost view = { λ n. record { packets = n.packets.items; taken = n.taken; rested = n.rested } };
+}
+
 impl Network {
     /// Nothing was sent yet.
     pub fn new(alloc: Global) -> Network
-        ensures { (result.packets.items ≡ []) × (result.taken ≡ record { a = 0; b = 0 }) × (result.rested ≡ 0) }
+        ensures { (result.packets ≡ []) × (result.taken ≡ record { a = 0; b = 0 }) × (result.rested ≡ 0) }
     {
         Network {
             packets: Vec::new(alloc),
@@ -38,7 +47,7 @@ impl Network {
 
     /// Whether the packet of this number lives no longer.
     fn has_passed(&self, number: usize) -> bool
-        requires { number < length self.now.packets.items }
+        requires { number < length self.now.packets }
         ensures { (w : World) (x : Emitted) → IsNetwork self.now w → slice_get w.bag number ≡ Some x → result ≡ has_passed w x }
     {
         let packet = &self.packets[number];
@@ -49,7 +58,7 @@ impl Network {
     /// The end that the packet of this number comes to. `None` where there is no such packet, or where it lives no longer.
     pub fn lands_at(&self, number: usize) -> Option<Side>
         ensures lands { (w : World) → IsNetwork self.now w → result ≡ end_reached (landing w number) }
-        ensures there { IfSome result (λ side. number < length self.now.packets.items) }
+        ensures there { IfSome result (λ side. number < length self.now.packets) }
     {
         if number >= self.packets.len() || self.has_passed(number) {
             return None;
@@ -59,8 +68,8 @@ impl Network {
 
     /// The bytes of a packet.
     pub fn bytes(&self, number: usize) -> &[u8]
-        requires { number < length self.now.packets.items }
-        ensures { (x : Emitted) → slice_get self.now.packets.items number ≡ Some x → result.now ≡ x.bytes }
+        requires { number < length self.now.packets }
+        ensures { (x : Emitted) → slice_get self.now.packets number ≡ Some x → result.now ≡ x.bytes }
     {
         self.packets[number].bytes.as_slice()
     }
@@ -81,7 +90,7 @@ impl Network {
         took: usize,
         reply: Option<Bytes>,
     ) -> Result<(), AllocError>
-        requires { number < length self.old.packets.items }
+        requires { number < length self.old.packets }
         ensures { OnOk result ((w : World) (x : Emitted) (s : State) → IsNetwork self.old w → slice_get w.bag number ≡ Some x → length s.taken ≤ most_items → length (end_of w side).taken + took ≡ length s.taken →
             IsNetwork self.new (moved (marked w number x) side s (option_to_list reply))) }
     {
@@ -93,7 +102,7 @@ impl Network {
 
     /// Whether nothing is left to be done with a packet: it was delivered, or it lives no longer.
     fn is_settled(&self, number: usize) -> bool
-        requires { number < length self.now.packets.items }
+        requires { number < length self.now.packets }
         ensures { (w : World) (x : Emitted) → IsNetwork self.now w → slice_get w.bag number ≡ Some x → result ≡ is_settled w x }
     {
         self.packets[number].delivered || self.has_passed(number)
@@ -113,7 +122,7 @@ impl Network {
 
     /// Lists the number of a packet, where it is not settled.
     fn list(&self, numbers: &mut Vec<usize>, number: usize) -> Result<(), AllocError>
-        requires { number < length self.now.packets.items }
+        requires { number < length self.now.packets }
         ensures { OnOk result ((w : World) (x : Emitted) → IsNetwork self.now w → slice_get w.bag number ≡ Some x → numbers.new.items ≡ numbers.old.items ++ (if is_settled w x then [] else number ∷ [])) }
     {
         if !self.is_settled(number) {
@@ -137,7 +146,7 @@ impl Network {
 
     /// Every packet with its sender.
     pub fn into_bag(self, alloc: Global) -> Result<Bag, AllocError>
-        ensures { IfOk result (λ b. b ≡ map sender_and_bytes self.packets.items) }
+        ensures { IfOk result (λ b. b ≡ map sender_and_bytes self.packets) }
     {
         let Network { packets, .. } = self;
         let packets = packets

@@ -69,7 +69,7 @@ impl<'a, S: Service> CallPair<'a, S> {
         network: &mut Network,
         number: usize,
     ) -> Result<(), AllocError>
-        requires { number < length network.old.packets.items }
+        requires { number < length network.old.packets }
         ensures { OnOk result (Acts self.old self.new network.old network.new side (λ w v. landing w number ≡ Some (side, v))) }
     {
         match side {

@@ -1,9 +1,13 @@
-use Rattle.std.proofs.Common.{refl}
+use Rattle.std.proofs.Common.{refl, sym, subst}
 use Rattle.item_world.proofs.Continues.{ok_then}
 use Rattle.item_world.proofs.Networks.{emits}
 use Rattle.item_world.proofs.network.Network.emit.Goals as goal
+use Rattle.item_world.specs.Network.{IsNetwork}
+use Rattle.item_world.specs.NetworkModel.{NetworkModel}
 
 pub returns : goal.returns
 returns c =
     ok_then c.join_all.result c.join_all.ensures (λ joins w s h is.
-    emits c.args.self.now (record c.args.self.now { packets = c.join_all.new.before }) w c.args.side s c.moment-at.result c.args.packets.items h is c.moment-at.ensures joins refl refl)
+    let n : NetworkModel = record { packets = c.self.inside.packets.items; taken = c.self.inside.taken; rested = c.self.inside.rested } in
+    let here : IsNetwork n w = subst (λ (m : NetworkModel). IsNetwork m w) (sym c.self.view_is) h in
+    emits n (record n { packets = c.join_all.new.before.items }) w c.args.side s c.moment-at.result c.args.packets.items here is c.moment-at.ensures joins refl refl)
