@@ -14,8 +14,11 @@ import ctypes
 import ctypes.util
 import enum
 import os
+import secrets
+import socket
+import time
 from ctypes import POINTER, byref, c_bool, c_char, c_int16, c_int32, c_size_t, c_uint8, c_uint16, c_uint32, c_void_p
-from typing import Iterable, List, NamedTuple, Optional, Tuple, Union
+from typing import Iterable, Iterator, List, NamedTuple, Optional, Tuple, Union
 
 LONGEST_PACKET = 576  # bytes of the longest packet
 LONGEST_ITEM = 534  # bytes of an item, at most
@@ -563,6 +566,11 @@ def message_write(message: Message) -> bytes:
     return _written("message_write", _MOST_MESSAGE, byref(told), *_words(message.words))
 
 
+def new_identifier() -> int:
+    """An identifier for a new connection, which a stranger can't guess."""
+    return 1 + secrets.randbelow(65535)
+
+
 def opening(packet: bytes) -> Optional[Tuple[Address, int]]:
     """Who opens a connection by this packet, and with which identifier: what `Endpoint.responder` wants. None where nobody does."""
     peer, peer_id = _Address(), c_uint16()
@@ -724,6 +732,7 @@ class Listener(_Object):
     def __init__(self, own: Address, most: int) -> None:
         """At the socket of `own`, with room for so many. `BadArgument` for over 65,535."""
         super().__init__()
+        self._own = own
         self._done("new", byref(_Address.of(own)), most)
 
     def find(self, packet: bytes) -> Union[int, Opening, None]:
@@ -739,6 +748,22 @@ class Listener(_Object):
         number = c_size_t()
         self._done("add", byref(_Address.of(peer)), _number(peer_id, 16), _number(own_id, 16), byref(number))
         return number.value
+
+    def accept(self, opened: Opening, window: int = 8, backlog: int = 16) -> Tuple[int, Endpoint]:
+        """Puts in the connection that a peer opens, by a new identifier, and tells its number; and the end that answers, to which the packet is then given.
+        After `NoSlot` and `NoMemory` all is as it was."""
+        while True:
+            own_id = new_identifier()
+            try:
+                number = self.add(*opened, own_id)
+                break
+            except InUse:
+                continue
+        try:
+            return number, Endpoint.responder(self._own, own_id, *opened, window, backlog)
+        except XnsError:
+            self.remove(number)
+            raise
 
     def remove(self, number: int) -> bool:
         """Takes a connection away; false where there is none with this number."""
@@ -825,10 +850,12 @@ class Connection:
     def __init__(self, endpoint: Endpoint, session: _Session) -> None:
         self.endpoint, self.session = endpoint, session
         self.is_closed = False
+        self.silent = 0  # ticks since a packet came
         self._owes_reply = False
 
     def receive(self, packet: bytes) -> List[bytes]:
         """Takes in a packet that came, and moves items. What the session has against an item is raised: the connection is then of no more use."""
+        self.silent = 0
         reply = self.endpoint.receive(packet).reply
         packets = self.turn()
         # a reply that is made now tells of the room that there is behind the items that moved
@@ -849,13 +876,29 @@ class Connection:
         return self.endpoint.flush()
 
     def tick(self) -> List[bytes]:
-        """What is to be sent when nothing came for a while."""
-        return self.endpoint.tick()
+        """What is to be sent when nothing came for a while: items that can go now, and what is not acknowledged."""
+        self.silent += 1
+        return self.turn() + self.endpoint.tick()
 
     def end(self) -> List[bytes]:
         """Closes from this side, once all that it wants to say is said. It is closed when the other side has answered, and all is acknowledged."""
         self.endpoint.send(b"", stream=Stream.END)
         return self.turn()
+
+
+def datagrams(udp: socket.socket, tick: float = 0.1) -> Iterator[Tuple[Optional[bytes], Optional[tuple]]]:
+    """Each datagram that comes to a UDP socket, with the place that it comes from; None and None when a tick is due, each so many seconds.
+    The clock says when, and not that no packet came: so what was lost is sent again, however many packets of others come."""
+    udp.settimeout(tick)
+    last = time.monotonic()
+    while True:
+        try:
+            yield udp.recvfrom(LONGEST_PACKET)
+        except socket.timeout:
+            pass
+        if time.monotonic() - last >= tick:
+            last = time.monotonic()
+            yield None, None
 
 
 # ---- Courier's values, in words

@@ -1,6 +1,5 @@
 /* A client of server.c over UDP, one packet a datagram: client PORT NUMBER .. adds each number to the tally, prints what it is answered, and closes. */
 #define _POSIX_C_SOURCE 200809L
-#include "xns.h"
 #include "udp.h"
 
 enum { MOST_TICKS = 50 };
@@ -17,12 +16,6 @@ static void check(uint32_t told) {
     exit(1);
 }
 
-static void send_packets(void) {
-    uint8_t packet[XNS_LONGEST_PACKET];
-    size_t length;
-    while (xns_endpoint_next_packet(&end, packet, sizeof packet, &length) == XNS_OK) udp_send(udp, packet, length, &place);
-}
-
 /* Items move, and packets go out. The item by which the server closes is answered. What is refused memory moves at the next turn. */
 static void turn(void) {
     struct xns_item item;
@@ -32,7 +25,7 @@ static void turn(void) {
     if (told == XNS_CLOSING || told == XNS_STOPPED) xns_endpoint_take(&end, &item, body, sizeof body);
     else if (told != XNS_NO_MEMORY) check(told);
     if (owes_reply && xns_endpoint_send(&end, XNS_STREAM_END_REPLY, 0, 1, body, 0) == XNS_OK) owes_reply = 0;
-    if (xns_endpoint_flush(&end) == XNS_OK) send_packets();
+    if (xns_endpoint_flush(&end) == XNS_OK) udp_send_packets(udp, &end, &place);
 }
 
 /* Waits for a packet, or a tenth of a second. What is not acknowledged by then is sent again. */
@@ -51,7 +44,7 @@ static void wait_a_turn(void) {
         fputs("client: the server does not answer\n", stderr);
         exit(1);
     }
-    if (xns_endpoint_tick(&end) == XNS_OK) send_packets();
+    if (xns_endpoint_tick(&end) == XNS_OK) udp_send_packets(udp, &end, &place);
 }
 
 static void print_answer(const struct xns_message *message, const uint16_t *words, size_t count) {
@@ -82,7 +75,7 @@ int main(int count, char **words) {
     place = udp_place(words[1]);
     check(xns_caller_new(&caller));
     check(xns_endpoint_new_initiator(&end, &HERE, new_identifier(), &SERVER, 8, 16));
-    if (xns_endpoint_tick(&end) == XNS_OK) send_packets();
+    if (xns_endpoint_tick(&end) == XNS_OK) udp_send_packets(udp, &end, &place);
     for (int i = 2; i < count; i++) add((uint16_t)atoi(words[i]));
     while (xns_endpoint_send(&end, XNS_STREAM_END, 0, 1, &none, 0) != XNS_OK) wait_a_turn();
     turn();

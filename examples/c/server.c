@@ -2,7 +2,6 @@
  * a cardinal and returns the total. What is refused memory is tried again when the next packet comes, or a tenth of a second has passed. It ends with 0
  * when it is told to, by SIGTERM. */
 #define _POSIX_C_SOURCE 200809L
-#include "xns.h"
 #include "udp.h"
 #include <signal.h>
 
@@ -79,12 +78,6 @@ static void answer(struct xns_server *server, const struct xns_message *call, co
     } while (told == XNS_NO_MEMORY);
 }
 
-static void send_packets(struct connection *one) {
-    uint8_t packet[XNS_LONGEST_PACKET];
-    size_t length;
-    while (xns_endpoint_next_packet(&one->end, packet, sizeof packet, &length) == XNS_OK) udp_send(udp, packet, length, &one->place);
-}
-
 /* Items move, a call is answered, and packets go out. The item by which the client closes is answered. */
 static void turn(struct connection *one) {
     static uint16_t words[XNS_MOST_CALL_WORDS];
@@ -102,14 +95,14 @@ static void turn(struct connection *one) {
     if (xns_server_call(&one->server, &call, words, XNS_MOST_CALL_WORDS, &count) == XNS_OK) answer(&one->server, &call, words, count);
     if (told == XNS_OK) xns_server_pump(&one->server, &one->end);
     if (one->owes_reply && xns_endpoint_send(&one->end, XNS_STREAM_END_REPLY, 0, 1, body, 0) == XNS_OK) one->owes_reply = 0;
-    if (xns_endpoint_flush(&one->end) == XNS_OK) send_packets(one);
+    if (xns_endpoint_flush(&one->end) == XNS_OK) udp_send_packets(udp, &one->end, &one->place);
 }
 
 static void tick(struct connection *one) {
     if (++one->ticks == MOST_TICKS) drop(one);
     else {
         turn(one);
-        if (xns_endpoint_tick(&one->end) == XNS_OK) send_packets(one);
+        if (xns_endpoint_tick(&one->end) == XNS_OK) udp_send_packets(udp, &one->end, &one->place);
     }
 }
 

@@ -1,4 +1,5 @@
 /* UDP and a clock for the examples server.c and client.c: one packet a datagram, on this machine. */
+#include "xns.h"
 #include <arpa/inet.h>
 #include <stdint.h>
 #include <stdio.h>
@@ -41,6 +42,13 @@ static size_t udp_receive(int udp, uint8_t *bytes, struct sockaddr_in *from) {
 /* A datagram that can't be sent is as one that is lost. */
 static void udp_send(int udp, const uint8_t *bytes, size_t length, const struct sockaddr_in *to) {
     (void)!sendto(udp, bytes, length, 0, (const struct sockaddr *)to, sizeof *to);
+}
+
+/* Sends the packets that an end has made. */
+static void udp_send_packets(int udp, struct xns_endpoint *end, const struct sockaddr_in *to) {
+    uint8_t packet[XNS_LONGEST_PACKET];
+    size_t length;
+    while (xns_endpoint_next_packet(end, packet, sizeof packet, &length) == XNS_OK) udp_send(udp, packet, length, to);
 }
 
 /* Whether a tenth of a second has passed since this was last true. Time is asked for, and not whether packets came: where others keep a program busy, what

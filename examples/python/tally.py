@@ -1,63 +1,13 @@
-"""A tally over UDP, one packet a datagram. `tally.py serve PORT` answers calls, of any number of clients; `tally.py add PORT NUMBER ..` adds numbers,
-prints each answer, and closes. Procedure 1 of program 7 adds a cardinal and returns the total. python/ is in PYTHONPATH, and XNS_LIBRARY or the system
-names libxns.so."""
-import secrets
+"""A tally over UDP, one packet a datagram. `tally.py serve PORT` answers calls, of up to 64 clients; `tally.py add PORT NUMBER ..` adds numbers, prints
+each answer, and closes. Procedure 1 of program 7 adds a cardinal and returns the total. python/ is in PYTHONPATH, and XNS_LIBRARY or the system names
+libxns.so."""
 import socket
 import sys
-import time
 
 import xns
 
 SERVER, CLIENT = xns.Address(1, bytes.fromhex("0000aa000102"), 5), xns.Address(1, bytes.fromhex("0000aa000304"), 1024)
-TICK = 0.1  # seconds after which what is not acknowledged is sent again
 MOST_TICKS = 50  # so many since a packet came, and the other side is gone
-
-
-class Clock:
-    """Whether a tick is due. It asks for the time, and not whether packets came: where others keep a program busy, what was lost is still sent again."""
-
-    def __init__(self):
-        self.last = time.monotonic()
-
-    def is_due(self):
-        now = time.monotonic()
-        if now - self.last < TICK:
-            return False
-        self.last = now
-        return True
-
-
-class Peer(xns.Connection):
-    """A connection over UDP."""
-
-    def __init__(self, udp, place, endpoint, session):
-        super().__init__(endpoint, session)
-        self.udp, self.place, self.ticks = udp, place, 0
-
-    def send(self, packets):
-        for packet in packets:
-            self.udp.sendto(packet, self.place)
-
-    def hear(self, packet):
-        self.ticks = 0
-        self.send(self.receive(packet))
-
-    def goes_on(self):
-        """Whether the other side goes on, as far as one knows; it is sent what it has not acknowledged."""
-        self.ticks += 1
-        try:
-            self.send(self.turn() + self.tick())
-        except xns.XnsError:  # what it said is against the protocol
-            return False
-        return self.ticks < MOST_TICKS
-
-
-def datagram(udp):
-    """The next one, and where it comes from; None and None where none came for a tick."""
-    try:
-        return udp.recvfrom(xns.LONGEST_PACKET)
-    except socket.timeout:
-        return None, None
 
 
 def answer(server, call, total):
@@ -72,64 +22,66 @@ def answer(server, call, total):
     return total
 
 
-def find(udp, peers, packet, place):
-    """The peer that a packet is of, or a new one where it opens a connection; else None."""
-    for peer in peers:
-        if peer.endpoint.is_ours(packet):
-            return peer
-    opener = xns.opening(packet)
-    if opener:
-        endpoint = xns.Endpoint.responder(SERVER, 1 + secrets.randbelow(65535), *opener)
-        peers.append(Peer(udp, place, endpoint, xns.Server([(7, 1, 1)])))
-    return peers[-1] if opener else None
+def turns(listener, clients, packet, place):
+    """The numbers of the clients whose turn it is: the one that a packet is of, which may begin by it; all of them, where there is no packet."""
+    if packet is None:
+        return list(clients)
+    found = listener.find(packet)
+    if isinstance(found, xns.Opening):
+        try:
+            found, endpoint = listener.accept(found)
+        except xns.NoSlot:
+            return []
+        clients[found] = xns.Connection(endpoint, xns.Server([(7, 1, 1)])), place
+    return [] if found is None else [found]
 
 
 def serve(udp):
-    peers, total, clock = [], 0, Clock()
-    while True:
-        packet, place = datagram(udp)
-        peer = find(udp, peers, packet, place) if packet else None
-        if peer:
+    listener, clients, total = xns.Listener(SERVER, 64), {}, 0
+    for packet, place in xns.datagrams(udp):
+        for number in turns(listener, clients, packet, place):
+            client, place = clients[number]
             try:
-                peer.hear(packet)
-                call = peer.session.call()
+                packets = client.receive(packet) if packet else client.tick()
+                call = client.session.call()
                 if call:
-                    total = answer(peer.session, call, total)
-                peer.send(peer.turn())
+                    total = answer(client.session, call, total)
+                    packets += client.turn()
             except xns.XnsError:  # what it says is against the protocol
-                peers.remove(peer)
-        if clock.is_due():
-            peers = [peer for peer in peers if peer.goes_on()]
+                packets, client.silent = [], MOST_TICKS
+            for one in packets:
+                udp.sendto(one, place)
+            if client.silent >= MOST_TICKS:
+                listener.remove(number)
+                del clients[number]
 
 
 def add(udp, place, numbers):
-    peer = Peer(udp, place, xns.Endpoint.initiator(CLIENT, 1 + secrets.randbelow(65535), SERVER), xns.Caller())
-    clock = Clock()
+    server, arriving = xns.Connection(xns.Endpoint.initiator(CLIENT, xns.new_identifier(), SERVER), xns.Caller()), xns.datagrams(udp)
 
-    def wait():
-        packet, _ = datagram(udp)
-        if packet:
-            peer.hear(packet)
-        if clock.is_due() and not peer.goes_on():
+    def turn(packets):
+        """Sends packets; what is to be sent once the next one came, or a tick."""
+        for one in packets:
+            udp.sendto(one, place)
+        packet, _ = next(arriving)
+        if server.silent >= MOST_TICKS:
             sys.exit("the server does not answer")
+        return server.receive(packet) if packet else server.tick()
 
-    peer.send(peer.tick())
+    packets = server.tick()
     for number in numbers:
-        peer.session.call(7, 1, 1, [number])
-        peer.send(peer.turn())
-        outcome = None
-        while outcome is None:
-            wait()
-            outcome = peer.session.outcome()
+        server.session.call(7, 1, 1, [number])
+        packets += server.turn()
+        while (outcome := server.session.outcome()) is None:
+            packets = turn(packets)
         print(outcome.kind.name.lower(), *outcome.words)
-    peer.send(peer.end())
-    while not peer.is_closed or peer.endpoint.unacknowledged:
-        wait()
+    packets += server.end()
+    while not server.is_closed or server.endpoint.unacknowledged:
+        packets = turn(packets)
 
 
 if __name__ == "__main__":
     with socket.socket(socket.AF_INET, socket.SOCK_DGRAM) as datagrams:
-        datagrams.settimeout(TICK)
         if sys.argv[1] == "serve":
             datagrams.bind(("127.0.0.1", int(sys.argv[2])))
             serve(datagrams)
