@@ -392,6 +392,7 @@ _CALLS = {
     "read_long_integer": [_WORDS, c_size_t, POINTER(_Cursor), POINTER(c_int32)],
     "read_boolean": [_WORDS, c_size_t, POINTER(_Cursor), _BUFFER],
     "read_count": [_WORDS, c_size_t, POINTER(_Cursor), c_uint16, _WORDS],
+    "read_text": [_WORDS, c_size_t, POINTER(_Cursor), _BUFFER, c_size_t, _LENGTH],
     "read_end": [_WORDS, c_size_t, POINTER(_Cursor)],
     "write_cardinal": [_WORDS, c_size_t, POINTER(_Cursor), c_uint16],
     "write_long_cardinal": [_WORDS, c_size_t, POINTER(_Cursor), c_uint32],
@@ -935,6 +936,10 @@ class Reader:
     def count(self, most: int = 65535) -> int:
         """How many elements a sequence has, which are to be read then."""
         return self._value("read_count", c_uint16, _number(most, 16))
+
+    def text(self) -> bytes:
+        """The bytes of a text."""
+        return _written("read_text", 2 * len(self._words), self._words, self._count, byref(self._cursor))
 
     def end(self) -> None:
         """No word may be left."""

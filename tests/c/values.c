@@ -41,10 +41,13 @@ static void stays(struct xns_cursor *at) {
     uint32_t long_cardinal = 7;
     int16_t integer = 7;
     int32_t long_integer = 7;
-    uint8_t boolean = 7;
+    uint8_t boolean = 7, text[2] = { 7, 7 };
+    size_t length = 7;
     CHECK(xns_read_cardinal(spelled, WORDS, at, &cardinal) == before.fault && xns_read_long_cardinal(spelled, WORDS, at, &long_cardinal) == before.fault);
     CHECK(xns_read_integer(spelled, WORDS, at, &integer) == before.fault && xns_read_long_integer(spelled, WORDS, at, &long_integer) == before.fault);
     CHECK(xns_read_boolean(spelled, WORDS, at, &boolean) == before.fault && xns_read_count(spelled, WORDS, at, 9, &count) == before.fault);
+    CHECK(xns_read_text(spelled, WORDS, at, text, sizeof text, &length) == before.fault && xns_read_text(spelled, WORDS, at, text, 0, &length) == before.fault);
+    CHECK(length == 7 && text[0] == 7 && text[1] == 7);
     CHECK(xns_read_end(spelled, WORDS, at) == before.fault && xns_write_cardinal(buffer, WORDS, at, 1) == before.fault);
     CHECK(xns_write_long_cardinal(buffer, WORDS, at, 1) == before.fault && xns_write_integer(buffer, WORDS, at, 1) == before.fault);
     CHECK(xns_write_long_integer(buffer, WORDS, at, 1) == before.fault && xns_write_boolean(buffer, WORDS, at, 1) == before.fault);
@@ -126,11 +129,58 @@ static void texts(void) {
     CHECK(xns_write_text(words, 32770, &at, bytes, 65535) == XNS_OK && at.place == 32769 && words[0] == 65535 && words[32768] == 0 && words[32769] == 0xeeee);
 }
 
+/* The same, read: "Hello" with a spare byte that is not 0, "Hi", none, and one whose last word is not there. */
+static void texts_read(void) {
+    static const uint16_t words[] = { 5, 0x4865, 0x6c6c, 0x6fff, 2, 0x4869, 0, 3, 0x4869 };
+    enum { COUNT = sizeof words / sizeof words[0] };
+    struct xns_cursor at = XNS_CURSOR_INIT;
+    uint8_t text[8];
+    size_t length = 7;
+    memset(text, 0xee, sizeof text);
+    CHECK(xns_read_text(words, COUNT, &at, text, 4, &length) == XNS_SHORT_BUFFER && length == 5 && text[0] == 0xee && at.place == 0 && at.fault == 0);
+    CHECK(xns_read_text(words, COUNT, &at, text, 0, &length) == XNS_SHORT_BUFFER && length == 5 && text[0] == 0xee && at.place == 0 && at.fault == 0);
+    length = 7;
+    CHECK(xns_read_text(words, COUNT, &at, text, 5, &length) == XNS_OK && length == 5 && memcmp(text, "Hello\xee", 6) == 0 && at.place == 4);
+    CHECK(xns_read_text(words, COUNT, &at, text, 8, &length) == XNS_OK && length == 2 && memcmp(text, "Hillo\xee", 6) == 0 && at.place == 6);
+    CHECK(xns_read_text(words, COUNT, &at, text, 0, &length) == XNS_OK && length == 0 && memcmp(text, "Hillo\xee", 6) == 0 && at.place == 7 && at.fault == 0);
+    length = 7;
+    REFUSED(xns_read_text(words, COUNT, &at, text, 8, &length), at, 7, XNS_TRUNCATED);
+    at.fault = XNS_OK;
+    REFUSED(xns_read_text(words, COUNT, &at, text, 0, &length), at, 7, XNS_TRUNCATED);
+    at.fault = XNS_OK;
+    at.place = COUNT;
+    REFUSED(xns_read_text(words, COUNT, &at, text, 8, &length), at, COUNT, XNS_TRUNCATED);
+    at.fault = XNS_OK;
+    at.place = SIZE_MAX;
+    REFUSED(xns_read_text(words, COUNT, &at, text, 8, &length), at, SIZE_MAX, XNS_TRUNCATED);
+    CHECK(length == 7 && memcmp(text, "Hillo\xee", 6) == 0);
+}
+
+/* The longest text, 65,535 bytes, comes back as it was written. */
+static void longest_text(void) {
+    static uint8_t bytes[65535], text[65536];
+    static uint16_t words[32769];
+    struct xns_cursor at = XNS_CURSOR_INIT;
+    size_t i, length = 7;
+    for (i = 0; i < sizeof bytes; i++) bytes[i] = (uint8_t)(i * 31 + i / 256);
+    memset(text, 0xee, sizeof text);
+    CHECK(xns_write_text(words, 32769, &at, bytes, 65535) == XNS_OK && at.place == 32769);
+    at.place = 0;
+    CHECK(xns_read_text(words, 32768, &at, text, 65535, &length) == XNS_TRUNCATED && length == 7 && text[0] == 0xee && at.place == 0);
+    at.fault = XNS_OK;
+    CHECK(xns_read_text(words, 32769, &at, text, 65534, &length) == XNS_SHORT_BUFFER && length == 65535 && text[0] == 0xee && at.place == 0 && at.fault == 0);
+    length = 7;
+    CHECK(xns_read_text(words, 32769, &at, text, 65535, &length) == XNS_OK && length == 65535 && at.place == 32769 && at.fault == 0);
+    CHECK(memcmp(text, bytes, sizeof bytes) == 0 && text[65535] == 0xee && xns_read_end(words, 32769, &at) == XNS_OK);
+}
+
 int main(void) {
     readers();
     faults();
     writers();
     texts();
+    texts_read();
+    longest_text();
     puts("ok");
     return 0;
 }

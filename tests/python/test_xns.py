@@ -69,6 +69,15 @@ class ValueTest(unittest.TestCase):
         self.assertRaises(xns.OverMaximum, xns.Reader([3]).count, 2)
         self.assertRaises(xns.NotBoolean, xns.Reader([2]).boolean)
 
+    def test_read_text(self):
+        reader = xns.Reader([5, 0x4865, 0x6C6C, 0x6FFF, 2, 0x4869, 0, 3, 0x4869])
+        self.assertEqual([reader.text(), reader.text(), reader.text()], [b"Hello", b"Hi", b""])
+        self.assertRaises(xns.Truncated, reader.text)
+        self.assertRaises(xns.Truncated, reader.cardinal)
+        self.assertRaises(xns.Truncated, xns.Reader([]).text)
+        longest = bytes(range(256)) * 256
+        self.assertEqual(xns.Reader(xns.Writer().text(longest[1:]).words).text(), longest[1:])
+
     def test_write(self):
         writer = xns.Writer().cardinal(513).long_cardinal(70000).integer(-2).long_integer(-70000)
         self.assertEqual(writer.boolean(True).boolean(False).count(3, 3).words, self.WORDS)

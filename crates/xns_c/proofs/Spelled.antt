@@ -98,7 +98,7 @@ pub text_room : (words : List ℕ) (count more : ℕ) → length words ≡ 1 + m
 text_room [] count more h = absurd (omega (arith, h))
 text_room (w ∷ ws) count more h = sym h
 
-set_last : (words : List ℕ) (place word : ℕ) → place + 1 ≡ length words → slice_set words place word ≡ take place words ++ word ∷ []
+pub set_last : (words : List ℕ) (place word : ℕ) → place + 1 ≡ length words → slice_set words place word ≡ take place words ++ word ∷ []
 set_last [] place word h = absurd (omega (arith, h))
 set_last (w ∷ []) zero word h = refl
 set_last (w ∷ v ∷ ws) zero word h = absurd (omega (arith, h))

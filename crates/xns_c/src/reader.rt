@@ -2,16 +2,18 @@
 //!
 //! After a fault each call answers that fault, and changes nothing. `TRUNCATED` where the words end before the value does.
 
-ghost use Rattle.std.specs.Prelude.{◌≡◌, ◌≢◌, ◌<◌, ◌≤◌, ℕ, List, [], ◌∷◌};
+ghost use Rattle.std.specs.Prelude.{◌≡◌, ◌≢◌, ◌<◌, ◌≤◌, ℕ, ◌+◌, ◌/◌, ◌%◌, List, [], ◌∷◌, drop, length, Ok, Err};
 ghost use Rattle.courier_types.specs.Front.{value_of};
+ghost use Rattle.courier_types.specs.Reading.{front_bytes};
 ghost use Rattle.courier_types.specs.Shape.{ShapeModel};
 ghost use Rattle.courier_types.specs.Value.{ValueModel};
+ghost use Rattle.courier_types.specs.declared.read_fault.ReadFault.{ReadFault};
 ghost use Rattle.xns_c.specs.Cursor.{ahead, moved, faulted, IsRead};
-ghost use Rattle.xns_c.specs.Given.{is_yes};
-ghost use Rattle.xns_c.specs.Results.{ok, truncated, over_maximum, left_over};
+ghost use Rattle.xns_c.specs.Given.{is_yes, IsPut};
+ghost use Rattle.xns_c.specs.Results.{ok, short_buffer, truncated, over_maximum, left_over};
 
 use crate::cursor::XnsCursor;
-use crate::results::{LEFT_OVER, NOT_BOOLEAN, OK, OVER_MAXIMUM, TRUNCATED};
+use crate::results::{LEFT_OVER, NOT_BOOLEAN, OK, OVER_MAXIMUM, SHORT_BUFFER, TRUNCATED};
 
 /// Reads a cardinal, one word.
 #[unsafe(no_mangle)]
@@ -165,4 +167,62 @@ pub extern "C" fn xns_read_boolean(words: &[u16], cursor: &mut XnsCursor, value:
         [_, ..] => cursor.fail(NOT_BOOLEAN),
         [] => cursor.fail(TRUNCATED),
     }
+}
+
+/// Fills these bytes from words, two a word, the high one first. The spare byte of an odd number is not looked at.
+fn fill_bytes(words: &[u16], bytes: &mut [u8])
+    requires { length bytes.old / 2 + length bytes.old % 2 ≤ length words.now }
+    ensures { front_bytes (length bytes.old) words.now ≡ Ok (bytes.new, drop (length bytes.old / 2 + length bytes.old % 2) words.now) }
+{
+    let (pairs, last) = words.split_at(bytes.len() / 2);
+    let mut rest = pairs;
+    let mut place = 0;
+    while let [word, others @ ..] = rest {
+        bytes[place] = (*word / 256) as u8;
+        bytes[place + 1] = (*word % 256) as u8;
+        place += 2;
+        rest = others;
+    }
+    if place < bytes.len() {
+        bytes[place] = (last[0] / 256) as u8;
+    }
+}
+
+/// Reads a text, the number of its bytes and then two a word, to the front of a buffer, and says how many bytes they are.
+///
+/// `SHORT_BUFFER` where there is no room for them: `size` is how much is needed, and the text can be read again.
+#[unsafe(no_mangle)]
+pub extern "C" fn xns_read_text(
+    words: &[u16],
+    cursor: &mut XnsCursor,
+    text: &mut [u8],
+    size: &mut usize,
+) -> u32
+    ensures read { (bytes : List ℕ) (taken : ℕ) → cursor.old.fault ≡ ok → value_of ShapeModel.text (ahead words.now cursor.old) ≡ Ok (ValueModel.text bytes, taken) → length bytes ≤ length text.old →
+        (result ≡ ok) × IsPut bytes text.old text.new size.new × (cursor.new ≡ moved cursor.old taken) }
+    ensures short { (bytes : List ℕ) (taken : ℕ) → cursor.old.fault ≡ ok → value_of ShapeModel.text (ahead words.now cursor.old) ≡ Ok (ValueModel.text bytes, taken) → length text.old < length bytes →
+        (result ≡ short_buffer) × (size.new ≡ length bytes) × (cursor.new ≡ cursor.old) }
+    ensures cut { (fault : ReadFault) → cursor.old.fault ≡ ok → value_of ShapeModel.text (ahead words.now cursor.old) ≡ Err fault → (result ≡ truncated) × (cursor.new ≡ faulted cursor.old truncated) }
+    ensures stays { cursor.old.fault ≢ ok → (result ≡ cursor.old.fault) × (cursor.new ≡ cursor.old) × (size.new ≡ size.old) }
+    ensures unchanged { result ≢ ok → text.new ≡ text.old }
+    ensures untold { result ≢ ok → result ≢ short_buffer → size.new ≡ size.old }
+{
+    if cursor.fault != OK {
+        return cursor.fault;
+    }
+    let [count, others @ ..] = cursor.ahead(words) else {
+        return cursor.fail(TRUNCATED);
+    };
+    let count = usize::from(*count);
+    let wanted = count / 2 + count % 2;
+    if others.len() < wanted {
+        return cursor.fail(TRUNCATED);
+    }
+    *size = count;
+    if text.len() < count {
+        return SHORT_BUFFER;
+    }
+    fill_bytes(others, &mut text[..count]);
+    cursor.place += 1 + wanted;
+    OK
 }
