@@ -1,0 +1,60 @@
+//! Values and bytes as text, and bytes of text.
+ghost use Rattle.std.specs.Prelude.{◌<◌};
+
+use crate::hexed::Hexed;
+use std::alloc::{AllocError, Global};
+use std::fmt::Debug;
+
+/// A value as Rust prints it.
+pub fn debugged<T: Debug>(alloc: Global, value: &T) -> Result<String, AllocError> {
+    format!(in alloc; "{value:?}")
+}
+
+pub fn hexed(alloc: Global, bytes: &[u8]) -> Result<String, AllocError> {
+    format!(in alloc; "{}", Hexed(bytes))
+}
+
+/// Bytes as digits of hex, or that there are none.
+pub fn hexed_if_any(alloc: Global, bytes: &Option<Vec<u8>>) -> Result<String, AllocError> {
+    match bytes {
+        Some(bytes) => hexed(alloc, bytes),
+        None => String::from_str(alloc, "none"),
+    }
+}
+
+/// The first word, and what follows it.
+pub fn first_word(words: &str) -> (&str, &str) {
+    words.split_once(" ").unwrap_or((words, ""))
+}
+
+/// What a hex digit stands for; 0 for any other sign.
+fn digit(sign: u8) -> u8
+    ensures { result < 16 }
+{
+    match sign {
+        b'0'..=b'9' => sign - b'0',
+        b'a'..=b'f' => sign - b'a' + 10,
+        _ => 0,
+    }
+}
+
+fn push_digits(bytes: &mut Vec<u8>, digits: &str) -> Result<(), AllocError> {
+    for pair in digits.as_bytes().chunks_exact(2) {
+        if let [high, low] = pair {
+            bytes.push(digit(*high) * 16 + digit(*low))?;
+        }
+    }
+    Ok(())
+}
+
+/// The bytes that words stand for: pairs of hex digits, and how often they come.
+pub fn read_bytes(alloc: Global, words: &str) -> Result<Vec<u8>, AllocError> {
+    let mut bytes = Vec::new(alloc);
+    for word in words.split(" ") {
+        let (digits, count) = word.split_once("*").unwrap_or((word, "1"));
+        for _ in 0..count.parse::<u16>().unwrap_or(0) {
+            push_digits(&mut bytes, digits)?;
+        }
+    }
+    Ok(bytes)
+}
