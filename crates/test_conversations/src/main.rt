@@ -1,15 +1,24 @@
-//! Plays conversations with a server or a caller, and reads messages, one a line; each line's answer is a line of the output.
+//! Plays conversations with a server or a caller, reads messages and values, and checks shapes and tables, one a line; each line's
+//! answer is a line of the output.
 //!
-//! `message HEX` tells what the bytes are. `server STEPS` feeds a server of the tally items, `caller STEPS` has a caller make calls
-//! and feeds it, and `own STEPS` does the same over the tally's own table. An item is hex digits, or `=` and how many bytes of 0, and
-//! then `/`; or `|` where a message ends with it; or `*` where it is an attention item that ends a message; or `!` where it is of
-//! datastream 254 and ends a message. What goes out stands behind `<` in the same form. All other lines come back as they are.
+//! `message HEX` tells what the bytes are, and `zeros COUNT` the fault of a message of so many bytes of 0. `server STEPS` feeds a server
+//! of the tally items, `caller STEPS` has a caller make calls and feeds it, and `own STEPS` does the same over the tally's own table. An
+//! item is hex digits, or `=` and how many bytes of 0, and then `/`; or `|` where a message ends with it; or `*` where it is an attention
+//! item that ends a message; or `!` where it is of datastream 254 and ends a message. What goes out stands behind `<` in the same form.
+//!
+//! `shape NAME; SHAPE` tells the first fault of a shape. `words NAME; SHAPE; WORDS` tells the value that the words begin with, and what
+//! it is written as behind the word 170. `pieces NAME; SHAPE; SKIP; BYTES/BYTES/..` tells the value that the bytes begin with, behind so
+//! many words. `fits NAME; OTHER; SHAPE; WORDS` tells whether the value of the shape that the words begin with fits the other shape.
+//! `table CHANGE` tells the first fault of the tally's table with a change. All other lines come back as they are.
 #![tactic(auto)]
 
 mod calling;
 mod reading;
 mod script;
 mod serving;
+mod shapes;
+mod tables;
+mod values;
 
 use std::alloc::{AllocError, Global};
 
@@ -26,9 +35,15 @@ fn main(rt: HostRuntime) -> Result<(), anyhow::Error> {
 fn answer(alloc: Global, line: &str) -> Result<String, AllocError> {
     match line.split_once(' ') {
         Some(("message", digits)) => reading::tell(alloc, digits),
+        Some(("zeros", count)) => reading::tell_zeros(alloc, count),
         Some(("server", steps)) => serving::play(alloc, steps),
         Some(("caller", steps)) => calling::play(alloc, steps),
         Some(("own", steps)) => calling::play_own(alloc, steps),
+        Some(("shape", parts)) => values::check(alloc, parts),
+        Some(("words", parts)) => values::read_again(alloc, parts),
+        Some(("pieces", parts)) => values::read_pieced(alloc, parts),
+        Some(("fits", parts)) => values::fit(alloc, parts),
+        Some(("table", change)) => tables::check(alloc, change),
         _ => String::from_str(alloc, line),
     }
 }

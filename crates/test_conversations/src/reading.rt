@@ -1,5 +1,5 @@
 //! What bytes are as a message.
-use crate::script::{put_bytes, put_message_fault, put_words, unhexed};
+use crate::script::{put, put_bytes, put_message_fault, put_words, unhexed};
 use courier_messages::{Message, MessageRefusal, read_message, write_message};
 use std::alloc::{AllocError, Global};
 use std::fmt::Write;
@@ -54,5 +54,16 @@ pub fn tell(alloc: Global, digits: &str) -> Result<String, AllocError> {
         Err(MessageRefusal::Fault(fault)) => put_message_fault(&mut text, fault)?,
         Err(MessageRefusal::NoMemory) => return Err(AllocError),
     }
+    Ok(text)
+}
+
+/// The fault of a message of so many bytes of 0.
+pub fn tell_zeros(alloc: Global, count: &str) -> Result<String, AllocError> {
+    let count = count.parse::<u32>().unwrap_or(0);
+    let bytes = vec![in alloc; 0u8; count as usize]?;
+    let fault = read_message(alloc, &bytes).err();
+    let mut text = String::new(alloc);
+    write!(text, "a message of {count} bytes: ")?;
+    put(&mut text, &fault)?;
     Ok(text)
 }

@@ -1,9 +1,7 @@
 //! Items and bytes as text.
-ghost use Rattle.std.specs.Prelude.{◌<◌};
-
 use courier_messages::{MessageFault, SessionFault};
 use std::alloc::{AllocError, Global};
-use std::fmt::Write;
+use std::fmt::{Debug, Write};
 use xns_spp::{Bytes, Item};
 
 /// More bytes or words are told by their number.
@@ -13,12 +11,10 @@ const MOST_SHOWN: usize = 40;
 const MOST_ITEMS: usize = 300;
 
 /// What a hex digit stands for; 0 for any other sign.
-fn digit(sign: u8) -> u8
-    ensures { result < 16 }
-{
+fn digit(sign: u8) -> u8 {
     match sign {
-        b'0'..=b'9' => sign - b'0',
-        b'a'..=b'f' => sign - b'a' + 10,
+        b'0'..=b'9' => sign.wrapping_sub(b'0'),
+        b'a'..=b'f' => sign.wrapping_sub(b'a' - 10),
         _ => 0,
     }
 }
@@ -28,7 +24,7 @@ pub fn unhexed(alloc: Global, text: &str) -> Result<Vec<u8>, AllocError> {
     let mut bytes = Vec::new(alloc);
     let mut rest = text.as_bytes();
     while let [high, low, more @ ..] = rest {
-        bytes.push(digit(*high) * 16 + digit(*low))?;
+        bytes.push(digit(*high) << 4 | digit(*low))?;
         rest = more;
     }
     Ok(bytes)
@@ -84,6 +80,11 @@ pub fn put_bytes(text: &mut String, bytes: &[u8]) -> Result<(), AllocError> {
     Ok(())
 }
 
+/// The value as its type shows it.
+pub fn put<T: Debug>(text: &mut String, value: &T) -> Result<(), AllocError> {
+    write!(text, "{value:?}")
+}
+
 /// Words in hex, and many by their number.
 pub fn put_words(text: &mut String, words: &[u16]) -> Result<(), AllocError> {
     if words.len() > MOST_SHOWN {
@@ -104,8 +105,7 @@ fn put_item(text: &mut String, item: &Item) -> Result<(), AllocError> {
     } else {
         put_bytes(text, body)?;
     }
-    text.push(if item.last { '|' } else { '/' })?;
-    Ok(())
+    text.push_str(if item.last { "|" } else { "/" })
 }
 
 /// All items that a side has out; `next_out` hands out the next.

@@ -2,16 +2,17 @@
 use courier_calls::{CallFault, TableFault};
 use courier_messages::{MessageFault, MessageRefusal, SessionFault};
 use courier_types::{ReadFault, ReadRefusal, Reason, ShapeFault};
+use std::alloc::AllocError;
 use std::error::Error;
+use std::fmt::Write;
 use xns_idp::IdpFault;
 use xns_small::SmallFault;
 use xns_spp::{Dropped, SendFault, SppFault};
 
-pub fn show(rt: &HostRuntime) -> Result<(), anyhow::Error> {
-    show_packets(rt)?;
-    show_shapes(rt)?;
-    show_values(rt)?;
-    show_messages(rt)
+/// What each fault says.
+pub fn tell(text: &mut String) -> Result<(), AllocError> {
+    tell_packets(text)?;
+    tell_calls(text)
 }
 
 const IDP: [IdpFault; 5] = [
@@ -62,43 +63,36 @@ const CUT: ReadFault = ReadFault {
 /// A fault of reading a message, alone and within what stops at it.
 const UNKNOWN: MessageFault = MessageFault::UnknownKind { found: 9 };
 
-/// Prints a fault, and what it says.
-fn line<E: Error>(rt: &HostRuntime, fault: &E) -> Result<(), anyhow::Error> {
-    println!(rt; "{fault:?} says: {fault}")?;
-    Ok(())
+/// A fault, and what it says.
+fn line<E: Error>(text: &mut String, fault: &E) -> Result<(), AllocError> {
+    writeln!(text, "{fault:?} says: {fault}")
 }
 
-/// Prints each fault, and what it says.
-fn lines<E: Error>(rt: &HostRuntime, faults: &[E]) -> Result<(), anyhow::Error> {
+/// Each fault, and what it says.
+fn lines<E: Error>(text: &mut String, faults: &[E]) -> Result<(), AllocError> {
     for fault in faults {
-        line(rt, fault)?;
+        line(text, fault)?;
     }
     Ok(())
 }
 
-fn show_packets(rt: &HostRuntime) -> Result<(), anyhow::Error> {
-    lines(rt, &IDP)?;
-    lines(rt, &SMALL)?;
-    line(rt, &SppFault::Short { have: 11 })?;
-    lines(rt, &SEND)?;
-    lines(rt, &DROPPED)
+fn tell_packets(text: &mut String) -> Result<(), AllocError> {
+    lines(text, &IDP)?;
+    lines(text, &SMALL)?;
+    line(text, &SppFault::Short { have: 11 })?;
+    lines(text, &SEND)?;
+    lines(text, &DROPPED)
 }
 
-fn show_shapes(rt: &HostRuntime) -> Result<(), anyhow::Error> {
-    line(rt, &DOUBLED)?;
-    line(rt, &TableFault::BadShape { fault: DOUBLED })
-}
-
-fn show_values(rt: &HostRuntime) -> Result<(), anyhow::Error> {
-    line(rt, &Reason::NotBoolean)?;
-    line(rt, &CUT)?;
-    line(rt, &ReadRefusal::Fault(CUT))
-}
-
-fn show_messages(rt: &HostRuntime) -> Result<(), anyhow::Error> {
-    line(rt, &UNKNOWN)?;
-    line(rt, &MessageRefusal::Fault(UNKNOWN))?;
-    line(rt, &SessionFault::BadMessage(UNKNOWN))?;
-    line(rt, &SessionFault::Stream { kind: 5 })?;
-    line(rt, &CallFault::TooLong)
+fn tell_calls(text: &mut String) -> Result<(), AllocError> {
+    line(text, &DOUBLED)?;
+    line(text, &TableFault::BadShape { fault: DOUBLED })?;
+    line(text, &Reason::NotBoolean)?;
+    line(text, &CUT)?;
+    line(text, &ReadRefusal::Fault(CUT))?;
+    line(text, &UNKNOWN)?;
+    line(text, &MessageRefusal::Fault(UNKNOWN))?;
+    line(text, &SessionFault::BadMessage(UNKNOWN))?;
+    line(text, &SessionFault::Stream { kind: 5 })?;
+    line(text, &CallFault::TooLong)
 }

@@ -1,14 +1,23 @@
-//! What faults say, what is told of a message and of tables with faults, and plays of items: a line for each value that came.
+//! What faults say, and plays of items: a line for each value that came.
 #![tactic(auto)]
 
-mod calls;
 mod faults;
 mod generator;
 mod items;
 mod step;
 
+use std::alloc::{AllocError, Global};
+
 fn main(rt: HostRuntime) -> Result<(), anyhow::Error> {
-    faults::show(&rt)?;
-    calls::show(&rt)?;
-    items::show(&rt)
+    let text = told(rt.alloc())?;
+    print!(rt; "{}", text.as_str())?;
+    Ok(())
+}
+
+/// All lines.
+fn told(alloc: Global) -> Result<String, AllocError> {
+    let mut text = String::new(alloc);
+    faults::tell(&mut text)?;
+    items::tell(alloc, &mut text)?;
+    Ok(text)
 }

@@ -1,0 +1,136 @@
+//! Shapes that are checked, and values that are read and written again.
+//!
+//! A line has parts with `; ` between them: first the name that is told, then shapes, numbers or bytes.
+use crate::script::{put, unhexed};
+use crate::shapes::{numbers, shape};
+use courier_types::{ReadRefusal, Shape, Value, fits, read, read_pieces, write};
+use std::alloc::{AllocError, Global};
+use std::fmt::Write;
+
+/// The first part of a line, and the others.
+fn parts(line: &str) -> (&str, &str) {
+    line.split_once("; ").unwrap_or((line, ""))
+}
+
+/// The first fault of a shape: `NAME; SHAPE`.
+pub fn check(alloc: Global, line: &str) -> Result<String, AllocError> {
+    let (name, words) = parts(line);
+    let mut text = String::from_str(alloc, name)?;
+    text.push_str(": ")?;
+    put(&mut text, &shape(alloc, words)?.check())?;
+    Ok(text)
+}
+
+fn put_written(
+    alloc: Global,
+    shape: &Shape,
+    answer: Result<(Value, usize), ReadRefusal>,
+    text: &mut String,
+) -> Result<(), AllocError> {
+    let Ok((value, _)) = answer else {
+        return Ok(());
+    };
+    if !fits(shape, &value) {
+        return text.push_str(", which does not fit");
+    }
+    let mut words = vec![in alloc; 170]?;
+    write(alloc, shape, &value, &mut words)?;
+    text.push_str("\n  written: ")?;
+    put(text, &words)
+}
+
+fn put_read(
+    alloc: Global,
+    shape: &Shape,
+    words: &[u16],
+    text: &mut String,
+) -> Result<(), AllocError> {
+    if shape.check().is_err() {
+        return text.push_str("the shape has a fault");
+    }
+    let answer = read(alloc, shape, words);
+    put(text, &answer)?;
+    put_written(alloc, shape, answer, text)
+}
+
+/// The value that words begin with, and what it is written as behind the word 170: `NAME; SHAPE; WORDS`.
+pub fn read_again(alloc: Global, line: &str) -> Result<String, AllocError> {
+    let (name, rest) = parts(line);
+    let (spelled, listed) = parts(rest);
+    let words = numbers(alloc, listed)?;
+    let mut text = String::new(alloc);
+    write!(text, "{name} from ")?;
+    put(&mut text, &words)?;
+    text.push_str(": ")?;
+    let shape = shape(alloc, spelled)?;
+    put_read(alloc, &shape, &words, &mut text)?;
+    Ok(text)
+}
+
+fn bytes_between(alloc: Global, digits: &str) -> Result<Vec<Vec<u8>>, AllocError> {
+    let mut pieces = Vec::new(alloc);
+    for piece in digits.split('/') {
+        pieces.push(unhexed(alloc, piece)?)?;
+    }
+    Ok(pieces)
+}
+
+fn put_pieced(
+    alloc: Global,
+    shape: &Shape,
+    pieces: &[Vec<u8>],
+    skip: usize,
+    text: &mut String,
+) -> Result<(), AllocError> {
+    if shape.check().is_err() {
+        return text.push_str("the shape has a fault");
+    }
+    put(text, &read_pieces(alloc, shape, pieces, skip))
+}
+
+/// The value that pieces of bytes begin with behind so many words: `NAME; SHAPE; WORDS BEFORE IT; BYTES/BYTES/..`.
+pub fn read_pieced(alloc: Global, line: &str) -> Result<String, AllocError> {
+    let (name, rest) = parts(line);
+    let (spelled, rest) = parts(rest);
+    let (skipped, digits) = parts(rest);
+    let skip = skipped.parse::<usize>().unwrap_or(0);
+    let pieces = bytes_between(alloc, digits)?;
+    let mut text = String::new(alloc);
+    write!(text, "{name} in ")?;
+    put(&mut text, &pieces)?;
+    write!(text, " behind {skip}: ")?;
+    let shape = shape(alloc, spelled)?;
+    put_pieced(alloc, &shape, &pieces, skip, &mut text)?;
+    Ok(text)
+}
+
+/// The value of a checked shape that words begin with.
+fn value(alloc: Global, spelled: &str, listed: &str) -> Result<Option<Value>, AllocError> {
+    let words = numbers(alloc, listed)?;
+    let shape = shape(alloc, spelled)?;
+    if shape.check().is_err() {
+        return Ok(None);
+    }
+    match read(alloc, &shape, &words) {
+        Ok((value, _)) => Ok(Some(value)),
+        Err(_) => Ok(None),
+    }
+}
+
+fn tell_fit(alloc: Global, name: &str, other: &str, value: &Value) -> Result<String, AllocError> {
+    let fit = fits(&shape(alloc, other)?, value);
+    let mut text = String::new(alloc);
+    write!(text, "{name}: {fit}")?;
+    Ok(text)
+}
+
+/// Whether the value of a shape that words begin with fits another shape: `NAME; OTHER SHAPE; SHAPE; WORDS`.
+pub fn fit(alloc: Global, line: &str) -> Result<String, AllocError> {
+    let (name, rest) = parts(line);
+    let (other, rest) = parts(rest);
+    let (spelled, listed) = parts(rest);
+    match value(alloc, spelled, listed)? {
+        Some(value) => tell_fit(alloc, name, other, &value),
+        None => String::from_str(alloc, "the words begin with no value"),
+    }
+}
