@@ -11,7 +11,8 @@ prints the medians and their ratio.
                                           again. Beside a peer that sums by the standard's loop and one that sums in lanes
     python3 bench/compare.py calls        100,000 calls of Courier through a caller and a server in memory, and 200 calls of 60,000
                                           cardinals each way, with the most memory that a run holds, beside a peer that makes a message of
-                                          its own of what comes, and one that reads words where the bytes lie
+                                          its own of what comes, and one that reads words where the bytes lie; and the 100,000 through the
+                                          library for C, beside the same in Rattle
     python3 bench/compare.py sim          `xns sim` of 2,500, 5,000 and 10,000 calls Add, and of 5,000 calls with 50,000 events, among them 30,000
                                           packets that come again; nearly as many lines as an input may have
     python3 bench/compare.py plays        a play of 1,000 calls and 100,000 events, most of them packets that come again, beside the same peer; and plays of
@@ -190,6 +191,8 @@ def main():
                     print(f"{name}, {kind}:", end=" ", flush=True)
                     compare([*ours, *counts], [peer, *counts], given, runs=MANY_RUNS)
                     print(f"{name}, {kind}: ours holds {held_by([*ours, *counts], given)} KiB at most, the peer {held_by([peer, *counts], given)}")
+            print("adds through C, beside Rattle:", end=" ", flush=True)
+            compare([built_c("c_calls", folder, True), "100000"], [*ours, "100000", "0"], given, runs=MANY_RUNS)
         else:
             sys.exit(__doc__)
 
