@@ -18,7 +18,7 @@ import secrets
 import socket
 import time
 from ctypes import POINTER, byref, c_bool, c_char, c_int16, c_int32, c_size_t, c_uint8, c_uint16, c_uint32, c_void_p
-from typing import Iterable, Iterator, List, NamedTuple, Optional, Tuple, Union
+from typing import Callable, Iterable, Iterator, List, NamedTuple, Optional, Tuple, Union
 
 LONGEST_PACKET = 576  # bytes of the longest packet
 LONGEST_ITEM = 534  # bytes of an item, at most
@@ -187,7 +187,7 @@ def _error_of(result: Result, text: str) -> type:
 
 _ERRORS = {result: _error_of(result, text) for result, text in _TEXTS.items()}
 globals().update((error.__name__, error) for error in _ERRORS.values())
-Closing, Stopped = _ERRORS[Result.CLOSING], _ERRORS[Result.STOPPED]
+Closing, InUse, NoMemory, NoSlot, Stopped = (_ERRORS[Result[name]] for name in ("CLOSING", "IN_USE", "NO_MEMORY", "NO_SLOT", "STOPPED"))
 
 
 def _done(result: int) -> bool:
@@ -900,6 +900,124 @@ def datagrams(udp: socket.socket, tick: float = 0.1) -> Iterator[Tuple[Optional[
         if time.monotonic() - last >= tick:
             last = time.monotonic()
             yield None, None
+
+
+MOST_SILENT = 50  # ticks in which nothing came from the other side, and it is gone
+
+
+class Client:
+    """Calls over UDP, one packet a datagram, each of which waits for its answer."""
+
+    def __init__(self, udp: socket.socket, place: tuple, own: Address, peer: Address, most_silent: int = MOST_SILENT) -> None:
+        """Opens a connection from `own` to `peer`, whose datagrams go to this place. Nothing is waited for."""
+        self._udp, self._place, self._most_silent = udp, place, most_silent
+        self._arriving = datagrams(udp)
+        self.connection = Connection(Endpoint.initiator(own, new_identifier(), peer), Caller())
+        self._send(self.connection.tick())
+
+    def call(self, program: int, version: int, procedure: int, words: Iterable[int] = ()) -> Message:
+        """What a call is answered: a return, an abort or a reject. `TimeoutError` where nothing came for `most_silent` ticks; what the server says
+        against the protocol is raised too. The client is then of no more use."""
+        caller = self.connection.session
+        caller.call(program, version, procedure, words)
+        self._send(self.connection.turn())
+        while True:
+            outcome = caller.outcome()
+            if outcome is not None:
+                return outcome
+            self._wait()
+
+    def close(self) -> None:
+        """Closes the connection, and waits until the server has closed it too. `TimeoutError` as for a call."""
+        self._send(self.connection.end())
+        while not self.connection.is_closed or self.connection.endpoint.unacknowledged:
+            self._wait()
+
+    def _wait(self) -> None:
+        packet, _ = next(self._arriving)
+        if self.connection.silent >= self._most_silent:
+            raise TimeoutError("the server does not answer")
+        self._send(self.connection.tick() if packet is None else self.connection.receive(packet))
+
+    def _send(self, packets: List[bytes]) -> None:
+        for packet in packets:
+            self._udp.sendto(packet, self._place)
+
+
+class _Clients:
+    """The connections of a server, each by its number, with the place that its datagrams go to."""
+
+    def __init__(self, own: Address, programs: Iterable[Tuple[int, int, int]], most: int) -> None:
+        self._listener, self._programs, self._by_number = Listener(own, most), list(programs), {}
+
+    def __getitem__(self, number: int) -> Tuple[Connection, tuple]:
+        return self._by_number[number]
+
+    def __delitem__(self, number: int) -> None:
+        self._listener.remove(number)
+        del self._by_number[number]
+
+    def turns(self, packet: Optional[bytes], place: Optional[tuple]) -> List[int]:
+        """Whose turn it is: the one's that a packet is of, which may begin by it; that of all at a tick. A client for which there is no room is not heard."""
+        if packet is None:
+            return list(self._by_number)
+        found = self._listener.find(packet)
+        if not isinstance(found, Opening):
+            return [] if found is None else [found]
+        try:
+            server = Server(self._programs)
+            number, endpoint = self._listener.accept(found)
+        except (NoSlot, NoMemory):
+            return []
+        self._by_number[number] = Connection(endpoint, server), place
+        return [number]
+
+
+def _moved(step: Callable[[], List[bytes]]) -> Optional[List[bytes]]:
+    """What a step of a connection gives to be sent; None where what the other side says is against the protocol."""
+    try:
+        return step()
+    except NoMemory:  # as if the packet were lost
+        return []
+    except XnsError:
+        return None
+
+
+def _served(client: Connection, packet: Optional[bytes], answer: Callable[[Server, Message], None]) -> Optional[List[bytes]]:
+    """What is to be sent to a client behind a packet of its, or a tick, once its calls are answered; None where what it says is against the protocol."""
+    packets, more = [], _moved(client.tick if packet is None else lambda: client.receive(packet))
+    while more is not None:
+        packets += more
+        if not client.session.is_busy:
+            return packets
+        call = client.session.call()
+        if call is not None:
+            answer(client.session, call)
+        more = _moved(client.turn)
+        if call is None and not more:
+            return packets
+    return None
+
+
+def serve(
+    udp: socket.socket,
+    own: Address,
+    programs: Iterable[Tuple[int, int, int]],
+    answer: Callable[[Server, Message], None],
+    most: int = 64,
+    most_silent: int = MOST_SILENT,
+) -> None:
+    """Serves up to `most` clients at once over UDP, one packet a datagram, and does not return. `answer` is given each call, with the server that it
+    answers by; what it raises ends all. A client is dropped where nothing came from it for `most_silent` ticks, or what it says is against the protocol."""
+    clients = _Clients(own, programs, most)
+    for packet, source in datagrams(udp):
+        for number in clients.turns(packet, source):
+            client, place = clients[number]
+            packets = _served(client, packet, answer)
+            for one in packets or ():
+                udp.sendto(one, place)
+            if packets is None or client.silent >= most_silent:
+                del clients[number]
 
 
 # ---- Courier's values, in words

@@ -7,83 +7,43 @@ import sys
 import xns
 
 SERVER, CLIENT = xns.Address(1, bytes.fromhex("0000aa000102"), 5), xns.Address(1, bytes.fromhex("0000aa000304"), 1024)
-MOST_TICKS = 50  # so many since a packet came, and the other side is gone
+PROGRAM, VERSION, ADD = 7, 1, 1
 
 
-def answer(server, call, total):
-    """Answers a call, and returns the total behind it."""
-    if call.procedure != 1:
-        server.rejects(xns.Reject.NO_SUCH_PROCEDURE)
-    elif len(call.words) != 1:
-        server.rejects(xns.Reject.INVALID_ARGUMENTS)
-    else:
-        total = (total + call.words[0]) % 2**32
-        server.returns(divmod(total, 65536))
-    return total
+class Tally:
+    def __init__(self):
+        self.total = 0
 
-
-def turns(listener, clients, packet, place):
-    """The numbers of the clients whose turn it is: the one that a packet is of, which may begin by it; all of them, where there is no packet."""
-    if packet is None:
-        return list(clients)
-    found = listener.find(packet)
-    if isinstance(found, xns.Opening):
+    def answer(self, server, call):
+        if call.procedure != ADD:
+            server.rejects(xns.Reject.NO_SUCH_PROCEDURE)
+            return
+        arguments = xns.Reader(call.words)
         try:
-            found, endpoint = listener.accept(found)
-        except xns.NoSlot:
-            return []
-        clients[found] = xns.Connection(endpoint, xns.Server([(7, 1, 1)])), place
-    return [] if found is None else [found]
-
-
-def serve(udp):
-    listener, clients, total = xns.Listener(SERVER, 64), {}, 0
-    for packet, place in xns.datagrams(udp):
-        for number in turns(listener, clients, packet, place):
-            client, place = clients[number]
-            try:
-                packets = client.receive(packet) if packet else client.tick()
-                call = client.session.call()
-                if call:
-                    total = answer(client.session, call, total)
-                    packets += client.turn()
-            except xns.XnsError:  # what it says is against the protocol
-                packets, client.silent = [], MOST_TICKS
-            for one in packets:
-                udp.sendto(one, place)
-            if client.silent >= MOST_TICKS:
-                listener.remove(number)
-                del clients[number]
+            number = arguments.cardinal()
+            arguments.end()
+        except xns.XnsError:
+            server.rejects(xns.Reject.INVALID_ARGUMENTS)
+            return
+        self.total = (self.total + number) % 2**32
+        server.returns(xns.Writer().long_cardinal(self.total).words)
 
 
 def add(udp, place, numbers):
-    server, arriving = xns.Connection(xns.Endpoint.initiator(CLIENT, xns.new_identifier(), SERVER), xns.Caller()), xns.datagrams(udp)
-
-    def turn(packets):
-        """Sends packets; what is to be sent once the next one came, or a tick."""
-        for one in packets:
-            udp.sendto(one, place)
-        packet, _ = next(arriving)
-        if server.silent >= MOST_TICKS:
-            sys.exit("the server does not answer")
-        return server.receive(packet) if packet else server.tick()
-
-    packets = server.tick()
+    client = xns.Client(udp, place, CLIENT, SERVER)
     for number in numbers:
-        server.session.call(7, 1, 1, [number])
-        packets += server.turn()
-        while (outcome := server.session.outcome()) is None:
-            packets = turn(packets)
+        outcome = client.call(PROGRAM, VERSION, ADD, [number])
         print(outcome.kind.name.lower(), *outcome.words)
-    packets += server.end()
-    while not server.is_closed or server.endpoint.unacknowledged:
-        packets = turn(packets)
+    client.close()
 
 
 if __name__ == "__main__":
-    with socket.socket(socket.AF_INET, socket.SOCK_DGRAM) as datagrams:
+    with socket.socket(socket.AF_INET, socket.SOCK_DGRAM) as udp:
         if sys.argv[1] == "serve":
-            datagrams.bind(("127.0.0.1", int(sys.argv[2])))
-            serve(datagrams)
+            udp.bind(("127.0.0.1", int(sys.argv[2])))
+            xns.serve(udp, SERVER, [(PROGRAM, VERSION, VERSION)], Tally().answer)
         else:
-            add(datagrams, ("127.0.0.1", int(sys.argv[2])), map(int, sys.argv[3:]))
+            try:
+                add(udp, ("127.0.0.1", int(sys.argv[2])), map(int, sys.argv[3:]))
+            except TimeoutError as silent:
+                sys.exit(str(silent))
