@@ -8,12 +8,12 @@ use Rattle.xns_spp.specs.declared.item.Item.{Item}
 use Rattle.xns_calls.specs.declared.early.Early.{Early}
 use Rattle.xns_calls.specs.declared.heading.Heading.{Heading}
 use Rattle.xns_calls.specs.declared.track.Track.{Track}
-use Rattle.xns_calls.specs.Events.{AreWithin63, Event, IsAmong, IsLate, acknowledged, after_event, after_events, after_whole_event, after_whole_events, brought_if, captured, captured_in, meanwhile, read_on, read_on_over, with_captured, with_kept_item}
-use Rattle.xns_calls.specs.Exchange.{Scene, advanced, after_new, after_number, after_told, is_repeat, new_number, take_number, told_of, unless_repeat, up_to}
+use Rattle.xns_calls.specs.Events.{AreWithin63, Event, IsAmong, IsLate, acknowledged, after_event, after_events, after_whole_event, after_whole_events, brought_if, captured, captured_in, meanwhile, read_on, read_on_over, with_captured}
+use Rattle.xns_calls.specs.Exchange.{Scene, after_new, after_number, after_told, is_repeat, new_number, take_number, told_of, unless_repeat, up_to}
 use Rattle.xns_calls.specs.Numbers.{near}
 use Rattle.xns_calls.specs.Queue.{below, kept, last_number}
-use Rattle.xns_calls.specs.Reading.{Told, brought, brought_over, is_due, item_read, passed, past, read_next, said_item, after_heard}
-use Rattle.xns_calls.proofs.Steps.{early_of, passed_early, read_early, with_early}
+use Rattle.xns_calls.specs.Reading.{Told, brought, brought_over, is_due, item_read, passed, past, read_next, said_item, after_heard, with_kept_item}
+use Rattle.xns_calls.proofs.Steps.{early_of, passed_early, passed_same, read_early, with_early}
 
 -- ---- tests
 
@@ -77,10 +77,6 @@ passed_next : (h : Heading) (n : ℕ) (t : Told) → next_of (passed h n t) ≡ 
 unfolding passed
 passed_next h n t = by_test (λ (u : Told). u.track.next ≡ max t.track.next n) (nat_lt t.track.next n) (past h n t) t
     (λ e. omega (arith, lt_tells t.track.next n e)) (λ e. omega (arith, le_tells t.track.next n e))
-
-passed_same : (h : Heading) (n : ℕ) (t : Told) → n ≤ next_of t → passed h n t ≡ t
-unfolding passed
-passed_same h n t le = ap (λ p. cond p (past h n t) t) (lt_false t.track.next n le)
 
 cond_next : (p : Bool) (t u : Told) → next_of t ≡ next_of u → next_of (cond p t u) ≡ next_of u
 cond_next true t u e = e
@@ -602,7 +598,7 @@ none_before events e t none up =
 
 at_side : (h : Heading) (p : Bool) (number : ℕ) (item : Item) (track : Track) (s : Scene) → s.own.track ≡ Some track
     → after_number h (cond p None (Some number)) item s ≡ after_told (cond p (told_of track s) (brought h 0 (with_item number item (brought h (number - 63) (told_of track s))))) s
-unfolding after_new advanced
+unfolding after_new
 at_side h p number item track s e = subst (At p) (sym e) (both p)
   where
     with_track : Option Track → Scene

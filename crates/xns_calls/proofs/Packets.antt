@@ -10,7 +10,7 @@ use Rattle.xns_spp.specs.declared.item.Item.{Item}
 use Rattle.xns_calls.specs.declared.heading.Heading.{Heading}
 use Rattle.xns_calls.specs.declared.track.Track.{Track}
 use Rattle.xns_calls.specs.Events.{acknowledged_event, after_events, brought_if, captured_event, own_events}
-use Rattle.xns_calls.specs.Exchange.{Scene, acknowledged, acknowledged_track, advance_other, advance_track, advanced, after_acknowledge, after_data, after_new, after_number, after_packet, after_told, begin_track, begun, item_in, keep_own, new_number, of_other, seen_from_other, take_number, told_of, unless_repeat, up_to}
+use Rattle.xns_calls.specs.Exchange.{Scene, acknowledged, acknowledged_track, advance_other, advance_track, advanced, after_acknowledge, after_data, after_new, after_number, after_packet, after_told, begin_track, begun, item_in, new_number, of_other, seen_from_other, take_in_track, take_number, told_of, unless_repeat, up_to}
 use Rattle.xns_calls.specs.Numbers.{near}
 use Rattle.xns_calls.specs.Queue.{last_number}
 use Rattle.xns_calls.proofs.Gaps.{item_event, lt_false}
@@ -29,10 +29,14 @@ advanced_other : (h : Heading) (n : ℕ) (s : Scene) → (advanced h n s).other.
 unfolding advanced
 advanced_other h n s = track_other h n s.own.track s
 
+taken_other : (h : Heading) (n : ℕ) (item : Item) (o : Option Track) (s : Scene) → (take_in_track h n item o s).other.track ≡ s.other.track
+taken_other h n item None s = refl
+taken_other h n item (Some track) s = refl
+
 number_other : (h : Heading) (o : Option ℕ) (item : Item) (s : Scene) → (after_number h o item s).other.track ≡ s.other.track
 unfolding after_new
 number_other h None item s = refl
-number_other h (Some n) item s = advanced_other h 0 (keep_own n item (advanced h (n - 63) s)) ∙ advanced_other h (n - 63) s
+number_other h (Some n) item s = taken_other h n item s.own.track s
 
 begin_other : (h : Heading) (packet : PacketModel) (f : Header) (o : Option Track) (s : Scene) → (begin_track h packet f o s).other.track ≡ s.other.track
 begin_other h packet f None s = refl

@@ -19,8 +19,8 @@ use Rattle.xns_dump.specs.Dump.Line.{digits_of}
 use Rattle.xns_dump.specs.Laws.{IsLoud, IsQuiet, JoinedTextsSayRefused, OnlyRefusalsSayRefused, says_refused}
 use Rattle.xns_calls.specs.Calls.{after_body, after_bytes, after_digits, after_found, after_header, after_line, calls_text, has_refusal, known_from, line_taken, nothing_known, text_from}
 use Rattle.xns_calls.specs.Capture.{Known, after_at, after_in, after_places, after_sequenced, flow_behind, flow_of, heading_at, place_of, scene_in, with_new}
-use Rattle.xns_calls.specs.Exchange.{Scene, acknowledged, advance_other, advance_track, advanced, after_acknowledge, after_data, after_new, after_number, after_packet, begin_track, begun, item_in, keep_own, new_number, of_other, seen_from_other, told_of}
-use Rattle.xns_calls.specs.Reading.{Told, after_heard, brought, brought_over, is_due, item_read, passed, past, read_next, said_item}
+use Rattle.xns_calls.specs.Exchange.{Scene, acknowledged, advance_other, advance_track, advanced, after_acknowledge, after_data, after_new, after_number, after_packet, begin_track, begun, item_in, new_number, of_other, seen_from_other, take_in_track, told_of}
+use Rattle.xns_calls.specs.Reading.{Told, after_heard, brought, brought_over, is_due, item_read, passed, past, read_next, said_item, with_kept_item}
 use Rattle.xns_calls.specs.Speech.{heard_of}
 use Rattle.xns_calls.specs.Telling.{heard_text, is_fault, message_line}
 use Rattle.xns_calls.specs.Texts.{answer_text, call_line, end_text, flow_line, heading_text, line_or_dash, missing_line, refused_line, words_end}
@@ -203,9 +203,14 @@ module _ (joined : JoinedTextsSayRefused) (only : OnlyRefusalsSayRefused) where
   unfolding begun
   begun_says b h p f s k = begin_says b h p f s.own.track s k
 
+  taken_says : (b : Bool) (h : Heading) (n : ℕ) (item : Item) (o : Option Track) (s : Scene) → SaysScene b s → SaysScene b (take_in_track h n item o s)
+  taken_says b h n item None s k = k
+  taken_says b h n item (Some track) s k =
+      let moved = brought h (n - 63) (told_of track s) in brought_says b h 0 (with_kept_item n item moved) (brought_says b h (n - 63) (told_of track s) k)
+
   new_says : (b : Bool) (h : Heading) (n : ℕ) (item : Item) (s : Scene) → SaysScene b s → SaysScene b (after_new h n item s)
   unfolding after_new
-  new_says b h n item s k = advanced_says b h 0 (keep_own n item (advanced h (n - 63) s)) (advanced_says b h (n - 63) s k)
+  new_says b h n item s k = taken_says b h n item s.own.track s k
 
   number_says : (b : Bool) (h : Heading) (o : Option ℕ) (item : Item) (s : Scene) → SaysScene b s → SaysScene b (after_number h o item s)
   number_says b h None item s k = k

@@ -1,12 +1,12 @@
 -- What happens to one flow, with numbers in the place of fields.
-use Rattle.std.specs.Prelude.{◌≡◌, ℕ, ◌+◌, ◌-◌, ◌≤◌, ◌<◌, ◌==◌, ◌⊎◌, Bool, if◌then◌else◌, List, [], ◌∷◌, Option, Some, None}
+use Rattle.std.specs.Prelude.{◌≡◌, ℕ, ◌+◌, ◌≤◌, ◌<◌, ◌==◌, ◌⊎◌, Bool, if◌then◌else◌, List, [], ◌∷◌, Option, Some, None}
 use Rattle.xns_spp.specs.Header.{is_system}
 use Rattle.xns_spp.specs.declared.header.Header.{Header}
 use Rattle.xns_spp.specs.declared.item.Item.{Item}
 use Rattle.xns_calls.specs.Exchange.{Scene, is_repeat, item_in, up_to}
 use Rattle.xns_calls.specs.Numbers.{near}
-use Rattle.xns_calls.specs.Queue.{kept, last_number}
-use Rattle.xns_calls.specs.Reading.{Told, brought, read_next}
+use Rattle.xns_calls.specs.Queue.{last_number}
+use Rattle.xns_calls.specs.Reading.{Told, brought, item_taken, read_next, with_kept_item}
 use Rattle.xns_calls.specs.declared.early.Early.{Early}
 use Rattle.xns_calls.specs.declared.heading.Heading.{Heading}
 use Rattle.xns_calls.specs.declared.track.Track.{Track}
@@ -19,9 +19,6 @@ pub data Event : Type 0 where
   acknowledged : Heading → ℕ → Event
   meanwhile : Calls → List ℕ → Bool → Event
 
-abbrev pub with_kept_item : ℕ → Item → Told → Told
-with_kept_item number item t = record t { track = record t.track { early = kept number item t.track.early } }
-
 abbrev pub with_others : Calls → List ℕ → Bool → Told → Told
 with_others calls text is_refused t = record t { calls = calls; text = text; is_refused = is_refused }
 
@@ -31,9 +28,7 @@ brought_if heading (Some number) t = brought heading number t
 
 -- what an event does to the flow
 abbrev pub after_event : Event → Told → Told
-after_event (captured heading number item) t =
-    if is_repeat number t.track then t
-    else brought heading 0 (with_kept_item number item (brought heading (number - 63) t))
+after_event (captured heading number item) t = if is_repeat number t.track then t else item_taken heading number item t
 after_event (acknowledged heading number) t = brought_if heading (up_to (last_number t.track.early) (Some number)) t
 after_event (meanwhile calls text is_refused) t = with_others calls text is_refused t
 

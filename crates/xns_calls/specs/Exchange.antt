@@ -1,9 +1,10 @@
 -- What a packet does to the two flows of its connection.
-use Rattle.std.specs.Prelude.{ℕ, ◌+◌, min, ◌-◌, ◌==◌, ◌||◌, nat_lt, not, Bool, if◌then◌else◌, List, [], ◌++◌, Option, Some, None}
+use Rattle.std.specs.Prelude.{ℕ, ◌+◌, min, ◌==◌, ◌||◌, nat_lt, not, Bool, if◌then◌else◌, List, [], ◌++◌, Option, Some, None}
 use Rattle.std.specs.List.{list_any}
 use Rattle.xns_idp.specs.Packet.{PacketModel}
 use Rattle.xns_spp.specs.declared.item.Item.{Item}
 use Rattle.xns_spp.specs.declared.header.Header.{Header}
+use Rattle.xns_spp.specs.Ends.{most_pending}
 use Rattle.xns_spp.specs.Header.{attention_bit, has_bit, is_system, message_end_bit}
 use Rattle.courier_messages.specs.Conversation.{opening}
 use Rattle.xns_lines.specs.declared.page.Page.{Page}
@@ -12,8 +13,8 @@ use Rattle.xns_calls.specs.declared.side.Side.{Side}
 use Rattle.xns_calls.specs.declared.speech.Speech.TheVariants.{Hearing, Waiting}
 use Rattle.xns_calls.specs.declared.track.Track.{Track}
 use Rattle.xns_calls.specs.Numbers.{near}
-use Rattle.xns_calls.specs.Queue.{kept, last_number}
-use Rattle.xns_calls.specs.Reading.{Told, brought}
+use Rattle.xns_calls.specs.Queue.{last_number}
+use Rattle.xns_calls.specs.Reading.{Told, brought, item_taken}
 use Rattle.xns_calls.specs.Texts.{flow_line}
 
 -- a flow and the one behind it, the text of the input's line, and whether something was refused
@@ -75,10 +76,10 @@ advance_other heading (Some number) s = seen_from_other (advanced (of_other head
 unfoldable pub after_acknowledge : Heading → ℕ → Scene → Scene
 after_acknowledge heading field s = advance_other heading (acknowledged s.other field) s
 
--- a flow whose first field is under 64 begins with number 0 and its version range, and another one in the middle
+-- a flow whose first field a window that begins with number 0 can hold begins with that number and its version range, and another one in the middle
 abbrev pub first_track : ℕ → Track
 first_track field =
-    if nat_lt field 64 then record { next = 0; early = []; speech = Hearing (opening []) }
+    if nat_lt field most_pending then record { next = 0; early = []; speech = Hearing (opening []) }
     else record { next = field; early = []; speech = Waiting }
 
 abbrev pub begin_track : Heading → PacketModel → Header → Option Track → Scene → Scene
@@ -106,19 +107,13 @@ new_number (Some track) field = unless_repeat track (near track.next field)
 abbrev pub item_in : Header → List ℕ → Item
 item_in f content = record { stream = f.stream; attention = has_bit f.control attention_bit; last = has_bit f.control message_end_bit; body = content }
 
-abbrev pub keep_track : ℕ → Item → Option Track → Option Track
-keep_track number item None = None
-keep_track number item (Some track) = Some (record track { early = kept number item track.early })
+abbrev pub take_in_track : Heading → ℕ → Item → Option Track → Scene → Scene
+take_in_track heading number item None s = s
+take_in_track heading number item (Some track) s = after_told (item_taken heading number item (told_of track s)) s
 
-abbrev pub with_kept : ℕ → Item → Side → Side
-with_kept number item side = record side { track = keep_track number item side.track }
-
-abbrev pub keep_own : ℕ → Item → Scene → Scene
-keep_own number item s = record s { own = with_kept number item s.own }
-
--- a new item moves the flow on so far that no more than 63 numbers stand before its own; it is kept, and read where it is the next one
+-- a new item is taken, if the flow has begun
 unfoldable pub after_new : Heading → ℕ → Item → Scene → Scene
-after_new heading number item s = advanced heading 0 (keep_own number item (advanced heading (number - 63) s))
+after_new heading number item s = take_in_track heading number item s.own.track s
 
 abbrev pub after_number : Heading → Option ℕ → Item → Scene → Scene
 after_number heading None item s = s

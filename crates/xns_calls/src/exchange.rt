@@ -1,12 +1,11 @@
 //! What a packet does to the flows of its connection.
 ghost use Rattle.std.specs.Prelude.{◌≡◌, ◌<◌, IfOk, IfSome, OnOk};
 ghost use Rattle.xns_idp.specs.Packet.{packet_model};
-ghost use Rattle.xns_calls.specs.Exchange.{acknowledged as acknowledged_of, advanced, after_acknowledge, after_data, after_new, after_packet, begun as begun_of, first_track, item_in as item_of, new_number as new_number_of, scene, with_kept};
+ghost use Rattle.xns_calls.specs.Exchange.{acknowledged as acknowledged_of, advanced, after_acknowledge, after_data, after_new, after_packet, begun as begun_of, first_track, item_in as item_of, new_number as new_number_of, scene};
 ghost use Rattle.xns_calls.specs.Numbers.{most_numbers};
 
-use crate::bringing::bring;
+use crate::bringing::{bring, read_or_keep};
 use crate::heading::Heading;
-use crate::item_number::ItemNumber;
 use crate::near::near;
 use crate::queue::Queue;
 use crate::scratch::Scratch;
@@ -20,10 +19,7 @@ use std::alloc::{AllocError, Global};
 use xns_idp::Packet;
 use xns_lines::Page;
 use xns_spp::control::{ATTENTION, END_OF_MESSAGE, SYSTEM};
-use xns_spp::{Bytes, Header, Item};
-
-/// So many numbers are looked for at once.
-const KEPT: u64 = 64;
+use xns_spp::{Bytes, Header, Item, MOST_PENDING};
 
 /// Brings a flow to a number, if it has begun.
 #[tactic(auto, unfolding(crate::specs::Exchange::advanced))]
@@ -65,7 +61,7 @@ fn acknowledged(side: &Side, field: u16) -> Option<u64>
 fn begun(alloc: Global, field: u16) -> Track
     ensures { result ≡ first_track field }
 {
-    if u64::from(field) < KEPT {
+    if usize::from(field) < MOST_PENDING {
         Track {
             next: 0,
             early: Queue::new(alloc),
@@ -125,20 +121,7 @@ fn item_in(alloc: Global, header: &Header, content: &[u8]) -> Result<Item, Alloc
     })
 }
 
-/// Keeps an item under its number, if the flow has begun.
-fn keep(side: &mut Side, number: u64, item: Item) -> Result<(), AllocError>
-    requires { number < most_numbers }
-    ensures { OnOk result (side.new ≡ with_kept number item side.old) }
-{
-    let Some(mut track) = side.track.take() else {
-        return Ok(());
-    };
-    track.early.keep(ItemNumber::new(number), item)?;
-    side.track = Some(track);
-    Ok(())
-}
-
-/// Takes an item of a number that is no repeat.
+/// Takes an item of a number that is no repeat, if its flow has begun.
 #[tactic(auto, unfolding(crate::specs::Exchange::after_new))]
 fn take_new(
     scratch: &mut Scratch,
@@ -153,16 +136,17 @@ fn take_new(
     ensures front { page.new.text.front ≡ page.old.text.front }
     ensures scene { OnOk result (scene own.new other.new page.new ≡ after_new heading number item (scene own.old other.old page.old)) }
 {
-    advance(
-        scratch,
-        page,
-        heading,
-        own,
-        other,
-        number.saturating_sub(KEPT - 1),
-    )?;
-    keep(own, number, item)?;
-    advance(scratch, page, heading, own, other, 0)
+    let Some(track) = &mut own.track else {
+        return Ok(());
+    };
+    let mut calls = Calls {
+        own: own.call,
+        asked: other.call,
+    };
+    read_or_keep(scratch, page, heading, track, &mut calls, number, item)?;
+    own.call = calls.own;
+    other.call = calls.asked;
+    Ok(())
 }
 
 /// Takes the item of a data packet.
