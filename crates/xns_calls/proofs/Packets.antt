@@ -1,5 +1,5 @@
 -- What a packet does to a flow are its events.
-use Rattle.std.proofs.Common.{◌≡◌, ◌∙◌, ap, sym, refl, ℕ, ◌%◌, ◌+◌, ◌<◌, ◌≤◌, ◌-◌, Bool, true, false, cond, List, [], Option, Some, None}
+use Rattle.std.proofs.Common.{◌≡◌, ◌∙◌, ap, sym, refl, ℕ, ◌%◌, ◌+◌, ◌<◌, ◌≤◌, Bool, true, false, cond, List, [], Option, Some, None}
 use Rattle.xns_idp.specs.Packet.{PacketModel}
 use Rattle.xns_spp.specs.Header.{is_system}
 use Rattle.xns_spp.specs.Laws.{NearestNumberIsReadBack}

@@ -1,7 +1,7 @@
 //! What a packet does to the flows of its connection.
 ghost use Rattle.std.specs.Prelude.{◌≡◌, ◌<◌, IfOk, IfSome, OnOk};
 ghost use Rattle.xns_idp.specs.Packet.{packet_model};
-ghost use Rattle.xns_calls.specs.Exchange.{acknowledged as acknowledged_of, advanced, after_acknowledge, after_data, after_new, after_packet, begun as begun_of, first_track, item_in as item_of, new_number as new_number_of, scene};
+ghost use Rattle.xns_calls.specs.Exchange.{acknowledged as acknowledged_of, advanced, after_acknowledge, after_new, after_packet, begun as begun_of, first_track, item_in as item_of, new_number as new_number_of, scene};
 ghost use Rattle.xns_calls.specs.Numbers.{most_numbers};
 
 use crate::bringing::{bring, read_or_keep};
@@ -149,29 +149,6 @@ fn take_new(
     Ok(())
 }
 
-/// Takes the item of a data packet.
-#[tactic(auto, unfolding(crate::specs::Exchange::after_data))]
-fn take_item(
-    scratch: &mut Scratch,
-    page: &mut Page,
-    heading: Heading,
-    own: &mut Side,
-    other: &mut Side,
-    packet: &Packet<'_>,
-    header: &Header,
-    content: &[u8],
-) -> Result<(), AllocError>
-    ensures front { page.new.text.front ≡ page.old.text.front }
-    ensures scene { OnOk result (scene own.new other.new page.new ≡ after_data heading (packet_model packet.now) header.now content.now (scene own.old other.old page.old)) }
-{
-    begin(scratch.alloc, page, heading, own, packet, header)?;
-    let Some(number) = new_number(own, header.sequence) else {
-        return Ok(());
-    };
-    let item = item_in(scratch.alloc, header, content)?;
-    take_new(scratch, page, heading, own, other, number, item)
-}
-
 /// Takes what a packet acknowledges of the flow behind its own.
 #[tactic(auto, unfolding(crate::specs::Exchange::after_acknowledge))]
 fn take_acknowledge(
@@ -192,7 +169,7 @@ fn take_acknowledge(
 }
 
 /// Takes a packet of a flow: what it acknowledges, and then its item, if it brings one.
-#[tactic(auto, unfolding(crate::specs::Exchange::after_packet))]
+#[tactic(auto, unfolding(crate::specs::Exchange::after_packet, crate::specs::Exchange::after_data))]
 pub fn take_packet(
     scratch: &mut Scratch,
     page: &mut Page,
@@ -210,5 +187,10 @@ pub fn take_packet(
     if header.control & SYSTEM != 0 {
         return Ok(());
     }
-    take_item(scratch, page, heading, own, other, packet, header, content)
+    begin(scratch.alloc, page, heading, own, packet, header)?;
+    let Some(number) = new_number(own, header.sequence) else {
+        return Ok(());
+    };
+    let item = item_in(scratch.alloc, header, content)?;
+    take_new(scratch, page, heading, own, other, number, item)
 }
