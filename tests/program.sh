@@ -309,6 +309,9 @@ expect 'a directory as script' 3 'xns: read fault' "$work/nothing"
 run
 expect 'no subcommand' 2 "error: 'xns' requires a subcommand but one was not provided; the subcommands are dump, calls and sim; try 'xns --help'" "$work/nothing"
 
+run Dump
+expect 'a subcommand in another case' 2 "error: unrecognized subcommand 'Dump'; the subcommands are dump, calls and sim; try 'xns --help'" "$work/nothing"
+
 run play
 expect 'another subcommand' 2 "error: unrecognized subcommand 'play'; the subcommands are dump, calls and sim; try 'xns --help'" "$work/nothing"
 
@@ -317,6 +320,9 @@ expect 'a word too many' 2 "error: unexpected argument 'file' found; try 'xns --
 
 run dump --loud
 expect 'an option that is none' 2 "error: unexpected argument '--loud' found; try 'xns --help'" "$work/nothing"
+
+run --loud
+expect 'an option before any subcommand' 2 "error: unexpected argument '--loud' found; try 'xns --help'" "$work/nothing"
 
 run "$(printf 'dump\377')"
 expect 'a word that is not UTF-8' 2 "error: a word of the command line is not UTF-8; try 'xns --help'" "$work/nothing"
@@ -327,7 +333,7 @@ expect 'a word too many behind calls' 2 "error: unexpected argument 'file' found
 run sim file
 expect 'a word too many behind sim' 2 "error: unexpected argument 'file' found; try 'xns --help'" "$work/nothing"
 
-for words in --help -h 'dump --help' 'calls --help' 'sim --help' 'help' 'help dump' 'help calls' 'help sim'; do
+for words in --help -h 'dump --help' 'dump -h' 'calls --help' 'sim --help' 'help' 'help dump' 'help calls' 'help sim'; do
     # shellcheck disable=SC2086
     run $words
     expect "$words" 0 '' -

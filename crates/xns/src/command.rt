@@ -1,4 +1,3 @@
 //! What the program is asked to do.
 pub mod arguments;
 pub mod help;
-pub mod modes;

@@ -5,27 +5,22 @@ use Rattle.std.specs.Str.{bytes_eq}
 use Rattle.clap.specs.Kinds.{or_else}
 use Rattle.clap.specs.Words.{App, Kinds, Text, fault_of, new_app, subcommand_of, with_subcommand}
 use Rattle.clap.specs.declared.error.kind.ErrorKind.TheVariants as kind
-use Rattle.xns.specs.declared.command.modes.Mode.{Mode}
-use Rattle.xns.specs.declared.command.modes.Mode.TheVariants.{Calls, Dump, Sim}
+use Rattle.xns_command.specs.declared.mode.Mode.{Mode}
+use Rattle.xns_command.specs.Modes.{name_of}
 
 -- `xns` with the subcommands that read captures, `dump` and `calls`; a subcommand is required
-abbrev pub reading_command : App
-reading_command =
+abbrev pub reading_app : App
+reading_app =
     let subcommands = with_subcommand (with_subcommand (new_app (codes "xns")) (new_app (codes "dump")).top) (new_app (codes "calls")).top in
     record subcommands { top = record subcommands.top { subcommand_required = true } }
 
 -- the program's command, with `sim` behind these
-abbrev pub xns_command : App
-xns_command = with_subcommand reading_command (new_app (codes "sim")).top
+abbrev pub program_app : App
+program_app = with_subcommand reading_app (new_app (codes "sim")).top
 
 -- the subcommand that the words name, by clap's meaning
 abbrev pub named_subcommand : List Text → Option Text
-named_subcommand words = option_map (λ p. p.0) (subcommand_of xns_command words)
-
-abbrev pub name_of : Mode → Text
-name_of Dump = codes "dump"
-name_of Calls = codes "calls"
-name_of Sim = codes "sim"
+named_subcommand words = option_map (λ p. p.0) (subcommand_of program_app words)
 
 abbrev pub is_mode : Option Text → Bool
 is_mode None = false
@@ -33,7 +28,7 @@ is_mode (Some name) = bytes_eq name (codes "dump") || bytes_eq name (codes "call
 
 -- the kinds of error with which words may be refused: those of clap's meaning, and else that no mode is named
 abbrev pub refusals_of : List Text → Kinds
-refusals_of words = or_else (fault_of xns_command words) (if is_mode (named_subcommand words) then [] else kind.MissingSubcommand ∷ [])
+refusals_of words = or_else (fault_of program_app words) (if is_mode (named_subcommand words) then [] else kind.MissingSubcommand ∷ [])
 
 -- the words `xns` and the mode's name
 abbrev pub words_of : Mode → List Text

@@ -1,18 +1,19 @@
 //! The command line.
 ghost use Rattle.std.specs.Prelude.{◌≡◌, ◌≢◌, IfOk, IfErr, IfSome, IfNone, Some, option_map};
 ghost use Rattle.clap.specs.Words.{FailsBy, app_of, fault_of, kind_of};
-ghost use Rattle.xns.specs.declared.command.modes.Mode.{Mode};
-ghost use Rattle.xns.specs.Command.Arguments.{name_of, named_subcommand, reading_command, refusals_of, texts, words_of, xns_command};
+ghost use Rattle.xns_command.specs.declared.mode.Mode.{Mode};
+ghost use Rattle.xns_command.specs.Modes.{name_of};
+ghost use Rattle.xns.specs.Command.Arguments.{named_subcommand, program_app, reading_app, refusals_of, texts, words_of};
 
 use crate::command::help::{ABOUT, CALLS_HELP, DUMP_HELP, HELP, SIM_HELP};
-use crate::command::modes::Mode;
 use clap::error::ErrorKind;
 use clap::{Command, Error};
 use std::alloc::{AllocError, Global};
+use xns_command::{Mode, Refusal};
 
 /// A command that requires one of its subcommands, which read captures.
 fn reading_program<'a>(alloc: Global) -> Result<Command<'a>, AllocError>
-    ensures { IfOk result (λ command. app_of command ≡ reading_command) }
+    ensures { IfOk result (λ command. app_of command ≡ reading_app) }
 {
     let dump = Command::new(alloc, "dump")
         .about("Prints what each line of hex says")
@@ -30,7 +31,7 @@ fn reading_program<'a>(alloc: Global) -> Result<Command<'a>, AllocError>
 
 /// The program's command, which requires one of its subcommands.
 fn program<'a>(alloc: Global) -> Result<Command<'a>, AllocError>
-    ensures { IfOk result (λ command. app_of command ≡ xns_command) }
+    ensures { IfOk result (λ command. app_of command ≡ program_app) }
 {
     let sim = Command::new(alloc, "sim")
         .about("Plays calls through a network that loses, repeats and reorders")
@@ -61,7 +62,7 @@ pub fn mode(alloc: Global, words: &[&str]) -> Result<Mode, Error>
 /// The name of the subcommand that the words name.
 fn subcommand_in<'a>(alloc: Global, words: &'a [&'a str]) -> Result<Option<&'a str>, Error>
     ensures named { IfOk result (λ name. option_map (λ text. text.now) name ≡ named_subcommand (texts words.entry.now)) }
-    ensures kinds { FailsBy (fault_of xns_command (texts words.entry.now)) result }
+    ensures kinds { FailsBy (fault_of program_app (texts words.entry.now)) result }
     ensures alone { IfErr result (λ error. (mode : Mode) → texts words.entry.now ≡ words_of mode
         → kind_of error ≡ ErrorKind.OutOfMemory) }
 {
@@ -69,28 +70,24 @@ fn subcommand_in<'a>(alloc: Global, words: &'a [&'a str]) -> Result<Option<&'a s
     Ok(matches.subcommand_name())
 }
 
-/// The mode of that name, if there is one.
+/// The mode that a subcommand of that name asks for, if one is named and there is one.
 fn mode_named(name: Option<&str>) -> Option<Mode>
     ensures some { IfSome result (λ mode. option_map (λ text. text.now) name.entry ≡ Some (name_of mode)) }
     ensures none { IfNone result ((mode : Mode) → option_map (λ text. text.now) name.entry ≢ Some (name_of mode)) }
 {
-    match name {
-        Some("dump") => Some(Mode::Dump),
-        Some("calls") => Some(Mode::Calls),
-        Some("sim") => Some(Mode::Sim),
-        _ => None,
-    }
+    Mode::named(name?)
 }
 
-/// The program's exit status for words that `mode` refused: 0 for help, 3 where there was no memory, else 2.
-pub fn refused_status(error: &Error) -> u8
-    ensures help { kind_of error.now ≡ ErrorKind.DisplayHelp → result ≡ 0 }
-    ensures memory { kind_of error.now ≡ ErrorKind.OutOfMemory → result ≡ 3 }
-    ensures mistake { kind_of error.now ≢ ErrorKind.DisplayHelp → kind_of error.now ≢ ErrorKind.OutOfMemory → result ≡ 2 }
+/// Why the words name no mode, by `clap`'s error.
+pub fn refusal(error: &Error) -> Refusal
+    ensures help { kind_of error.now ≡ ErrorKind.DisplayHelp → result ≡ Refusal.Help }
+    ensures memory { kind_of error.now ≡ ErrorKind.OutOfMemory → result ≡ Refusal.NoMemory }
+    ensures mistake { kind_of error.now ≢ ErrorKind.DisplayHelp → kind_of error.now ≢ ErrorKind.OutOfMemory
+        → result ≡ Refusal.Mistake }
 {
     match error.kind() {
-        ErrorKind::DisplayHelp => 0,
-        ErrorKind::OutOfMemory => 3,
-        _ => 2,
+        ErrorKind::DisplayHelp => Refusal::Help,
+        ErrorKind::OutOfMemory => Refusal::NoMemory,
+        _ => Refusal::Mistake,
     }
 }

@@ -1,18 +1,12 @@
-use Rattle.std.proofs.Common.{◌≡◌, ◌∙◌, ap, refl, Some, true}
+use Rattle.std.proofs.Common.{◌≡◌, ◌∙◌, ap, refl, Some}
 use Rattle.std.proofs.lemmas.Result.{err_from_is_err_and}
 use Rattle.clap.proofs.OnLiterals.{clap_on_literals}
-use Rattle.clap.specs.Words.{takes}
 use Rattle.xns.proofs.Refusals.{by_clap, by_name}
-use Rattle.xns.specs.declared.command.modes.Mode.{Mode}
-use Rattle.xns.specs.declared.command.modes.Mode.TheVariants.{Calls, Dump, Sim}
-use Rattle.xns.specs.Command.Arguments.{name_of, named_subcommand, texts, words_of, xns_command}
+use Rattle.xns_command.specs.declared.mode.Mode.{Mode}
+use Rattle.xns_command.specs.declared.mode.Mode.TheVariants.{Calls, Dump, Sim}
+use Rattle.xns_command.specs.Modes.{name_of}
+use Rattle.xns.specs.Command.Arguments.{named_subcommand, texts, words_of}
 use Rattle.xns.proofs.command.arguments.mode.Goals as goal
-
-is_taken : (mode : Mode) → takes xns_command (words_of mode) ≡ true
-unfolding clap_on_literals
-is_taken Dump = refl
-is_taken Calls = refl
-is_taken Sim = refl
 
 is_named : (mode : Mode) → named_subcommand (words_of mode) ≡ Some (name_of mode)
 unfolding clap_on_literals

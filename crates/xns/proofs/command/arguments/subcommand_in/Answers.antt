@@ -1,24 +1,18 @@
-use Rattle.std.proofs.Common.{◌≡◌, ◌∙◌, ap, ap₂, sym, refl, Some, true}
+use Rattle.std.proofs.Common.{◌≡◌, ◌∙◌, ap, ap₂, sym, refl, true}
 use Rattle.std.proofs.lemmas.Result.{err_from_is_err_and}
 use Rattle.clap.proofs.OnLiterals.{clap_on_literals}
 use Rattle.clap.specs.Words.{fault_of, is_simple_and_free, takes}
 use Rattle.xns.proofs.Refusals.{is_free}
-use Rattle.xns.specs.declared.command.modes.Mode.{Mode}
-use Rattle.xns.specs.declared.command.modes.Mode.TheVariants.{Calls, Dump, Sim}
-use Rattle.xns.specs.Command.Arguments.{name_of, named_subcommand, texts, words_of, xns_command}
+use Rattle.xns_command.specs.declared.mode.Mode.{Mode}
+use Rattle.xns_command.specs.declared.mode.Mode.TheVariants.{Calls, Dump, Sim}
+use Rattle.xns.specs.Command.Arguments.{texts, words_of, program_app}
 use Rattle.xns.proofs.command.arguments.subcommand_in.Goals as goal
 
-is_taken : (mode : Mode) → takes xns_command (words_of mode) ≡ true
+is_taken : (mode : Mode) → takes program_app (words_of mode) ≡ true
 unfolding clap_on_literals
 is_taken Dump = refl
 is_taken Calls = refl
 is_taken Sim = refl
-
-is_named : (mode : Mode) → named_subcommand (words_of mode) ≡ Some (name_of mode)
-unfolding clap_on_literals
-is_named Dump = refl
-is_named Calls = refl
-is_named Sim = refl
 
 pub returns-in_err-matches-clause-alone : goal.returns-in_err-matches-clause-alone
 returns-in_err-matches-clause-alone c =

@@ -1,0 +1,11 @@
+//! What the program `xns` is asked to do, and the status that it ends with. How the words of its command line are read
+//! stands in `xns`.
+#![tactic(auto)]
+
+mod mode;
+mod refusal;
+mod status;
+
+pub use mode::Mode;
+pub use refusal::Refusal;
+pub use status::{answer_status, refusal_status};

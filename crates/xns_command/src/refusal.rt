@@ -1,0 +1,12 @@
+//! Why the program does nothing.
+
+/// Why the words of a command line name no mode.
+#[derive(Clone, Copy, Debug, PartialEq, Eq)]
+pub enum Refusal {
+    /// Help is asked for.
+    Help,
+    /// There was no memory to read them.
+    NoMemory,
+    /// They are wrong.
+    Mistake,
+}
