@@ -10,7 +10,7 @@ use Rattle.std.specs.Ordering.{is_eq, nat_cmp, ordering_then}
 use Rattle.std.specs.declared.cmp.Ordering.{Ordering}
 use Rattle.std.specs.declared.cmp.Ordering.TheVariants.{Less, Equal, Greater}
 use Rattle.std.specs.Str.{bytes_eq}
-use Rattle.std.proofs.lemmas.Bool.{eqb-true, eq-eqb, lt-ltb}
+use Rattle.std.proofs.lemmas.Bool.{eqb-true, eq-eqb, lt-ltb, ltb-true}
 use Rattle.std.proofs.lemmas.List.{get_or-replicate, get_or-set_other, get_or-set_same, length-replicate, length-set}
 use Rattle.std.proofs.lemmas.List.Folds.{position_or_len-set}
 use Rattle.std.proofs.lemmas.List.Quantifiers.{position-Some}
@@ -120,6 +120,11 @@ its_peer own e g h =
       sockets = sym (eqb-true e.source.socket g.peer.socket (and_right (bytes_eq e.source.host g.peer.host) (e.source.socket == g.peer.socket) at));
       ids = sym (eqb-true e.source_id g.peer_id (and_right (same_place e.source g.peer) (e.source_id == g.peer_id) from));
     })
+
+-- the slot that is found in a copy of the slots is the one in them
+pub slot_there : (slots found : List (Option Guest)) (number : ℕ) (slot : Option Guest) → found ≡ slots → true ≡ nat_lt number (length found) → slot ≡ get_or found number slot → slice_get slots number ≡ Some slot
+slot_there slots found number slot same within is =
+    ap (λ (all : List (Option Guest)). slice_get all number) (sym same) ∙ slice_get-get_or found number slot (ltb-true number (length found) (sym within)) ∙ ap Some (sym is)
 
 -- ---- a slot that passes has a connection
 

@@ -6,7 +6,7 @@ use Rattle.xns_idp.specs.Packet.{PacketModel}
 use Rattle.xns_idp.specs.Reading.{packet_of, packet_fault, packet_fields, word_at, made_even, unless}
 use Rattle.xns_c.specs.declared.address.XnsAddress.{XnsAddress}
 use Rattle.xns_c.specs.Given.{is_yes, as_byte}
-use Rattle.xns_c.specs.Views.{address_in, address_out}
+use Rattle.xns_c.specs.Views.{address_in}
 use Rattle.xns_spp.specs.declared.header.Header.{Header}
 use Rattle.xns_spp.specs.Header.{header_of, header_fault, header_fields}
 
@@ -49,8 +49,8 @@ flag_again : (x : Bool) → is_yes (as_byte x) ≡ x
 flag_again true = refl
 flag_again false = refl
 
-pub read_at : (b : List ℕ) (p : PacketModel) (n f : ℕ) (t s : XnsAddress) → Ok (p, n) ≡ packet_of b → f ≡ as_byte p.summed → t ≡ address_out p.target → s ≡ address_out p.source
+pub read_at : (b : List ℕ) (p : PacketModel) (n f : ℕ) (t s : XnsAddress) → Ok (p, n) ≡ packet_of b → f ≡ as_byte p.summed → address_in t ≡ p.target → address_in s ≡ p.source
     → packet_of b ≡ Ok (record p { summed = is_yes f; target = address_in t; source = address_in s; body = slice_range b 30 (30 + length p.body) }, n)
 read_at b p n f t s e ef et es =
     let flag : p.summed ≡ is_yes f = sym (ap is_yes ef ∙ flag_again p.summed) in
-    sym e ∙ (λ i. Ok (record p { summed = flag i; target = address_in (sym et i); source = address_in (sym es i); body = placed b (p, n) (sym e) i }, n))
+    sym e ∙ (λ i. Ok (record p { summed = flag i; target = sym et i; source = sym es i; body = placed b (p, n) (sym e) i }, n))

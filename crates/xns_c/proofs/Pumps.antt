@@ -6,18 +6,18 @@ use Rattle.xns_spp.specs.Sending.{send_fault, after_send, take_answer, handing, 
 use Rattle.xns_spp.specs.State.{State}
 use Rattle.xns_spp.specs.declared.item.Item.{Item}
 use Rattle.xns_spp.specs.declared.send_fault.SendFault.{SendFault}
-use Rattle.xns_c.specs.Pumping.{Step, sending, moving, one_step, Leads, on, Pumped}
+use Rattle.xns_c.specs.Pumping.{Step, Side, sending, moving, one_step, Leads, on, Pumped}
 
 -- steps led to here
-pub record Going {S : Type 0} (step : S × State → Step S) (first : S × State) (session : S) (endpoint : Held) : Type 0 where
+pub record Going {S : Type 0} (side : Side S) (first : S × State) (session : S) (endpoint : Held) : Type 0 where
   pub end : State
-  pub leads : Leads step first (session, end)
+  pub leads : Leads side first (session, end)
   pub stands : StandsFor endpoint end
 
 -- and of so many items that waited so many were fed
-pub record Feeding {S : Type 0} (step : S × State → Step S) (first : S × State) (session : S) (endpoint : Held) (all fed : ℕ) : Type 0 where
+pub record Feeding {S : Type 0} (side : Side S) (first : S × State) (session : S) (endpoint : Held) (all fed : ℕ) : Type 0 where
   pub end : State
-  pub leads : Leads step first (session, end)
+  pub leads : Leads side first (session, end)
   pub stands : StandsFor endpoint end
   pub left : length end.taken + fed ≡ end.handed + all
 
@@ -29,60 +29,60 @@ there_in xs i h (inr k) = absurd (omega (arith, h, k.0))
 there_is : {X : Type 0} (xs : List X) (i : ℕ) → i < length xs → (x : X) × (slice_get xs i ≡ Some x)
 there_is xs i h = there_in xs i h (slice_get_cases xs i).1
 
-module _ {S : Type 0} (out : S → List Item) (with_out : S → List Item → S) (feeds : S → State → Option Item → Step S) where
+module _ {S : Type 0} (side : Side S) where
   -- ---- items that are sent
 
-  sends : (t : S) (v : State) (x : Item) (xs ys : List Item) → out t ≡ x ∷ xs → send_fault v x ≡ None → ys ≡ xs → one_step out with_out feeds (t, v) ≡ Some (Ok (with_out t ys, after_send v x))
+  sends : (t : S) (v : State) (x : Item) (xs ys : List Item) → side.out t ≡ x ∷ xs → send_fault v x ≡ None → ys ≡ xs → one_step side (t, v) ≡ Some (Ok (side.with_out t ys, after_send v x))
   sends t v x xs ys is none same =
-      ap (λ (o : List Item). moving with_out feeds t v o) is
-      ∙ (ap (λ (f : Option SendFault). sending f (with_out t xs) (after_send v x)) none
-      ∙ ap (λ (o : List Item). Some (Ok (with_out t o, after_send v x))) (sym same))
+      ap (λ (o : List Item). moving side t v o) is
+      ∙ (ap (λ (f : Option SendFault). sending f (side.with_out t xs) (after_send v x)) none
+      ∙ ap (λ (o : List Item). Some (Ok (side.with_out t o, after_send v x))) (sym same))
 
-  sent_from : (first : S × State) (t : S) (e f : Held) (left now : List Item) → out t ≡ now → length left < length now
-      → ((s : State) (x : Item) (xs : List Item) → StandsFor e s → out t ≡ x ∷ xs → (send_fault s x ≡ None) × (left ≡ xs) × StandsFor f (after_send s x))
-      → Going (one_step out with_out feeds) first t e → Going (one_step out with_out feeds) first (with_out t left) f
+  sent_from : (first : S × State) (t : S) (e f : Held) (left now : List Item) → side.out t ≡ now → length left < length now
+      → ((s : State) (x : Item) (xs : List Item) → StandsFor e s → side.out t ≡ x ∷ xs → (send_fault s x ≡ None) × (left ≡ xs) × StandsFor f (after_send s x))
+      → Going side first t e → Going side first (side.with_out t left) f
   sent_from first t e f left [] is fewer h g = absurd (omega (arith, fewer))
   sent_from first t e f left (x ∷ xs) is fewer h g =
       let k = h g.end x xs g.stands is in
       record { end = after_send g.end x; leads = on g.leads (sends t g.end x xs left is k.0 k.1); stands = k.2 }
 
   -- one more item was sent
-  pub sent : (first : S × State) (t : S) (e f : Held) (left : List Item) → length left < length (out t)
-      → ((s : State) (x : Item) (xs : List Item) → StandsFor e s → out t ≡ x ∷ xs → (send_fault s x ≡ None) × (left ≡ xs) × StandsFor f (after_send s x))
-      → Going (one_step out with_out feeds) first t e → Going (one_step out with_out feeds) first (with_out t left) f
-  sent first t e f left fewer h g = sent_from first t e f left (out t) refl fewer h g
+  pub sent : (first : S × State) (t : S) (e f : Held) (left : List Item) → length left < length (side.out t)
+      → ((s : State) (x : Item) (xs : List Item) → StandsFor e s → side.out t ≡ x ∷ xs → (send_fault s x ≡ None) × (left ≡ xs) × StandsFor f (after_send s x))
+      → Going side first t e → Going side first (side.with_out t left) f
+  sent first t e f left fewer h g = sent_from first t e f left (side.out t) refl fewer h g
 
   held_back : (t n : S) (v w : State) (o : Option SendFault) → o ≢ None → sending o n w ≡ None
   held_back t n v w None some = absurd (some refl)
   held_back t n v w (Some f) some = refl
 
-  no_send : (t : S) (v : State) (now : List Item) → out t ≡ now → out t ≢ [] → ((x : Item) (xs : List Item) → out t ≡ x ∷ xs → send_fault v x ≢ None) → moving with_out feeds t v now ≡ None
+  no_send : (t : S) (v : State) (now : List Item) → side.out t ≡ now → side.out t ≢ [] → ((x : Item) (xs : List Item) → side.out t ≡ x ∷ xs → send_fault v x ≢ None) → moving side t v now ≡ None
   no_send t v [] is some h = absurd (some is)
-  no_send t v (x ∷ xs) is some h = held_back t (with_out t xs) v (after_send v x) (send_fault v x) (h x xs is)
+  no_send t v (x ∷ xs) is some h = held_back t (side.with_out t xs) v (after_send v x) (send_fault v x) (h x xs is)
 
   -- the first item that is out is refused
-  pub full : (Stops : S → S → Type 0) (first : S × State) (t n : S) (e f : Held) → n ≡ t → f ≡ e → out t ≢ []
-      → ((s : State) (x : Item) (xs : List Item) → StandsFor e s → out t ≡ x ∷ xs → send_fault s x ≢ None)
-      → Going (one_step out with_out feeds) first t e → Pumped (one_step out with_out feeds) Stops first 0 n f
+  pub full : (Stops : S → S → Type 0) (first : S × State) (t n : S) (e f : Held) → n ≡ t → f ≡ e → side.out t ≢ []
+      → ((s : State) (x : Item) (xs : List Item) → StandsFor e s → side.out t ≡ x ∷ xs → send_fault s x ≢ None)
+      → Going side first t e → Pumped side Stops first 0 n f
   full Stops first t n e f same still some h g =
       record {
         last = (t, g.end);
         leads = g.leads;
         stands = subst (λ (d : Held). StandsFor d g.end) (sym still) g.stands;
-        settled = λ z. (same, no_send t g.end (out t) refl some (λ x xs is. h g.end x xs g.stands is));
+        settled = λ z. (same, no_send t g.end (side.out t) refl some (λ x xs is. h g.end x xs g.stands is));
         memory = λ z. same;
         refused = λ z more. absurd (z refl);
       }
 
   -- ---- items that are fed
 
-  feeding_step : (t : S) (v : State) → out t ≡ [] → one_step out with_out feeds (t, v) ≡ feeds t v (take_answer v)
-  feeding_step t v none = ap (λ (o : List Item). moving with_out feeds t v o) none
+  feeding_step : (t : S) (v : State) → side.out t ≡ [] → one_step side (t, v) ≡ side.feeds t v (take_answer v)
+  feeding_step t v none = ap (λ (o : List Item). moving side t v o) none
 
   -- one more item was fed
-  pub fed : (first : S × State) (t n : S) (e f : Held) (all k : ℕ) → out t ≡ [] → k < all
-      → ((s : State) → StandsFor e s → (feeds t s (take_answer s) ≡ Some (Ok (n, after_take s))) × StandsFor f (after_take s))
-      → Feeding (one_step out with_out feeds) first t e all k → Feeding (one_step out with_out feeds) first n f all (k + 1)
+  pub fed : (first : S × State) (t n : S) (e f : Held) (all k : ℕ) → side.out t ≡ [] → k < all
+      → ((s : State) → StandsFor e s → (side.feeds t s (take_answer s) ≡ Some (Ok (n, after_take s))) × StandsFor f (after_take s))
+      → Feeding side first t e all k → Feeding side first n f all (k + 1)
   fed first t n e f all k none less h g =
       let more = h g.end g.stands in
       let there = there_is g.end.taken g.end.handed (omega (arith, less, g.left)) in
@@ -92,9 +92,9 @@ module _ {S : Type 0} (out : S → List Item) (with_out : S → List Item → S)
       record { end = after_take g.end; leads = on g.leads (feeding_step t g.end none ∙ more.0); stands = more.1; left = left }
 
   -- the next item is refused
-  pub stopped : (Stops : S → S → Type 0) (first : S × State) (t n : S) (e f : Held) (all k number : ℕ) → out t ≡ [] → f ≡ e → number ≢ 0 → (number ≡ 2 → n ≡ t)
-      → ((s : State) → StandsFor e s → number ≢ 2 → Stops t n × (feeds t s (take_answer s) ≡ Some (Err number)))
-      → Feeding (one_step out with_out feeds) first t e all k → Pumped (one_step out with_out feeds) Stops first number n f
+  pub stopped : (Stops : S → S → Type 0) (first : S × State) (t n : S) (e f : Held) (all k number : ℕ) → side.out t ≡ [] → f ≡ e → number ≢ 0 → (number ≡ 2 → n ≡ t)
+      → ((s : State) → StandsFor e s → number ≢ 2 → Stops t n × (side.feeds t s (take_answer s) ≡ Some (Err number)))
+      → Feeding side first t e all k → Pumped side Stops first number n f
   stopped Stops first t n e f all k number none still not same h g =
       record {
         last = (t, g.end);
@@ -106,8 +106,8 @@ module _ {S : Type 0} (out : S → List Item) (with_out : S → List Item → S)
       }
 
   -- no step applies any more
-  pub settles : (Stops : S → S → Type 0) (first : S × State) (t n : S) (e f : Held) (all k : ℕ) → n ≡ t → f ≡ e → out t ≡ [] → ((s : State) → StandsFor e s → feeds t s (take_answer s) ≡ None)
-      → Feeding (one_step out with_out feeds) first t e all k → Pumped (one_step out with_out feeds) Stops first 0 n f
+  pub settles : (Stops : S → S → Type 0) (first : S × State) (t n : S) (e f : Held) (all k : ℕ) → n ≡ t → f ≡ e → side.out t ≡ [] → ((s : State) → StandsFor e s → side.feeds t s (take_answer s) ≡ None)
+      → Feeding side first t e all k → Pumped side Stops first 0 n f
   settles Stops first t n e f all k same still none h g =
       record {
         last = (t, g.end);
@@ -119,15 +119,15 @@ module _ {S : Type 0} (out : S → List Item) (with_out : S → List Item → S)
       }
 
   -- all that waited was fed
-  pub all_fed : (Stops : S → S → Type 0) (first : S × State) (t : S) (e : Held) (all k : ℕ) → out t ≡ [] → all ≤ k → ((s : State) → feeds t s None ≡ None)
-      → Feeding (one_step out with_out feeds) first t e all k → Pumped (one_step out with_out feeds) Stops first 0 t e
+  pub all_fed : (Stops : S → S → Type 0) (first : S × State) (t : S) (e : Held) (all k : ℕ) → side.out t ≡ [] → all ≤ k → ((s : State) → side.feeds t s None ≡ None)
+      → Feeding side first t e all k → Pumped side Stops first 0 t e
   all_fed Stops first t e all k none most h g =
       let nothing : take_answer g.end ≡ None = slice_get_past g.end.taken g.end.handed (omega (arith, most, g.left)) in
       record {
         last = (t, g.end);
         leads = g.leads;
         stands = g.stands;
-        settled = λ z. (refl, feeding_step t g.end none ∙ (ap (λ (o : Option Item). feeds t g.end o) nothing ∙ h g.end));
+        settled = λ z. (refl, feeding_step t g.end none ∙ (ap (λ (o : Option Item). side.feeds t g.end o) nothing ∙ h g.end));
         memory = λ z. refl;
         refused = λ z more. absurd (z refl);
       }

@@ -31,15 +31,14 @@ unfolding value_of reading
 cardinal_cut [] before after number value h told = told
 cardinal_cut (w ∷ ws) before after number value h told = absurd (omega (arith, h))
 
-pub integer_read : (words : List ℕ) (before : XnsCursor) (value : ℤ) → 1 ≤ length words → value ≡ cast_signed w16 (slice_index_or words 0 0) → IsRead (value_of ShapeModel.integer words) before (moved before 1) ok (ValueModel.integer value)
+-- a cardinal that is read is an integer by its sign
+pub integer_read : (words : List ℕ) (before after : XnsCursor) (number word : ℕ) (value : ℤ) → IsRead (value_of ShapeModel.cardinal words) before after number (ValueModel.cardinal word) → (number ≡ ok → value ≡ cast_signed w16 word) → IsRead (value_of ShapeModel.integer words) before after number (ValueModel.integer value)
 unfolding value_of reading
-integer_read [] before value h e = absurd (omega (arith, h))
-integer_read (w ∷ ws) before value h e = (refl, ap ValueModel.integer e, ap (moved before) (sym (one_fewer ws)))
-
-pub integer_cut : (words : List ℕ) (before after : XnsCursor) (number : ℕ) (value : ValueModel) → length words < 1 → (number ≡ truncated) × (after ≡ faulted before truncated) → IsRead (value_of ShapeModel.integer words) before after number value
-unfolding value_of reading
-integer_cut [] before after number value h told = told
-integer_cut (w ∷ ws) before after number value h told = absurd (omega (arith, h))
+integer_read [] before after number word value read e = read
+integer_read (w ∷ ws) before after number word value read e =
+    let same : ValueModel.cardinal word ≡ ValueModel.cardinal w = read.1 in
+    let is : word ≡ w = cc in
+    (read.0, ap ValueModel.integer (e read.0 ∙ ap (cast_signed w16) is), read.2)
 
 pub long_cardinal_read : (words : List ℕ) (before : XnsCursor) (value : ℕ) → 2 ≤ length words → value ≡ slice_index_or words 0 0 * 65536 + slice_index_or words 1 0 → IsRead (value_of ShapeModel.long_cardinal words) before (moved before 2) ok (ValueModel.long_cardinal value)
 unfolding value_of reading front_long
@@ -53,17 +52,14 @@ long_cardinal_cut [] before after number value h told = told
 long_cardinal_cut (high ∷ []) before after number value h told = told
 long_cardinal_cut (high ∷ low ∷ ws) before after number value h told = absurd (omega (arith, h))
 
-pub long_integer_read : (words : List ℕ) (before : XnsCursor) (value : ℤ) → 2 ≤ length words → value ≡ cast_signed w32 (slice_index_or words 0 0 * 65536 + slice_index_or words 1 0) → IsRead (value_of ShapeModel.long_integer words) before (moved before 2) ok (ValueModel.long_integer value)
+pub long_integer_read : (words : List ℕ) (before after : XnsCursor) (number double : ℕ) (value : ℤ) → IsRead (value_of ShapeModel.long_cardinal words) before after number (ValueModel.long_cardinal double) → (number ≡ ok → value ≡ cast_signed w32 double) → IsRead (value_of ShapeModel.long_integer words) before after number (ValueModel.long_integer value)
 unfolding value_of reading front_long
-long_integer_read [] before value h e = absurd (omega (arith, h))
-long_integer_read (high ∷ []) before value h e = absurd (omega (arith, h))
-long_integer_read (high ∷ low ∷ ws) before value h e = (refl, ap ValueModel.long_integer e, ap (moved before) (sym (two_fewer ws)))
-
-pub long_integer_cut : (words : List ℕ) (before after : XnsCursor) (number : ℕ) (value : ValueModel) → length words < 2 → (number ≡ truncated) × (after ≡ faulted before truncated) → IsRead (value_of ShapeModel.long_integer words) before after number value
-unfolding value_of reading front_long
-long_integer_cut [] before after number value h told = told
-long_integer_cut (high ∷ []) before after number value h told = told
-long_integer_cut (high ∷ low ∷ ws) before after number value h told = absurd (omega (arith, h))
+long_integer_read [] before after number double value read e = read
+long_integer_read (high ∷ []) before after number double value read e = read
+long_integer_read (high ∷ low ∷ ws) before after number double value read e =
+    let same : ValueModel.long_cardinal double ≡ ValueModel.long_cardinal (high * 65536 + low) = read.1 in
+    let is : double ≡ high * 65536 + low = cc in
+    (read.0, ap ValueModel.long_integer (e read.0 ∙ ap (cast_signed w32) is), read.2)
 
 pub boolean_cut : (words : List ℕ) (before after : XnsCursor) (number : ℕ) (value : ValueModel) → length words < 1 → (number ≡ truncated) × (after ≡ faulted before truncated) → IsRead (value_of ShapeModel.boolean words) before after number value
 unfolding value_of reading

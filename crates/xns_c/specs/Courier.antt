@@ -1,13 +1,15 @@
 -- Courier's messages, as C has them.
-use Rattle.std.specs.Prelude.{ℕ, ◌==◌, ◌||◌, if◌then◌else◌, List, Option, Some, None, Result, Ok, Err}
+use Rattle.std.specs.Prelude.{◌≡◌, ◌<◌, ◌≤◌, ℕ, ◌==◌, ◌||◌, if◌then◌else◌, List, length, Option, Some, None, Result, Ok, Err}
 use Rattle.courier_messages.specs.declared.fault.MessageFault.{MessageFault}
 use Rattle.courier_messages.specs.declared.fault.MessageFault.TheVariants.{OddLength, ShortMessage, UnknownKind, TooLong}
 use Rattle.courier_messages.specs.declared.message.Message.{Message}
 use Rattle.courier_messages.specs.declared.message.Message.TheVariants.{Call, Reject, Return, Abort}
 use Rattle.courier_messages.specs.declared.fault.SessionFault.{SessionFault}
 use Rattle.courier_messages.specs.declared.fault.SessionFault.TheVariants.{NoCommonVersion, BadVersions, BadMessage, WrongTransaction, BadReply, Stream, NoMemory, Failed}
+use Rattle.courier_messages.specs.Head.{words_in}
+use Rattle.xns_c.specs.Given.{IsPut}
+use Rattle.xns_c.specs.Results.{ok, no_memory, short_buffer, stopped, closing}
 use Rattle.xns_c.specs.declared.message.XnsMessage.{XnsMessage}
-use Rattle.xns_c.specs.Results.{ok, no_memory, stopped, closing}
 
 -- why bytes are no message
 abbrev pub message_fault_number : MessageFault → ℕ
@@ -24,6 +26,12 @@ message_given m words =
     else if m.kind == 2 then Some (Return m.transaction words)
     else if m.kind == 3 then Some (Abort m.transaction m.number words)
     else None
+
+-- what is answered where this message is to be given, its words to the front of a buffer: with no room for all of them none is put, and their number is told
+abbrev pub MessageIsGiven : Message → XnsMessage → List ℕ → List ℕ → ℕ → ℕ → Type 0
+MessageIsGiven m after old new count number =
+    (length (words_in m) ≤ length old → (number ≡ ok) × (message_given after (words_in m) ≡ Some m) × IsPut (words_in m) old new count)
+    × (length old < length (words_in m) → (number ≡ short_buffer) × (count ≡ length (words_in m)))
 
 -- an item of another datastream: two of them close the connection (XSIS 028112, Sequenced Packet Protocol, Datastream Type)
 abbrev pub stream_end : ℕ

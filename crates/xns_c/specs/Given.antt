@@ -1,10 +1,11 @@
 -- What is given to C through its own memory, and taken from it.
-use Rattle.std.specs.Prelude.{◌≡◌, ℕ, Bool, not, ◌==◌, if◌then◌else◌, List, ◌++◌, drop, length, Option, Some, None, Ok}
+use Rattle.std.specs.Prelude.{◌≡◌, ◌<◌, ◌≤◌, ℕ, Bool, not, ◌==◌, if◌then◌else◌, List, ◌++◌, drop, length, Option, Some, None, Ok}
 use Rattle.xns_idp.specs.Packet.{PacketModel}
 use Rattle.xns_idp.specs.Reading.{packet_of}
 use Rattle.xns_idp.specs.declared.address.Address.{Address}
 use Rattle.xns_small.specs.Echo.{IsAnswered}
 use Rattle.xns_spp.specs.declared.item.Item.{Item}
+use Rattle.xns_c.specs.Results.{ok, short_buffer}
 use Rattle.xns_c.specs.declared.item.XnsItem.{XnsItem}
 
 -- C's yes or no: 0 is no
@@ -14,9 +15,9 @@ is_yes n = not (n == 0)
 abbrev pub as_byte : Bool → ℕ
 as_byte flag = if flag then 1 else 0
 
--- the bytes were put to the front of a buffer, and their number told; what stood behind them stands there still
-abbrev pub IsPut : List ℕ → List ℕ → List ℕ → ℕ → Type 0
-IsPut bytes before after size = (size ≡ length bytes) × (after ≡ bytes ++ drop (length bytes) before)
+-- the bytes or words were put to the front of a buffer, and their number told; what stood behind them stands there still
+abbrev pub IsPut : {A : Type 0} → List A → List A → List A → ℕ → Type 0
+IsPut items before after size = (size ≡ length items) × (after ≡ items ++ drop (length items) before)
 
 -- the same for bytes that may be there
 abbrev pub IsPutIfThere : Option (List ℕ) → List ℕ → List ℕ → ℕ → Type 0
@@ -28,6 +29,12 @@ pub record GivesItem (x : Item) (out : XnsItem) : Type 0 where
   pub stream : out.stream ≡ x.stream
   pub attention : out.attention ≡ as_byte x.attention
   pub last : out.last ≡ as_byte x.last
+
+-- what is answered where this item is to be given, its bytes to the front of a buffer: with no room for all of them none is put, and their number is told
+abbrev pub ItemIsGiven : Item → XnsItem → XnsItem → List ℕ → List ℕ → ℕ → Type 0
+ItemIsGiven x before after old new number =
+    (length x.body ≤ length old → (number ≡ ok) × GivesItem x after × IsPut x.body old new after.length)
+    × (length old < length x.body → (number ≡ short_buffer) × (after ≡ record before { length = length x.body }))
 
 -- the bytes are an Echo request to this address
 pub record IsRequestTo (own : Address) (bytes : List ℕ) : Type 0 where

@@ -26,14 +26,19 @@ abbrev pub feeding : {S : Type 0} → Result S SessionFault → State → Step S
 feeding (Ok t) v = Some (Ok (t, v))
 feeding (Err e) v = Some (Err (session_fault_number e))
 
--- the first item that is out is sent, if the end accepts it, and the others xs are out still; where none is out the next that waits, if one does, is fed
-abbrev pub moving : {S : Type 0} → (S → List Item → S) → (S → State → Option Item → Step S) → S → State → List Item → Step S
-moving with_out feeds t v (x ∷ xs) = sending (send_fault v x) (with_out t xs) (after_send v x)
-moving with_out feeds t v [] = feeds t v (take_answer v)
+-- a side of a conversation: what is out, the side with that out instead, and the step that feeds it the next item that waits, if one does
+pub record Side (S : Type 0) : Type 0 where
+  pub out : S → List Item
+  pub with_out : S → List Item → S
+  pub feeds : S → State → Option Item → Step S
 
--- one step of a session of which this is out
-abbrev pub one_step : {S : Type 0} → (S → List Item) → (S → List Item → S) → (S → State → Option Item → Step S) → S × State → Step S
-one_step out with_out feeds y = moving with_out feeds y.0 y.1 (out y.0)
+-- the first item that is out is sent, if the end accepts it, and the others xs are out still; where none is out the next that waits is fed
+abbrev pub moving : {S : Type 0} → Side S → S → State → List Item → Step S
+moving side t v (x ∷ xs) = sending (send_fault v x) (side.with_out t xs) (after_send v x)
+moving side t v [] = side.feeds t v (take_answer v)
+
+abbrev pub one_step : {S : Type 0} → Side S → S × State → Step S
+one_step side y = moving side y.0 y.1 (side.out y.0)
 
 -- ---- the side that calls
 
@@ -41,14 +46,8 @@ abbrev pub caller_feeding : Talk → State → Option Item → Step Talk
 caller_feeding t v None = None
 caller_feeding t v (Some x) = if t.failed then Some (Err stopped) else feeding (talk.after_item t x) (after_take v)
 
-abbrev pub caller_out : Talk → List Item
-caller_out t = t.out
-
-abbrev pub caller_with : Talk → List Item → Talk
-caller_with t xs = record t { out = xs }
-
-abbrev pub caller_step : Talk × State → Step Talk
-caller_step = one_step caller_out caller_with caller_feeding
+abbrev pub caller_side : Side Talk
+caller_side = record { out = λ t. t.out; with_out = λ t xs. record t { out = xs }; feeds = caller_feeding }
 
 -- ---- the side that is called
 
@@ -60,30 +59,24 @@ server_feeding a v (Some x) =
     else if is_busy a then None
     else feeding (answering.after_item a x) (after_take v)
 
-abbrev pub server_out : Answering → List Item
-server_out a = a.out
-
-abbrev pub server_with : Answering → List Item → Answering
-server_with a xs = record a { out = xs }
-
-abbrev pub server_step : Answering × State → Step Answering
-server_step = one_step server_out server_with server_feeding
+abbrev pub server_side : Side Answering
+server_side = record { out = λ a. a.out; with_out = λ a xs. record a { out = xs }; feeds = server_feeding }
 
 -- ---- steps that are taken
 
 -- steps lead from one to the other
-pub data Leads {X : Type 0} (step : X → Option (Result X ℕ)) (x : X) : X → Type 0 where
-  here : Leads step x x
-  on : {y z : X} → Leads step x y → step y ≡ Some (Ok z) → Leads step x z
+pub data Leads {S : Type 0} (side : Side S) (x : S × State) : S × State → Type 0 where
+  here : Leads side x x
+  on : {y z : S × State} → Leads side x y → one_step side y ≡ Some (Ok z) → Leads side x z
 
 -- steps were taken up to the last, where none applies, or the session refuses the next item, or memory was refused; Stops says how a refusal leaves it
-pub record Pumped {S : Type 0} (step : S × State → Step S) (Stops : S → S → Type 0) (first : S × State) (number : ℕ) (session : S) (endpoint : Held) : Type 0 where
+pub record Pumped {S : Type 0} (side : Side S) (Stops : S → S → Type 0) (first : S × State) (number : ℕ) (session : S) (endpoint : Held) : Type 0 where
   pub last : S × State
-  pub leads : Leads step first last
+  pub leads : Leads side first last
   pub stands : StandsFor endpoint last.1
-  pub settled : number ≡ ok → (session ≡ last.0) × (step last ≡ None)
+  pub settled : number ≡ ok → (session ≡ last.0) × (one_step side last ≡ None)
   pub memory : number ≡ no_memory → session ≡ last.0
-  pub refused : number ≢ ok → number ≢ no_memory → Stops last.0 session × (step last ≡ Some (Err number))
+  pub refused : number ≢ ok → number ≢ no_memory → Stops last.0 session × (one_step side last ≡ Some (Err number))
 
 -- both are there, and P holds of them
 abbrev pub IfBoth : {A B : Type 0} → Option A → Option B → (A → B → Type 0) → Type 0

@@ -12,9 +12,6 @@ use Rattle.xns_c.specs.declared.packet.XnsPacket.{XnsPacket}
 abbrev pub address_in : XnsAddress → Address
 address_in a = record { network = a.network; host = a.host; socket = a.socket }
 
-abbrev pub address_out : Address → XnsAddress
-address_out a = record { network = a.network; host = a.host; socket = a.socket }
-
 -- the packet with this body
 abbrev pub packet_with : XnsPacket → List ℕ → PacketModel
 packet_with p body = record { summed = is_yes p.summed; control = p.control; kind = p.kind; target = address_in p.target; source = address_in p.source; body = body }
@@ -25,17 +22,6 @@ packet_in p bytes = packet_with p (slice_range bytes p.body_at (p.body_at + p.bo
 
 abbrev pub header_in : XnsHeader → Header
 header_in h = record {
-  control = h.control;
-  stream = h.stream;
-  source_id = h.source_id;
-  target_id = h.target_id;
-  sequence = h.sequence;
-  acknowledge = h.acknowledge;
-  allocation = h.allocation;
-}
-
-abbrev pub header_out : Header → XnsHeader
-header_out h = record {
   control = h.control;
   stream = h.stream;
   source_id = h.source_id;

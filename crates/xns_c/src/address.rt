@@ -1,3 +1,6 @@
+ghost use Rattle.std.specs.Prelude.{◌≡◌};
+ghost use Rattle.xns_c.specs.Views.{address_in};
+
 use xns_idp::Address;
 
 /// Where a packet goes to or comes from.
@@ -14,11 +17,11 @@ pub struct XnsAddress {
 
 impl XnsAddress {
     ghost use Rattle.std.specs.Prelude.{◌≡◌};
-    ghost use Rattle.xns_c.specs.Views.{address_in, address_out};
+    ghost use Rattle.xns_c.specs.Views.{address_in};
 
     /// The same for C.
     pub fn of(address: &Address) -> XnsAddress
-        ensures { result ≡ address_out address.now }
+        ensures { address_in result ≡ address.now }
     {
         XnsAddress {
             network: address.network,
@@ -37,4 +40,12 @@ impl XnsAddress {
             socket: self.socket,
         }
     }
+}
+
+/// Tells C an address and the connection identifier of the end there.
+pub fn tell_end(end: (Address, u16), address: &mut XnsAddress, id: &mut u16)
+    ensures { (address_in address.new ≡ end.0) × (id.new ≡ end.1) }
+{
+    *address = XnsAddress::of(&end.0);
+    *id = end.1;
 }

@@ -6,11 +6,10 @@ ghost use Rattle.xns_spp.specs.declared.item.Item.{Item};
 ghost use Rattle.courier_messages.specs.declared.message.Message.{Message};
 ghost use Rattle.courier_messages.specs.RawCalls.{words_call};
 ghost use Rattle.xns_c.specs.Handle.{line_of, talk_of};
-ghost use Rattle.courier_messages.specs.Head.{words_in};
-ghost use Rattle.xns_c.specs.Courier.{message_given, heard_number};
-ghost use Rattle.xns_c.specs.Given.{GivesItem, IsPut};
+ghost use Rattle.xns_c.specs.Courier.{MessageIsGiven, heard_number};
+ghost use Rattle.xns_c.specs.Given.{ItemIsGiven};
 ghost use Rattle.xns_c.specs.Line.{Keeps, packets_of};
-ghost use Rattle.xns_c.specs.Pumping.{caller_step, Pumped, IfBoth};
+ghost use Rattle.xns_c.specs.Pumping.{caller_side, Pumped, IfBoth};
 ghost use Rattle.xns_c.specs.Results.{ok, nothing, no_memory, no_endpoint, no_caller, short_buffer, stopped, too_long};
 ghost use Rattle.xns_c.specs.Talk.{Talk, new_talk, called, call_number, longest_item, after_item, IsStopped};
 ghost use Rattle.xns_c.specs.Views.{item_given};
@@ -93,12 +92,9 @@ pub extern "C" fn xns_caller_next_item(
     item: &mut XnsItem,
     buffer: &mut [u8],
 ) -> u32
-    ensures given { (t : Talk) (x : Item) (xs : List Item) → talk_of handle.old ≡ Some t → t.out ≡ x ∷ xs → length x.body ≤ length buffer.old →
-        (result ≡ ok) × GivesItem x item.new × IsPut x.body buffer.old buffer.new item.new.length }
+    ensures given { (t : Talk) (x : Item) (xs : List Item) → talk_of handle.old ≡ Some t → t.out ≡ x ∷ xs → ItemIsGiven x item.old item.new buffer.old buffer.new result }
     ensures rest { (t : Talk) (x : Item) (xs : List Item) → talk_of handle.old ≡ Some t → t.out ≡ x ∷ xs → length x.body ≤ length buffer.old →
         talk_of handle.new ≡ Some (record t { out = xs }) }
-    ensures short { (t : Talk) (x : Item) (xs : List Item) → talk_of handle.old ≡ Some t → t.out ≡ x ∷ xs → length buffer.old < length x.body →
-        (result ≡ short_buffer) × (item.new ≡ record item.old { length = length x.body }) }
     ensures nothing { (t : Talk) → talk_of handle.old ≡ Some t → t.out ≡ [] → result ≡ nothing }
     ensures none { talk_of handle.old ≡ None → result ≡ no_caller }
     ensures unchanged { result ≢ ok → (talk_of handle.new ≡ talk_of handle.old) × (buffer.new ≡ buffer.old) }
@@ -155,7 +151,7 @@ pub extern "C" fn xns_caller_pump(
     endpoint: &mut XnsEndpoint,
 ) -> u32
     ensures pumped { (t : Talk) (s : State) → talk_of handle.old ≡ Some t → Keeps (line_of endpoint.old) s →
-        IfBoth (talk_of handle.new) (line_of endpoint.new) (λ n l. Pumped caller_step IsStopped (t, s) result n l.endpoint) }
+        IfBoth (talk_of handle.new) (line_of endpoint.new) (λ n l. Pumped caller_side IsStopped (t, s) result n l.endpoint) }
     ensures packets { packets_of (line_of endpoint.new) ≡ packets_of (line_of endpoint.old) }
     ensures no_caller { talk_of handle.old ≡ None → (result ≡ no_caller) × (talk_of handle.new ≡ None) × (line_of endpoint.new ≡ line_of endpoint.old) }
     ensures no_endpoint { talk_of handle.old ≢ None → line_of endpoint.old ≡ None → (result ≡ no_endpoint) × (talk_of handle.new ≡ talk_of handle.old) × (line_of endpoint.new ≡ None) }
@@ -184,10 +180,8 @@ pub extern "C" fn xns_caller_outcome(
     words: &mut [u16],
     count: &mut usize,
 ) -> u32
-    ensures given { (t : Talk) (m : Message) → talk_of handle.old ≡ Some t → t.outcome ≡ Some m → length (words_in m) ≤ length words.old →
-        (result ≡ ok) × (message_given message.new (words_in m) ≡ Some m) × IsPut (words_in m) words.old words.new count.new }
+    ensures given { (t : Talk) (m : Message) → talk_of handle.old ≡ Some t → t.outcome ≡ Some m → MessageIsGiven m message.new words.old words.new count.new result }
     ensures rest { (t : Talk) → talk_of handle.old ≡ Some t → result ≡ ok → talk_of handle.new ≡ Some (record t { outcome = None }) }
-    ensures short { (t : Talk) (m : Message) → talk_of handle.old ≡ Some t → t.outcome ≡ Some m → length words.old < length (words_in m) → (result ≡ short_buffer) × (count.new ≡ length (words_in m)) }
     ensures nothing { (t : Talk) → talk_of handle.old ≡ Some t → t.outcome ≡ None → (result ≡ nothing) × (count.new ≡ count.old) }
     ensures none { talk_of handle.old ≡ None → (result ≡ no_caller) × (count.new ≡ count.old) }
     ensures unchanged { result ≢ ok → (talk_of handle.new ≡ talk_of handle.old) × (message.new ≡ message.old) × (words.new ≡ words.old) }

@@ -5,7 +5,7 @@ ghost use Rattle.courier_messages.specs.Message.{most_bytes, message_bytes, mess
 ghost use Rattle.courier_messages.specs.declared.fault.MessageFault.{MessageFault};
 ghost use Rattle.courier_messages.specs.declared.message.Message.{Message};
 ghost use Rattle.courier_messages.specs.Head.{with_words, words_in};
-ghost use Rattle.xns_c.specs.Courier.{message_fault_number, message_given, session_fault_number, stream_number};
+ghost use Rattle.xns_c.specs.Courier.{MessageIsGiven, message_fault_number, message_given, session_fault_number, stream_number};
 ghost use Rattle.xns_c.specs.Given.{IsPut};
 ghost use Rattle.xns_c.specs.Results.{ok, bad_argument, no_memory, short_buffer, too_long};
 
@@ -115,9 +115,7 @@ pub fn give_message(
     words: &mut [u16],
     count: &mut usize,
 ) -> u32
-    ensures given { length (words_in found.now) ≤ length words.old →
-        (result ≡ ok) × (message_given message.new (words_in found.now) ≡ Some found.now) × IsPut (words_in found.now) words.old words.new count.new }
-    ensures short { length words.old < length (words_in found.now) → (result ≡ short_buffer) × (count.new ≡ length (words_in found.now)) }
+    ensures given { MessageIsGiven found.now message.new words.old words.new count.new result }
     ensures unchanged { result ≢ ok → (message.new ≡ message.old) × (words.new ≡ words.old) }
 {
     let size = found.word_count();
@@ -127,21 +125,6 @@ pub fn give_message(
     }
     found.put_words(words);
     *message = head_out(found.head());
-    OK
-}
-
-/// Puts words to the front of a buffer, and says how many. Of a buffer that is too short nothing is written.
-pub fn put_words(words: &[u16], buffer: &mut [u16], count: &mut usize) -> u32
-    ensures put { length words.now ≤ length buffer.old → (result ≡ ok) × IsPut words.now buffer.old buffer.new count.new }
-    ensures short { length buffer.old < length words.now → (result ≡ short_buffer) × (count.new ≡ length words.now) }
-    ensures unchanged { length buffer.old < length words.now → buffer.new ≡ buffer.old }
-{
-    let size = words.len();
-    *count = size;
-    if buffer.len() < size {
-        return SHORT_BUFFER;
-    }
-    buffer[..size].copy_from_slice(words);
     OK
 }
 
@@ -169,7 +152,7 @@ pub extern "C" fn xns_message_read(
         Err(MessageRefusal::Fault(fault)) => return message_fault_number(fault),
         Err(MessageRefusal::NoMemory) => return NO_MEMORY,
     };
-    let result = put_words(found.words(), words, count);
+    let result = put_front(found.words(), words, count);
     if result == OK {
         *message = head_out(Head::of(&found));
     }

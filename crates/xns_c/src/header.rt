@@ -22,11 +22,11 @@ pub struct XnsHeader {
 
 impl XnsHeader {
     ghost use Rattle.std.specs.Prelude.{◌≡◌};
-    ghost use Rattle.xns_c.specs.Views.{header_in, header_out};
+    ghost use Rattle.xns_c.specs.Views.{header_in};
 
     /// The same for C.
     pub fn of(header: &Header) -> XnsHeader
-        ensures { result ≡ header_out header.now }
+        ensures { header_in result ≡ header.now }
     {
         XnsHeader {
             control: header.control,

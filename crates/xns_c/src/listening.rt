@@ -8,7 +8,7 @@ ghost use Rattle.xns_c.specs.Listening.{Listening, IsFor, OpensNew, add_number, 
 ghost use Rattle.xns_c.specs.Results.{ok, nothing, no_memory, no_listener, bad_argument, opens};
 ghost use Rattle.xns_c.specs.Views.{address_in};
 
-use crate::address::XnsAddress;
+use crate::address::{XnsAddress, tell_end};
 use crate::arrived::Arrived;
 use crate::guest::Guest;
 use crate::listener::Listener;
@@ -98,8 +98,7 @@ pub extern "C" fn xns_listener_find(
             OK
         }
         Arrived::Opens(address, id) => {
-            *peer = XnsAddress::of(&address);
-            *peer_id = id;
+            tell_end((address, id), peer, peer_id);
             OPENS
         }
         Arrived::ForNone => NOTHING,

@@ -7,7 +7,7 @@ ghost use Rattle.xns_spp.specs.State.{State};
 ghost use Rattle.xns_spp.specs.declared.item.Item.{Item};
 ghost use Rattle.courier_messages.specs.Head.{with_words};
 ghost use Rattle.courier_messages.specs.Message.{message_words};
-ghost use Rattle.xns_c.specs.Given.{GivesItem, IsPut};
+ghost use Rattle.xns_c.specs.Given.{ItemIsGiven};
 ghost use Rattle.xns_c.specs.Results.{ok, nothing, short_buffer};
 ghost use Rattle.xns_c.specs.Views.{item_given};
 
@@ -16,21 +16,18 @@ use crate::flag::as_byte;
 use crate::front::put_front;
 use crate::item::XnsItem;
 use crate::results::{NOTHING, OK};
-use courier_messages::Head;
+use courier_messages::{Head, MOST_BYTES};
 use std::alloc::{AllocError, Global};
 use std::collections::VecDeque;
 use xns_spp::{Bytes, Item};
 
 /// The most bytes that an item may have: the versions and the longest message.
-pub const LONGEST_ITEM: usize = 131_076;
+pub const LONGEST_ITEM: usize = 4 + MOST_BYTES;
 
 /// Gives the first item that is to go out, its bytes to the front of the buffer. Where the buffer is too short the item stays, and its length is told.
 pub fn give_item(out: &mut VecDeque<Item>, item: &mut XnsItem, buffer: &mut [u8]) -> u32
-    ensures given { (x : Item) (xs : List Item) → out.old.items ≡ x ∷ xs → length x.body ≤ length buffer.old →
-        (result ≡ ok) × GivesItem x item.new × IsPut x.body buffer.old buffer.new item.new.length }
+    ensures given { (x : Item) (xs : List Item) → out.old.items ≡ x ∷ xs → ItemIsGiven x item.old item.new buffer.old buffer.new result }
     ensures rest { (x : Item) (xs : List Item) → out.old.items ≡ x ∷ xs → length x.body ≤ length buffer.old → out.new.items ≡ xs }
-    ensures short { (x : Item) (xs : List Item) → out.old.items ≡ x ∷ xs → length buffer.old < length x.body →
-        (result ≡ short_buffer) × (item.new ≡ record item.old { length = length x.body }) }
     ensures none { out.old.items ≡ [] → result ≡ nothing }
     ensures unchanged { result ≢ ok → (out.new.items ≡ out.old.items) × (buffer.new ≡ buffer.old) }
     ensures untold { result ≢ ok → result ≢ short_buffer → item.new ≡ item.old }

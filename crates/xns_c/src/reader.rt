@@ -62,15 +62,12 @@ pub extern "C" fn xns_read_integer(words: &[u16], cursor: &mut XnsCursor, value:
     ensures stays { cursor.old.fault ≢ ok → (result ≡ cursor.old.fault) × (cursor.new ≡ cursor.old) }
     ensures unchanged { result ≢ ok → value.new ≡ value.old }
 {
-    if cursor.fault != OK {
-        return cursor.fault;
+    let mut word = 0;
+    let result = xns_read_cardinal(words, cursor, &mut word);
+    if result == OK {
+        *value = word.cast_signed();
     }
-    let [word, ..] = cursor.ahead(words) else {
-        return cursor.fail(TRUNCATED);
-    };
-    *value = word.cast_signed();
-    cursor.place += 1;
-    OK
+    result
 }
 
 /// Reads a long integer, two words.
@@ -84,15 +81,12 @@ pub extern "C" fn xns_read_long_integer(
     ensures stays { cursor.old.fault ≢ ok → (result ≡ cursor.old.fault) × (cursor.new ≡ cursor.old) }
     ensures unchanged { result ≢ ok → value.new ≡ value.old }
 {
-    if cursor.fault != OK {
-        return cursor.fault;
+    let mut double = 0;
+    let result = xns_read_long_cardinal(words, cursor, &mut double);
+    if result == OK {
+        *value = double.cast_signed();
     }
-    let [high, low, ..] = cursor.ahead(words) else {
-        return cursor.fail(TRUNCATED);
-    };
-    *value = (u32::from(*high) * 65536 + u32::from(*low)).cast_signed();
-    cursor.place += 2;
-    OK
+    result
 }
 
 /// Reads the count of a sequence, one word, which is at most this one: so many elements are to be read.

@@ -7,7 +7,7 @@ ghost use Rattle.xns_c.specs.Given.{IsPut};
 ghost use Rattle.xns_c.specs.Results.{ok, nothing, short, short_buffer};
 ghost use Rattle.xns_c.specs.Views.{address_in, header_in};
 
-use crate::address::XnsAddress;
+use crate::address::{XnsAddress, tell_end};
 use crate::front::put_front;
 use crate::header::XnsHeader;
 use crate::results::{NOTHING, OK, SHORT};
@@ -53,12 +53,9 @@ pub extern "C" fn xns_opening(bytes: &[u8], peer: &mut XnsAddress, peer_id: &mut
     ensures none { result ≢ ok → (result ≡ nothing) × (opener bytes.now ≡ None) }
     ensures unchanged { result ≢ ok → (peer.new ≡ peer.old) × (peer_id.new ≡ peer_id.old) }
 {
-    match opening(bytes) {
-        Some((address, id)) => {
-            *peer = XnsAddress::of(&address);
-            *peer_id = id;
-            OK
-        }
-        None => NOTHING,
-    }
+    let Some(opener) = opening(bytes) else {
+        return NOTHING;
+    };
+    tell_end(opener, peer, peer_id);
+    OK
 }

@@ -4,13 +4,12 @@ ghost use Rattle.std.specs.Prelude.{◌≡◌, ◌≢◌, ◌<◌, ◌≤◌, �
 ghost use Rattle.xns_spp.specs.State.{State};
 ghost use Rattle.xns_spp.specs.declared.item.Item.{Item};
 ghost use Rattle.courier_messages.specs.declared.message.Message.{Message};
-ghost use Rattle.courier_messages.specs.Head.{words_in};
 ghost use Rattle.xns_c.specs.Answering.{Answering, new_answering, is_busy, after_item, feed_number, IsStopped, after_call, call_refusal, after_reject, answer_given, answers_to, answer_number, answered};
-ghost use Rattle.xns_c.specs.Courier.{message_given};
-ghost use Rattle.xns_c.specs.Given.{GivesItem, IsPut};
+ghost use Rattle.xns_c.specs.Courier.{MessageIsGiven};
+ghost use Rattle.xns_c.specs.Given.{ItemIsGiven};
 ghost use Rattle.xns_c.specs.Handle.{answering_of, line_of};
 ghost use Rattle.xns_c.specs.Line.{Keeps, packets_of};
-ghost use Rattle.xns_c.specs.Pumping.{server_step, Pumped, IfBoth};
+ghost use Rattle.xns_c.specs.Pumping.{server_side, Pumped, IfBoth};
 ghost use Rattle.xns_c.specs.Results.{ok, nothing, no_memory, no_endpoint, no_server, short_buffer, too_long};
 ghost use Rattle.xns_c.specs.Talk.{longest_item};
 ghost use Rattle.xns_c.specs.Views.{item_given};
@@ -123,12 +122,10 @@ pub extern "C" fn xns_server_call(
     words: &mut [u16],
     count: &mut usize,
 ) -> u32
-    ensures given { (a : Answering) (m : Message) → answering_of handle.old ≡ Some a → a.call ≡ Some m → call_refusal a.programs m ≡ None → length (words_in m) ≤ length words.old →
-        (result ≡ ok) × (message_given call.new (words_in m) ≡ Some m) × IsPut (words_in m) words.old words.new count.new }
+    ensures given { (a : Answering) (m : Message) → answering_of handle.old ≡ Some a → a.call ≡ Some m → call_refusal a.programs m ≡ None →
+        MessageIsGiven m call.new words.old words.new count.new result }
     ensures rest { (a : Answering) (m : Message) → answering_of handle.old ≡ Some a → a.call ≡ Some m → result ≡ ok →
         (call_refusal a.programs m ≡ None) × (answering_of handle.new ≡ Some (after_call a m)) }
-    ensures short { (a : Answering) (m : Message) → answering_of handle.old ≡ Some a → a.call ≡ Some m → call_refusal a.programs m ≡ None → length words.old < length (words_in m) →
-        (result ≡ short_buffer) × (count.new ≡ length (words_in m)) }
     ensures rejects { (a : Answering) (m : Message) (u : Unlisted) → answering_of handle.old ≡ Some a → a.call ≡ Some m → call_refusal a.programs m ≡ Some u → result ≢ no_memory →
         (result ≡ nothing) × (answering_of handle.new ≡ Some (after_reject a m u)) × (count.new ≡ count.old) }
     ensures nothing { (a : Answering) → answering_of handle.old ≡ Some a → a.call ≡ None → (result ≡ nothing) × (answering_of handle.new ≡ Some a) × (count.new ≡ count.old) }
@@ -184,12 +181,9 @@ pub extern "C" fn xns_server_next_item(
     item: &mut XnsItem,
     buffer: &mut [u8],
 ) -> u32
-    ensures given { (a : Answering) (x : Item) (xs : List Item) → answering_of handle.old ≡ Some a → a.out ≡ x ∷ xs → length x.body ≤ length buffer.old →
-        (result ≡ ok) × GivesItem x item.new × IsPut x.body buffer.old buffer.new item.new.length }
+    ensures given { (a : Answering) (x : Item) (xs : List Item) → answering_of handle.old ≡ Some a → a.out ≡ x ∷ xs → ItemIsGiven x item.old item.new buffer.old buffer.new result }
     ensures rest { (a : Answering) (x : Item) (xs : List Item) → answering_of handle.old ≡ Some a → a.out ≡ x ∷ xs → length x.body ≤ length buffer.old →
         answering_of handle.new ≡ Some (record a { out = xs }) }
-    ensures short { (a : Answering) (x : Item) (xs : List Item) → answering_of handle.old ≡ Some a → a.out ≡ x ∷ xs → length buffer.old < length x.body →
-        (result ≡ short_buffer) × (item.new ≡ record item.old { length = length x.body }) }
     ensures nothing { (a : Answering) → answering_of handle.old ≡ Some a → a.out ≡ [] → result ≡ nothing }
     ensures none { answering_of handle.old ≡ None → result ≡ no_server }
     ensures unchanged { result ≢ ok → (answering_of handle.new ≡ answering_of handle.old) × (buffer.new ≡ buffer.old) }
@@ -215,7 +209,7 @@ pub extern "C" fn xns_server_pump(
     endpoint: &mut XnsEndpoint,
 ) -> u32
     ensures pumped { (a : Answering) (s : State) → answering_of handle.old ≡ Some a → Keeps (line_of endpoint.old) s →
-        IfBoth (answering_of handle.new) (line_of endpoint.new) (λ n l. Pumped server_step IsStopped (a, s) result n l.endpoint) }
+        IfBoth (answering_of handle.new) (line_of endpoint.new) (λ n l. Pumped server_side IsStopped (a, s) result n l.endpoint) }
     ensures packets { packets_of (line_of endpoint.new) ≡ packets_of (line_of endpoint.old) }
     ensures no_server { answering_of handle.old ≡ None → (result ≡ no_server) × (answering_of handle.new ≡ None) × (line_of endpoint.new ≡ line_of endpoint.old) }
     ensures no_endpoint { answering_of handle.old ≢ None → line_of endpoint.old ≡ None → (result ≡ no_endpoint) × (answering_of handle.new ≡ answering_of handle.old) × (line_of endpoint.new ≡ None) }

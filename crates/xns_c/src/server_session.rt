@@ -8,13 +8,13 @@ ghost use Rattle.xns_spp.specs.declared.item.Item.{Item};
 ghost use Rattle.courier_messages.specs.declared.fault.SessionFault.TheVariants.{NoMemory};
 ghost use Rattle.courier_messages.specs.declared.message.Message.{Message};
 ghost use Rattle.courier_messages.specs.Cutting.{cut};
-ghost use Rattle.courier_messages.specs.Head.{with_words, words_in};
-ghost use Rattle.courier_messages.specs.Message.{message_words};
+ghost use Rattle.courier_messages.specs.Head.{with_words};
+ghost use Rattle.courier_messages.specs.Message.{message_words, most_words};
 ghost use Rattle.courier_messages.specs.Refusal.{Follows};
 ghost use Rattle.xns_c.specs.Answering.{Answering, new_answering, is_busy, after_item, feed_number, IsStopped, is_a_call, transaction_in, after_call, call_refusal, reject_message, after_reject, answer_given, length_number, answers_to, answer_number, answered};
-ghost use Rattle.xns_c.specs.Courier.{message_given};
-ghost use Rattle.xns_c.specs.Given.{GivesItem, IsPut};
-ghost use Rattle.xns_c.specs.Pumping.{server_feeding, server_step, Pumped};
+ghost use Rattle.xns_c.specs.Courier.{MessageIsGiven};
+ghost use Rattle.xns_c.specs.Given.{ItemIsGiven};
+ghost use Rattle.xns_c.specs.Pumping.{server_feeding, server_side, Pumped};
 ghost use Rattle.xns_c.specs.Results.{ok, nothing, no_memory, short_buffer, bad_argument, too_long};
 ghost use Rattle.xns_c.specs.Talk.{longest_item};
 ghost use Rattle.xns_c.specs.Views.{item_given};
@@ -29,7 +29,7 @@ use crate::outgoing::{LONGEST_ITEM, copied_item, give_item, send_first, whole_wo
 use crate::program::XnsProgram;
 use crate::results::{BAD_ARGUMENT, BUSY, NO_MEMORY, NOTHING, OK, STOPPED, TOO_LONG};
 use crate::unlisted::{Unlisted, refusal, reject_words};
-use courier_messages::{Head, Incoming, PiecedMessage, SessionFault, cut, versions};
+use courier_messages::{Head, Incoming, MOST_BYTES, PiecedMessage, SessionFault, cut, versions};
 use std::alloc::{AllocError, Global};
 use std::collections::VecDeque;
 use std::marker::Model;
@@ -38,8 +38,8 @@ use xns_spp::Item;
 /// The number of a reject among the kinds of messages.
 const REJECT: u8 = 1;
 
-/// The most words that a message may have: 131,072 bytes.
-const MOST_WORDS: usize = 65_536;
+/// The most words that a message may have.
+const MOST_WORDS: usize = MOST_BYTES / 2;
 
 /// The side that is called, one call at a time.
 #[derive(Drop)]
@@ -97,9 +97,9 @@ fn answer_head(kind: u8, transaction: u16, number: u16) -> Option<Head>
     }
 }
 
-/// Whether a message with this head and so many words has more than 131,072 bytes.
+/// Whether a message with this head and so many words is longer than any message.
 fn is_too_long(head: Head, count: usize) -> bool
-    ensures { (words : List ℕ) → length words ≡ count → result ≡ nat_lt 65536 (length (message_words (with_words head words))) }
+    ensures { (words : List ℕ) → length words ≡ count → result ≡ nat_lt most_words (length (message_words (with_words head words))) }
 {
     count > MOST_WORDS - head.size()
 }
@@ -128,11 +128,8 @@ impl ServerSession {
 
     /// Gives the next item that is to go out, its bytes to the front of the buffer. Where the buffer is too short the item stays, and its length is told.
     pub fn next_item(&mut self, item: &mut XnsItem, buffer: &mut [u8]) -> u32
-        ensures given { (x : Item) (xs : List Item) → self.old.out ≡ x ∷ xs → length x.body ≤ length buffer.old →
-            (result ≡ ok) × GivesItem x item.new × IsPut x.body buffer.old buffer.new item.new.length }
+        ensures given { (x : Item) (xs : List Item) → self.old.out ≡ x ∷ xs → ItemIsGiven x item.old item.new buffer.old buffer.new result }
         ensures rest { (x : Item) (xs : List Item) → self.old.out ≡ x ∷ xs → length x.body ≤ length buffer.old → self.new ≡ record self.old { out = xs } }
-        ensures short { (x : Item) (xs : List Item) → self.old.out ≡ x ∷ xs → length buffer.old < length x.body →
-            (result ≡ short_buffer) × (item.new ≡ record item.old { length = length x.body }) }
         ensures none { self.old.out ≡ [] → result ≡ nothing }
         ensures unchanged { result ≢ ok → (self.new ≡ self.old) × (buffer.new ≡ buffer.old) }
         ensures untold { result ≢ ok → result ≢ short_buffer → item.new ≡ item.old }
@@ -223,7 +220,7 @@ impl ServerSession {
 
     /// Moves items both ways until nothing moves, and says by a number whether the session goes on.
     pub fn pump(&mut self, alloc: Global, connection: &mut Connection) -> u32
-        ensures pumped { (s : State) → StandsFor connection.old.endpoint s → Pumped server_step IsStopped (self.old, s) result self.new connection.new.endpoint }
+        ensures pumped { (s : State) → StandsFor connection.old.endpoint s → Pumped server_side IsStopped (self.old, s) result self.new connection.new.endpoint }
         ensures packets { connection.new.packets ≡ connection.old.packets }
     {
         while send_first(&mut self.out, connection) {}
@@ -244,10 +241,8 @@ impl ServerSession {
     /// Hands the call that waits, which is listed, its words to the front of a buffer. Where the buffer is too short the call stays, and the number of
     /// its words is told.
     fn hand(&mut self, message: &mut XnsMessage, words: &mut [u16], count: &mut usize) -> u32
-        ensures given { (m : Message) → self.old.call ≡ Some m → length (words_in m) ≤ length words.old →
-            (result ≡ ok) × (message_given message.new (words_in m) ≡ Some m) × IsPut (words_in m) words.old words.new count.new }
+        ensures given { (m : Message) → self.old.call ≡ Some m → MessageIsGiven m message.new words.old words.new count.new result }
         ensures rest { (m : Message) → self.old.call ≡ Some m → result ≡ ok → self.new ≡ after_call self.old m }
-        ensures short { (m : Message) → self.old.call ≡ Some m → length words.old < length (words_in m) → (result ≡ short_buffer) × (count.new ≡ length (words_in m)) }
         ensures none { self.old.call ≡ None → (result ≡ nothing) × (count.new ≡ count.old) }
         ensures unchanged { result ≢ ok → (self.new ≡ self.old) × (message.new ≡ message.old) × (words.new ≡ words.old) }
         ensures apart { result ≢ no_memory }
@@ -300,11 +295,8 @@ impl ServerSession {
         words: &mut [u16],
         count: &mut usize,
     ) -> u32
-        ensures given { (m : Message) → self.old.call ≡ Some m → call_refusal self.old.programs m ≡ None → length (words_in m) ≤ length words.old →
-            (result ≡ ok) × (message_given message.new (words_in m) ≡ Some m) × IsPut (words_in m) words.old words.new count.new }
+        ensures given { (m : Message) → self.old.call ≡ Some m → call_refusal self.old.programs m ≡ None → MessageIsGiven m message.new words.old words.new count.new result }
         ensures rest { (m : Message) → self.old.call ≡ Some m → result ≡ ok → (call_refusal self.old.programs m ≡ None) × (self.new ≡ after_call self.old m) }
-        ensures short { (m : Message) → self.old.call ≡ Some m → call_refusal self.old.programs m ≡ None → length words.old < length (words_in m) →
-            (result ≡ short_buffer) × (count.new ≡ length (words_in m)) }
         ensures rejects { (m : Message) (u : Unlisted) → self.old.call ≡ Some m → call_refusal self.old.programs m ≡ Some u → result ≢ no_memory →
             (result ≡ nothing) × (self.new ≡ after_reject self.old m u) × (count.new ≡ count.old) }
         ensures none { self.old.call ≡ None → (result ≡ nothing) × (self.new ≡ self.old) × (count.new ≡ count.old) }

@@ -8,11 +8,11 @@ ghost use Rattle.xns_spp.specs.declared.item.Item.{Item};
 ghost use Rattle.courier_messages.specs.declared.fault.SessionFault.TheVariants.{NoMemory};
 ghost use Rattle.courier_messages.specs.declared.message.Message.{Message};
 ghost use Rattle.courier_messages.specs.RawCalls.{words_call};
-ghost use Rattle.courier_messages.specs.Head.{with_words, words_in};
+ghost use Rattle.courier_messages.specs.Head.{with_words};
 ghost use Rattle.courier_messages.specs.Refusal.{Follows};
-ghost use Rattle.xns_c.specs.Courier.{message_given, session_fault_number, heard_number};
-ghost use Rattle.xns_c.specs.Given.{GivesItem, IsPut};
-ghost use Rattle.xns_c.specs.Pumping.{caller_feeding, caller_step, Pumped};
+ghost use Rattle.xns_c.specs.Courier.{MessageIsGiven, session_fault_number, heard_number};
+ghost use Rattle.xns_c.specs.Given.{ItemIsGiven};
+ghost use Rattle.xns_c.specs.Pumping.{caller_feeding, caller_side, Pumped};
 ghost use Rattle.xns_c.specs.Results.{ok, nothing, no_memory, short_buffer, stopped, too_long};
 ghost use Rattle.xns_c.specs.Talk.{Talk, new_talk, called, call_number, reply_fault, longest_item, after_item, IsStopped};
 ghost use Rattle.xns_c.specs.Views.{item_given};
@@ -24,14 +24,14 @@ use crate::item::XnsItem;
 use crate::message::XnsMessage;
 use crate::outgoing::{LONGEST_ITEM, copied_item, give_item, send_first, whole_words};
 use crate::results::{BUSY, NO_MEMORY, NOTHING, OK, STOPPED, TOO_LONG};
-use courier_messages::{Head, Incoming, PiecedMessage, SessionFault, cut, versions};
+use courier_messages::{Head, Incoming, MOST_BYTES, PiecedMessage, SessionFault, cut, versions};
 use std::alloc::{AllocError, Global};
 use std::collections::VecDeque;
 use std::marker::Model;
 use xns_spp::Item;
 
-/// The most words that a call may have: with six words before them they are 131,072 bytes.
-const MOST_WORDS: usize = 65_530;
+/// The most words that a call may have: six words stand before them.
+const MOST_WORDS: usize = MOST_BYTES / 2 - 6;
 
 /// The side that calls, one call at a time.
 #[derive(Drop)]
@@ -154,11 +154,8 @@ impl Session {
 
     /// Gives the next item that is to go out, its bytes to the front of the buffer. Where the buffer is too short the item stays, and its length is told.
     pub fn next_item(&mut self, item: &mut XnsItem, buffer: &mut [u8]) -> u32
-        ensures given { (x : Item) (xs : List Item) → self.old.out ≡ x ∷ xs → length x.body ≤ length buffer.old →
-            (result ≡ ok) × GivesItem x item.new × IsPut x.body buffer.old buffer.new item.new.length }
+        ensures given { (x : Item) (xs : List Item) → self.old.out ≡ x ∷ xs → ItemIsGiven x item.old item.new buffer.old buffer.new result }
         ensures rest { (x : Item) (xs : List Item) → self.old.out ≡ x ∷ xs → length x.body ≤ length buffer.old → self.new ≡ record self.old { out = xs } }
-        ensures short { (x : Item) (xs : List Item) → self.old.out ≡ x ∷ xs → length buffer.old < length x.body →
-            (result ≡ short_buffer) × (item.new ≡ record item.old { length = length x.body }) }
         ensures none { self.old.out ≡ [] → result ≡ nothing }
         ensures unchanged { result ≢ ok → (self.new ≡ self.old) × (buffer.new ≡ buffer.old) }
         ensures untold { result ≢ ok → result ≢ short_buffer → item.new ≡ item.old }
@@ -243,7 +240,7 @@ impl Session {
 
     /// Moves items both ways until nothing moves, and says by a number whether the session goes on.
     pub fn pump(&mut self, alloc: Global, connection: &mut Connection) -> u32
-        ensures pumped { (s : State) → StandsFor connection.old.endpoint s → Pumped caller_step IsStopped (self.old, s) result self.new connection.new.endpoint }
+        ensures pumped { (s : State) → StandsFor connection.old.endpoint s → Pumped caller_side IsStopped (self.old, s) result self.new connection.new.endpoint }
         ensures packets { connection.new.packets ≡ connection.old.packets }
     {
         while send_first(&mut self.out, connection) {}
@@ -264,10 +261,8 @@ impl Session {
     /// Gives the answer that is there, once, its words to the front of a buffer. Where the buffer is too short the answer stays, and the number of its
     /// words is told.
     pub fn outcome(&mut self, message: &mut XnsMessage, words: &mut [u16], count: &mut usize) -> u32
-        ensures given { (m : Message) → self.old.outcome ≡ Some m → length (words_in m) ≤ length words.old →
-            (result ≡ ok) × (message_given message.new (words_in m) ≡ Some m) × IsPut (words_in m) words.old words.new count.new }
+        ensures given { (m : Message) → self.old.outcome ≡ Some m → MessageIsGiven m message.new words.old words.new count.new result }
         ensures rest { result ≡ ok → self.new ≡ record self.old { outcome = None } }
-        ensures short { (m : Message) → self.old.outcome ≡ Some m → length words.old < length (words_in m) → (result ≡ short_buffer) × (count.new ≡ length (words_in m)) }
         ensures none { self.old.outcome ≡ None → (result ≡ nothing) × (count.new ≡ count.old) }
         ensures unchanged { result ≢ ok → (self.new ≡ self.old) × (message.new ≡ message.old) × (words.new ≡ words.old) }
     {
