@@ -1,0 +1,29 @@
+-- The items that are kept lie in two rows, one behind the other.
+use Rattle.std.proofs.Common.{◌≡◌, ap, sym, refl, arith, ℕ, ◌+◌, ◌<◌, ◌≤◌, ◌==◌, Bool, true, false, cond, List, [], ◌∷◌, ◌++◌, length}
+use Rattle.std.specs.Prelude.{nat_lt, ◌||◌}
+use Rattle.std.specs.List.{list_any}
+use Rattle.std.proofs.lemmas.List.Folds.{list_any-append}
+use Rattle.xns_calls.specs.declared.early.Early.{Early}
+use Rattle.xns_calls.specs.Queue.{below}
+
+front_step : (p : Bool) (b m l : ℕ) → (b < l → m ≡ b) → cond p (1 + b) 0 < 1 + l → cond p (1 + m) 0 ≡ cond p (1 + b) 0
+front_step true b m l same lt = ap (λ k. 1 + k) (same (omega (arith, lt)))
+front_step false b m l same lt = refl
+
+-- where an item of the first row has no smaller number, the second row is not looked at
+pub below_front : (n : ℕ) (xs ys : List Early) → below n xs < length xs → below n (xs ++ ys) ≡ below n xs
+below_front n [] ys lt = absurd (omega (arith, lt))
+below_front n (e ∷ xs) ys lt = front_step (nat_lt e.number n) (below n xs) (below n (xs ++ ys)) (length xs) (below_front n xs ys) (omega (arith, lt))
+
+all_step : (p : Bool) (b m l k : ℕ) → (l ≤ b → m ≡ b + k) → 1 + l ≤ cond p (1 + b) 0 → cond p (1 + m) 0 ≡ cond p (1 + b) 0 + k
+all_step true b m l k same le = let rest : m ≡ b + k = same (omega (arith, le)) in omega (arith, rest)
+all_step false b m l k same le = absurd (omega (arith, le))
+
+-- where all of the first row have smaller numbers, those of the second row come behind them
+pub below_all : (n : ℕ) (xs ys : List Early) → length xs ≤ below n xs → below n (xs ++ ys) ≡ below n xs + below n ys
+below_all n [] ys le = let none : 0 + below n ys ≡ below n ys = omega arith in sym none
+below_all n (e ∷ xs) ys le = all_step (nat_lt e.number n) (below n xs) (below n (xs ++ ys)) (length xs) (below n ys) (below_all n xs ys) (omega (arith, le))
+
+pub any_joined : (m : ℕ) (xs ys : List Early)
+    → list_any (λ early. early.number == m) (xs ++ ys) ≡ (list_any (λ early. early.number == m) xs || list_any (λ early. early.number == m) ys)
+any_joined m xs ys = list_any-append (λ early. early.number == m) xs ys
