@@ -59,7 +59,7 @@ int main(int count, char **given) {
     uint32_t total = 0, told = 0;
     const unsigned long calls = count > 1 ? strtoul(given[1], NULL, 10) : 0;
     if (xns_caller_new(&caller) != XNS_OK || xns_server_new(&server, programs, 1) != XNS_OK) return 1;
-    if (!carry_call(&caller, &server) || !carry_answer(&server, &caller)) return 1;
+    if (!carry_answer(&server, &caller) || !carry_call(&caller, &server)) return 1; /* the versions */
     for (unsigned long i = 0; i < calls; i++) {
         if (!add(&caller, &server, &total, &told)) return 1;
     }
