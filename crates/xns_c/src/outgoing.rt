@@ -75,7 +75,7 @@ pub fn send_first(out: &mut VecDeque<Item>, connection: &mut Connection) -> bool
 pub fn copied_item(alloc: Global, stream: u8, last: u8, body: &[u8]) -> Result<Item, AllocError>
     ensures { IfOk result (λ x. x ≡ item_given stream 0 last body.now) }
 {
-    let mut bytes = Vec::new(alloc);
+    let mut bytes = Vec::with_capacity(alloc, body.len())?;
     bytes.extend_from_slice(body)?;
     Ok(Item {
         stream,
@@ -89,7 +89,7 @@ pub fn copied_item(alloc: Global, stream: u8, last: u8, body: &[u8]) -> Result<I
 pub fn whole_words(alloc: Global, head: Head, words: &[u16]) -> Result<Vec<u16>, AllocError>
     ensures { IfOk result (λ w. w.items ≡ message_words (with_words head words.now)) }
 {
-    let mut all = Vec::new(alloc);
+    let mut all = Vec::with_capacity(alloc, head.size() + words.len())?;
     match head {
         Head::Call {
             transaction,

@@ -29,7 +29,7 @@ use crate::outgoing::{LONGEST_ITEM, copied_item, give_item, send_first, whole_wo
 use crate::program::XnsProgram;
 use crate::results::{BAD_ARGUMENT, BUSY, NO_MEMORY, NOTHING, OK, STOPPED, TOO_LONG};
 use crate::unlisted::{Unlisted, refusal, reject_words};
-use courier_messages::{Head, Incoming, MOST_BYTES, PiecedMessage, SessionFault, cut, versions};
+use courier_messages::{Head, Incoming, MOST_BYTES, PiecedMessage, SessionFault, put_out, versions};
 use std::alloc::{AllocError, Global};
 use std::collections::VecDeque;
 use std::marker::Model;
@@ -281,8 +281,7 @@ impl ServerSession {
         ensures unchanged { OnErr result (self.new ≡ self.old) }
     {
         let all = reject_words(alloc, transaction, unlisted)?;
-        let mut items = cut(alloc, all.as_slice())?;
-        self.out.append(&mut items)?;
+        put_out(alloc, all.as_slice(), &mut self.out)?;
         self.call = None;
         Ok(())
     }
@@ -319,8 +318,7 @@ impl ServerSession {
         ensures unchanged { OnErr result (self.new ≡ self.old) }
     {
         let all = whole_words(alloc, head, words)?;
-        let mut items = cut(alloc, all.as_slice())?;
-        self.out.append(&mut items)?;
+        put_out(alloc, all.as_slice(), &mut self.out)?;
         self.asked = None;
         self.call = None;
         Ok(())

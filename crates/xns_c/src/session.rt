@@ -24,7 +24,7 @@ use crate::item::XnsItem;
 use crate::message::XnsMessage;
 use crate::outgoing::{LONGEST_ITEM, copied_item, give_item, send_first, whole_words};
 use crate::results::{BUSY, NO_MEMORY, NOTHING, OK, STOPPED, TOO_LONG};
-use courier_messages::{Head, Incoming, MOST_BYTES, PiecedMessage, SessionFault, cut, versions};
+use courier_messages::{Head, Incoming, MOST_BYTES, PiecedMessage, SessionFault, put_out, versions};
 use std::alloc::{AllocError, Global};
 use std::collections::VecDeque;
 use std::marker::Model;
@@ -121,8 +121,7 @@ impl Session {
             procedure,
         };
         let all = whole_words(alloc, head, words)?;
-        let mut items = cut(alloc, all.as_slice())?;
-        self.out.append(&mut items)?;
+        put_out(alloc, all.as_slice(), &mut self.out)?;
         self.transaction = transaction;
         self.waiting = true;
         Ok(())
