@@ -9,11 +9,11 @@ pub const HELP: &str = "\
 Each command reads lines from standard input, and writes lines to standard output:
   dump   A line is one packet in hex. What its header and its body say is printed.
   calls  A line is one packet in hex. The Courier calls that the packets carry are
-         printed, each when it is whole, and what came back.
+         printed, each once it is complete, and what came back.
   sim    A line is a call or an event. What came of the calls is printed.
 
-The hex of a packet begins at the checksum of the internet packet, which stands
-behind the Ethernet header.
+The hex of a packet begins at the checksum of the internet packet, right after the
+Ethernet header.
 A line has at most 4,096 bytes, and there are at most 65,536 lines.
 
 Exit status:
@@ -35,9 +35,9 @@ calls; docs/FORMATS.md has every line that is read and printed.";
 /// What `xns dump --help` says at its end.
 pub const DUMP_HELP: &str = "\
 Each line of standard input is one packet in hex, of either case. Spaces and tabs
-are left out. The hex begins at the checksum of the internet packet, which stands
-behind the Ethernet header.
-Two to four lines are printed of each packet: the fields of its header, and what
+are ignored. The hex begins at the checksum of the internet packet, right after the
+Ethernet header.
+Two to four lines are printed for each packet: the fields of its header, and what
 its body says. Each begins with the number of the input line.
 A line has at most 4,096 bytes, and there are at most 65,536 lines.
 
@@ -53,10 +53,10 @@ to these lines.";
 /// What `xns calls --help` says at its end.
 pub const CALLS_HELP: &str = "\
 Each line of standard input is one packet in hex, as for dump. The hex begins at the
-checksum of the internet packet, which stands behind the Ethernet header.
-A line is printed of each flow of items that begins; of each call, return, reject
-and abort of Courier when it is whole, in however many packets it came; of items
-that the capture lacks; and of what is refused.
+checksum of the internet packet, right after the Ethernet header.
+A line is printed for each flow of items that begins; for each Courier call, return,
+reject and abort once it is complete, in however many packets it came; for items that
+the capture lacks; and for what is refused.
 Each begins with the number of the input line and the name of the flow: `1a` and
 `1b` are the two flows of the first connection. A return, a reject and an abort
 name the line of their call.
@@ -79,13 +79,14 @@ caller, a, and the server, b:
   call total      the call Total, which asks for the tally
   call raw PROGRAM VERSION PROCEDURE WORDS
                   any call; words have four hex digits, and - stands for none
-  tick a, tick b  time has passed at an end: it sends again what its peer did not
-                  acknowledge, or asks its peer
-  deliver K       packet K of all that were sent, from 0, arrives, once or again
+  tick a, tick b  time has passed at an end: it retransmits what its peer did not
+                  acknowledge, or asks its peer for a reply
+  deliver K       packet K of all that were sent, counted from 0, arrives, for the
+                  first time or again
   rest            each packet that has not arrived arrives once, in order
   foreign a HEX, foreign b HEX
                   bytes from elsewhere arrive at an end
-An empty line, and a line that begins with #, says nothing. A packet that no line
+An empty line, and a line that begins with #, is ignored. A packet that no line
 delivers is lost.
 It prints how many calls there were, how many the server carried out, what the
 caller was answered, the tally's total, and how many packets were sent.

@@ -5,7 +5,7 @@ use Rattle.clap.specs.Words.{fault_of, is_simple_and_free, takes}
 use Rattle.xns.proofs.Refusals.{is_free}
 use Rattle.xns_command.specs.declared.mode.Mode.{Mode}
 use Rattle.xns_command.specs.declared.mode.Mode.TheVariants.{Calls, Dump, Sim}
-use Rattle.xns.specs.Command.Arguments.{texts, words_of, program_app}
+use Rattle.xns.specs.Command.Arguments.{program_app, texts, words_of}
 use Rattle.xns.proofs.command.arguments.subcommand_in.Goals as goal
 
 is_taken : (mode : Mode) → takes program_app (words_of mode) ≡ true
