@@ -29,7 +29,9 @@ use crate::outgoing::{LONGEST_ITEM, copied_item, give_item, send_first, whole_wo
 use crate::program::XnsProgram;
 use crate::results::{BAD_ARGUMENT, BUSY, NO_MEMORY, NOTHING, OK, STOPPED, TOO_LONG};
 use crate::unlisted::{Unlisted, refusal, reject_words};
-use courier_messages::{Head, Incoming, MOST_BYTES, PiecedMessage, SessionFault, put_out, versions};
+use courier_messages::{
+    Head, Incoming, MOST_BYTES, PiecedMessage, SessionFault, put_out, versions,
+};
 use std::alloc::{AllocError, Global};
 use std::collections::VecDeque;
 use std::marker::Model;

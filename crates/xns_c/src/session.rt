@@ -24,7 +24,9 @@ use crate::item::XnsItem;
 use crate::message::XnsMessage;
 use crate::outgoing::{LONGEST_ITEM, copied_item, give_item, send_first, whole_words};
 use crate::results::{BUSY, NO_MEMORY, NOTHING, OK, STOPPED, TOO_LONG};
-use courier_messages::{Head, Incoming, MOST_BYTES, PiecedMessage, SessionFault, put_out, versions};
+use courier_messages::{
+    Head, Incoming, MOST_BYTES, PiecedMessage, SessionFault, put_out, versions,
+};
 use std::alloc::{AllocError, Global};
 use std::collections::VecDeque;
 use std::marker::Model;
