@@ -6,7 +6,7 @@ use Rattle.xns_spp.specs.Sending.{send_fault, after_send, take_answer, handing, 
 use Rattle.xns_spp.specs.State.{State}
 use Rattle.xns_spp.specs.declared.item.Item.{Item}
 use Rattle.xns_spp.specs.declared.send_fault.SendFault.{SendFault}
-use Rattle.xns_c.specs.Pumping.{Step, Side, sending, moving, one_step, Leads, on, Pumped}
+use Rattle.xns_c.specs.Pumping.{Side, sending, moving, one_step, Leads, on, Pumped}
 
 -- steps led to here
 pub record Going {S : Type 0} (side : Side S) (first : S × State) (session : S) (endpoint : Held) : Type 0 where

@@ -138,12 +138,7 @@ pub extern "C" fn xns_endpoint_is_open(alloc: Global, handle: &mut XnsEndpoint) 
     ensures none { line_of handle.old ≡ None → result ≡ false }
     ensures same { line_of handle.new ≡ line_of handle.old }
 {
-    let Some(connection) = handle.take(alloc) else {
-        return false;
-    };
-    let answer = connection.is_open();
-    handle.put(connection);
-    answer
+    handle.ask(alloc, false, |connection| connection.is_open())
 }
 
 /// Whether an item would be refused as `EXHAUSTED` or `FULL`. False where there is no endpoint.
@@ -153,12 +148,7 @@ pub extern "C" fn xns_endpoint_is_full(alloc: Global, handle: &mut XnsEndpoint) 
     ensures none { line_of handle.old ≡ None → result ≡ false }
     ensures same { line_of handle.new ≡ line_of handle.old }
 {
-    let Some(connection) = handle.take(alloc) else {
-        return false;
-    };
-    let answer = connection.is_full();
-    handle.put(connection);
-    answer
+    handle.ask(alloc, false, |connection| connection.is_full())
 }
 
 /// How many items wait to be taken. 0 where there is no endpoint.
@@ -168,12 +158,7 @@ pub extern "C" fn xns_endpoint_waiting(alloc: Global, handle: &mut XnsEndpoint) 
     ensures none { line_of handle.old ≡ None → result ≡ 0 }
     ensures same { line_of handle.new ≡ line_of handle.old }
 {
-    let Some(connection) = handle.take(alloc) else {
-        return 0;
-    };
-    let answer = connection.waiting();
-    handle.put(connection);
-    answer
+    handle.ask(alloc, 0, |connection| connection.waiting())
 }
 
 /// Accepts an item, whose bytes are copied. `attention` and `last` are 0 for no.
