@@ -42,17 +42,29 @@ fn read_script(alloc: Global, steps: &str) -> Result<Script, AllocError> {
     Ok(script)
 }
 
+/// What comes of the script; `None` where there are no such ends.
+fn traced(
+    alloc: Global,
+    setup: &Setup,
+    script: &Script,
+) -> Result<Option<CallTrace<Tally>>, AllocError> {
+    if !setup.is_good() {
+        return Ok(None);
+    }
+    let table = tally_table(alloc)?;
+    let (calls, events) = (script.calls(), script.events());
+    let trace = play_calls(alloc, setup, &table, Tally::new(), calls, events)?;
+    Ok(Some(trace))
+}
+
 /// What comes of the steps: the calls that the server decided, the outcomes that the caller saw, the total and the packets.
 pub fn play(alloc: Global, setup: &Setup, steps: &str) -> Result<String, AllocError> {
     let script = read_script(alloc, steps)?;
     if let Some(number) = script.refused() {
-        return format!(in alloc; "step {number} refused");
+        return format!(in alloc; "step {number} refused\n");
     }
-    if !setup.is_good() {
-        return String::from_str(alloc, "no such ends");
+    match traced(alloc, setup, &script)? {
+        Some(trace) => trace_text(alloc, &trace),
+        None => String::from_str(alloc, "no such ends\n"),
     }
-    let table = tally_table(alloc)?;
-    let tally = Tally::new();
-    let trace = play_calls(alloc, setup, &table, tally, script.calls(), script.events())?;
-    trace_text(alloc, &trace)
 }

@@ -1,5 +1,6 @@
 //! A number that stands for many bytes.
 use std::fmt;
+use xns_spp::Bytes;
 
 /// A number that other bytes are unlikely to have: the bytes as digits of a number to base 31, of which the lowest 32 bits are kept.
 #[derive(Drop)]
@@ -9,6 +10,15 @@ impl Digest {
     /// That of no bytes.
     pub fn new() -> Digest {
         Digest(0)
+    }
+
+    /// That of the bytes of all these packets.
+    pub fn of_all(packets: &[Bytes]) -> Digest {
+        let mut digest = Digest::new();
+        for packet in packets {
+            digest.add(packet.as_slice());
+        }
+        digest
     }
 
     /// Takes in more bytes.

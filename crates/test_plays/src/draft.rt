@@ -1,19 +1,36 @@
-//! Packets that are given to an end.
+//! Packets that are given to an end, from their bodies: a header and data.
 use hex::FromHexError;
 use std::alloc::{AllocError, Global};
 use test_setting::{CALLER, SERVER};
 use xns_idp::{Packet, encode, packet_type};
-use xns_spp::{Bytes, Header, read_header, write_header};
+use xns_spp::Bytes;
 
 /// An internet packet has at most so many bytes of data.
 const MOST_DATA: usize = 546;
 
-/// A header and data, of which packets are made that go from the initiator to the responder.
-#[derive(Drop)]
-pub struct Draft {
-    pub header: Header,
-    pub data: Vec<u8>,
-}
+/// A header has so many bytes.
+const HEADER: usize = 12;
+
+/// Where the control byte stands in a header.
+pub const CONTROL: usize = 0;
+
+/// Where the datastream type stands, which is the other field of one byte.
+pub const STREAM: usize = 1;
+
+/// Where the source's identifier begins.
+pub const SOURCE: usize = 2;
+
+/// Where the target's identifier begins.
+pub const TARGET: usize = 4;
+
+/// Where the sequence number begins.
+pub const SEQUENCE: usize = 6;
+
+/// Where the acknowledge number begins.
+pub const ACKNOWLEDGE: usize = 8;
+
+/// Where the allocation begins.
+pub const ALLOCATION: usize = 10;
 
 /// The bytes that hex digits stand for; none where they are no digits.
 pub fn read_hex(alloc: Global, digits: &str) -> Result<Vec<u8>, AllocError> {
@@ -27,8 +44,8 @@ pub fn read_hex(alloc: Global, digits: &str) -> Result<Vec<u8>, AllocError> {
 /// The bytes of words: hex digits, or `=` and how many bytes of 0.
 fn read_words(alloc: Global, words: &str) -> Result<Vec<u8>, AllocError> {
     let mut bytes = Vec::new(alloc);
-    for word in words.split(' ') {
-        match word.strip_prefix('=') {
+    for word in words.split(" ") {
+        match word.strip_prefix("=") {
             Some(count) => {
                 for _ in 0..count.parse::<u16>().unwrap_or(0) {
                     bytes.push(0)?;
@@ -40,34 +57,50 @@ fn read_words(alloc: Global, words: &str) -> Result<Vec<u8>, AllocError> {
     Ok(bytes)
 }
 
-impl Draft {
-    /// The header and data that words spell; `None` where they are too few bytes.
-    pub fn read(alloc: Global, words: &str) -> Result<Option<Draft>, AllocError> {
-        let bytes = read_words(alloc, words)?;
-        let Ok((header, data)) = read_header(bytes.as_slice()) else {
-            return Ok(None);
-        };
-        let data = Vec::from_slice(alloc, data)?;
-        Ok(Some(Draft { header, data }))
+/// The body that words spell; `None` where it is shorter than a header.
+pub fn read_body(alloc: Global, words: &str) -> Result<Option<Vec<u8>>, AllocError> {
+    let body = read_words(alloc, words)?;
+    if body.len() < HEADER {
+        return Ok(None);
     }
+    Ok(Some(body))
+}
 
-    /// The packet without a sum that has another header and the same data.
-    pub fn packet(&self, alloc: Global, header: &Header) -> Result<Bytes, AllocError> {
-        let mut body = Vec::new(alloc);
-        write_header(alloc, header, &mut body)?;
-        body.extend_from_slice(self.data.as_slice())?;
-        let mut bytes = Vec::new(alloc);
-        if body.len() <= MOST_DATA {
-            let packet = Packet {
-                summed: false,
-                control: 0,
-                kind: packet_type::SEQUENCED_PACKET,
-                target: SERVER,
-                source: CALLER,
-                body: body.as_slice(),
-            };
-            encode(alloc, &packet, &mut bytes)?;
-        }
-        Ok(Bytes::new(bytes))
+/// The packet without a sum that has this body and goes from the initiator to the responder.
+pub fn packet_of(alloc: Global, body: &[u8]) -> Result<Bytes, AllocError> {
+    let mut bytes = Vec::new(alloc);
+    if body.len() <= MOST_DATA {
+        let packet = Packet {
+            summed: false,
+            control: 0,
+            kind: packet_type::SEQUENCED_PACKET,
+            target: SERVER,
+            source: CALLER,
+            body,
+        };
+        encode(alloc, &packet, &mut bytes)?;
+    }
+    Ok(Bytes::new(bytes))
+}
+
+/// Changes the byte in this place, where there is one.
+pub fn put_byte(bytes: &mut [u8], place: usize, byte: u8) {
+    if let Some(old) = bytes.get_mut(place) {
+        *old = byte;
+    }
+}
+
+/// Changes the two bytes from this place on.
+pub fn put_number(bytes: &mut [u8], place: usize, number: u16) {
+    let [high, low] = number.to_be_bytes();
+    put_byte(bytes, place, high);
+    put_byte(bytes, place.saturating_add(1), low);
+}
+
+/// The number that the two bytes from this place on are; 0 where there are none.
+pub fn number_at(bytes: &[u8], place: usize) -> u16 {
+    match bytes.get(place..) {
+        Some([high, low, ..]) => u16::from_be_bytes([*high, *low]),
+        _ => 0,
     }
 }

@@ -4,7 +4,7 @@ use crate::draft::read_hex;
 use crate::lines::Lines;
 use crate::steps::unfold;
 use crate::telling::{item_text, packet_text};
-use item_world::{Bag, Event, Items, Setup, Side, play_items};
+use item_world::{Bag, Event, ItemTrace, Items, Setup, Side, play_items};
 use std::alloc::{AllocError, Global};
 use xns_script::{Command, read_command};
 use xns_spp::{Bytes, Item};
@@ -13,19 +13,28 @@ use xns_spp::{Bytes, Item};
 const MOST_PACKETS: usize = 40;
 
 fn side(word: &str) -> Side {
-    if word == "a" { Side::A } else { Side::B }
+    match word {
+        "a" => Side::A,
+        _ => Side::B,
+    }
+}
+
+/// The datastream of this number; 0 where it is none.
+fn read_stream(number: &str) -> u8 {
+    let number = number.parse::<u16>().unwrap_or(0);
+    u8::try_from(number).unwrap_or(0)
 }
 
 /// An item of the words: its bytes, and what is special of it. It ends a message and is of datastream 0 where they say no other.
 fn item(alloc: Global, words: &str) -> Result<Item, AllocError> {
     let (mut stream, mut attention, mut last) = (0, false, true);
     let mut body = Vec::new(alloc);
-    for word in words.split(' ') {
+    for word in words.split(" ") {
         match word {
             "attention" => attention = true,
             "part" => last = false,
             _ => match word.strip_prefix("stream=") {
-                Some(number) => stream = number.parse::<u8>().unwrap_or(0),
+                Some(number) => stream = read_stream(number),
                 None => body = read_hex(alloc, word)?,
             },
         }
@@ -42,7 +51,7 @@ fn item(alloc: Global, words: &str) -> Result<Item, AllocError> {
 /// What a step does; `None` where it says nothing.
 fn event(alloc: Global, step: &str) -> Result<Option<Event>, AllocError> {
     if let Some(words) = step.strip_prefix("send ") {
-        let (word, rest) = words.split_once(' ').unwrap_or((words, ""));
+        let (word, rest) = words.split_once(" ").unwrap_or((words, ""));
         return Ok(Some(Event::Send(side(word), item(alloc, rest)?)));
     }
     if let Some(word) = step.strip_prefix("take ") {
@@ -86,18 +95,18 @@ pub fn put_bag(alloc: Global, lines: &mut Lines, bag: &Bag) -> Result<(), AllocE
     Ok(())
 }
 
-/// What comes of the steps: the items that were accepted and handed up, and the packets.
-pub fn play(alloc: Global, setup: &Setup, steps: &str) -> Result<String, AllocError> {
+/// The events of the steps.
+fn read_events(alloc: Global, steps: &str) -> Result<Vec<Event>, AllocError> {
     let mut events = Vec::new(alloc);
     for step in unfold(alloc, steps)? {
         if let Some(event) = event(alloc, step)? {
             events.push(event)?;
         }
     }
-    if !setup.is_good() {
-        return String::from_str(alloc, "no such ends");
-    }
-    let trace = play_items(alloc, setup, events.as_slice())?;
+    Ok(events)
+}
+
+fn trace_text(alloc: Global, trace: &ItemTrace) -> Result<String, AllocError> {
     let mut lines = Lines::new(alloc);
     put_items(alloc, &mut lines, "a sent", &trace.a_sent)?;
     put_items(alloc, &mut lines, "b sent", &trace.b_sent)?;
@@ -105,4 +114,13 @@ pub fn play(alloc: Global, setup: &Setup, steps: &str) -> Result<String, AllocEr
     put_items(alloc, &mut lines, "b handed", &trace.b_handed)?;
     put_bag(alloc, &mut lines, &trace.bag)?;
     lines.into_text()
+}
+
+/// What comes of the steps: the items that were accepted and handed up, and the packets.
+pub fn play(alloc: Global, setup: &Setup, steps: &str) -> Result<String, AllocError> {
+    let events = read_events(alloc, steps)?;
+    if !setup.is_good() {
+        return String::from_str(alloc, "no such ends\n");
+    }
+    trace_text(alloc, &play_items(alloc, setup, &events)?)
 }

@@ -29,33 +29,33 @@ mod setting;
 mod steps;
 mod telling;
 
+use item_world::Side;
 use std::alloc::{AllocError, Global};
 
 fn main(rt: HostRuntime) -> Result<(), anyhow::Error> {
     for line in rt.lines(rt.alloc()) {
         let line = line?;
         match answer(rt.alloc(), line.as_str()) {
-            Ok(text) => println!(rt; "{}", text.as_str().trim_end())?,
+            Ok(text) => print!(rt; "{}", text.as_str())?,
             Err(AllocError) => println!(rt; "no memory")?,
         }
     }
     Ok(())
 }
 
-/// What comes of a line.
+/// What comes of a line, as whole lines.
 fn answer(alloc: Global, line: &str) -> Result<String, AllocError> {
-    let (head, steps) = line.split_once(',').unwrap_or((line, ""));
+    let (head, steps) = line.split_once(", ").unwrap_or((line, ""));
     let Some((kind, setup)) = setting::read_head(head) else {
-        return String::from_str(alloc, line);
+        return format!(in alloc; "{line}\n");
     };
-    let steps = steps.trim();
     match kind {
         "items" => items::play(alloc, &setup, steps),
         "calls" => calls::play(alloc, &setup, steps),
         "serve" => serving::play(alloc, &setup, steps),
         "random" => random::play(alloc, &setup, steps),
-        "responder" => receiving::play(alloc, &setup, true, steps),
-        "initiator" => receiving::play(alloc, &setup, false, steps),
-        _ => String::from_str(alloc, line),
+        "responder" => receiving::play(alloc, setup, Side::B, steps),
+        "initiator" => receiving::play(alloc, receiving::turned(setup), Side::A, steps),
+        _ => format!(in alloc; "{line}\n"),
     }
 }

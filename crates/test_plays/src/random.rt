@@ -1,15 +1,16 @@
 //! Packets from a generator that are given to a server of the tally.
 use crate::damage::damaged;
 use crate::digest::Digest;
-use crate::draft::Draft;
+use crate::draft::{ACKNOWLEDGE, ALLOCATION, SEQUENCE, packet_of, put_number};
 use crate::generator::Generator;
+use crate::serving::serve;
 use crate::telling::Fault;
-use courier_calls::{Tally, tally_table};
+use courier_calls::Tally;
 use item_world::Setup;
 use std::alloc::{AllocError, Global};
 use xns_idp::decode;
 use xns_spp::{Bytes, Header, read_header};
-use xns_world::{ServeTrace, serve_bytes};
+use xns_world::ServeTrace;
 
 /// So many packets are made before it is looked again at what the server has made of all of them.
 const BLOCK: u16 = 8;
@@ -56,17 +57,54 @@ fn is_within(trace: &ServeTrace<Tally>, packets: usize) -> bool {
         && trace.service.total() <= MOST_TOTAL
 }
 
-/// The data of the item of this number: the versions, or a call Add.
-fn item_data(alloc: Global, generator: &mut Generator, number: u16) -> Result<Vec<u8>, AllocError> {
-    if number == 0 {
-        return Vec::from_slice(alloc, &[0, 3, 0, 3]);
+/// The body of a caller's first packet, which has its versions, before it is numbered.
+const VERSIONS: [u8; 16] = [
+    0x50, 0, 0x12, 0x34, 0x56, 0x78, 0, 0, 0, 0, 0, 0, 0, 3, 0, 3,
+];
+
+/// The body of a packet with a call Add of 0.
+const ADD: [u8; 26] = [
+    0x50, 0, 0x12, 0x34, 0x56, 0x78, 0, 0, 0, 0, 0, 0, 0, 0, 0, 0, 0, 0, 0, 7, 0, 2, 0, 1, 0, 0,
+];
+
+/// Where its transaction begins.
+const TRANSACTION: usize = 14;
+
+/// Where the number begins that it adds.
+const ADDED: usize = 24;
+
+/// The body of an honest caller's packet with this sequence number: the versions, or a call Add.
+fn honest_body(
+    alloc: Global,
+    generator: &mut Generator,
+    sequence: u16,
+    acknowledge: u16,
+) -> Result<Vec<u8>, AllocError> {
+    let mut body = if sequence == 0 {
+        VERSIONS.to_vec(alloc)?
+    } else {
+        let mut call = ADD.to_vec(alloc)?;
+        put_number(&mut call, TRANSACTION, sequence);
+        put_number(&mut call, ADDED, generator.below(1000));
+        call
+    };
+    put_number(&mut body, SEQUENCE, sequence);
+    put_number(&mut body, ACKNOWLEDGE, acknowledge);
+    put_number(&mut body, ALLOCATION, acknowledge.wrapping_add(63));
+    Ok(body)
+}
+
+/// The packet with this body, or one in eight times a changed one.
+fn some_packet(
+    alloc: Global,
+    generator: &mut Generator,
+    body: Vec<u8>,
+) -> Result<Bytes, AllocError> {
+    if generator.below(8) == 0 {
+        damaged(alloc, generator, body)
+    } else {
+        packet_of(alloc, &body)
     }
-    let [high, low] = number.to_be_bytes();
-    let [more, less] = generator.below(1000).to_be_bytes();
-    Vec::from_slice(
-        alloc,
-        &[0, 0, high, low, 0, 0, 0, 7, 0, 2, 0, 1, more, less],
-    )
 }
 
 /// The next packets of an honest caller, some of them changed.
@@ -79,24 +117,8 @@ fn push_block(
     let first = u16::try_from(trace.handed.as_slice().len()).unwrap_or(0);
     let acknowledge = sent_items(trace.replies.as_slice());
     for place in 0..BLOCK {
-        let sequence = first.wrapping_add(place);
-        let header = Header {
-            control: 0x50,
-            stream: 0,
-            source_id: 0x1234,
-            target_id: 0x5678,
-            sequence,
-            acknowledge,
-            allocation: acknowledge.wrapping_add(63),
-        };
-        let data = item_data(alloc, generator, sequence)?;
-        let mut draft = Draft { header, data };
-        let packet = if generator.below(8) == 0 {
-            damaged(alloc, generator, &mut draft)?
-        } else {
-            draft.packet(alloc, &header)?
-        };
-        packets.push(packet)?;
+        let body = honest_body(alloc, generator, first.wrapping_add(place), acknowledge)?;
+        packets.push(some_packet(alloc, generator, body)?)?;
     }
     Ok(())
 }
@@ -106,49 +128,54 @@ fn trace_text(
     trace: &ServeTrace<Tally>,
     packets: usize,
 ) -> Result<String, AllocError> {
-    let replies = trace.replies.as_slice();
     let handed = trace.handed.as_slice().len();
     let carried = trace.carried.len();
     let fault = Fault(&trace.fault);
-    let mut digest = Digest::new();
-    for reply in replies {
-        digest.add(reply.as_slice());
-    }
+    let replies = trace.replies.len();
+    let digest = Digest::of_all(&trace.replies);
     let total = trace.service.total();
     format!(in alloc;
-        "packets {packets} handed {handed} carried {carried} fault {fault} replies {} digest {digest} total {total}",
-        replies.len()
+        "packets {packets} handed {handed} carried {carried} fault {fault} replies {replies} digest {digest} total {total}\n"
     )
 }
 
 /// The seed and how many blocks.
-fn read_numbers(steps: &str) -> Option<(u64, u16)> {
-    let (seed, blocks) = steps.split_once(' ')?;
-    Some((seed.parse::<u64>().ok()?, blocks.parse::<u16>().ok()?))
+fn read_numbers(steps: &str) -> Option<(u16, u16)> {
+    let (seed, blocks) = steps.split_once(" ")?;
+    Some((seed.parse::<u16>().ok()?, blocks.parse::<u16>().ok()?))
+}
+
+/// What a server makes of the packets; `None` where there are no such ends, and where the trace is out of bounds.
+fn serve_within(
+    alloc: Global,
+    setup: &Setup,
+    packets: &[Bytes],
+) -> Result<Option<ServeTrace<Tally>>, AllocError> {
+    match serve(alloc, setup, packets)? {
+        Some(trace) if is_within(&trace, packets.len()) => Ok(Some(trace)),
+        _ => Ok(None),
+    }
 }
 
 /// Gives a server one block of packets after another, each made of what it answered to those before, and looks after each whether its
 /// trace is within its bounds.
 pub fn play(alloc: Global, setup: &Setup, steps: &str) -> Result<String, AllocError> {
     let Some((seed, blocks)) = read_numbers(steps) else {
-        return String::from_str(alloc, "no seed");
+        return String::from_str(alloc, "no seed\n");
     };
-    if !setup.is_good() {
-        return String::from_str(alloc, "no such ends");
-    }
-    let table = tally_table(alloc)?;
-    let mut generator = Generator::new(seed);
+    let mut generator = Generator::new(u64::from(seed));
     let mut packets = Vec::new(alloc);
     for _ in 0..blocks {
-        let trace = serve_bytes(alloc, setup, &table, Tally::new(), packets.as_slice())?;
-        if !is_within(&trace, packets.len()) {
-            return format!(in alloc; "out of bounds after {} packets", packets.len());
-        }
+        let Some(trace) = serve_within(alloc, setup, &packets)? else {
+            break;
+        };
         push_block(alloc, &mut generator, &trace, &mut packets)?;
     }
-    let trace = serve_bytes(alloc, setup, &table, Tally::new(), packets.as_slice())?;
-    if !is_within(&trace, packets.len()) {
-        return String::from_str(alloc, "out of bounds at last");
+    match serve_within(alloc, setup, &packets)? {
+        Some(trace) => trace_text(alloc, &trace, packets.len()),
+        None => format!(in alloc;
+            "no such ends, or out of bounds after {} packets\n",
+            packets.len()
+        ),
     }
-    trace_text(alloc, &trace, packets.len())
 }

@@ -1,126 +1,64 @@
 //! What an end makes of a packet, field by field.
-use crate::draft::{Draft, read_hex};
+use crate::draft::{
+    ACKNOWLEDGE, ALLOCATION, CONTROL, SEQUENCE, SOURCE, STREAM, TARGET, packet_of, put_byte,
+    put_number, read_body, read_hex,
+};
 use crate::lines::Lines;
 use crate::telling::{dropped_text, packet_text};
 use item_world::{Setup, Side};
 use std::alloc::{AllocError, Global};
 use test_setting::item;
-use xns_spp::{Bytes, Endpoint, Header, Received};
+use xns_spp::{Bytes, Endpoint, Received};
 
 /// The numbers that each field is given.
 const NUMBERS: [u16; 5] = [0, 1, 32_767, 32_768, 65_535];
 
-/// A field of a header that is a number of two bytes, or the datastream type.
-#[derive(Clone, Copy)]
-enum Field {
-    Stream,
-    Source,
-    Target,
-    Sequence,
-    Acknowledge,
-    Allocation,
-}
-
-const FIELDS: [(Field, &str); 6] = [
-    (Field::Stream, "stream"),
-    (Field::Source, "source"),
-    (Field::Target, "target"),
-    (Field::Sequence, "sequence"),
-    (Field::Acknowledge, "acknowledge"),
-    (Field::Allocation, "allocation"),
+/// The fields other than the control byte.
+const FIELDS: [(usize, &str); 6] = [
+    (STREAM, "stream"),
+    (SOURCE, "source"),
+    (TARGET, "target"),
+    (SEQUENCE, "sequence"),
+    (ACKNOWLEDGE, "acknowledge"),
+    (ALLOCATION, "allocation"),
 ];
 
-/// The header with a field changed. A datastream type is the number modulo 256.
-fn changed(header: &Header, field: Field, number: u16) -> Header {
-    let [_, low] = number.to_be_bytes();
-    match field {
-        Field::Stream => Header {
-            stream: low,
-            ..*header
-        },
-        Field::Source => Header {
-            source_id: number,
-            ..*header
-        },
-        Field::Target => Header {
-            target_id: number,
-            ..*header
-        },
-        Field::Sequence => Header {
-            sequence: number,
-            ..*header
-        },
-        Field::Acknowledge => Header {
-            acknowledge: number,
-            ..*header
-        },
-        Field::Allocation => Header {
-            allocation: number,
-            ..*header
-        },
+/// Changes the field in this place of a header. One of one byte is the number modulo 256.
+fn change(header: &mut [u8], place: usize, number: u16) {
+    if place < SOURCE {
+        let [_, low] = number.to_be_bytes();
+        put_byte(header, place, low);
+    } else {
+        put_number(header, place, number);
     }
 }
 
-/// An end that is brought to a state again and again, and the packet that it then receives.
+/// An end that is brought to a state again and again, and the body of the packet that it then receives.
 #[derive(Drop)]
 struct Trial<'a> {
-    setup: &'a Setup,
-    /// Whether it is the responder.
-    responds: bool,
+    setup: Setup,
+    side: Side,
     steps: &'a str,
-    draft: &'a Draft,
+    body: Vec<u8>,
 }
 
 impl Trial<'_> {
-    /// A new end at the responder's address; `None` where there is none with this setup.
-    fn new_end(&self, alloc: Global) -> Result<Option<Endpoint>, AllocError> {
-        let setup = self.setup;
-        if !setup.is_good() {
-            return Ok(None);
-        }
-        let end = if self.responds {
-            Endpoint::responder(
-                alloc,
-                setup.b,
-                setup.b_id,
-                setup.a,
-                setup.a_id,
-                setup.window,
-                setup.backlog,
-            )?
-        } else {
-            Endpoint::initiator(
-                alloc,
-                setup.b,
-                setup.b_id,
-                setup.a,
-                setup.window,
-                setup.backlog,
-            )?
-        };
-        Ok(Some(end))
-    }
-
-    /// What a new end makes of the packet with this header, and what it would then send again, after the packet with its own.
-    fn receives(&self, alloc: Global, header: &Header) -> Result<String, AllocError> {
-        let Some(mut end) = self.new_end(alloc)? else {
+    /// What a new end makes of the packet with this number in the field in this place, and what it would then send again.
+    fn receives(&self, alloc: Global, place: usize, number: u16) -> Result<String, AllocError> {
+        let mut body = self.body.as_slice().to_vec(alloc)?;
+        change(&mut body, place, number);
+        let packet = packet_of(alloc, &body)?;
+        if !self.setup.is_good() {
             return String::from_str(alloc, "no such end");
-        };
-        for step in self.steps.split(',') {
-            take_step(alloc, &mut end, step.trim())?;
         }
-        let packet = self.draft.packet(alloc, header)?;
-        let received = end.receive(alloc, packet.as_slice())?;
-        received_text(alloc, &received, &mut end)
+        let mut end = self.setup.end(alloc, self.side)?;
+        take_steps(alloc, &mut end, self.steps)?;
+        received_text(alloc, &end.receive(alloc, packet.as_slice())?, &mut end)
     }
 
     fn put_controls(&self, alloc: Global, lines: &mut Lines) -> Result<(), AllocError> {
         for control in 0..=255_u8 {
-            let header = Header {
-                control,
-                ..self.draft.header
-            };
-            let text = self.receives(alloc, &header)?;
+            let text = self.receives(alloc, CONTROL, u16::from(control))?;
             let (low, high) = (control & 0xf0, control | 15);
             let text = text.as_str();
             lines.put(format!(in alloc; "control {low:02x} to {high:02x}: {text}")?)?;
@@ -129,9 +67,9 @@ impl Trial<'_> {
     }
 
     fn put_fields(&self, alloc: Global, lines: &mut Lines) -> Result<(), AllocError> {
-        for (field, name) in FIELDS {
+        for (place, name) in FIELDS {
             for number in NUMBERS {
-                let text = self.receives(alloc, &changed(&self.draft.header, field, number))?;
+                let text = self.receives(alloc, place, number)?;
                 lines.put(format!(in alloc; "{name} {number}: {}", text.as_str())?)?;
             }
         }
@@ -146,25 +84,27 @@ fn send(alloc: Global, end: &mut Endpoint, digits: &str) -> Result<(), AllocErro
     Ok(())
 }
 
-fn take_step(alloc: Global, end: &mut Endpoint, step: &str) -> Result<(), AllocError> {
-    if let Some(digits) = step.strip_prefix("send ") {
-        return send(alloc, end, digits);
+/// Receives the packet with the body that words spell.
+fn get(alloc: Global, end: &mut Endpoint, words: &str) -> Result<(), AllocError> {
+    if let Some(body) = read_body(alloc, words)? {
+        end.receive(alloc, packet_of(alloc, &body)?.as_slice())?;
     }
-    if let Some(words) = step.strip_prefix("get ") {
-        if let Some(draft) = Draft::read(alloc, words)? {
-            let packet = draft.packet(alloc, &draft.header)?;
-            end.receive(alloc, packet.as_slice())?;
+    Ok(())
+}
+
+fn take_steps(alloc: Global, end: &mut Endpoint, steps: &str) -> Result<(), AllocError> {
+    for step in steps.split(", ") {
+        match step.split_once(" ").unwrap_or((step, "")) {
+            ("send", digits) => send(alloc, end, digits)?,
+            ("get", words) => get(alloc, end, words)?,
+            ("take", _) => {
+                let _ = end.take();
+            }
+            ("tick", _) => {
+                end.tick(alloc)?;
+            }
+            _ => {}
         }
-        return Ok(());
-    }
-    match step {
-        "take" => {
-            let _ = end.take();
-        }
-        "tick" => {
-            end.tick(alloc)?;
-        }
-        _ => {}
     }
     Ok(())
 }
@@ -201,22 +141,28 @@ fn put_packet(
     text.push_str(packet.as_str())
 }
 
-/// What an end that these steps bring to a state makes of the packet with each control byte, and with each other field changed.
-pub fn play(
-    alloc: Global,
-    setup: &Setup,
-    responds: bool,
-    steps: &str,
-) -> Result<String, AllocError> {
+/// The ends with one in the other's place: an initiator then stands at the responder's address.
+pub fn turned(setup: Setup) -> Setup {
+    Setup {
+        a: setup.b,
+        b: setup.a,
+        a_id: setup.b_id,
+        b_id: setup.a_id,
+        ..setup
+    }
+}
+
+/// What an end at that side that these steps bring to a state makes of the packet with each control byte, and with each other field changed.
+pub fn play(alloc: Global, setup: Setup, side: Side, steps: &str) -> Result<String, AllocError> {
     let (packet, steps) = steps.split_once(", ").unwrap_or((steps, ""));
-    let Some(draft) = Draft::read(alloc, packet)? else {
-        return String::from_str(alloc, "no such packet");
+    let Some(body) = read_body(alloc, packet)? else {
+        return String::from_str(alloc, "no such packet\n");
     };
     let trial = Trial {
         setup,
-        responds,
+        side,
         steps,
-        draft: &draft,
+        body,
     };
     let mut lines = Lines::new(alloc);
     trial.put_controls(alloc, &mut lines)?;

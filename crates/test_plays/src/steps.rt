@@ -4,11 +4,11 @@ use std::alloc::{AllocError, Global};
 /// The steps, one after another; `3* STEP; STEP` stands for six.
 pub fn unfold<'a>(alloc: Global, steps: &'a str) -> Result<Vec<&'a str>, AllocError> {
     let mut all = Vec::new(alloc);
-    for group in steps.split(',') {
-        let (count, steps) = counted(group.trim());
+    for group in steps.split(", ") {
+        let (count, steps) = counted(group);
         for _ in 0..count {
-            for step in steps.split(';') {
-                all.push(step.trim())?;
+            for step in steps.split("; ") {
+                all.push(step)?;
             }
         }
     }
@@ -17,8 +17,8 @@ pub fn unfold<'a>(alloc: Global, steps: &'a str) -> Result<Vec<&'a str>, AllocEr
 
 /// How often a group of steps comes, and the group.
 pub fn counted(group: &str) -> (u16, &str) {
-    match group.split_once('*') {
-        Some((count, steps)) => (count.parse::<u16>().unwrap_or(0), steps.trim()),
+    match group.split_once("* ") {
+        Some((count, steps)) => (count.parse::<u16>().unwrap_or(0), steps),
         None => (1, group),
     }
 }

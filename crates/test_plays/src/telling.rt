@@ -99,25 +99,26 @@ pub fn seen_text(alloc: Global, seen: &Seen) -> Result<String, AllocError> {
     }
 }
 
+/// The words of a header.
+fn header_words(header: &Header) -> [u16; 6] {
+    [
+        u16::from_be_bytes([header.control, header.stream]),
+        header.source_id,
+        header.target_id,
+        header.sequence,
+        header.acknowledge,
+        header.allocation,
+    ]
+}
+
 fn header_text(
     alloc: Global,
     who: &str,
     header: &Header,
     data: &[u8],
 ) -> Result<String, AllocError> {
-    let Header {
-        control,
-        stream,
-        source_id,
-        target_id,
-        sequence,
-        acknowledge,
-        allocation,
-    } = header;
-    let data = Hex(data);
-    format!(in alloc;
-        "{who} {control:02x}{stream:02x} {source_id:04x} {target_id:04x} {sequence:04x} {acknowledge:04x} {allocation:04x} {data}"
-    )
+    let words = header_words(header);
+    format!(in alloc; "{who} {} {}", WordsInHex(&words), Hex(data))
 }
 
 /// A packet of the connection as its header and data, where it is whole, has a sum and goes from this address to that; else its bytes.
