@@ -1,3 +1,4 @@
 pub mod Checksum
 pub mod Packet
 pub mod Reading
+pub mod Laws
