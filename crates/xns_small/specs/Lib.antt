@@ -2,3 +2,4 @@ pub mod Sending
 pub mod Echo
 pub mod ErrorReport
 pub mod Exchange
+pub mod Laws

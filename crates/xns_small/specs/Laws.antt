@@ -1,0 +1,22 @@
+-- What the definitions imply: the statements of the laws, each under the name of its law.
+use Rattle.std.specs.Prelude.{◌≡◌, ◌≤◌, ◌++◌, List, ℕ, length, Ok}
+use Rattle.xns_idp.specs.Packet.{PacketModel, IsAddress, IsPacket}
+use Rattle.xns_idp.specs.Reading.{packet_of}
+use Rattle.xns_idp.specs.declared.address.Address.{Address}
+use Rattle.xns_small.specs.Echo.{EchoModel, IsAnswered, IsReplyTo, echo_of, echo_reply, echo_spelling}
+use Rattle.xns_small.specs.ErrorReport.{ErrorReportModel, IsErrorReport, error_of, error_spelling}
+use Rattle.xns_small.specs.Exchange.{ExchangeModel, IsExchange, exchange_of, exchange_spelling}
+
+abbrev pub WrittenEchoIsReadAgain : Type 0
+WrittenEchoIsReadAgain = (echo : EchoModel) → echo_of (echo_spelling echo) ≡ Ok echo
+
+abbrev pub WrittenErrorIsReadAgain : Type 0
+WrittenErrorIsReadAgain = (report : ErrorReportModel) → IsErrorReport report → error_of (error_spelling report) ≡ Ok report
+
+abbrev pub WrittenExchangeIsReadAgain : Type 0
+WrittenExchangeIsReadAgain = (exchange : ExchangeModel) → IsExchange exchange → exchange_of (exchange_spelling exchange) ≡ Ok exchange
+
+abbrev pub AnAnsweredEchoCarriesTheRequest : Type 0
+AnAnsweredEchoCarriesTheRequest = (own : Address) (request : PacketModel) (rest : List ℕ) → IsAddress own → IsPacket request →
+    length request.body ≤ 546 → IsAnswered own request →
+    (reply : PacketModel) × (packet_of (echo_reply own request ++ rest) ≡ Ok (reply, length (echo_reply own request))) × IsReplyTo own request reply
