@@ -148,13 +148,16 @@ pub lanes_grow : (m n : ℕ) (lanes block : List ℕ) → m + 256 ≤ n → Each
 lanes_grow m n lanes block e x y =
     Each1-zip2 (λ a b. a + b) (λ z. z ≤ n) lanes block (Each2-of (λ z. z ≤ m) (λ z. z ≤ 255) (λ a b. a + b ≤ n) (λ a b ha hb. omega (arith, ha, hb, e)) lanes block x y)
 
--- a byte, and a lane
-pub front_fits : (front lanes : List ℕ) → Each1 (λ x. x ≤ 255) front → Each1 (λ x. x ≤ 16384) lanes → Each2 (λ a b. Fits w16 (a + b)) front lanes
-front_fits front lanes x y = Each2-of (λ z. z ≤ 255) (λ z. z ≤ 16384) (λ a b. Fits w16 (a + b)) (λ a b ha hb. omega (arith, ha, hb)) front lanes x y
+-- a byte, and a lane whose blocks come to so many bytes
+front_kept : (Q : ℕ → ℕ → Type 0) (at : ℕ) (front lanes : List ℕ) → ((a b : ℕ) → a ≤ 255 → b ≤ 16384 → Q a b) → Each1 (Fits w8) front → Each1 (λ x. x ≤ 8 * at) lanes → at ≤ 2048 → Each2 Q front lanes
+front_kept Q at front lanes keeps x y le = Each2-of (Fits w8) (λ z. z ≤ 8 * at) Q (λ a b ha hb. keeps a b (omega (arith, ha)) (omega (arith, hb, le))) front lanes x y
 
-pub front_grows : (front lanes : List ℕ) → Each1 (λ x. x ≤ 255) front → Each1 (λ x. x ≤ 16384) lanes → Each1 (λ x. x ≤ 16640) (zip2 (λ a b. a + b) front lanes)
-front_grows front lanes x y =
-    Each1-zip2 (λ a b. a + b) (λ z. z ≤ 16640) front lanes (Each2-of (λ z. z ≤ 255) (λ z. z ≤ 16384) (λ a b. a + b ≤ 16640) (λ a b ha hb. omega (arith, ha, hb)) front lanes x y)
+pub front_fits : (at : ℕ) (front lanes : List ℕ) → Each1 (Fits w8) front → Each1 (λ x. x ≤ 8 * at) lanes → at ≤ 2048 → Each2 (λ a b. Fits w16 (a + b)) front lanes
+front_fits at front lanes = front_kept (λ a b. Fits w16 (a + b)) at front lanes (λ a b ha hb. omega (arith, ha, hb))
+
+pub front_grows : (at : ℕ) (front lanes : List ℕ) → Each1 (Fits w8) front → Each1 (λ x. x ≤ 8 * at) lanes → at ≤ 2048 → Each1 (λ x. x ≤ 16640) (zip2 (λ a b. a + b) front lanes)
+front_grows at front lanes x y le =
+    Each1-zip2 (λ a b. a + b) (λ z. z ≤ 16640) front lanes (front_kept (λ a b. a + b ≤ 16640) at front lanes (λ a b ha hb. omega (arith, ha, hb)) x y le)
 
 -- ---- what the lanes weigh
 

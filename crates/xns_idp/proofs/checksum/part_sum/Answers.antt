@@ -1,9 +1,9 @@
-use Rattle.std.proofs.Common.{rules, refl, sym, ◌∙◌, ap, ◌+◌, ◌*◌, ◌-◌, ◌%◌, ◌≡◌, ◌≤◌, ℕ, List, length, replicate, take, drop, subst, arith, Fits, w8, w16}
+use Rattle.std.proofs.Common.{rules, refl, sym, ◌∙◌, ap, ◌+◌, ◌-◌, ◌%◌, ◌≡◌, ◌≤◌, ℕ, List, length, replicate, take, drop, subst, arith, Fits, w8, w16}
 use Rattle.std.proofs.lemmas.List.{length-take}
 use borrow.Rule.Slice.PartMut.{put_mid}
 use Rattle.std.specs.Simd.Lanes.{Each1, Each2, zip2}
 use Rattle.xns_idp.specs.Checksum.{words, sum_from}
-use Rattle.std.proofs.lemmas.Simd.{chunk-fits, widens, Each1-weaker}
+use Rattle.std.proofs.lemmas.Simd.{chunk-fits, widens}
 use Rattle.xns_idp.proofs.Lanes.{front_first, behind_zeros, front_fits, front_grows, add_block, none_left, no_block, same_lanes, lanes_fit, lanes_length, lanes_small, lanes_same}
 use Rattle.xns_idp.proofs.checksum.part_sum.Goals as goal
 
@@ -40,20 +40,16 @@ loop-at-preserved c =
 pub overflow_add-front : goal.overflow_add-front
 overflow_add-front c =
     let front : List ℕ = put_mid (32 - length c.args.bytes.now % 32) (32 - (32 - length c.args.bytes.now % 32)) (replicate 32 0) c.copy_from_slice.new.self in
-    let lanes = c.loop-at.lanes in
     let fits : Each1 (Fits w8) front = search rules in
-    let bytes = Each1-weaker (Fits w8) (λ x. x ≤ 255) (λ x h. omega (arith, h)) front fits in
-    let small = Each1-weaker (λ x. x ≤ 8 * c.loop-at.at) (λ x. x ≤ 16384) (λ x h. omega (arith, h, c.loop-at.invariant.within, c.requires.short)) lanes c.loop-at.invariant.small in
-    subst (λ (xs : List ℕ). Each2 (λ a b. Fits w16 (a + b)) xs lanes) (sym (same_lanes _ (λ x. refl) front)) (front_fits front lanes bytes small)
+    let within : c.loop-at.at ≤ 2048 = omega (arith, c.loop-at.invariant.within, c.requires.short) in
+    subst (λ (xs : List ℕ). Each2 (λ a b. Fits w16 (a + b)) xs c.loop-at.lanes) (sym (same_lanes _ (λ x. refl) front)) (front_fits c.loop-at.at front c.loop-at.lanes fits c.loop-at.invariant.small within)
 
 pub lane_sum-requires : goal.lane_sum-requires
 lane_sum-requires c =
     let front : List ℕ = put_mid (32 - length c.args.bytes.now % 32) (32 - (32 - length c.args.bytes.now % 32)) (replicate 32 0) c.copy_from_slice.new.self in
-    let lanes = c.loop-at.lanes in
     let fits : Each1 (Fits w8) front = search rules in
-    let bytes = Each1-weaker (Fits w8) (λ x. x ≤ 255) (λ x h. omega (arith, h)) front fits in
-    let small = Each1-weaker (λ x. x ≤ 8 * c.loop-at.at) (λ x. x ≤ 16384) (λ x h. omega (arith, h, c.loop-at.invariant.within, c.requires.short)) lanes c.loop-at.invariant.small in
-    subst (λ (xs : List ℕ). Each1 {A = ℕ} (λ x. x ≤ 16640) (zip2 (λ a b. a + b) xs lanes)) (sym (same_lanes _ (λ x. refl) front)) (front_grows front lanes bytes small)
+    let within : c.loop-at.at ≤ 2048 = omega (arith, c.loop-at.invariant.within, c.requires.short) in
+    subst (λ (xs : List ℕ). Each1 {A = ℕ} (λ x. x ≤ 16640) (zip2 (λ a b. a + b) xs c.loop-at.lanes)) (sym (same_lanes _ (λ x. refl) front)) (front_grows c.loop-at.at front c.loop-at.lanes fits c.loop-at.invariant.small within)
 
 pub returns-clause-sum : goal.returns-clause-sum
 returns-clause-sum c =
