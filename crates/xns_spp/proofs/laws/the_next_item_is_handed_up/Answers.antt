@@ -1,4 +1,4 @@
-use Rattle.xns_spp.proofs.Ways.{handed_one, one_more, none_handed, waits_for, fewer_wait}
+use Rattle.xns_spp.proofs.StepsButReceive.{handed_one, one_more, none_handed, waits_for, fewer_wait}
 use Rattle.xns_spp.proofs.laws.the_next_item_is_handed_up.Goals as goal
 
 pub returns : goal.returns
