@@ -33,11 +33,6 @@ echo_of bytes =
     else if word_at bytes 0 == 2 then Ok (record { reply = true; body = drop 2 bytes })
     else Err (EchoOperation (word_at bytes 0))
 
--- what `read_echo` answers, without where it lies in memory
-abbrev pub read_echo_model : Result Echo SmallFault → Result EchoModel SmallFault
-read_echo_model (Ok v) = Ok (echo_model v)
-read_echo_model (Err f) = Err f
-
 -- ---- the reply
 
 -- an Echo request to this socket, of this host or of the broadcast host

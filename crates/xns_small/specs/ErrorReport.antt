@@ -1,13 +1,13 @@
 -- The Error protocol (XSIS 028112, Error Protocol).
-use Rattle.std.specs.Prelude.{◌≡◌, ◌≢◌, ℕ, ◌<◌, ◌≤◌, ◌^◌, nat_lt, if◌then◌else◌, List, ◌++◌, length, drop, take, slice_index, Result, Ok, Err}
+use Rattle.std.specs.Prelude.{◌≡◌, ◌≢◌, ℕ, ◌<◌, ◌≤◌, ◌^◌, List, ◌++◌, length, drop, take, slice_index, Result}
 use Rattle.std.specs.Int.{w16, to_be_bytes}
 use Rattle.xns_idp.specs.Packet.{broadcast}
 use Rattle.xns_idp.specs.Reading.{word_at, address_at}
 use Rattle.xns_idp.specs.declared.address.Address.{Address}
+use Rattle.xns_small.specs.Reading.{unless_short}
 use Rattle.xns_small.specs.Sending.{sent_packet}
 use Rattle.xns_small.specs.declared.error_report.ErrorReport.{ErrorReport}
 use Rattle.xns_small.specs.declared.fault.SmallFault.{SmallFault}
-use Rattle.xns_small.specs.declared.fault.SmallFault.TheVariants.{Short}
 
 -- an Error report without where the quoted bytes lie in memory
 pub record ErrorReportModel : Type 0 where
@@ -37,14 +37,7 @@ with_front_quoted v = record v { quoted = take 42 v.quoted }
 
 -- what the bytes are by the places of their fields, or their first fault
 unfoldable pub error_of : List ℕ → Result ErrorReportModel SmallFault
-error_of bytes =
-    if nat_lt (length bytes) 4 then Err (Short (length bytes))
-    else Ok (record { number = word_at bytes 0; parameter = word_at bytes 2; quoted = drop 4 bytes })
-
--- what `read_error` answers, without where it lies in memory
-abbrev pub read_error_model : Result ErrorReport SmallFault → Result ErrorReportModel SmallFault
-read_error_model (Ok v) = Ok (error_report_model v)
-read_error_model (Err f) = Err f
+error_of bytes = unless_short 4 bytes (record { number = word_at bytes 0; parameter = word_at bytes 2; quoted = drop 4 bytes })
 
 -- ---- the complaint
 

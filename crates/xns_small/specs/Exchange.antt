@@ -1,13 +1,13 @@
 -- The Packet Exchange protocol (XSIS 028112, Packet Exchange Protocol).
-use Rattle.std.specs.Prelude.{◌≡◌, ℕ, ◌<◌, ◌≤◌, ◌^◌, nat_lt, if◌then◌else◌, List, ◌++◌, length, drop, Result, Ok, Err}
+use Rattle.std.specs.Prelude.{◌≡◌, ℕ, ◌<◌, ◌≤◌, ◌^◌, List, ◌++◌, length, drop, Result}
 use Rattle.std.specs.Int.{w16, w32, to_be_bytes}
 use Rattle.xns_idp.specs.Packet.{PacketModel}
 use Rattle.xns_idp.specs.Reading.{word_at, long_at}
 use Rattle.xns_idp.specs.declared.address.Address.{Address}
+use Rattle.xns_small.specs.Reading.{unless_short}
 use Rattle.xns_small.specs.Sending.{sent_packet}
 use Rattle.xns_small.specs.declared.exchange.Exchange.{Exchange}
 use Rattle.xns_small.specs.declared.fault.SmallFault.{SmallFault}
-use Rattle.xns_small.specs.declared.fault.SmallFault.TheVariants.{Short}
 
 -- a request or response without where its bytes lie in memory
 pub record ExchangeModel : Type 0 where
@@ -33,14 +33,7 @@ pub record IsExchange (v : ExchangeModel) : Type 0 where
 
 -- what the bytes are by the places of their fields, or their first fault
 unfoldable pub exchange_of : List ℕ → Result ExchangeModel SmallFault
-exchange_of bytes =
-    if nat_lt (length bytes) 6 then Err (Short (length bytes))
-    else Ok (record { id = long_at bytes 0; client = word_at bytes 4; body = drop 6 bytes })
-
--- what `read_exchange` answers, without where it lies in memory
-abbrev pub read_exchange_model : Result Exchange SmallFault → Result ExchangeModel SmallFault
-read_exchange_model (Ok v) = Ok (exchange_model v)
-read_exchange_model (Err f) = Err f
+exchange_of bytes = unless_short 6 bytes (record { id = long_at bytes 0; client = word_at bytes 4; body = drop 6 bytes })
 
 -- ---- the asking side
 

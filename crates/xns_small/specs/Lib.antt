@@ -1,3 +1,4 @@
+pub mod Reading
 pub mod Sending
 pub mod Echo
 pub mod ErrorReport

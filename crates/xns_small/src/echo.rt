@@ -1,5 +1,6 @@
 ghost use Rattle.std.specs.Prelude.{◌≡◌, ◌+◌, ◌<◌, ◌≤◌, ◌++◌, length, IfOk, OnOk, OnErr, Ok, vec_len, vec_capacity};
-ghost use Rattle.xns_small.specs.Echo.{EchoModel, SpellsEcho, echo_model, echo_of, read_echo_model, echo_spelling};
+ghost use Rattle.xns_small.specs.Echo.{EchoModel, SpellsEcho, echo_model, echo_of, echo_spelling};
+ghost use Rattle.xns_small.specs.Reading.{answer_model};
 
 use crate::appending::append;
 use crate::fault::SmallFault;
@@ -25,16 +26,16 @@ pub struct Echo<'a> {
 ///
 /// An `Err` is [`SmallFault::Short`] for under 2 bytes, and else [`SmallFault::EchoOperation`] for another operation word.
 pub fn read_echo(body: &[u8]) -> Result<Echo<'_>, SmallFault>
-    ensures exact { read_echo_model result ≡ echo_of body.now }
+    ensures exact { answer_model echo_model result ≡ echo_of body.now }
     ensures found { IfOk result (λ echo. SpellsEcho (echo_model echo) body.now) }
-    ensures only { (echo : EchoModel) → SpellsEcho echo body.now → read_echo_model result ≡ Ok echo }
+    ensures only { (echo : EchoModel) → SpellsEcho echo body.now → answer_model echo_model result ≡ Ok echo }
 {
     read_operation(body)
 }
 
 #[tactic(auto, unfolding(crate::specs::Echo::echo_of))]
 fn read_operation(body: &[u8]) -> Result<Echo<'_>, SmallFault>
-    ensures { read_echo_model result ≡ echo_of body.now }
+    ensures { answer_model echo_model result ≡ echo_of body.now }
 {
     let have = body.len();
     if have < 2 {

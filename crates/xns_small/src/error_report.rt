@@ -1,5 +1,6 @@
 ghost use Rattle.std.specs.Prelude.{◌≡◌, ◌+◌, ◌<◌, ◌≤◌, ◌++◌, length, take, IfOk, OnOk, OnErr, Ok, vec_len, vec_capacity};
-ghost use Rattle.xns_small.specs.ErrorReport.{ErrorReportModel, IsErrorReport, SpellsError, error_report_model, error_of, read_error_model, error_spelling, with_front_quoted};
+ghost use Rattle.xns_small.specs.ErrorReport.{ErrorReportModel, IsErrorReport, SpellsError, error_report_model, error_of, error_spelling, with_front_quoted};
+ghost use Rattle.xns_small.specs.Reading.{answer_model};
 
 use crate::appending::append;
 use crate::fault::SmallFault;
@@ -33,16 +34,16 @@ impl ErrorReport<'_> {
 
 /// Reads the body of an Error packet. An `Err` is [`SmallFault::Short`], for under 4 bytes.
 pub fn read_error(body: &[u8]) -> Result<ErrorReport<'_>, SmallFault>
-    ensures exact { read_error_model result ≡ error_of body.now }
+    ensures exact { answer_model error_report_model result ≡ error_of body.now }
     ensures found { IfOk result (λ report. SpellsError (error_report_model report) body.now) }
-    ensures only { (report : ErrorReportModel) → IsErrorReport report → SpellsError report body.now → read_error_model result ≡ Ok report }
+    ensures only { (report : ErrorReportModel) → IsErrorReport report → SpellsError report body.now → answer_model error_report_model result ≡ Ok report }
 {
     read_report(body)
 }
 
 #[tactic(auto, unfolding(crate::specs::ErrorReport::error_of))]
 fn read_report(body: &[u8]) -> Result<ErrorReport<'_>, SmallFault>
-    ensures { read_error_model result ≡ error_of body.now }
+    ensures { answer_model error_report_model result ≡ error_of body.now }
 {
     let have = body.len();
     if have < 4 {

@@ -1,5 +1,6 @@
 ghost use Rattle.std.specs.Prelude.{◌≡◌, ◌+◌, ◌<◌, ◌≤◌, ◌++◌, length, IfOk, OnOk, OnErr, Ok, vec_len, vec_capacity};
-ghost use Rattle.xns_small.specs.Exchange.{ExchangeModel, IsExchange, SpellsExchange, exchange_model, exchange_of, read_exchange_model, exchange_spelling};
+ghost use Rattle.xns_small.specs.Exchange.{ExchangeModel, IsExchange, SpellsExchange, exchange_model, exchange_of, exchange_spelling};
+ghost use Rattle.xns_small.specs.Reading.{answer_model};
 
 use crate::appending::append;
 use crate::fault::SmallFault;
@@ -30,16 +31,16 @@ impl Exchange<'_> {
 
 /// Reads the body of a Packet Exchange packet. An `Err` is [`SmallFault::Short`], for under 6 bytes.
 pub fn read_exchange(body: &[u8]) -> Result<Exchange<'_>, SmallFault>
-    ensures exact { read_exchange_model result ≡ exchange_of body.now }
+    ensures exact { answer_model exchange_model result ≡ exchange_of body.now }
     ensures found { IfOk result (λ exchange. SpellsExchange (exchange_model exchange) body.now) }
-    ensures only { (exchange : ExchangeModel) → IsExchange exchange → SpellsExchange exchange body.now → read_exchange_model result ≡ Ok exchange }
+    ensures only { (exchange : ExchangeModel) → IsExchange exchange → SpellsExchange exchange body.now → answer_model exchange_model result ≡ Ok exchange }
 {
     read_fields(body)
 }
 
 #[tactic(auto, unfolding(crate::specs::Exchange::exchange_of))]
 fn read_fields(body: &[u8]) -> Result<Exchange<'_>, SmallFault>
-    ensures { read_exchange_model result ≡ exchange_of body.now }
+    ensures { answer_model exchange_model result ≡ exchange_of body.now }
 {
     let have = body.len();
     if have < 6 {
