@@ -1,5 +1,5 @@
 -- Where reading may be refused memory, as its functions come there.
-use Rattle.std.proofs.Common.{◌≡◌, ℕ, zero, suc, ◌+◌, ◌*◌, get_or, ◌<◌, ◌≤◌, Bool, true, false, ◌&&◌, List, [], ◌∷◌, length, drop, Option, Some, None, Result, Ok, Err, is_ok, IsOk, refl, sym, ap, subst, ◌∙◌, arith, inl, inr, ◌⊎◌, eq-eqb}
+use Rattle.std.proofs.Common.{◌≡◌, ℕ, zero, suc, ◌+◌, ◌*◌, get_or, ◌<◌, ◌≤◌, Bool, true, false, ◌&&◌, List, [], ◌∷◌, length, drop, None, Result, Ok, Err, is_ok, IsOk, refl, sym, ap, subst, ◌∙◌, arith, inl, inr, ◌⊎◌, eq-eqb}
 use Rattle.std.proofs.lemmas.Bool.{cases_eq, le-ltb}
 use denote.Param.Weighed.{most, at_most}
 use Rattle.courier_types.specs.declared.read_fault.Reason.TheVariants.{Truncated}
@@ -11,11 +11,11 @@ use Rattle.courier_types.specs.Value.{ValueModel, ValueModels, value_and}
 use Rattle.courier_types.specs.Check.{wordless, all_wordless, element_fault, first_fault, faults_of_parts, faults_of_members, or_else}
 use Rattle.courier_types.specs.Source.{Fails, Gives}
 use Rattle.courier_types.specs.Memory.{BytesWant, TextWants, ElementsWant, CountedWant, PartsWant, ChoiceWants, WantsMemory, MemberWants}
-use Rattle.courier_types.specs.Reading.{Fault, Reader, ◌>>=◌, over, front_bit, front_word, front_long, front_listed, front_bytes, front_text, reading_times, reading_counted, reading_choice, reading, reading_fields, reading_member}
+use Rattle.courier_types.specs.Reading.{Fault, Reader, ◌>>=◌, over, front_long, front_listed, front_bytes, front_text, reading_times, reading_counted, reading_choice, reading, reading_fields, reading_member}
 use Rattle.courier_types.proofs.Sound.{neither}
 use Rattle.courier_types.proofs.Loops.{at_member, past_member, failed, gives_where}
 use Rattle.courier_types.proofs.Wordless.{of_no_words}
-use Rattle.courier_types.proofs.Again.{again}
+use Rattle.courier_types.proofs.SpelledIsRead.{again}
 
 -- ---- sound shapes
 
@@ -50,13 +50,13 @@ member_is_sound members i member here h =
 
 -- ---- a part is no deeper than what it is a part of
 
-pub part_falls : {X : Type 0} (size : X → ℕ) (xs : List X) (i : ℕ) (x : X) (t k : ℕ) → x ≡ get_or xs i x → i < length xs → 4 * most size xs + suc k ≡ t → 4 * size x + 0 < t
+pub part_falls : {X : Type 0} (size : X → ℕ) (xs : List X) (i : ℕ) (x : X) (t k : ℕ) → x ≡ get_or xs i x → i < length xs → 3 * most size xs + suc k ≡ t → 3 * size x + 0 < t
 part_falls size xs i x t k e lt h =
     let h1 : size (get_or xs i x) ≤ most size xs = at_most size xs i x lt in
     let h2 : size x ≡ size (get_or xs i x) = ap size e in
     omega arith
 
-pub member_falls : {X Y : Type 0} (size : X → ℕ) (inner : Y → ℕ) (xs : List X) (i : ℕ) (x : X) (y : Y) (t k : ℕ) → x ≡ get_or xs i x → i < length xs → inner y ≤ size x → 4 * most size xs + suc k ≡ t → 4 * inner y + 0 < t
+pub member_falls : {X Y : Type 0} (size : X → ℕ) (inner : Y → ℕ) (xs : List X) (i : ℕ) (x : X) (y : Y) (t k : ℕ) → x ≡ get_or xs i x → i < length xs → inner y ≤ size x → 3 * most size xs + suc k ≡ t → 3 * inner y + 0 < t
 member_falls size inner xs i x y t k e lt le h =
     let h1 : size (get_or xs i x) ≤ most size xs = at_most size xs i x lt in
     let h2 : size x ≡ size (get_or xs i x) = ap size e in

@@ -1,12 +1,12 @@
 -- Bytes that are taken a run at a time.
-use Rattle.std.proofs.Common.{◌≡◌, ◌∙◌, ap, sym, subst, refl, ℕ, zero, suc, ◌+◌, ◌-◌, ◌*◌, ◌/◌, ◌%◌, ◌<◌, ◌≤◌, List, [], ◌∷◌, ◌++◌, length, drop, take, Result, Ok, Err, OnErr, is_ok, if◌then◌else◌, get_or, take_all, length-append, append_assoc, arith, Vec, Global}
+use Rattle.std.proofs.Common.{◌≡◌, ◌∙◌, ap, sym, subst, refl, ℕ, zero, suc, ◌+◌, ◌-◌, ◌*◌, ◌/◌, ◌%◌, ◌<◌, ◌≤◌, List, [], ◌∷◌, ◌++◌, length, drop, take, Result, Ok, Err, OnErr, is_ok, if◌then◌else◌, get_or, take_all, length-append, append_assoc, arith, Vec, Global, ◌^◌}
 use Rattle.std.proofs.lemmas.List.{drop-append-le}
 use Rattle.courier_types.specs.declared.read_fault.Reason.TheVariants.{Truncated}
 use Rattle.courier_types.specs.Reading.{◌>>=◌, front_bytes}
 use Rattle.courier_types.specs.Source.{bytes_of}
 use Rattle.courier_types.specs.Spelling.{AreBytes}
 use Rattle.courier_types.specs.Pieces.{joined, words_of}
-use Rattle.courier_types.proofs.Words.{head_byte, tail_bytes}
+use Rattle.courier_types.proofs.Words.{head_below, tail_below}
 
 -- past a front
 
@@ -74,15 +74,15 @@ bytes_taken_of (suc n) (suc zero) e bytes le h = absurd (omega arith)
 bytes_taken_of (suc n) (suc (suc m)) e [] le h = absurd (omega arith)
 bytes_taken_of (suc n) (suc (suc m)) e (b ∷ []) le h = absurd (omega arith)
 bytes_taken_of (suc n) (suc (suc m)) e (b ∷ c ∷ bytes) le h =
-    let t = tail_bytes b (c ∷ take m bytes) h in
-    let y = head_byte c (take m bytes) t in
+    let t = tail_below (2 ^ 8) b (c ∷ take m bytes) h in
+    let y = head_below (2 ^ 8) c (take m bytes) t in
     let high : (b * 256 + c) / 256 ≡ b = omega (arith, y) in
     let low : (b * 256 + c) % 256 ≡ c = omega (arith, y) in
-    rw (high, low) (ap (λ (l : List ℕ). b ∷ c ∷ l) (bytes_taken_of n m (omega (arith, e)) bytes (omega (arith, le)) (tail_bytes c (take m bytes) t)))
+    rw (high, low) (ap (λ (l : List ℕ). b ∷ c ∷ l) (bytes_taken_of n m (omega (arith, e)) bytes (omega (arith, le)) (tail_below (2 ^ 8) c (take m bytes) t)))
 
 last_bytes : (xs ys : List ℕ) → AreBytes (xs ++ ys) → AreBytes ys
 last_bytes [] ys h = h
-last_bytes (x ∷ xs) ys h = last_bytes xs ys (tail_bytes x (xs ++ ys) h)
+last_bytes (x ∷ xs) ys h = last_bytes xs ys (tail_below (2 ^ 8) x (xs ++ ys) h)
 
 pub bytes_taken : (n : ℕ) (bytes old new : List ℕ) → 2 * n ≤ length bytes → new ≡ old ++ take (2 * n) bytes → AreBytes new → new ≡ old ++ bytes_of (take n (words_of bytes))
 bytes_taken n bytes old new le e h =

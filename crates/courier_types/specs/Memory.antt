@@ -34,18 +34,12 @@ ChoiceWants wants (d ∷ ws) = wants d ws
 -- reading a value of the shape from the words wants memory
 abbrev mutual
   pub WantsMemory : ShapeModel → List ℕ → Type 0
-  WantsMemory ShapeModel.boolean ws = ⊥
-  WantsMemory ShapeModel.cardinal ws = ⊥
-  WantsMemory ShapeModel.long_cardinal ws = ⊥
-  WantsMemory ShapeModel.integer ws = ⊥
-  WantsMemory ShapeModel.long_integer ws = ⊥
-  WantsMemory ShapeModel.unspecified ws = ⊥
   WantsMemory ShapeModel.text ws = TextWants ws
-  WantsMemory (ShapeModel.enumeration listed) ws = ⊥
   WantsMemory (ShapeModel.array n element) ws = ElementsWant n ws
   WantsMemory (ShapeModel.sequence most element) ws = CountedWant most ws
   WantsMemory (ShapeModel.fields parts) ws = PartsWant parts
   WantsMemory (ShapeModel.choice members) ws = ChoiceWants (MemberWants members) ws
+  WantsMemory _ ws = ⊥
 
   -- the designator is listed, and its value wants memory, or is read and then held
   pub MemberWants : MemberModels → ℕ → List ℕ → Type 0
