@@ -11,42 +11,43 @@ use Rattle.courier_messages.specs.Conversation.{Phase, conversation, ending}
 use Rattle.courier_messages.specs.Phases.{run, said, onwards, ◌then◌}
 use Rattle.courier_messages.specs.RawCalls.{RawCall}
 use Rattle.courier_messages.specs.Called.{calls_of, all_calls, raws, heard, server_ending}
-use Rattle.courier_messages.specs.Laws.{IsFaultless, Goes, Stays}
+use Rattle.courier_messages.specs.Laws.{IsFaultless, GoesOn, Stays}
 use Rattle.courier_messages.proofs.More.{conversation_more, ending_more, item_one, unsaid}
 
 -- calls go on
 
-all_append : (ms ns : List Message) → all_calls ms ≡ true → all_calls (ms ++ ns) ≡ all_calls ns
+all_split : (ms ns : List Message) → all_calls (ms ++ ns) ≡ (if all_calls ms then all_calls ns else false)
 unfolding all_calls
-all_append [] ns h = refl
-all_append (Call t p v q w ∷ ms) ns h = all_append ms ns h
-all_append (Reject t r w ∷ ms) ns h = cc
-all_append (Return t w ∷ ms) ns h = cc
-all_append (Abort t e w ∷ ms) ns h = cc
+all_split [] ns = refl
+all_split (Call t p v q w ∷ ms) ns = all_split ms ns
+all_split (Reject t r w ∷ ms) ns = refl
+all_split (Return t w ∷ ms) ns = refl
+all_split (Abort t e w ∷ ms) ns = refl
+
+all_append : (ms ns : List Message) → all_calls ms ≡ true → all_calls (ms ++ ns) ≡ all_calls ns
+all_append ms ns h = all_split ms ns ∙ ap (λ (b : Bool). if b then all_calls ns else false) h
 
 not_all_append : (ms ns : List Message) → all_calls ms ≡ false → all_calls (ms ++ ns) ≡ false
-unfolding all_calls
-not_all_append [] ns h = cc
-not_all_append (Call t p v q w ∷ ms) ns h = not_all_append ms ns h
-not_all_append (Reject t r w ∷ ms) ns h = refl
-not_all_append (Return t w ∷ ms) ns h = refl
-not_all_append (Abort t e w ∷ ms) ns h = refl
+not_all_append ms ns h = all_split ms ns ∙ ap (λ (b : Bool). if b then all_calls ns else false) h
+
+-- the calls of messages behind others, whose calls are all their messages or not
+abbrev calls_behind : Bool → List Message → List (ℕ × RawCall)
+calls_behind true ns = calls_of ns
+calls_behind false ns = []
+
+calls_split : (ms ns : List Message) → calls_of (ms ++ ns) ≡ calls_of ms ++ calls_behind (all_calls ms) ns
+unfolding all_calls calls_of
+calls_split [] ns = refl
+calls_split (Call t p v q w ∷ ms) ns = ap (λ (cs : List (ℕ × RawCall)). (t, record { program = p; version = v; procedure = q; words = w }) ∷ cs) (calls_split ms ns)
+calls_split (Reject t r w ∷ ms) ns = refl
+calls_split (Return t w ∷ ms) ns = refl
+calls_split (Abort t e w ∷ ms) ns = refl
 
 calls_append : (ms ns : List Message) → all_calls ms ≡ true → calls_of (ms ++ ns) ≡ calls_of ms ++ calls_of ns
-unfolding all_calls calls_of
-calls_append [] ns h = refl
-calls_append (Call t p v q w ∷ ms) ns h = ap (λ (cs : List (ℕ × RawCall)). (t, record { program = p; version = v; procedure = q; words = w }) ∷ cs) (calls_append ms ns h)
-calls_append (Reject t r w ∷ ms) ns h = cc
-calls_append (Return t w ∷ ms) ns h = cc
-calls_append (Abort t e w ∷ ms) ns h = cc
+calls_append ms ns h = calls_split ms ns ∙ ap (λ (b : Bool). calls_of ms ++ calls_behind b ns) h
 
 calls_stay : (ms ns : List Message) → all_calls ms ≡ false → calls_of (ms ++ ns) ≡ calls_of ms
-unfolding all_calls calls_of
-calls_stay [] ns h = cc
-calls_stay (Call t p v q w ∷ ms) ns h = ap (λ (cs : List (ℕ × RawCall)). (t, record { program = p; version = v; procedure = q; words = w }) ∷ cs) (calls_stay ms ns h)
-calls_stay (Reject t r w ∷ ms) ns h = refl
-calls_stay (Return t w ∷ ms) ns h = refl
-calls_stay (Abort t e w ∷ ms) ns h = refl
+calls_stay ms ns h = calls_split ms ns ∙ ap (λ (b : Bool). calls_of ms ++ calls_behind b ns) h ∙ append-nil (calls_of ms)
 
 pub raws_append : (cs ds : List (ℕ × RawCall)) → raws (cs ++ ds) ≡ raws cs ++ raws ds
 raws_append [] ds = refl
@@ -63,7 +64,7 @@ heard_ok ms q p h = heard_by (all_calls ms) q p h
 
 -- one more item
 
-pub goes : (F : List Item) (p : Phase) (x : Item) → server_ending F ≡ Ok p → Goes F p x
+pub goes : (F : List Item) (p : Phase) (x : Item) → server_ending F ≡ Ok p → GoesOn F p x
 goes F p x h =
     let was = heard_ok (conversation F) (ending F) p h in
     let c : conversation (F ++ x ∷ []) ≡ conversation F ++ said p (signs x) =

@@ -3,7 +3,7 @@ pub mod Signs
 pub mod Ranges
 pub mod Joins
 pub mod Cuts
-pub mod Says
+pub mod MessageWords
 pub mod Talks
 pub mod Written
 pub mod Wholes

@@ -1,17 +1,16 @@
 -- The calls of a caller, as they are heard.
-use Rattle.std.proofs.Common.{◌≡◌, ℕ, ◌+◌, ◌≤◌, true, List, [], ◌∷◌, ◌++◌, length, refl, sym, ◌∙◌, ap, subst, arith}
+use Rattle.std.proofs.Common.{◌≡◌, ℕ, ◌+◌, true, List, [], ◌∷◌, ◌++◌, refl, sym, ◌∙◌, ap, subst, arith}
 use Rattle.std.specs.Prelude.{map, ◌%◌}
 use Rattle.std.specs.List.{flat_map, AllByRecursion}
 use Rattle.xns_spp.specs.declared.item.Item.{Item}
 use Rattle.xns_spp.specs.Growth.{Begins}
 use Rattle.courier_messages.specs.declared.message.Message.{Message}
-use Rattle.courier_messages.specs.declared.message.Message.TheVariants.{Call, Reject, Return, Abort}
-use Rattle.courier_messages.specs.Conversation.{conversation, ending}
+use Rattle.courier_messages.specs.Conversation.{conversation}
 use Rattle.courier_messages.specs.Cutting.{cut, versions_item}
 use Rattle.courier_messages.specs.RawCalls.{RawCall, IsShortCall, call_message, call_items, caller_items, numbered, numbered_message}
-use Rattle.courier_messages.specs.Called.{calls_of, all_calls, raws}
+use Rattle.courier_messages.specs.Called.{calls_of, all_calls}
 use Rattle.courier_messages.specs.Laws.{IsShort, items_of, IsFaultless, Hears, HearsCalls}
-use Rattle.courier_messages.proofs.Lists.{begins_cons, front_of_map}
+use Rattle.courier_messages.proofs.Lists.{front_of_map}
 use Rattle.courier_messages.proofs.Called.{well_server}
 use Rattle.courier_messages.proofs.Talks.{messages_begin, well_begins}
 use Rattle.courier_messages.proofs.Written.{leads_items}
@@ -30,24 +29,6 @@ pub all_are_calls : (ns : List (ℕ × RawCall)) → all_calls (map numbered_mes
 unfolding all_calls numbered_message
 all_are_calls [] = refl
 all_are_calls (n ∷ ns) = all_are_calls ns
-
-pub calls_begin : (ms more : List Message) → Begins (calls_of ms) (calls_of (ms ++ more))
-unfolding calls_of
-calls_begin [] more = (calls_of more, refl)
-calls_begin (Call t p v q ws ∷ ms) more = begins_cons (t, record { program = p; version = v; procedure = q; words = ws }) (calls_of ms) (calls_of (ms ++ more)) (calls_begin ms more)
-calls_begin (Reject t r ws ∷ ms) more = ([], refl)
-calls_begin (Return t ws ∷ ms) more = ([], refl)
-calls_begin (Abort t e ws ∷ ms) more = ([], refl)
-
-pub numbered_begins : (k : ℕ) (cs more : List RawCall) → Begins (numbered k cs) (numbered k (cs ++ more))
-unfolding numbered
-numbered_begins k [] more = (numbered k more, refl)
-numbered_begins k (c ∷ cs) more = begins_cons (k % 65536, c) (numbered (k + 1) cs) (numbered (k + 1) (cs ++ more)) (numbered_begins (k + 1) cs more)
-
-pub raws_numbered : (k : ℕ) (cs : List RawCall) → raws (numbered k cs) ≡ cs
-unfolding numbered
-raws_numbered k [] = refl
-raws_numbered k (c ∷ cs) = ap (λ (l : List RawCall). c ∷ l) (raws_numbered (k + 1) cs)
 
 pub calls_short : (k : ℕ) (cs : List RawCall) → AllByRecursion IsShortCall cs → AllByRecursion IsShort (map numbered_message (numbered k cs))
 unfolding numbered numbered_message

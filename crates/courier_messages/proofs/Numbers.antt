@@ -16,7 +16,7 @@ use Rattle.courier_messages.specs.Text.{Sign, byte, mark, foreign, end_of, signs
 use Rattle.courier_messages.specs.Conversation.{versions_fault, Phase, opening, fresh, inside, conversation}
 use Rattle.courier_messages.specs.Phases.{fresh_unless, opened, closed, step, ended, good, ◌then◌, onwards, said}
 use Rattle.courier_messages.proofs.Signs.{conversation_is}
-use Rattle.courier_messages.proofs.Says.{read_is_spelled, byte_words}
+use Rattle.courier_messages.proofs.MessageWords.{read_is_spelled, byte_words}
 
 pub all_append : {X : Type 0} (P : X → Type 0) (xs ys : List X) → AllByRecursion P xs → AllByRecursion P ys → AllByRecursion P (xs ++ ys)
 all_append P [] ys h k = k

@@ -149,25 +149,29 @@ unfolding run
 fresh_is_inside [] h = absurd (omega arith)
 fresh_is_inside (b ∷ more) h = refl
 
-pub range_and_more : (bytes more : List ℕ) → length bytes < 4 → 4 < length bytes + length more → length bytes + length more ≤ 131076 → opened (bytes ++ more) ≡ Ok fresh → run (opening bytes) (map byte more) ≡ Ok (inside (drop 4 (bytes ++ more)))
-range_and_more bytes more h over size r =
+-- what comes behind the version range is the front of a message
+range_then : (bytes more : List ℕ) → length bytes < 4 → 4 < length bytes + length more → opened (bytes ++ more) ≡ Ok fresh → run (opening bytes) (map byte more) ≡ run (inside []) (map byte (drop 4 (bytes ++ more)))
+range_then bytes more h over r =
     let new : List ℕ = bytes ++ more in
     let all = length-append bytes more in
     let n = length_behind 4 new (omega (arith, all)) in
     from_range bytes more h (omega arith)
     ∙ ap (λ (x : Result Phase SessionFault). x then λ q. run q (map byte (drop 4 new))) r
     ∙ fresh_is_inside (drop 4 new) (omega (arith, n, all))
-    ∙ inside_bytes [] (drop 4 new) (omega (arith, n, all))
+
+-- how much it is
+count_behind : (bytes more : List ℕ) → 4 < length bytes + length more → length (drop 4 (bytes ++ more)) + 4 ≡ length bytes + length more
+count_behind bytes more over = let all = length-append bytes more in length_behind 4 (bytes ++ more) (omega (arith, all)) ∙ all
+
+pub range_and_more : (bytes more : List ℕ) → length bytes < 4 → 4 < length bytes + length more → length bytes + length more ≤ 131076 → opened (bytes ++ more) ≡ Ok fresh → run (opening bytes) (map byte more) ≡ Ok (inside (drop 4 (bytes ++ more)))
+range_and_more bytes more h over size r =
+    let n = count_behind bytes more over in
+    range_then bytes more h over r ∙ inside_bytes [] (drop 4 (bytes ++ more)) (omega (arith, n))
 
 pub range_and_too_much : (bytes more : List ℕ) → length bytes < 4 → 131076 < length bytes + length more → opened (bytes ++ more) ≡ Ok fresh → run (opening bytes) (map byte more) ≡ Err (BadMessage TooLong)
 range_and_too_much bytes more h over r =
-    let new : List ℕ = bytes ++ more in
-    let all = length-append bytes more in
-    let n = length_behind 4 new (omega (arith, all)) in
-    from_range bytes more h (omega arith)
-    ∙ ap (λ (x : Result Phase SessionFault). x then λ q. run q (map byte (drop 4 new))) r
-    ∙ fresh_is_inside (drop 4 new) (omega (arith, n, all))
-    ∙ inside_too_many [] (drop 4 new) (omega arith) (omega (arith, n, all))
+    let n = count_behind bytes more (omega arith) in
+    range_then bytes more h (omega arith) r ∙ inside_too_many [] (drop 4 (bytes ++ more)) (omega arith) (omega (arith, n))
 
 pub fresh_bytes : (more : List ℕ) → 0 < length more → run fresh (map byte more) ≡ run (inside []) (map byte more)
 fresh_bytes = fresh_is_inside

@@ -4,11 +4,11 @@ use Rattle.std.specs.Coded.{le_prop, Unit-prop}
 use Rattle.std.specs.List.{flat_map}
 use Rattle.xns_spp.specs.declared.item.Item.{Item}
 use Rattle.courier_messages.specs.Message.{most_bytes}
-use Rattle.courier_messages.specs.Conversation.{Phase, opening, fresh, inside}
+use Rattle.courier_messages.specs.Conversation.{range_bytes, Phase, opening, fresh, inside}
 
 -- what a session keeps of the text: fewer than four bytes of the version range, or at most a message
 abbrev pub IsBounded : Phase → Type 0
-IsBounded (opening bytes) = length bytes < 4
+IsBounded (opening bytes) = length bytes < range_bytes
 IsBounded fresh = Unit {0}
 IsBounded (inside bytes) = length bytes ≤ most_bytes
 

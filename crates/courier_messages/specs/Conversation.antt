@@ -15,6 +15,10 @@ use Rattle.courier_messages.specs.Text.{Sign, byte, mark, foreign, written, piec
 abbrev pub version : ℕ
 version = 3
 
+-- how many bytes the version range has
+abbrev pub range_bytes : ℕ
+range_bytes = 4
+
 -- the text behind the version range, or why there is none: its bytes so far, or a fault
 pub data VersionRange : Type 0 where
   unread : List ℕ → VersionRange

@@ -1,6 +1,7 @@
 -- How messages go out (XSIS 038112, Courier, Message stream).
 use Rattle.std.specs.Prelude.{ℕ, ◌-◌, ◌/◌, zero, suc, List, [], ◌∷◌, length, take, drop, Bool, true, false}
 use Rattle.xns_spp.specs.declared.item.Item.{Item}
+use Rattle.xns_spp.specs.Packet.{most_body}
 use Rattle.courier_types.specs.Source.{bytes_of}
 use Rattle.courier_messages.specs.declared.message.Message.{Message}
 use Rattle.courier_messages.specs.Message.{message_bytes}
@@ -13,11 +14,11 @@ message_item last body = record { stream = 0; attention = false; last = last; bo
 -- that many full parts, then one that ends the message
 unfoldable pub cut_items : ℕ → List ℕ → List Item
 cut_items zero bytes = message_item true bytes ∷ []
-cut_items (suc n) bytes = message_item false (take 534 bytes) ∷ cut_items n (drop 534 bytes)
+cut_items (suc n) bytes = message_item false (take most_body bytes) ∷ cut_items n (drop most_body bytes)
 
--- bytes in parts of 534, the last one shorter or as long
+-- bytes in parts that are as long as the body of an item may be, the last one shorter or as long
 unfoldable pub cut_bytes : List ℕ → List Item
-cut_bytes bytes = cut_items ((length bytes - 1) / 534) bytes
+cut_bytes bytes = cut_items ((length bytes - 1) / most_body) bytes
 
 abbrev pub cut : Message → List Item
 cut m = cut_bytes (message_bytes m)

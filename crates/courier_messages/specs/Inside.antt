@@ -4,7 +4,7 @@ use Rattle.courier_types.specs.Pieces.{joined}
 use Rattle.courier_messages.specs.declared.pieces.Kept.{Kept}
 use Rattle.courier_messages.specs.declared.pieces.Kept.TheVariants.{One, Several}
 use Rattle.courier_messages.specs.Message.{most_bytes}
-use Rattle.courier_messages.specs.Conversation.{Phase, opening, fresh, inside}
+use Rattle.courier_messages.specs.Conversation.{range_bytes, Phase, opening, fresh, inside}
 use Rattle.courier_messages.specs.declared.incoming.Stage.{Stage}
 use Rattle.courier_messages.specs.declared.incoming.Stage.TheVariants.{Opening, Fresh, Inside}
 
@@ -20,9 +20,9 @@ phase_in Inside bytes = inside bytes
 
 -- nothing is skipped, or the version range
 abbrev pub IsSkipped : ℕ → List ℕ → Type 0
-IsSkipped skipped bytes = (skipped ≡ 0) ⊎ ((skipped ≡ 4) × (4 ≤ length bytes))
+IsSkipped skipped bytes = (skipped ≡ 0) ⊎ ((skipped ≡ range_bytes) × (range_bytes ≤ length bytes))
 
 abbrev pub IsHeld : Stage → ℕ → List ℕ → Type 0
-IsHeld Opening skipped bytes = (skipped ≡ 0) × (length bytes < 4)
+IsHeld Opening skipped bytes = (skipped ≡ 0) × (length bytes < range_bytes)
 IsHeld Fresh skipped bytes = (skipped ≡ 0) × (bytes ≡ [])
 IsHeld Inside skipped bytes = IsSkipped skipped bytes × (length bytes ≤ most_bytes + skipped)

@@ -1,20 +1,22 @@
--- What the laws of messages speak of, and the statements of those that other crates stand on.
-use Rattle.std.specs.Prelude.{◌≡◌, ◌≤◌, ◌+◌, ◌%◌, [], ◌∷◌, ◌++◌, ◌↔◌, ℕ, List, map, length, false, Some, Result, Ok, Err}
-use Rattle.std.specs.List.{AllByRecursion, flat_map}
+-- What the laws of messages speak of, and their statements.
+use Rattle.std.specs.Prelude.{◌≡◌, ◌≤◌, ◌+◌, ◌%◌, [], ◌∷◌, ◌++◌, ◌↔◌, ℕ, List, map, length, false, Some, None, Result, Ok, Err}
+use Rattle.std.specs.List.{All, AllByRecursion, flat_map}
 use Rattle.xns_spp.specs.declared.item.Item.{Item}
 use Rattle.xns_spp.specs.Growth.{Begins}
 use Rattle.xns_spp.specs.Item.{IsItem, IsShortItem}
+use Rattle.courier_types.specs.Pieces.{words_of}
 use Rattle.courier_types.specs.Shape.{ShapeModel}
 use Rattle.courier_types.specs.Value.{ValueModel}
 use Rattle.courier_types.specs.Spelling.{SpellsValue, AreWords}
 use Rattle.courier_messages.specs.declared.fault.SessionFault.{SessionFault}
 use Rattle.courier_messages.specs.declared.message.Message.{Message}
-use Rattle.courier_messages.specs.Message.{IsMessage, most_words, message_words}
-use Rattle.courier_messages.specs.Text.{Sign, signs}
-use Rattle.courier_messages.specs.Conversation.{Phase, conversation, ending}
+use Rattle.courier_messages.specs.Message.{IsMessage, SpellsMessage, most_words, most_bytes, message_words, message_bytes, message_of}
+use Rattle.courier_messages.specs.Text.{Sign, byte, signs, marked, written, pieces, rest, foreign_in}
+use Rattle.courier_messages.specs.Bounds.{IsBounded, bytes_in}
+use Rattle.courier_messages.specs.Conversation.{Phase, opening, inside, conversation, ending}
 use Rattle.courier_messages.specs.Phases.{run, said, onwards, ◌then◌}
 use Rattle.courier_messages.specs.Cutting.{cut, versions_item}
-use Rattle.courier_messages.specs.RawCalls.{RawCall, IsShortCall, call_message, call_items, caller_items, numbered, numbered_message}
+use Rattle.courier_messages.specs.RawCalls.{RawCall, IsShortCall, call_message, call_items, caller_items, numbered, numbered_message, transaction_of}
 use Rattle.courier_messages.specs.Called.{calls_of, heard, server_ending}
 use Rattle.courier_messages.specs.Whole.{whole}
 
@@ -37,7 +39,7 @@ pub record IsSendableItem (x : Item) : Type 0 where
   pub plain : x.attention ≡ false
 
 -- a server that goes on, with one more item
-pub record Goes (fed : List Item) (p : Phase) (item : Item) : Type 0 where
+pub record GoesOn (fed : List Item) (p : Phase) (item : Item) : Type 0 where
   pub said_then : conversation (fed ++ item ∷ []) ≡ conversation fed ++ said p (signs item)
   pub ends : server_ending (fed ++ item ∷ []) ≡ heard (said p (signs item)) (run p (signs item))
   pub calls_then : calls_of (conversation (fed ++ item ∷ [])) ≡ calls_of (conversation fed) ++ calls_of (said p (signs item))
@@ -58,7 +60,40 @@ pub record HearsCalls (fed : List Item) (made : List RawCall) : Type 0 where
   pub calls : Begins (calls_of (conversation fed)) (numbered 1 made)
   pub well : IsFaultless (server_ending fed)
 
--- the statements of laws, each under the name of its law
+-- the statements of the laws, each under the name of its law
+
+pub record MessageIsSpelled : Type 0 where
+  pub said : (m : Message) (bytes : List ℕ) → length bytes % 2 ≡ 0 → SpellsMessage m (words_of bytes) → message_of bytes ≡ Ok m
+  pub written : (m : Message) (words : List ℕ) → SpellsMessage m words → message_of (message_bytes m) ≡ Ok m
+
+abbrev pub WholeValueIsSpelled : Type 0
+WholeValueIsSpelled = (shape : ShapeModel) (value : ValueModel) (words : List ℕ) → AreWords words → (whole shape words ≡ Some value) ↔ SpellsValue shape value words
+
+abbrev pub TextIsItsPieces : Type 0
+TextIsItsPieces = (text : List Sign) → foreign_in text ≡ None → flat_map marked (pieces text) ++ map byte (rest text) ≡ text
+
+pub record ConversationIsReadSignBySign : Type 0 where
+  pub messages : (fed : List Item) → conversation fed ≡ said (opening []) (written fed)
+  pub ending : (fed : List Item) → ending fed ≡ run (opening []) (written fed)
+
+abbrev pub WhatIsKeptIsBounded : Type 0
+WhatIsKeptIsBounded = (fed : List Item) (p : Phase) → ending fed ≡ Ok p → IsBounded p
+
+pub record MessageItemsCanBeSent : Type 0 where
+  pub items : (m : Message) → IsMessage m → All IsSendableItem (cut m)
+  pub versions : IsSendableItem versions_item
+  pub size : (m : Message) → IsShort m → length (bytes_in (cut m)) ≤ most_bytes
+
+abbrev pub WhatIsHeardHasNumbers : Type 0
+WhatIsHeardHasNumbers = (fed : List Item) → AllByRecursion IsItem fed → AllByRecursion IsMessage (conversation fed)
+
+pub record CutsDoNotMatter : Type 0 where
+  pub messages : (one other : List Item) → written one ≡ written other → conversation one ≡ conversation other
+  pub ending : (one other : List Item) → written one ≡ written other → ending one ≡ ending other
+
+pub record WhatIsSentIsHeard : Type 0 where
+  pub messages : (sent : List Message) → AllByRecursion IsShort sent → conversation (items_of sent) ≡ sent
+  pub ending : (sent : List Message) → AllByRecursion IsShort sent → ending (items_of sent) ≡ Ok (inside [])
 
 pub record AConversationOnlyGrows : Type 0 where
   pub messages : (front fed : List Item) → Begins front fed → Begins (conversation front) (conversation fed)
@@ -76,13 +111,13 @@ pub record OneItemMore : Type 0 where
   pub silent : (item : Item) (p : Phase) (fault : SessionFault) → run p (signs item) ≡ Err fault → said p (signs item) ≡ []
 
 pub record AServerHearsOneItemMore : Type 0 where
-  pub goes : (fed : List Item) (p : Phase) (item : Item) → server_ending fed ≡ Ok p → Goes fed p item
+  pub goes : (fed : List Item) (p : Phase) (item : Item) → server_ending fed ≡ Ok p → GoesOn fed p item
   pub stays : (fed : List Item) (item : Item) (fault : SessionFault) → server_ending fed ≡ Err fault → Stays fed item fault
   -- an item that brings a fault ends no call
   pub silent : (fed : List Item) (item : Item) (fault : SessionFault) → server_ending (fed ++ item ∷ []) ≡ Err fault → calls_of (conversation (fed ++ item ∷ [])) ≡ calls_of (conversation fed)
 
 pub record MoreCallsGoOut : Type 0 where
-  pub one : (k : ℕ) (calls : List RawCall) (call : RawCall) → call_items k (calls ++ call ∷ []) ≡ call_items k calls ++ cut (call_message ((k + length calls) % 65536) call)
+  pub one : (k : ℕ) (calls : List RawCall) (call : RawCall) → call_items k (calls ++ call ∷ []) ≡ call_items k calls ++ cut (call_message (transaction_of (k + length calls)) call)
   pub front : (front calls : List RawCall) → Begins front calls → Begins (caller_items front) (caller_items calls)
 
 abbrev pub AFrontIsHeard : Type 0
@@ -90,9 +125,3 @@ AFrontIsHeard = (fed : List Item) (sent : List Message) → AllByRecursion IsSho
 
 abbrev pub CallsAreHeard : Type 0
 CallsAreHeard = (fed : List Item) (made : List RawCall) → AllByRecursion IsShortCall made → Begins fed (caller_items made) → HearsCalls fed made
-
-abbrev pub WhatIsHeardHasNumbers : Type 0
-WhatIsHeardHasNumbers = (fed : List Item) → AllByRecursion IsItem fed → AllByRecursion IsMessage (conversation fed)
-
-abbrev pub WholeValueIsSpelled : Type 0
-WholeValueIsSpelled = (shape : ShapeModel) (value : ValueModel) (words : List ℕ) → AreWords words → (whole shape words ≡ Some value) ↔ SpellsValue shape value words

@@ -15,13 +15,26 @@ most_words = 65536
 abbrev pub most_bytes : ℕ
 most_bytes = 131072
 
+-- what kind of message it is, its first word
+abbrev pub call_kind : ℕ
+call_kind = 0
+
+abbrev pub reject_kind : ℕ
+reject_kind = 1
+
+abbrev pub return_kind : ℕ
+return_kind = 2
+
+abbrev pub abort_kind : ℕ
+abort_kind = 3
+
 -- the words that are written for a message
 abbrev pub message_words : Message → List ℕ
 message_words (Call transaction program version procedure words) =
-    0 ∷ transaction ∷ program / 65536 ∷ program % 65536 ∷ version ∷ procedure ∷ words
-message_words (Reject transaction reason words) = 1 ∷ transaction ∷ reason ∷ words
-message_words (Return transaction words) = 2 ∷ transaction ∷ words
-message_words (Abort transaction error words) = 3 ∷ transaction ∷ error ∷ words
+    call_kind ∷ transaction ∷ program / 65536 ∷ program % 65536 ∷ version ∷ procedure ∷ words
+message_words (Reject transaction reason words) = reject_kind ∷ transaction ∷ reason ∷ words
+message_words (Return transaction words) = return_kind ∷ transaction ∷ words
+message_words (Abort transaction error words) = abort_kind ∷ transaction ∷ error ∷ words
 
 abbrev pub message_bytes : Message → List ℕ
 message_bytes m = bytes_of (message_words m)
@@ -54,10 +67,10 @@ abort_in transaction [] = Err ShortMessage
 -- the message that the words are, whatever their number
 abbrev pub message_in : List ℕ → Result Message MessageFault
 message_in (kind ∷ transaction ∷ ws) =
-    if kind == 0 then call_in transaction ws
-    else if kind == 1 then reject_in transaction ws
-    else if kind == 2 then Ok (Return transaction ws)
-    else if kind == 3 then abort_in transaction ws
+    if kind == call_kind then call_in transaction ws
+    else if kind == reject_kind then reject_in transaction ws
+    else if kind == return_kind then Ok (Return transaction ws)
+    else if kind == abort_kind then abort_in transaction ws
     else Err (UnknownKind kind)
 message_in ws = Err ShortMessage
 

@@ -27,10 +27,14 @@ words_call program version procedure words = record { program = program; version
 abbrev pub call_message : ℕ → RawCall → Message
 call_message transaction c = Call transaction c.program c.version c.procedure c.words
 
+-- the transaction of the k-th call
+abbrev pub transaction_of : ℕ → ℕ
+transaction_of k = k % 65536
+
 -- calls with their transactions, from the k-th on
 unfoldable pub numbered : ℕ → List RawCall → List (ℕ × RawCall)
 numbered k [] = []
-numbered k (c ∷ cs) = (k % 65536, c) ∷ numbered (k + 1) cs
+numbered k (c ∷ cs) = (transaction_of k, c) ∷ numbered (k + 1) cs
 
 unfoldable pub numbered_message : ℕ × RawCall → Message
 numbered_message n = call_message n.0 n.1
@@ -40,7 +44,7 @@ numbered_message n = call_message n.0 n.1
 -- the k-th call and those after it, with their transactions
 unfoldable pub call_items : ℕ → List RawCall → List Item
 call_items k [] = []
-call_items k (c ∷ cs) = cut (call_message (k % 65536) c) ++ call_items (k + 1) cs
+call_items k (c ∷ cs) = cut (call_message (transaction_of k) c) ++ call_items (k + 1) cs
 
 -- all that the caller puts out
 abbrev pub caller_items : List RawCall → List Item

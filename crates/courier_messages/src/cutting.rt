@@ -1,5 +1,6 @@
 //! Messages on their way out.
 ghost use Rattle.std.specs.Prelude.{◌≡◌, ◌++◌, ◌∷◌, ◌≤◌, ◌+◌, ◌*◌, [], length, IfOk, OnOk, OnErr, Ok};
+ghost use Rattle.xns_spp.specs.Packet.{most_body};
 ghost use Rattle.courier_types.specs.Source.{bytes_of};
 ghost use Rattle.courier_messages.specs.Bounds.{bytes_in};
 ghost use Rattle.courier_messages.specs.Cutting.{message_item, cut_bytes, versions_item};
@@ -15,7 +16,7 @@ const WORDS_AN_ITEM: usize = 267;
 
 #[tactic(auto, using(crate::proofs::Cuts::bytes_length))]
 fn make_item(alloc: Global, last: bool, words: &[u16]) -> Result<Item, AllocError>
-    requires { length words.now ≤ 267 }
+    requires { 2 * length words.now ≤ most_body }
     ensures { IfOk result (λ x. x ≡ message_item last (bytes_of words.now)) }
 {
     let mut body = Vec::with_capacity(alloc, 2 * words.len())?;

@@ -1,7 +1,7 @@
 //! Why a message or a session stops.
 ghost use Rattle.std.specs.Prelude.{◌≡◌};
 
-use std::alloc::{AllocError, AllocFailed};
+use std::alloc::AllocError;
 use thiserror::Error;
 
 /// What is wrong with a message's bytes.
@@ -77,16 +77,6 @@ impl From<AllocError> for SessionFault {
     ghost from_gives = { λ _ e. e ≡ NoMemory };
 
     fn from(_e: AllocError) -> SessionFault {
-        SessionFault::NoMemory
-    }
-}
-
-impl<T: Drop> From<AllocFailed<T>> for SessionFault {
-    ghost use Rattle.courier_messages.specs.declared.fault.SessionFault.TheVariants.{NoMemory};
-
-    ghost from_gives = { λ _ e. e ≡ NoMemory };
-
-    fn from(_e: AllocFailed<T>) -> SessionFault {
         SessionFault::NoMemory
     }
 }

@@ -4,6 +4,7 @@ ghost use Rattle.courier_types.specs.Writing.{HasRoom};
 ghost use Rattle.courier_messages.specs.Head.{with_words, words_in, head_size, head_words};
 ghost use Rattle.courier_types.specs.Source.{bytes_of};
 
+use crate::kinds::{ABORT, CALL, REJECT, RETURN};
 use crate::message::Message;
 use crate::words::Words;
 use crate::writing::put_words;
@@ -130,14 +131,14 @@ impl Head {
             } => {
                 let high = (program / 65536) as u16;
                 let low = (program % 65536) as u16;
-                put_words(&[0, transaction, high, low, version, procedure], out)
+                put_words(&[CALL, transaction, high, low, version, procedure], out)
             }
             Head::Reject {
                 transaction,
                 reason,
-            } => put_words(&[1, transaction, reason], out),
-            Head::Return { transaction } => put_words(&[2, transaction], out),
-            Head::Abort { transaction, error } => put_words(&[3, transaction, error], out),
+            } => put_words(&[REJECT, transaction, reason], out),
+            Head::Return { transaction } => put_words(&[RETURN, transaction], out),
+            Head::Abort { transaction, error } => put_words(&[ABORT, transaction, error], out),
         }
     }
 }

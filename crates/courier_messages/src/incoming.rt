@@ -4,7 +4,7 @@ ghost use Rattle.courier_messages.specs.declared.incoming.Stage.TheVariants.{Ins
 ghost use Rattle.courier_messages.specs.declared.fault.SessionFault.TheVariants.{NoMemory};
 ghost use Rattle.courier_types.specs.Pieces.{words_of};
 ghost use Rattle.courier_messages.specs.Text.{byte, mark, signs};
-ghost use Rattle.courier_messages.specs.Conversation.{Phase, opening, fresh, inside};
+ghost use Rattle.courier_messages.specs.Conversation.{range_bytes, Phase, opening, fresh, inside};
 ghost use Rattle.courier_messages.specs.Message.{most_bytes, message_of};
 ghost use Rattle.courier_messages.specs.Phases.{step, ended, run, said, agreement, opened};
 ghost use Rattle.courier_messages.specs.Bounds.{IsBounded};
@@ -82,8 +82,8 @@ fn byte_at(pieces: &Pieces, body: &[u8], place: usize) -> Option<u8>
 /// The lowest and the highest version, which what is kept and what comes behind it begin with; `None` for fewer than four bytes.
 #[tactic(auto, using(crate::proofs::Ranges::range_bytes, crate::proofs::Ranges::range_cut))]
 fn range_in(pieces: &Pieces, body: &[u8]) -> Option<(u16, u16)>
-    ensures { MatchOption result (length pieces.now + length body.now < 4)
-        (λ range. (4 ≤ length pieces.now + length body.now) × (opened (pieces.now ++ body.now) ≡ agreement range.0 range.1)) }
+    ensures { MatchOption result (length pieces.now + length body.now < range_bytes)
+        (λ range. (range_bytes ≤ length pieces.now + length body.now) × (opened (pieces.now ++ body.now) ≡ agreement range.0 range.1)) }
 {
     let low_high = byte_at(pieces, body, 0)?;
     let low_low = byte_at(pieces, body, 1)?;
@@ -126,7 +126,7 @@ fn read_head_in(pieces: &Pieces, skipped: usize) -> Result<Head, MessageFault>
 /// memory is wanted.
 #[tactic(auto, using(crate::proofs::Ranges::still_opening, crate::proofs::Ranges::range_faulty, crate::proofs::Ranges::range_alone, crate::proofs::Ranges::range_and_more, crate::proofs::Ranges::range_and_too_much))]
 fn take_range(pieces: &mut Pieces, body: Vec<u8>) -> Result<(Stage, usize), SessionFault>
-    requires { length pieces.old < 4 }
+    requires { length pieces.old < range_bytes }
     ensures runs { IfOk result (λ x. run (opening pieces.old) (map byte body.items) ≡ Ok (phase_in x.0 (drop x.1 pieces.new))) }
     ensures held { IfOk result (λ x. IsHeld x.0 x.1 pieces.new) }
     ensures stops { IfErr result (λ e. UnlessMemory e (run (opening pieces.old) (map byte body.items) ≡ Err e)) }

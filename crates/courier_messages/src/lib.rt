@@ -6,6 +6,7 @@ mod cutting;
 mod fault;
 mod head;
 mod incoming;
+pub mod kinds;
 pub mod laws;
 mod message;
 mod pieced_message;

@@ -7,6 +7,7 @@ ghost use Rattle.courier_messages.specs.Refusal.{Reads, IfNoMemory, HasOwnWords}
 
 use crate::fault::{MessageFault, MessageRefusal};
 use crate::head::Head;
+use crate::kinds::{ABORT, CALL, REJECT, RETURN};
 use crate::message::Message;
 use crate::words::Words;
 use courier_types::known::known_bytes;
@@ -76,10 +77,10 @@ pub fn read_head<S: WordSource>(source: &mut S) -> Result<Head, MessageFault>
     let kind = take_word(source);
     let transaction = take_word(source);
     match kind {
-        0 => read_call_head(transaction, source),
-        1 => read_reject_head(transaction, source),
-        2 => Ok(Head::Return { transaction }),
-        3 => read_abort_head(transaction, source),
+        CALL => read_call_head(transaction, source),
+        REJECT => read_reject_head(transaction, source),
+        RETURN => Ok(Head::Return { transaction }),
+        ABORT => read_abort_head(transaction, source),
         found => Err(MessageFault::UnknownKind { found }),
     }
 }

@@ -7,11 +7,9 @@ use Rattle.courier_messages.proofs.Cuts.{bytes_back, bytes_length}
 use Rattle.courier_messages.proofs.Shorts.{cut_short, versions_short}
 use Rattle.courier_messages.proofs.laws.message_items_can_be_sent.Goals as goal
 
-pub returns-clause-items : goal.returns-clause-items
-returns-clause-items c = λ m h. All-from_recursion IsSendableItem (cut m) (cut_short m h)
-
-pub returns-clause-versions : goal.returns-clause-versions
-returns-clause-versions c = versions_short
-
-pub returns-clause-size : goal.returns-clause-size
-returns-clause-size c = λ m short. omega (arith, short, ap (length {A = ℕ}) (bytes_back (message_bytes m)), bytes_length (message_words m))
+pub returns : goal.returns
+returns c = record {
+  items = λ m h. All-from_recursion IsSendableItem (cut m) (cut_short m h);
+  versions = versions_short;
+  size = λ m short. omega (arith, short, ap (length {A = ℕ}) (bytes_back (message_bytes m)), bytes_length (message_words m));
+}

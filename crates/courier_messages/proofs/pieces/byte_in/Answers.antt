@@ -1,4 +1,4 @@
-use Rattle.std.proofs.Common.{◌∙◌, ◌+◌, ◌-◌, arith, ap, sym, drop, ℕ, List, length}
+use Rattle.std.proofs.Common.{◌∙◌, ◌+◌, ◌-◌, arith, ap, sym, drop, ℕ, List}
 use Rattle.std.specs.Prelude.{slice_get}
 use Rattle.std.proofs.lemmas.Option.{slice_get_read}
 use Rattle.courier_types.specs.Pieces.{joined}

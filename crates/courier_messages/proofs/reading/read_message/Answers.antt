@@ -1,4 +1,4 @@
-use Rattle.courier_messages.proofs.Says.{reads_spelled}
+use Rattle.courier_messages.proofs.MessageWords.{reads_spelled}
 use Rattle.courier_messages.proofs.reading.read_message.Goals as goal
 
 pub returns-clause-spells : goal.returns-clause-spells
