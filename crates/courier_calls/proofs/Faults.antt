@@ -1,5 +1,5 @@
 -- No answer is read at the item in which a fault stands.
-use Rattle.std.proofs.Common.{◌≡◌, ◌∙◌, ap, sym, refl, ℕ, ◌+◌, ◌%◌, ◌≤◌, List, [], ◌∷◌, ◌++◌, length, append-nil, arith, Ok, Err}
+use Rattle.std.proofs.Common.{◌≡◌, ◌∙◌, ap, sym, refl, ℕ, ◌+◌, ◌≤◌, List, [], ◌∷◌, ◌++◌, length, append-nil, arith, Ok, Err}
 use Rattle.std.specs.Prelude.{Result}
 use Rattle.xns_spp.specs.declared.item.Item.{Item}
 use Rattle.courier_messages.specs.declared.fault.SessionFault.{SessionFault}
@@ -8,34 +8,24 @@ use Rattle.courier_messages.specs.Text.{signs}
 use Rattle.courier_messages.specs.Conversation.{Phase, conversation, ending}
 use Rattle.courier_messages.specs.Phases.{run, said, onwards, ◌then◌}
 use Rattle.courier_calls.specs.Table.{EntryModel}
-use Rattle.courier_messages.specs.RawCalls.{RawCall}
+use Rattle.courier_messages.specs.RawCalls.{RawCall, transaction_of}
 use Rattle.courier_calls.specs.Calls.{SeenModel}
 use Rattle.courier_calls.specs.Caller.{answer_in, before, answers, answers_from, unanswered, unanswered_from, caller_ending}
-use Rattle.courier_calls.proofs.Asks.{unanswered_more, answers_more, stopped_answers}
+use Rattle.courier_calls.proofs.CallerLists.{unanswered_none, answers_none, unanswered_more, answers_more, stopped_answers}
 use Rattle.courier_messages.specs.Laws.{OneItemMore}
 
 unread_answer : (r : Result SeenModel SessionFault) (f : List RawCall) (q : Result Phase SessionFault) (e : SessionFault) → ((r then λ s. Ok f) then λ cs. q) ≡ Err e → ((d : SessionFault) → q ≡ Err d → ⊥) → before r [] ≡ []
 unread_answer (Ok s) f q e h quiet = absurd (quiet e h)
 unread_answer (Err d) f q e h quiet = refl
 
-unanswered_empty : (table : List EntryModel) (k : ℕ) (cs : List RawCall) → unanswered_from table k cs [] ≡ Ok cs
-unfolding unanswered_from
-unanswered_empty table k [] = refl
-unanswered_empty table k (c ∷ cs) = refl
-
-answers_empty : (table : List EntryModel) (k : ℕ) (cs : List RawCall) → answers_from table k cs [] ≡ []
-unfolding answers_from
-answers_empty table k [] = refl
-answers_empty table k (c ∷ cs) = refl
-
 unanswered_message : (table : List EntryModel) (k : ℕ) (cs : List RawCall) (ms : List Message) (q : Result Phase SessionFault) (e : SessionFault) → length ms ≤ 1 → ((d : SessionFault) → q ≡ Err d → ms ≡ []) → (unanswered_from table k cs ms then λ ds. q) ≡ Err e → answers_from table k cs ms ≡ []
 unfolding unanswered_from answers_from
-unanswered_message table k cs [] q e few quiet h = answers_empty table k cs
+unanswered_message table k cs [] q e few quiet h = answers_none table k cs
 unanswered_message table k [] (m ∷ []) q e few quiet h = refl
 unanswered_message table k (c ∷ cs) (m ∷ []) q e few quiet h =
-    ap (λ (rs : List SeenModel). before (answer_in table (k % 65536) c m) rs) (answers_empty table (k + 1) cs)
-    ∙ unread_answer (answer_in table (k % 65536) c m) cs q e
-    (ap (λ (f : Result (List RawCall) SessionFault). (answer_in table (k % 65536) c m then λ s. f) then λ ds. q) (sym (unanswered_empty table (k + 1) cs)) ∙ h)
+    ap (λ (rs : List SeenModel). before (answer_in table (transaction_of k) c m) rs) (answers_none table (k + 1) cs)
+    ∙ unread_answer (answer_in table (transaction_of k) c m) cs q e
+    (ap (λ (f : Result (List RawCall) SessionFault). (answer_in table (transaction_of k) c m then λ s. f) then λ ds. q) (sym (unanswered_none table (k + 1) cs)) ∙ h)
     (λ d j. let n = quiet d j in absurd cc)
 unanswered_message table k cs (m ∷ n ∷ ms) q e few quiet h = absurd (omega (arith, few))
 

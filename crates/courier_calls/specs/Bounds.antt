@@ -1,8 +1,9 @@
 -- How much a caller has out.
 use Rattle.std.specs.Prelude.{◌+◌, ℕ, Option, Some, None}
 use Rattle.courier_messages.specs.Message.{most_bytes}
+use Rattle.courier_messages.specs.Conversation.{range_bytes}
 
 -- how many bytes a caller has out at most: its version range, and where a call waits a message
 abbrev pub most_out : {A : Type 0} → Option A → ℕ
-most_out None = 4
-most_out (Some target) = 4 + most_bytes
+most_out None = range_bytes
+most_out (Some target) = range_bytes + most_bytes

@@ -1,16 +1,29 @@
 //! The words of messages that go out.
 ghost use Rattle.std.specs.Prelude.{◌≡◌, [], ◌≤◌, ◌*◌, length, IfOk, Ok};
-ghost use Rattle.courier_messages.specs.Message.{message_words};
+ghost use Rattle.courier_messages.specs.Message.{message_words, most_words};
 ghost use Rattle.courier_calls.specs.Table.{entry_model, procedure_model, table_model};
-ghost use Rattle.courier_calls.specs.Calls.{AllowsOutcome, outcome_model, seen_of, unlisted_model, HasGoodArguments, call_model, raw_call, SeenModel};
+ghost use Rattle.courier_calls.specs.Calls.{AllowsOutcome, outcome_model, seen_of, unlisted_model, HasGoodArguments, call_model, raw_call, SeenModel, invalid_arguments};
 ghost use Rattle.courier_calls.specs.Answers.{answer_message};
 ghost use Rattle.courier_messages.specs.RawCalls.{call_message};
 
 use crate::call::{Arguments, Call, Outcome};
 use crate::table::{Entry, Procedure, Table, Unlisted};
 use courier_messages::Spare;
+use courier_messages::kinds::{ABORT, CALL, REJECT, RETURN};
 use courier_types::write;
 use std::alloc::{AllocError, Global};
+
+/// Why a call is rejected: its program is not listed.
+const NO_SUCH_PROGRAM: u16 = 0;
+
+/// The program is not listed in this version.
+const NO_SUCH_VERSION: u16 = 1;
+
+/// The program has no such procedure.
+const NO_SUCH_PROCEDURE: u16 = 2;
+
+/// The words are no arguments of the procedure.
+const INVALID_ARGUMENTS: u16 = 3;
 
 /// The words of the answer to a call that was carried out, in the spare room.
 pub fn outcome_words(
@@ -23,16 +36,16 @@ pub fn outcome_words(
 ) -> Result<Vec<u16>, AllocError>
     requires { AllowsOutcome (Ok (entry_model entry.now, procedure_model procedure.now)) (outcome_model outcome.now) }
     ensures words { IfOk result (λ w. w.items ≡ message_words (answer_message transaction (seen_of (outcome_model outcome.now)))) }
-    ensures short { IfOk result (λ w. length w.items ≤ 65536) }
+    ensures short { IfOk result (λ w. length w.items ≤ most_words) }
 {
     let mut words = spare.take(alloc)?;
     match outcome {
         Outcome::Returned(value) => {
-            words.extend_from_slice(&[2, transaction])?;
+            words.extend_from_slice(&[RETURN, transaction])?;
             write(alloc, &procedure.results, value, &mut words)?;
         }
         Outcome::Aborted(error, value) => {
-            words.extend_from_slice(&[3, transaction, *error])?;
+            words.extend_from_slice(&[ABORT, transaction, *error])?;
             let Some(listed) = entry.error(*error) else {
                 unreachable!()
             };
@@ -49,21 +62,24 @@ pub fn unlisted_words(
     unlisted: Unlisted,
 ) -> Result<Vec<u16>, AllocError>
     ensures words { IfOk result (λ w. w.items ≡ message_words (answer_message transaction (unlisted_model unlisted))) }
-    ensures short { IfOk result (λ w. length w.items ≤ 65536) }
+    ensures short { IfOk result (λ w. length w.items ≤ most_words) }
 {
     match unlisted {
-        Unlisted::Program => Vec::from_slice(alloc, &[1, transaction, 0]),
-        Unlisted::Version { low, high } => Vec::from_slice(alloc, &[1, transaction, 1, low, high]),
-        Unlisted::Procedure => Vec::from_slice(alloc, &[1, transaction, 2]),
+        Unlisted::Program => Vec::from_slice(alloc, &[REJECT, transaction, NO_SUCH_PROGRAM]),
+        Unlisted::Version { low, high } => Vec::from_slice(
+            alloc,
+            &[REJECT, transaction, NO_SUCH_VERSION, low, high],
+        ),
+        Unlisted::Procedure => Vec::from_slice(alloc, &[REJECT, transaction, NO_SUCH_PROCEDURE]),
     }
 }
 
 /// The words of the reject of a call whose arguments were not read.
 pub fn unread_words(alloc: Global, transaction: u16) -> Result<Vec<u16>, AllocError>
-    ensures words { IfOk result (λ w. w.items ≡ message_words (answer_message transaction (SeenModel.rejected 3 []))) }
-    ensures short { IfOk result (λ w. length w.items ≤ 65536) }
+    ensures words { IfOk result (λ w. w.items ≡ message_words (answer_message transaction (SeenModel.rejected invalid_arguments []))) }
+    ensures short { IfOk result (λ w. length w.items ≤ most_words) }
 {
-    Vec::from_slice(alloc, &[1, transaction, 3])
+    Vec::from_slice(alloc, &[REJECT, transaction, INVALID_ARGUMENTS])
 }
 
 /// The words of a call's message, in the spare room.
@@ -81,7 +97,7 @@ pub fn call_words(
     let high = (call.program / 65536) as u16;
     let low = (call.program % 65536) as u16;
     let mut words = spare.take(alloc)?;
-    words.extend_from_slice(&[0, transaction, high, low, call.version, call.procedure])?;
+    words.extend_from_slice(&[CALL, transaction, high, low, call.version, call.procedure])?;
     match &call.arguments {
         Arguments::Raw(given) => words.extend_from_slice(given.as_slice())?,
         Arguments::Typed(value) => {

@@ -7,30 +7,45 @@ use crate::table::{Entry, ErrorEntry, Procedure, Table};
 use courier_types::Shape;
 use std::alloc::{AllocError, Global};
 
+const PROGRAM: u32 = 7;
+
+const LOW: u16 = 1;
+
+const HIGH: u16 = 2;
+
+/// The procedure that adds.
+pub const ADD: u16 = 1;
+
+/// The procedure that tells the total.
+const TOTAL: u16 = 2;
+
+/// The error where the total would be over its most.
+pub const OVER: u16 = 1;
+
 fn make_table(alloc: Global) -> Result<Table, AllocError>
     ensures { IfOk result (λ t. table_model t ≡ tally.table) }
 {
     let mut procedures = Vec::with_capacity(alloc, 2)?;
     procedures.push(Procedure {
-        number: 1,
+        number: ADD,
         arguments: Shape::Cardinal,
         results: Shape::LongCardinal,
     })?;
     procedures.push(Procedure {
-        number: 2,
+        number: TOTAL,
         arguments: Shape::Fields(Vec::new(alloc)),
         results: Shape::LongCardinal,
     })?;
     let mut errors = Vec::with_capacity(alloc, 1)?;
     errors.push(ErrorEntry {
-        number: 1,
+        number: OVER,
         arguments: Shape::LongCardinal,
     })?;
     let mut entries = Vec::with_capacity(alloc, 1)?;
     entries.push(Entry {
-        program: 7,
-        low: 1,
-        high: 2,
+        program: PROGRAM,
+        low: LOW,
+        high: HIGH,
         procedures,
         errors,
     })?;

@@ -2,7 +2,7 @@ use Rattle.std.proofs.Common.{ap, ℕ, List}
 use Rattle.courier_messages.specs.RawCalls.{RawCall}
 use Rattle.courier_messages.specs.Called.{raws}
 use Rattle.courier_calls.proofs.Faults.{answers_stay}
-use Rattle.courier_calls.proofs.Hears as hears
+use Rattle.courier_calls.proofs.CallerWithItem as hears
 use Rattle.courier_calls.proofs.laws.first_fault_stays.Goals as goal
 
 pub returns : goal.returns
