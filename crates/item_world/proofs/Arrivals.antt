@@ -14,7 +14,7 @@ use Rattle.xns_spp.specs.State.{State, IsState}
 use Rattle.xns_spp.specs.declared.field_numbers.FieldNumbers.{FieldNumbers}
 use Rattle.xns_spp.specs.declared.item.Item.{Item}
 use Rattle.item_world.specs.EndLaws.{EndLaws}
-use Rattle.item_world.proofs.Moves.{Keeps, Goes, Moves, silent, with_system}
+use Rattle.item_world.proofs.Moves.{Keeps, GoesOn, Moves, silent, with_system}
 use Rattle.item_world.specs.Invariant.{IsSound, WentOut}
 use Rattle.item_world.proofs.Fronts.{begins_more}
 
@@ -77,7 +77,7 @@ heard s peer b n c keeps (inr i) =
     same_number m.acknowledge n (sym (ap (λ (p : SppPacketModel). (numbers_in s p).acknowledge) same ∙ ap (λ (f : FieldNumbers). f.acknowledge) c.numbers) ∙ i.number) in
     omega (arith, number, c.sound.acknowledges)
 
-received_goes : EndLaws → (s peer : State) (b : List ℕ) → Comes s peer b → Keeps s peer → IsState (after_receive s b) → Goes s (after_receive s b) peer
+received_goes : EndLaws → (s peer : State) (b : List ℕ) → Comes s peer b → Keeps s peer → IsState (after_receive s b) → GoesOn s (after_receive s b) peer
 received_goes laws s peer b c k fits =
     let t : State = after_receive s b in
     let takes = laws.comes_in.taken s b in
@@ -102,7 +102,7 @@ pub record Sends (s t peer : State) (sent : List (List ℕ)) : Type 0 where
   pub spells : sent ≡ map spp_packet_spelling packets
   pub moves : Moves s t peer packets
 
-replies_with : EndLaws → (s peer : State) (b : List ℕ) (o : Option (List ℕ)) → (receive_answer s b).reply ≡ o → Goes s (after_receive s b) peer → Sends s (after_receive s b) peer (option_to_list o)
+replies_with : EndLaws → (s peer : State) (b : List ℕ) (o : Option (List ℕ)) → (receive_answer s b).reply ≡ o → GoesOn s (after_receive s b) peer → Sends s (after_receive s b) peer (option_to_list o)
 replies_with laws s peer b None h g = record { packets = []; spells = refl; moves = silent s (after_receive s b) peer g }
 replies_with laws s peer b (Some r) h g = record {
   packets = system_packet (after_receive s b) reply_control ∷ [];

@@ -6,7 +6,7 @@ use Rattle.item_world.specs.Landing.{answered, landed, landing}
 use Rattle.xns_spp.specs.Growth.{Begins, IsFresh, Grows}
 use Rattle.item_world.proofs.Sound.{IsProper, stays_sound}
 use Rattle.item_world.proofs.Sides.{each_side, placed}
-use Rattle.item_world.proofs.Moves.{Keeps, Goes, silent, flush_moves, tick_moves, resend_moves, told_moves, take_goes, send_goes}
+use Rattle.item_world.proofs.Moves.{Keeps, GoesOn, silent, flush_moves, tick_moves, resend_moves, told_moves, take_goes, send_goes}
 use Rattle.item_world.proofs.Fronts.{begins_then, begins_get, begins_length, front_begins}
 use Rattle.std.proofs.lemmas.List.{length-append}
 use Rattle.xns_spp.specs.Item.{IsItem}
@@ -58,9 +58,9 @@ peer_keeps s t peer g now k = record {
   reached = now.went_out;
 }
 
--- a packet of the bag stays sound as both ends go on
-spelled_on : (s t p q : State) (x : Emitted) (i : IsSoundSpelling s p x) → IsSound t i.packet i.meant → length s.taken ≤ length t.taken → length p.taken ≤ length q.taken → IsSoundSpelling t q x
-spelled_on s t p q x i sound sender receiver = record {
+-- a packet of the bag stays sound as both ends go on, delivered or not
+spelled_on : (s t p q : State) (x : Emitted) (d : Bool) (i : IsSoundSpelling s p x) → IsSound t i.packet i.meant → length s.taken ≤ length t.taken → length p.taken ≤ length q.taken → IsSoundSpelling t q (record x { delivered = d })
+spelled_on s t p q x d i sound sender receiver = record {
   packet = i.packet;
   meant = i.meant;
   fits = i.fits;
@@ -74,11 +74,11 @@ spelled_on s t p q x i sound sender receiver = record {
 
 -- its own packets stay sound
 stays_spelled : (s t peer : State) (x : Emitted) → Grows s t → IsSoundSpelling s peer x → IsSoundSpelling t peer x
-stays_spelled s t peer x g i = spelled_on s t peer peer x i (stays_sound s t i.packet i.meant g i.sound) (begins_length s.taken t.taken g.taken) (omega arith)
+stays_spelled s t peer x g i = spelled_on s t peer peer x x.delivered i (stays_sound s t i.packet i.meant g i.sound) (begins_length s.taken t.taken g.taken) (omega arith)
 
 -- and those of its peer
 peer_spelled : (s t peer : State) (x : Emitted) → Grows s t → IsSoundSpelling peer s x → IsSoundSpelling peer t x
-peer_spelled s t peer x g i = spelled_on peer peer s t x i i.sound (omega arith) (begins_length s.taken t.taken g.taken)
+peer_spelled s t peer x g i = spelled_on peer peer s t x x.delivered i i.sound (omega arith) (begins_length s.taken t.taken g.taken)
 
 -- the packets that it sends
 abbrev IsNew : (t peer : State) (side : Side) → List ℕ → Type 0
@@ -120,7 +120,7 @@ moved_kept w side t bs k m =
     }
 
 -- no packets
-silent_kept : (w : World) (side : Side) (t : State) → IsKept w → Goes (end_of w side) t (end_of w (other side)) → IsKept (moved w side t [])
+silent_kept : (w : World) (side : Side) (t : State) → IsKept w → GoesOn (end_of w side) t (end_of w (other side)) → IsKept (moved w side t [])
 silent_kept w side t k g = moved_kept w side t [] k (record { packets = []; spells = refl; moves = silent (end_of w side) t (end_of w (other side)) g })
 
 pub flush_kept : EndLaws → (w : World) (side : Side) → IsKept w → IsKept (flushes w side)
@@ -137,17 +137,9 @@ marked_kept : (w : World) (k : ℕ) (x : Emitted) → IsKeptIn w x → IsKept w 
 marked_kept w k x i h =
     let v : World = marked w k x in
     let y : Emitted = record x { delivered = true } in
-    let there : IsKeptIn w y = record {
-      packet = i.packet;
-      meant = i.meant;
-      fits = i.fits;
-      spells = i.spells;
-      reduced = i.reduced;
-      close = i.close;
-      sound = i.sound;
-      sender = i.sender;
-      receiver = i.receiver;
-    } in
+    let s = end_of w x.side in
+    let peer = end_of w (other x.side) in
+    let there : IsKeptIn w y = spelled_on s s peer peer x true i i.sound (omega arith) (omega arith) in
     record {
       ends = λ side. elim side as (λ s. Keeps (end_of v s) (end_of v (other s))) [ A ↦ h.ends A | B ↦ h.ends B ];
       bag = All-set (IsKeptIn w) w.bag k y there h.bag;

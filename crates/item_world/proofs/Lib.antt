@@ -11,4 +11,5 @@ pub mod Later
 pub mod Resting
 pub mod Continues
 pub mod Networks
+pub mod Quiet
 pub mod Plays

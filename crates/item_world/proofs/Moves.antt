@@ -27,7 +27,7 @@ pub record Keeps (s peer : State) : Type 0 where
   pub reached : length peer.taken ≤ s.sent
 
 -- s goes on as t, beside its peer
-pub record Goes (s t peer : State) : Type 0 where
+pub record GoesOn (s t peer : State) : Type 0 where
   pub grows : Grows s t
   pub keeps : Keeps t peer
 
@@ -37,7 +37,7 @@ pub record Moves (s t peer : State) (ps : List SppPacketModel) : Type 0 where
   pub keeps : Keeps t peer
   pub packets : All (IsProper (moment t peer) t) ps
 
-pub silent : (s t peer : State) → Goes s t peer → Moves s t peer []
+pub silent : (s t peer : State) → GoesOn s t peer → Moves s t peer []
 silent s t peer g = record { grows = g.grows; keeps = g.keeps; packets = All-nil (IsProper (moment t peer) t) }
 
 -- what went out is close to what the peer has taken
@@ -91,7 +91,7 @@ own_proper laws s t peer p k now g same (inl i) =
 own_proper laws s t peer p k now g same (inr i) =
     subst (IsProper (moment t peer) t) (sym i.is) (item_proper laws s t peer i.number i.item k now g same i.accepted i.unacknowledged i.sent)
 
-pub with_system : EndLaws → (s t peer : State) (control : ℕ) → control < 256 → has_bit control system_bit ≡ true → Goes s t peer → Moves s t peer (system_packet t control ∷ [])
+pub with_system : EndLaws → (s t peer : State) (control : ℕ) → control < 256 → has_bit control system_bit ≡ true → GoesOn s t peer → Moves s t peer (system_packet t control ∷ [])
 with_system laws s t peer control h is g = record {
   grows = g.grows;
   keeps = g.keeps;
@@ -152,8 +152,8 @@ pub told_moves : EndLaws → (s peer : State) (asks : Bool) → Keeps s peer →
 told_moves laws s peer asks k =
     sends_own laws s s peer (option_to_list (told_packet s asks)) k.fits (same_grows s) (record { taken = refl; early = refl; acknowledged = refl }) (own_one s s (told_packet s asks) (laws.goes_out.told s asks)) k
 
-pub take_goes : EndLaws → (s peer : State) → Keeps s peer → Goes s (after_take s) peer
+pub take_goes : EndLaws → (s peer : State) → Keeps s peer → GoesOn s (after_take s) peer
 take_goes laws s peer k = record { grows = laws.grows.take s; keeps = on_keeps s (after_take s) peer (laws.bounds.take s k.fits) (laws.grows.take s) (laws.hears.take s) k }
 
-pub send_goes : EndLaws → (s peer : State) (x : Item) → IsState (after_send s x) → Keeps s peer → Goes s (after_send s x) peer
+pub send_goes : EndLaws → (s peer : State) (x : Item) → IsState (after_send s x) → Keeps s peer → GoesOn s (after_send s x) peer
 send_goes laws s peer x fits k = record { grows = laws.grows.send s x; keeps = on_keeps s (after_send s x) peer fits (laws.grows.send s x) (laws.hears.send s x) k }

@@ -28,8 +28,10 @@ use Rattle.item_world.specs.Events.{happens, delivers, run, IsEvent}
 use Rattle.xns_spp.specs.Growth.{Begins}
 use Rattle.item_world.specs.Going.{Continues, Later}
 use Rattle.item_world.specs.Landing.{landing, flushed, end_reached}
+use Rattle.item_world.specs.Laws.{ItemsComeInOrder}
 use Rattle.item_world.specs.Network.{IsNetwork, IsEnd}
 use Rattle.item_world.specs.Play.{at_side, with_side, IsParticipant, IsPlaying, IsPlayed}
+use Rattle.item_world.specs.Setup.{IsSetup, IsGood}
 use Rattle.item_world.specs.Side.{other}
 use Rattle.item_world.specs.Trace.{item_trace}
 use Rattle.item_world.specs.World.{World, start, end_of, moved, marked, sender_and_bytes, packets_of}
@@ -48,6 +50,13 @@ acts_quietly pair n w side p e t bs h is c end =
     let same = same_end w side t bs in
     let after = went_on p (end_of w side) t e before c (subst (λ (s : State). StandsFor e s) same end.stands) in
     acts pair n w (moved w side t bs) side (record p { endpoint = e }) h (same_other w side t bs) (subst (λ (s : State). IsParticipant (record p { endpoint = e }) s) (sym same) after) end.network
+
+-- so an end of the play acts, where its endpoint and the network do
+pub goes_quietly : (play : Play) (w : World) (side : Side) (p : Participant) (e : Held) (n : Network) (t : State) (bs : List (List ℕ)) → p ≡ at_side play.ends side → Continues (end_of w side) t
+    → (IsEnd p.endpoint play.network w side → IsEnd e n (moved w side t bs) side) → IsPlaying play w → IsPlaying (record { ends = with_side play.ends side (record p { endpoint = e }); network = n }) (moved w side t bs)
+goes_quietly play w side p e n t bs is c act h =
+    let here : IsParticipant p (end_of w side) = subst (λ (q : Participant). IsParticipant q (end_of w side)) (sym is) (h.ends side) in
+    acts_quietly play.ends n w side p e t bs h.ends is c (act (record { stands = here.stands; network = h.network }))
 
 -- an end accepts an item or hands one up, which sends and takes nothing
 pub acts_alone : (pair : Pair) (n : Network) (w : World) (side : Side) (q : Participant) (t : State) → ((u : Side) → IsParticipant (at_side pair u) (end_of w u)) → IsParticipant q t → IsNetwork n w → t.taken ≡ (end_of w side).taken
@@ -127,5 +136,10 @@ trace_of p w bag h is =
     let bags : bag ≡ packets_of w = is ∙ ap (map sender_and_bytes) h.network.bag in
     rw (a.sent, b.sent, a.handed, b.handed, bags) refl
 
-pub begins_along : (xs xs' ys ys' : List Item) → xs ≡ xs' → ys ≡ ys' → Begins xs' ys' → Begins xs ys
+begins_along : (xs xs' ys ys' : List Item) → xs ≡ xs' → ys ≡ ys' → Begins xs' ys' → Begins xs ys
 begins_along xs xs' ys ys' p q b = (b.0, ap (λ (l : List Item). l ++ b.0) p ∙ (b.1 ∙ sym q))
+
+-- what an end handed up begins what the other one accepted
+pub begins_played : ItemsComeInOrder → (p : Play) (setup : Setup) (events : List Event) (side : Side) → IsSetup setup → IsGood setup → IsPlayed p setup events → Begins (at_side p.ends side).handed (at_side p.ends (other side)).sent
+begins_played order p setup events side fits good played =
+    begins_along _ _ _ _ (played.stands.ends side).handed (played.stands.ends (other side)).sent (order.begins setup events side fits good played.fits)

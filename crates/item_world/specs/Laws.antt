@@ -1,5 +1,5 @@
 -- What the definitions imply: the statements of the laws, each under the name of its law.
-use Rattle.std.specs.Prelude.{◌≡◌, ◌≤◌, ℕ, Bool, false, List, [], length, take, fold, All, Some}
+use Rattle.std.specs.Prelude.{◌≡◌, ◌≤◌, ℕ, Bool, true, false, List, [], length, take, fold, All, Some, None, is_ok}
 use Rattle.std.specs.List.{filter}
 use Rattle.xns_spp.specs.Item.{IsItem}
 use Rattle.xns_spp.specs.Meant.{as_meant}
@@ -12,14 +12,14 @@ use Rattle.item_world.specs.declared.setup.Setup.{Setup}
 use Rattle.item_world.specs.declared.side.Side.{Side}
 use Rattle.item_world.specs.Side.{other}
 use Rattle.item_world.specs.Setup.{IsSetup, IsGood}
-use Rattle.item_world.specs.Going.{Continues, Later, Lands, StaysAway, does_land}
+use Rattle.item_world.specs.Going.{Continues, Later, Lands, StaysAway, does_land, IsQuiet, Accepts, HandsUp}
 use Rattle.item_world.specs.Network.{IsNetwork, unsettled}
 use Rattle.item_world.specs.declared.network.Network.{Network}
 use Rattle.xns_spp.specs.Receiving.{after_receive}
-use Rattle.xns_spp.specs.Sending.{after_flush, after_tick}
+use Rattle.xns_spp.specs.Sending.{send_answer, take_answer, after_flush, after_tick}
 use Rattle.xns_spp.specs.State.{State}
 use Rattle.item_world.specs.Events.{IsEvent, steps_of, all_stepped, delivers, undelivered, happens, run}
-use Rattle.item_world.specs.Landing.{landing, flushed}
+use Rattle.item_world.specs.Landing.{landing, flushed, end_reached}
 use Rattle.item_world.specs.Telling.{resends, tells}
 use Rattle.item_world.specs.World.{World, start, end_of, moved, has_passed, flushes, ticks, sends, takes, packets_of, sent_at, handed_at}
 use Rattle.xns_spp.specs.Growth.{Begins}
@@ -82,6 +82,25 @@ pub record ARestLeavesOutWhatIsSettled : Type 0 where
   pub left_out : (w : World) → unsettled w 0 w.bag ≡ filter (does_land w) (undelivered 0 w.bag)
   pub away : (w : World) → All (StaysAway w) (undelivered 0 w.bag)
 
+-- only an end that is given an item accepts one, and only an end that hands an item up does so
+pub record OtherStepsMoveNoItem : Type 0 where
+  pub flush : (w : World) (side : Side) → Holds w → IsQuiet w (flushes w side)
+  pub tick : (w : World) (side : Side) → Holds w → IsQuiet w (ticks w side)
+  pub land : (w : World) (k : ℕ) (l : Side × World) → Holds w → landing w k ≡ Some l → IsQuiet w l.1
+  pub send : (w : World) (side : Side) (x : Item) → is_ok (send_answer (end_of w side) x) ≡ true → Accepts w (sends w side x) side x
+  pub take : (w : World) (side : Side) (x : Item) → take_answer (end_of w side) ≡ Some x → HandsUp w (takes w side) side x
+
+-- the end that moves goes on as it is told, and the other one stays
+pub record AMoveIsOfOneEnd : Type 0 where
+  pub here : (w : World) (side : Side) (s : State) (bs : List (List ℕ)) → end_of (moved w side s bs) side ≡ s
+  pub there : (w : World) (side : Side) (s : State) (bs : List (List ℕ)) → end_of (moved w side s bs) (other side) ≡ end_of w (other side)
+  pub land : (w : World) (k : ℕ) (l : Side × World) → landing w k ≡ Some l → end_of l.1 (other l.0) ≡ end_of w (other l.0)
+
+-- where a packet comes to an end there is a landing, and where it comes to none there is none
+pub record ALandingHasAnEnd : Type 0 where
+  pub some : (w : World) (k : ℕ) (side : Side) → Some side ≡ end_reached (landing w k) → (v : World) × (landing w k ≡ Some (side, v))
+  pub none : (w : World) (k : ℕ) → None ≡ end_reached (landing w k) → landing w k ≡ None
+
 -- what a play of its own over the network stands on
 pub record NetworkLaws : Type 0 where
   pub stays : WhatWasHandedUpStays
@@ -89,3 +108,6 @@ pub record NetworkLaws : Type 0 where
   pub quiet : AQuietEndLeavesTheNetwork
   pub lands : APacketThatLandsIsReceived
   pub rest : ARestLeavesOutWhatIsSettled
+  pub items : OtherStepsMoveNoItem
+  pub moves : AMoveIsOfOneEnd
+  pub reached : ALandingHasAnEnd

@@ -45,8 +45,8 @@ pub record IsPlaying (p : Play) (w : World) : Type 0 where
   pub network : IsNetwork p.network w
 
 -- under the laws of an end: where it stood for w, it then stands for what f makes of w
-abbrev pub Goes : Play → Play → (World → World) → Type 0
-Goes p q f = EndLaws → (w : World) → IsPlaying p w → IsPlaying q (f w)
+abbrev pub StepsBy : Play → Play → (World → World) → Type 0
+StepsBy p q f = EndLaws → (w : World) → IsPlaying p w → IsPlaying q (f w)
 
 -- a play from this setup, after these events
 pub record IsPlayed (p : Play) (setup : Setup) (events : List Event) : Type 0 where

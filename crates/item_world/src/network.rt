@@ -79,7 +79,7 @@ impl Network {
         ensures { OnOk result ((w : World) (s : State) → IsNetwork self.old w → length s.taken ≡ length (end_of w side).taken → IsNetwork self.new (moved w side s packets.items)) }
     {
         let at = self.taken.moment(side);
-        join_all(&mut self.packets, side, at, packets)
+        append_all(&mut self.packets, side, at, packets)
     }
 
     /// A packet was delivered to an end, which took so many items from it, and perhaps replies.
@@ -97,7 +97,7 @@ impl Network {
         self.packets[number].delivered = true;
         self.taken.add(side, took);
         let at = self.taken.moment(side);
-        join(&mut self.packets, side, at, reply)
+        append(&mut self.packets, side, at, reply)
     }
 
     /// Whether nothing is left to be done with a packet: it was delivered, or it lives no longer.
@@ -156,8 +156,8 @@ impl Network {
     }
 }
 
-/// Packets of one moment join those before.
-fn join_all(
+/// Appends packets of one moment to those before.
+fn append_all(
     before: &mut Vec<Emitted>,
     side: Side,
     at: Moment,
@@ -166,18 +166,13 @@ fn join_all(
     ensures { OnOk result (before.new.items ≡ joined before.old.items side at packets.items) }
 {
     for bytes in packets {
-        before.push(Emitted {
-            side,
-            bytes,
-            at,
-            delivered: false,
-        })?;
+        before.push(Emitted::new(side, at, bytes))?;
     }
     Ok(())
 }
 
-/// A reply joins the packets before, where there is one.
-fn join(
+/// Appends a reply to the packets before, where there is one.
+fn append(
     before: &mut Vec<Emitted>,
     side: Side,
     at: Moment,
@@ -186,12 +181,7 @@ fn join(
     ensures { OnOk result (before.new.items ≡ joined before.old.items side at (option_to_list reply)) }
 {
     if let Some(bytes) = reply {
-        before.push(Emitted {
-            side,
-            bytes,
-            at,
-            delivered: false,
-        })?;
+        before.push(Emitted::new(side, at, bytes))?;
     }
     Ok(())
 }

@@ -2,7 +2,7 @@ ghost use Rattle.std.specs.Prelude.{◌≡◌, ◌<◌, OnOk, IfOk, Some, fold};
 ghost use Rattle.item_world.specs.declared.event.Event.TheVariants.{Deliver, Rest, Tick, Foreign, Send, Take};
 ghost use Rattle.item_world.specs.Events.{delivers, happens, run, IsEvent};
 ghost use Rattle.xns_spp.specs.Growth.{Begins};
-ghost use Rattle.item_world.specs.Play.{IsPlaying, Goes, IsPlayed};
+ghost use Rattle.item_world.specs.Play.{IsPlaying, StepsBy, IsPlayed};
 ghost use Rattle.item_world.specs.Setup.{IsGood};
 ghost use Rattle.item_world.specs.Trace.{item_trace};
 ghost use Rattle.item_world.specs.World.{start, flushes};
@@ -44,7 +44,7 @@ impl Play {
     }
 
     fn flush(&mut self, alloc: Global, side: Side) -> Result<(), AllocError>
-        ensures { OnOk result (Goes self.old self.new (λ w. flushes w side)) }
+        ensures { OnOk result (StepsBy self.old self.new (λ w. flushes w side)) }
     {
         flush_end(
             alloc,
@@ -55,7 +55,7 @@ impl Play {
     }
 
     fn tick(&mut self, alloc: Global, side: Side) -> Result<(), AllocError>
-        ensures { OnOk result (Goes self.old self.new (λ w. happens w (Tick side))) }
+        ensures { OnOk result (StepsBy self.old self.new (λ w. happens w (Tick side))) }
     {
         tick_end(
             alloc,
@@ -67,7 +67,7 @@ impl Play {
 
     /// Delivers the packet of this number, where there is one that still lives.
     fn deliver(&mut self, alloc: Global, number: usize) -> Result<(), AllocError>
-        ensures { OnOk result (Goes self.old self.new (λ w. delivers w number)) }
+        ensures { OnOk result (StepsBy self.old self.new (λ w. delivers w number)) }
     {
         let Some(side) = self.network.lands_at(number) else {
             return Ok(());
@@ -84,7 +84,7 @@ impl Play {
 
     /// Delivers these packets in turn.
     fn deliver_all(&mut self, alloc: Global, numbers: &[usize]) -> Result<(), AllocError>
-        ensures { OnOk result (Goes self.old self.new (λ w. fold delivers w numbers.now)) }
+        ensures { OnOk result (StepsBy self.old self.new (λ w. fold delivers w numbers.now)) }
     {
         for number in numbers {
             self.deliver(alloc, *number)?;
@@ -94,7 +94,7 @@ impl Play {
 
     /// Delivers each packet that was never delivered and is there as this begins, in order.
     fn rest(&mut self, alloc: Global) -> Result<(), AllocError>
-        ensures { OnOk result (Goes self.old self.new (λ w. happens w Rest)) }
+        ensures { OnOk result (StepsBy self.old self.new (λ w. happens w Rest)) }
     {
         let numbers = self.network.unsettled(alloc)?;
         self.deliver_all(alloc, numbers.as_slice())
@@ -102,7 +102,7 @@ impl Play {
 
     /// Bytes from elsewhere come to an end. Those of the connection are passed over; all others are dropped, and not replied to.
     fn overhear(&mut self, alloc: Global, side: Side, bytes: &[u8]) -> Result<(), AllocError>
-        ensures { OnOk result (Goes self.old self.new (λ w. happens w (Foreign side bytes.now))) }
+        ensures { OnOk result (StepsBy self.old self.new (λ w. happens w (Foreign side bytes.now))) }
     {
         let endpoint = &mut self.ends.at(side).endpoint;
         if !endpoint.is_ours(bytes) {
@@ -112,20 +112,20 @@ impl Play {
     }
 
     fn send(&mut self, alloc: Global, side: Side, item: &Item) -> Result<(), AllocError>
-        ensures { OnOk result (Goes self.old self.new (λ w. happens w (Send side item.now))) }
+        ensures { OnOk result (StepsBy self.old self.new (λ w. happens w (Send side item.now))) }
     {
         self.ends.at(side).send(alloc, item)?;
         self.flush(alloc, side)
     }
 
     fn take(&mut self, side: Side) -> Result<(), AllocError>
-        ensures { OnOk result (Goes self.old self.new (λ w. happens w (Take side))) }
+        ensures { OnOk result (StepsBy self.old self.new (λ w. happens w (Take side))) }
     {
         self.ends.at(side).take()
     }
 
     fn happen(&mut self, alloc: Global, event: &Event) -> Result<(), AllocError>
-        ensures goes { OnOk result (Goes self.old self.new (λ w. happens w event.now)) }
+        ensures goes { OnOk result (StepsBy self.old self.new (λ w. happens w event.now)) }
         ensures fits { OnOk result (IsEvent event.now) }
     {
         match event {

@@ -1,4 +1,4 @@
-use Rattle.item_world.proofs.Plays.{trace_of, begins_along}
+use Rattle.item_world.proofs.Plays.{trace_of, begins_played}
 use Rattle.item_world.proofs.play.play_items.Goals as goal
 use Rattle.item_world.specs.declared.side.Side.TheVariants.{A, B}
 use Rattle.item_world.specs.Events.{run}
@@ -9,15 +9,7 @@ returns-clause-trace c =
     trace_of c.in_ok-a.field-0 (run (start c.args.setup.now) c.args.events.now) c.in_ok-into_bag.field-0 c.in_ok-a.ensures.stands c.in_ok-into_bag.ensures
 
 pub returns-clause-to_b : goal.returns-clause-to_b
-returns-clause-to_b c =
-    let d = c.in_ok-a.ensures in
-    let a = d.stands.ends A in
-    let b = d.stands.ends B in
-    begins_along _ _ _ _ b.handed a.sent (c.items_come_in_order.ensures.begins c.args.setup.now c.args.events.now B c.known.ensures c.requires d.fits)
+returns-clause-to_b c = begins_played c.items_come_in_order.ensures c.in_ok-a.field-0 c.args.setup.now c.args.events.now B c.known.ensures c.requires c.in_ok-a.ensures
 
 pub returns-clause-to_a : goal.returns-clause-to_a
-returns-clause-to_a c =
-    let d = c.in_ok-a.ensures in
-    let a = d.stands.ends A in
-    let b = d.stands.ends B in
-    begins_along _ _ _ _ a.handed b.sent (c.items_come_in_order.ensures.begins c.args.setup.now c.args.events.now A c.known.ensures c.requires d.fits)
+returns-clause-to_a c = begins_played c.items_come_in_order.ensures c.in_ok-a.field-0 c.args.setup.now c.args.events.now A c.known.ensures c.requires c.in_ok-a.ensures

@@ -7,7 +7,7 @@ use Rattle.item_world.specs.NetworkModel.{NetworkModel}
 
 pub returns : goal.returns
 returns c =
-    ok_then c.join_all.result c.join_all.ensures (λ joins w s h is.
+    ok_then c.append_all.result c.append_all.ensures (λ appends w s h is.
     let n : NetworkModel = record { packets = c.self.inside.packets.items; taken = c.self.inside.taken; rested = c.self.inside.rested } in
     let here : IsNetwork n w = subst (λ (m : NetworkModel). IsNetwork m w) (sym c.self.view_is) h in
-    emits n (record n { packets = c.join_all.new.before.items }) w c.args.side s c.moment-at.result c.args.packets.items here is c.moment-at.ensures joins refl refl)
+    emits n (record n { packets = c.append_all.new.before.items }) w c.args.side s c.moment-at.result c.args.packets.items here is c.moment-at.ensures appends refl refl)

@@ -6,7 +6,7 @@ use Rattle.item_world.specs.declared.emitted.Emitted.{Emitted}
 use Rattle.item_world.specs.declared.moment.Moment.{Moment}
 use Rattle.item_world.specs.declared.side.Side.{Side}
 use Rattle.item_world.specs.World.{emitted, joined}
-use Rattle.item_world.proofs.network.join_all.Goals as goal
+use Rattle.item_world.proofs.network.append_all.Goals as goal
 
 joined_more : (bag : List Emitted) (side : Side) (at : Moment) (bs : List (List ℕ)) (b : List ℕ) → joined bag side at (bs ++ b ∷ []) ≡ joined bag side at bs ++ emitted side at b ∷ []
 joined_more bag side at bs b = ap (λ (l : List Emitted). bag ++ l) (map-append (emitted side at) bs (b ∷ [])) ∙ sym (append_assoc bag (map (emitted side at) bs) (emitted side at b ∷ []))
@@ -18,8 +18,9 @@ pub loop-bytes-preserved : goal.loop-bytes-preserved
 loop-bytes-preserved c =
     let b : List ℕ = c.in-Some.bytes in
     c.in_ok-push.ensures.items
+    ∙ (ap (λ (x : Emitted). c.loop-bytes.before.items ++ x ∷ []) c.new.ensures
     ∙ (ap (λ (l : List Emitted). l ++ emitted c.args.side c.args.at b ∷ []) c.loop-bytes.invariant
-    ∙ sym (joined_more c.args.before.now.items c.args.side c.args.at c.loop-bytes.yielded b))
+    ∙ sym (joined_more c.args.before.now.items c.args.side c.args.at c.loop-bytes.yielded b)))
 
 pub returns : goal.returns
 returns c =

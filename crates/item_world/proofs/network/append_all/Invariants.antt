@@ -1,6 +1,6 @@
 use Rattle.std.proofs.Common.{◌≡◌}
 use Rattle.item_world.specs.World.{joined}
-use Rattle.item_world.proofs.network.join_all.Given as goal
+use Rattle.item_world.proofs.network.append_all.Given as goal
 
 -- the packets so far have joined the bag
 abbrev pub invariant-loop-bytes : goal.invariant-loop-bytes
