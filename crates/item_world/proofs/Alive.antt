@@ -31,20 +31,20 @@ young at sender receiver h =
 
 -- s reads a packet of its peer
 pub read_as_meant : EndLaws → (s peer : State) (x : Emitted) (i : IsSoundSpelling peer s x) → Keeps s peer → is_past x.at (length peer.taken) (length s.taken) ≡ false
-    → numbers_in s i.packet ≡ as_meant i.meant
+    → numbers_in s i.says.packet ≡ as_meant i.says.meant
 read_as_meant laws s peer x i k alive =
     let y = young x.at (length peer.taken) (length s.taken) alive in
     let sent = sent_close s peer k in
-    laws.numbers.fields s i.packet i.meant (record {
-      least = omega (arith, y.receiver, i.close.sequence.least);
-      most = omega (arith, i.receiver, i.close.sequence.most);
-      remainder = sym i.reduced.sequence;
+    laws.numbers.fields s i.says.packet i.says.meant (record {
+      least = omega (arith, y.receiver, i.says.close.sequence.least);
+      most = omega (arith, i.receiver, i.says.close.sequence.most);
+      remainder = sym i.says.reduced.sequence;
     }) (record {
-      least = omega (arith, y.sender, i.close.acknowledge.least, sent.most);
+      least = omega (arith, y.sender, i.says.close.acknowledge.least, sent.most);
       most = omega (arith, i.sound.acknowledges, k.reached);
-      remainder = sym i.reduced.acknowledge;
+      remainder = sym i.says.reduced.acknowledge;
     }) (record {
-      least = omega (arith, y.sender, i.close.allocation.least, sent.most);
-      most = omega (arith, i.sender, i.close.allocation.most, k.reached);
-      remainder = sym i.reduced.allocation;
+      least = omega (arith, y.sender, i.says.close.allocation.least, sent.most);
+      most = omega (arith, i.sender, i.says.close.allocation.most, k.reached);
+      remainder = sym i.says.reduced.allocation;
     })

@@ -59,14 +59,9 @@ peer_keeps s t peer g now k = record {
 }
 
 -- a packet of the bag stays sound as both ends go on, delivered or not
-spelled_on : (s t p q : State) (x : Emitted) (d : Bool) (i : IsSoundSpelling s p x) → IsSound t i.packet i.meant → length s.taken ≤ length t.taken → length p.taken ≤ length q.taken → IsSoundSpelling t q (record x { delivered = d })
+spelled_on : (s t p q : State) (x : Emitted) (d : Bool) (i : IsSoundSpelling s p x) → IsSound t i.says.packet i.says.meant → length s.taken ≤ length t.taken → length p.taken ≤ length q.taken → IsSoundSpelling t q (record x { delivered = d })
 spelled_on s t p q x d i sound sender receiver = record {
-  packet = i.packet;
-  meant = i.meant;
-  fits = i.fits;
-  spells = i.spells;
-  reduced = i.reduced;
-  close = i.close;
+  says = i.says;
   sound = sound;
   sender = omega (arith, i.sender, sender);
   receiver = omega (arith, i.receiver, receiver);
@@ -74,7 +69,7 @@ spelled_on s t p q x d i sound sender receiver = record {
 
 -- its own packets stay sound
 stays_spelled : (s t peer : State) (x : Emitted) → Grows s t → IsSoundSpelling s peer x → IsSoundSpelling t peer x
-stays_spelled s t peer x g i = spelled_on s t peer peer x x.delivered i (stays_sound s t i.packet i.meant g i.sound) (begins_length s.taken t.taken g.taken) (omega arith)
+stays_spelled s t peer x g i = spelled_on s t peer peer x x.delivered i (stays_sound s t i.says.packet i.says.meant g i.sound) (begins_length s.taken t.taken g.taken) (omega arith)
 
 -- and those of its peer
 peer_spelled : (s t peer : State) (x : Emitted) → Grows s t → IsSoundSpelling peer s x → IsSoundSpelling peer t x
@@ -88,12 +83,7 @@ proper_spelled : (t peer : State) (side : Side) (ps : List SppPacketModel) → A
 proper_spelled t peer side ps h =
     All-map (IsNew t peer side) spp_packet_spelling ps
     (All-weaker (IsProper (moment t peer) t) (λ p. IsNew t peer side (spp_packet_spelling p)) (λ p i. record {
-      packet = p;
-      meant = i.meant;
-      fits = i.fits;
-      spells = refl;
-      reduced = i.reduced;
-      close = i.close;
+      says = record { packet = p; meant = i.meant; fits = i.fits; spells = refl; reduced = i.reduced; close = i.close };
       sound = i.sound;
       sender = omega arith;
       receiver = omega arith;
@@ -153,10 +143,10 @@ received_kept : EndLaws → (w : World) (side : Side) (x : Emitted) → IsSoundS
 received_kept laws w side x i alive k =
     let s : State = end_of w side in
     let peer : State = end_of w (other side) in
-    let read : spp_packet_of x.bytes ≡ Ok i.packet = read_back laws x.bytes i.packet i.fits i.spells in
+    let read : spp_packet_of x.bytes ≡ Ok i.says.packet = read_back laws x.bytes i.says.packet i.says.fits i.says.spells in
     moved_kept w side (after_receive s x.bytes) (option_to_list (receive_answer s x.bytes).reply) k
-    (receive_sends laws s peer x.bytes (record { packet = i.packet; meant = i.meant; read = read; sound = i.sound; numbers = read_as_meant laws s peer x i (k.ends side) alive })
-    (laws.bounds.packet s x.bytes i.packet (k.ends side).fits read i.fits) (k.ends side))
+    (receive_sends laws s peer x.bytes (record { packet = i.says.packet; meant = i.says.meant; read = read; sound = i.sound; numbers = read_as_meant laws s peer x i (k.ends side) alive })
+    (laws.bounds.packet s x.bytes i.says.packet (k.ends side).fits read i.says.fits) (k.ends side))
 
 -- that it comes from one side and goes to the other is kept where it is marked
 abbrev GoesTo : World → Emitted → Side → Side → Type 0
@@ -264,7 +254,7 @@ pub holds : (w : World) → IsKept w → Holds w
 holds w k = record { ends = λ side. stands (end_of w side) (end_of w (other side)) (k.ends side); bag = k.bag }
 
 living : EndLaws → (w : World) (side : Side) (x : Emitted) → IsKept w → (i : IsSoundSpelling (end_of w side) (end_of w (other side)) x) → is_past x.at (length (end_of w side).taken) (length (end_of w (other side)).taken) ≡ false
-    → numbers_in (end_of w (other side)) i.packet ≡ as_meant i.meant
+    → numbers_in (end_of w (other side)) i.says.packet ≡ as_meant i.says.meant
 living laws w A x k i alive = read_as_meant laws w.b w.a x i (k.ends B) alive
 living laws w B x k i alive = read_as_meant laws w.a w.b x i (k.ends A) alive
 
@@ -289,5 +279,5 @@ in_order w side h =
     begins_then (take s.handed s.taken) s.taken (sent_at w (other side)) (front_begins s.handed s.taken) k.taken
 
 -- a packet that lives is read as what it was made of
-pub read_kept : EndLaws → (w : World) (x : Emitted) → IsKept w → has_passed w x ≡ false → (i : IsSoundSpelling (end_of w x.side) (end_of w (other x.side)) x) → numbers_in (end_of w (other x.side)) i.packet ≡ as_meant i.meant
+pub read_kept : EndLaws → (w : World) (x : Emitted) → IsKept w → has_passed w x ≡ false → (i : IsSoundSpelling (end_of w x.side) (end_of w (other x.side)) x) → numbers_in (end_of w (other x.side)) i.says.packet ≡ as_meant i.says.meant
 read_kept laws w x k alive i = living laws w x.side x k i alive

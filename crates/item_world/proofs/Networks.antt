@@ -193,6 +193,11 @@ end_moved w side t bs cs e n stands is net = record {
   network = subst (λ (l : List (List ℕ)). IsNetwork n (moved w side t l)) is net;
 }
 
+-- an end that takes nothing sends these packets, and the network has them
+pub end_sends : (w : World) (side : Side) (t : State) (bs cs : List (List ℕ)) (e : Held) (n m : Network) → t.taken ≡ (end_of w side).taken → StandsFor e t → cs ≡ bs → IsNetwork n w
+    → ((v : World) (s : State) → IsNetwork n v → length s.taken ≡ length (end_of v side).taken → IsNetwork m (moved v side s cs)) → IsEnd e m (moved w side t bs) side
+end_sends w side t bs cs e n m same stands is net emits = end_moved w side t bs cs e m stands is (emits w t net (ap length same))
+
 nowhere : (l : Side × World) → None ≡ Some l → ⊥
 nowhere l h = absurd (cc)
 

@@ -1,5 +1,5 @@
 -- What is true of both ends and of every packet at every moment.
-use Rattle.std.specs.Prelude.{◌≡◌, ℕ, ◌+◌, ◌<◌, ◌≤◌, false, length, take, slice_get, Some, All}
+use Rattle.std.specs.Prelude.{◌≡◌, ℕ, ◌+◌, ◌<◌, ◌≤◌, false, List, length, take, slice_get, Some, All}
 use Rattle.xns_spp.specs.Ends.{most_pending}
 use Rattle.xns_spp.specs.Growth.{Begins}
 use Rattle.xns_spp.specs.Header.{is_system}
@@ -34,15 +34,19 @@ pub record IsSound (s : State) (p : SppPacketModel) (m : Meant) : Type 0 where
   pub acknowledges : m.acknowledge ≤ length s.taken
   pub allows : m.allocation ≤ window_top s
 
--- the bytes of a packet from s to its peer spell such a packet
-pub record IsSoundSpelling (s peer : State) (x : Emitted) : Type 0 where
+-- bytes that were sent then spell a packet, whose numbers were close to what both ends had taken
+pub record IsSpelling (bytes : List ℕ) (at : Moment) : Type 0 where
   pub packet : SppPacketModel
   pub meant : Meant
   pub fits : IsSppPacket packet
-  pub spells : x.bytes ≡ spp_packet_spelling packet
+  pub spells : bytes ≡ spp_packet_spelling packet
   pub reduced : IsReduced packet.header meant
-  pub close : IsCloseTo x.at meant
-  pub sound : IsSound s packet meant
+  pub close : IsCloseTo at meant
+
+-- the bytes of a packet from s to its peer spell a packet of which this is true
+pub record IsSoundSpelling (s peer : State) (x : Emitted) : Type 0 where
+  pub says : IsSpelling x.bytes x.at
+  pub sound : IsSound s says.packet says.meant
   -- both ends have taken no less since
   pub sender : x.at.sender ≤ length s.taken
   pub receiver : x.at.receiver ≤ length peer.taken

@@ -36,7 +36,7 @@ pub record EachStepKeepsTheOrder : Type 0 where
   pub land : (w : World) (k : ℕ) (l : Side × World) → Holds w → landing w k ≡ Some l → Holds l.1
   pub order : (w : World) (side : Side) → Holds w → Begins (handed_at w side) (sent_at w (other side))
   pub read : (w : World) (x : Emitted) → Holds w → has_passed w x ≡ false → (i : IsSoundSpelling (end_of w x.side) (end_of w (other x.side)) x) →
-      numbers_in (end_of w (other x.side)) i.packet ≡ as_meant i.meant
+      numbers_in (end_of w (other x.side)) i.says.packet ≡ as_meant i.says.meant
   pub deliver : (w : World) (k : ℕ) → delivers w k ≡ flushed w (landing w k)
 
 pub record ItemsComeInOrder : Type 0 where

@@ -81,9 +81,10 @@ pub fn the_bag_never_shrinks()
 
 /// The laws of the network, for a play that does more at its ends than hand items up.
 ///
-/// An end that flushes, ticks or receives keeps what it accepted and handed up. A world goes on with each move: its ends take no less,
-/// and its bag keeps what was sent. An end that sends and takes nothing leaves the network as it was. A packet that lands is received. One
-/// that lands nowhere as a rest begins never lands again, so a rest may leave it out.
+/// An end that flushes, ticks or receives keeps what it accepted and handed up. Only an end that is given an item accepts one, and only an
+/// end that hands an item up does so; the other end stays as it is. A world goes on with each move: its ends take no less, and its bag
+/// keeps what was sent. An end that sends and takes nothing leaves the network as it was. A packet that lands is received, and whether one
+/// lands is known by the end that it comes to. One that lands nowhere as a rest begins never lands again, so a rest may leave it out.
 pub fn network_laws_are_given()
     ensures { NetworkLaws }
 {
