@@ -11,6 +11,7 @@ use Rattle.xns_lines.specs.declared.cutter.Cutter.{Cutter}
 use Rattle.xns_lines.specs.declared.fault.RunFault.{RunFault}
 use Rattle.xns_lines.specs.declared.fault.RunFault.TheVariants as fault
 use Rattle.xns_lines.proofs.Cuts.{all_within, closed-newline, closed-nothing, closed-run, few_closed, few_more, line_count-parts, lines_of-append, long_stays, more_line, no_line, not_long, one_line, open-newline, open-nothing, open-run, or_false}
+use Rattle.xns_lines.proofs.Writes.{consumes_trans}
 
 pub cut_nothing : (c : Cutter) → c.line.items ≡ [] → c.count ≡ 0 → HasCut c []
 cut_nothing c line count =
@@ -239,27 +240,24 @@ stops_short read f left h = record {
   is_left = h.is_left;
 }
 
--- a write failed between two reads
-pub stops_pausing : (c : Cutter) (read : List ℕ) (f : RunFault) (stands fails : Says) → f ≡ fault.Write → HasCut c read → fails (closed_lines read) → StopsShort f read (StandsAfter f stands fails)
-stops_pausing c read f stands fails which h failed = rw which (record {
+-- it stopped behind the lines that are over
+stops_behind : (c : Cutter) (read : List ℕ) (f : RunFault) (left : Says) → HasCut c read → IsJustified f read (closed_lines read) (line_if_any (open_line read)) → left (closed_lines read) → StopsShort f read left
+stops_behind c read f left h shown is_left = record {
   good = closed_lines read;
   next = line_if_any (open_line read);
   lines = refl;
   within = closed_within c read h;
-  shown = tt;
-  is_left = failed;
-})
+  shown = shown;
+  is_left = is_left;
+}
+
+-- a write failed between two reads
+pub stops_pausing : (c : Cutter) (read : List ℕ) (f : RunFault) (stands fails : Says) → f ≡ fault.Write → HasCut c read → fails (closed_lines read) → StopsShort f read (StandsAfter f stands fails)
+stops_pausing c read f stands fails which h failed = rw which (stops_behind c read fault.Write fails h tt failed)
 
 -- a read failed
-pub stops_reading : (c : Cutter) (read : List ℕ) (stands fails : Says) → HasTaken c stands read → StopsShort fault.Read read (StandsAfter fault.Read stands fails)
-stops_reading c read stands fails h = record {
-  good = closed_lines read;
-  next = line_if_any (open_line read);
-  lines = refl;
-  within = closed_within c read h.0;
-  shown = refl;
-  is_left = h.1;
-}
+pub stops_reading : (c : Cutter) (read : List ℕ) (stands : Says) → HasTaken c stands read → StopsShort fault.Read read stands
+stops_reading c read stands h = stops_behind c read fault.Read stands h.0 refl h.1
 
 -- the taker stopped at the line that the end of the input ends
 pub stops_finishing : (c : Cutter) (read : List ℕ) (f : RunFault) (stands fails : Says) → 0 < length c.line.items → HasCut c read → StandsAfterLine f stands fails (closed_lines read) (open_line read)
@@ -267,14 +265,7 @@ pub stops_finishing : (c : Cutter) (read : List ℕ) (f : RunFault) (stands fail
 stops_finishing c read fault.Read stands fails some h at = absurd at
 stops_finishing c read fault.LineTooLong stands fails some h at = absurd at
 stops_finishing c read fault.TooManyLines stands fails some h at = absurd at
-stops_finishing c read fault.NoMemory stands fails some h at = record {
-  good = closed_lines read;
-  next = line_if_any (open_line read);
-  lines = refl;
-  within = closed_within c read h;
-  shown = tt;
-  is_left = at;
-}
+stops_finishing c read fault.NoMemory stands fails some h at = stops_behind c read fault.NoMemory stands h tt at
 stops_finishing c read fault.Write stands fails some h at =
     let lt : 0 < length (open_line read) = omega (arith, ap length h.line) in
     record {
@@ -332,11 +323,27 @@ left_as c f stands fails taken line e h at = subst (λ (l : List ℕ). StandsAft
 
 -- ---- what was read of the input
 
-pub stopped_in : (start left : Option (List ℕ)) (first : Option (List ℕ) → Type 0) (stands fails : Option (List ℕ) → Says) (f : RunFault) (read : List ℕ) → Consumes start left read
+stopped_in : (start left : Option (List ℕ)) (first : Option (List ℕ) → Type 0) (stands fails : Option (List ℕ) → Says) (f : RunFault) (read : List ℕ) → Consumes start left read
     → ((before : Option (List ℕ)) → first before → StopsShort f read (StandsAfter f (stands before) (fails before)))
     → IfSome start (λ input. (read : List ℕ) × Consumes (Some input) left read × ((before : Option (List ℕ)) → first before → StopsShort f read (StandsAfter f (stands before) (fails before))))
 stopped_in None left first stands fails f read x h = tt
 stopped_in (Some input) left first stands fails f read x h = (read, x, h)
+
+-- the taker stopped, as it says by its relations, of which `contents` gives what is written
+pub taker_stopped : {T W : Type 0} (stands fails : T → Option (List ℕ) → Option (List ℕ) → Says) (contents : W → Option (List ℕ)) (t t' : T) (w w' : W) (start left : Option (List ℕ)) (f : RunFault) (read : List ℕ)
+    → Consumes start left read → ((before : Option (List ℕ)) → stands t before (contents w) [] → StopsShort f read (StandsAfter f (stands t' before (contents w')) (fails t' before (contents w'))))
+    → IfSome start (λ input. (read : List ℕ) × Consumes (Some input) left read
+    × ((before : Option (List ℕ)) → stands t before (contents w) [] → StopsShort f read (StandsAfter f (stands t' before (contents w')) (fails t' before (contents w')))))
+taker_stopped stands fails contents t t' w w' start left f read x h =
+    stopped_in start left (λ before. stands t before (contents w) []) (λ before. stands t' before (contents w')) (λ before. fails t' before (contents w')) f read x h
+
+-- it stopped with a piece that was read behind the others
+pub taker_stopped_with : {T W : Type 0} (stands fails : T → Option (List ℕ) → Option (List ℕ) → Says) (contents : W → Option (List ℕ)) (t t' : T) (w w' : W) (start mid left : Option (List ℕ)) (f : RunFault) (read piece : List ℕ)
+    → Consumes start mid read → Consumes mid left piece
+    → ((before : Option (List ℕ)) → stands t before (contents w) [] → StopsShort f (read ++ piece) (StandsAfter f (stands t' before (contents w')) (fails t' before (contents w'))))
+    → IfSome start (λ input. (read : List ℕ) × Consumes (Some input) left read
+    × ((before : Option (List ℕ)) → stands t before (contents w) [] → StopsShort f read (StandsAfter f (stands t' before (contents w')) (fails t' before (contents w')))))
+taker_stopped_with stands fails contents t t' w w' start mid left f read piece x y h = taker_stopped stands fails contents t t' w w' start left f (read ++ piece) (consumes_trans start mid left read piece x y) h
 
 whole_read : (input left' read bs : List ℕ) (left : List ℕ) → input ≡ read ++ left → left ≡ bs ++ left' → bs ≡ [] → left' ≡ [] → input ≡ read
 whole_read input left' read bs left x y e at_end = x ∙ ap (λ t. read ++ t) (y ∙ ap (λ t. t ++ left') e ∙ at_end) ∙ append-nil read

@@ -3,16 +3,11 @@ ghost use Rattle.std.specs.Prelude.{◌≡◌, ◌<◌, ◌≤◌, ◌+◌, ◌+
 ghost use Rattle.xns_lines.specs.Lines.{IsWithinLimits, closed_lines, lines_of, most_line_bytes, most_lines};
 
 use crate::fault::RunFault;
+use crate::limits::{MOST_LINE_BYTES, MOST_LINES};
 use crate::taker::LineTaker;
 use memchr::memchr;
 use std::alloc::Global;
 use std::io::Write;
-
-/// A line has at most so many bytes, without its byte 10.
-const MOST_BYTES: usize = 4096;
-
-/// The input has at most so many lines.
-const MOST_LINES: usize = 65536;
 
 /// What is kept between two pieces of the input.
 #[derive(Drop)]
@@ -32,7 +27,7 @@ impl Cutter {
         ensures ok { IfOk result (λ cutter. HasCut cutter []) }
         ensures err { IfErr result (λ fault. fault ≡ RunFault.NoMemory) }
     {
-        match Vec::with_capacity(alloc, MOST_BYTES) {
+        match Vec::with_capacity(alloc, MOST_LINE_BYTES) {
             Ok(line) => Ok(Cutter { line, count: 0 }),
             Err(_) => Err(RunFault::NoMemory),
         }
@@ -60,7 +55,8 @@ impl Cutter {
         self.take_run(rest)
     }
 
-    /// Takes the last bytes of a line, among which is no byte 10, and its byte 10.
+    /// Takes the last bytes of a line, among which is no byte 10, and its byte 10. A line of which nothing was taken yet
+    /// is handed on as it lies in the piece.
     fn take_end<T: LineTaker, W: Write>(
         &mut self,
         run: &[u8],
@@ -79,31 +75,11 @@ impl Cutter {
             self.take_run(run)?;
             return self.take_newline(taker, writer);
         }
-        self.take_whole(run, taker, writer)
-    }
-
-    /// Takes a line of which nothing was taken yet, among whose bytes is no byte 10, and its byte 10. It is handed on as
-    /// it lies in the piece.
-    fn take_whole<T: LineTaker, W: Write>(
-        &mut self,
-        line: &[u8],
-        taker: &mut T,
-        writer: &mut W,
-    ) -> Result<(), RunFault>
-        requires first { length self.old.line.items ≡ 0 }
-        requires plain { HasNoNewline line.now }
-        ensures cut { OnOk result ((taken : List ℕ) → HasCut self.old taken → HasCut self.new ((taken ++ line.now) ++ 10 ∷ [])) }
-        ensures ok { OnOk result ((taken : List ℕ) (before : Option (List ℕ)) → HasTaken self.old (T.stands taker.old before (W.contents writer.old)) taken
-            → HasTaken self.new (T.stands taker.new before (W.contents writer.new)) ((taken ++ line.now) ++ 10 ∷ [])) }
-        ensures err { IfErr result (λ fault. (taken : List ℕ) (before : Option (List ℕ)) → HasTaken self.old (T.stands taker.old before (W.contents writer.old)) taken
-            → IsCutShort fault ((taken ++ line.now) ++ 10 ∷ []) (StandsAfter fault (T.stands taker.new before (W.contents writer.new)) (T.fails taker.new before (W.contents writer.new)))) }
-        ensures room { OnOk result (room_of self.new + length line.now < room_of self.old) }
-    {
         let number = self.next_number()?;
-        if line.len() > MOST_BYTES {
+        if run.len() > MOST_LINE_BYTES {
             return Err(RunFault::LineTooLong);
         }
-        taker.take_line(number, line, writer)?;
+        taker.take_line(number, run, writer)?;
         self.count = number;
         Ok(())
     }
@@ -120,7 +96,7 @@ impl Cutter {
             return Ok(());
         }
         self.next_number()?;
-        if self.line.len() + run.len() > MOST_BYTES {
+        if self.line.len() + run.len() > MOST_LINE_BYTES {
             return Err(RunFault::LineTooLong);
         }
         match self.line.extend_from_slice(run) {

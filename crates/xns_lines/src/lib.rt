@@ -6,6 +6,7 @@ mod cutter;
 mod digits;
 mod fault;
 pub mod laws;
+mod limits;
 mod line_end;
 mod line_printer;
 pub mod numbers;
@@ -19,6 +20,7 @@ mod writing;
 
 pub use digits::write_digits;
 pub use fault::RunFault;
+pub use limits::{MOST_LINE_BYTES, MOST_LINES};
 pub use line_end::without_return;
 pub use line_printer::LinePrinter;
 pub use page::Page;

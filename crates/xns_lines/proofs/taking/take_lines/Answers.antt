@@ -2,40 +2,31 @@ use Rattle.std.proofs.Common.{rules, ◌≡◌, ap, take, ◌++◌, ℕ, [], Lis
 use Rattle.std.proofs.lemmas.Result.{err_from_is_err_and}
 use Rattle.xns_lines.specs.Lines.{closed_lines}
 use Rattle.xns_lines.proofs.Cuts.{closed-nothing}
-use Rattle.xns_lines.proofs.Cutting.{stopped_in, stops_at_once, stops_pausing, stops_reading, stops_short, taken_in}
+use Rattle.xns_lines.proofs.Cutting.{stops_at_once, stops_pausing, stops_reading, stops_short, taken_in, taker_stopped, taker_stopped_with}
 use Rattle.xns_lines.proofs.Writes.{consumes_kept, consumes_none, consumes_nothing, consumes_trans, if_err_1, on_ok_2}
 use Rattle.xns_lines.proofs.taking.take_lines.Goals as goal
 
 pub returns-in_err-cutter-clause-err : goal.returns-in_err-cutter-clause-err
 returns-in_err-cutter-clause-err g c =
-    let stands = λ (before : Option (List ℕ)). g.T.LineTaker.stands c.args.taker.now before (g.W.Write.contents c.args.writer.now) in
-    let fails = λ (before : Option (List ℕ)). g.T.LineTaker.fails c.args.taker.now before (g.W.Write.contents c.args.writer.now) in
     let p = err_from_is_err_and c.from_residual.result c.from_residual.ensures.1 in
-    rw (p.1, p.2) (stopped_in _ _ (λ before. stands before []) stands fails _ [] (consumes_nothing _)
-    (λ before said. stops_at_once _ (stands before) (fails before) c.in_err-cutter.ensures.err said))
+    rw (p.1, p.2) (taker_stopped g.T.LineTaker.stands g.T.LineTaker.fails g.W.Write.contents c.args.taker.now c.args.taker.now c.args.writer.now c.args.writer.now _ _ _ [] (consumes_nothing _)
+    (λ before said. stops_at_once _ _ _ c.in_err-cutter.ensures.err said))
 
 pub loop-count-init : goal.loop-count-init
-loop-count-init g c =
-    let stands = λ (before : Option (List ℕ)). g.T.LineTaker.stands c.args.taker.now before (g.W.Write.contents c.args.writer.now) in
-    ([], consumes_nothing _, c.in_ok-cutter.ensures.ok, (λ before said. subst (stands before) (sym closed-nothing) said))
+loop-count-init g c = ([], consumes_nothing _, c.in_ok-cutter.ensures.ok, (λ before said. subst (g.T.LineTaker.stands c.args.taker.now before (g.W.Write.contents c.args.writer.now)) (sym closed-nothing) said))
 
 pub returns-in-Err-clause-err : goal.returns-in-Err-clause-err
 returns-in-Err-clause-err g c =
     let so_far = c.loop-count.invariant in
-    let stands = λ (before : Option (List ℕ)). g.T.LineTaker.stands c.loop-count.taker before (g.W.Write.contents c.loop-count.writer) in
-    let fails = λ (before : Option (List ℕ)). g.T.LineTaker.fails c.loop-count.taker before (g.W.Write.contents c.loop-count.writer) in
-    stopped_in _ _ (λ before. g.T.LineTaker.stands c.args.taker.now before (g.W.Write.contents c.args.writer.now) []) stands fails _ so_far.0
+    taker_stopped g.T.LineTaker.stands g.T.LineTaker.fails g.W.Write.contents c.args.taker.now c.loop-count.taker c.args.writer.now c.loop-count.writer _ _ _ so_far.0
     (consumes_kept _ _ _ so_far.0 so_far.1 c.in-Err.ensures.bytes)
-    (λ before said. stops_reading _ so_far.0 (stands before) (fails before) (so_far.2, so_far.3 before said))
+    (λ before said. stops_reading _ so_far.0 (g.T.LineTaker.stands c.loop-count.taker before (g.W.Write.contents c.loop-count.writer)) (so_far.2, so_far.3 before said))
 
 pub returns-in_err-take_piece-clause-err : goal.returns-in_err-take_piece-clause-err
 returns-in_err-take_piece-clause-err g c =
     let so_far = c.loop-count.invariant in
-    let stands = λ (before : Option (List ℕ)). g.T.LineTaker.stands c.take_piece.new.taker before (g.W.Write.contents c.take_piece.new.writer) in
-    let fails = λ (before : Option (List ℕ)). g.T.LineTaker.fails c.take_piece.new.taker before (g.W.Write.contents c.take_piece.new.writer) in
     let p = err_from_is_err_and c.from_residual-in_err-take_piece.result c.from_residual-in_err-take_piece.ensures.1 in
-    rw (p.1, p.2) (stopped_in _ _ (λ before. g.T.LineTaker.stands c.args.taker.now before (g.W.Write.contents c.args.writer.now) []) stands fails _ (so_far.0 ++ take c.in-Ok.count c.read.new.buf)
-    (consumes_trans _ _ _ so_far.0 _ so_far.1 c.in-Ok.ensures.bytes.0)
+    rw (p.1, p.2) (taker_stopped_with g.T.LineTaker.stands g.T.LineTaker.fails g.W.Write.contents c.args.taker.now c.take_piece.new.taker c.args.writer.now c.take_piece.new.writer _ _ _ _ so_far.0 _ so_far.1 c.in-Ok.ensures.bytes.0
     (λ before said. stops_short _ _ _ (c.in_err-take_piece.ensures.err so_far.0 before (so_far.2, so_far.3 before said))))
 
 pub loop-count-preserved : goal.loop-count-preserved
@@ -51,14 +42,11 @@ loop-count-preserved g c =
 pub returns-in_err-pause-clause-err : goal.returns-in_err-pause-clause-err
 returns-in_err-pause-clause-err g c =
     let so_far = c.loop-count.invariant in
-    let stands = λ (before : Option (List ℕ)). g.T.LineTaker.stands c.pause.new.self before (g.W.Write.contents c.pause.new.writer) in
-    let fails = λ (before : Option (List ℕ)). g.T.LineTaker.fails c.pause.new.self before (g.W.Write.contents c.pause.new.writer) in
     let p = err_from_is_err_and c.from_residual-in_err-pause.result c.from_residual-in_err-pause.ensures.1 in
-    rw (p.1, p.2) (stopped_in _ _ (λ before. g.T.LineTaker.stands c.args.taker.now before (g.W.Write.contents c.args.writer.now) []) stands fails _ (so_far.0 ++ take c.in-Ok.count c.read.new.buf)
-    (consumes_trans _ _ _ so_far.0 _ so_far.1 c.in-Ok.ensures.bytes.0)
+    rw (p.1, p.2) (taker_stopped_with g.T.LineTaker.stands g.T.LineTaker.fails g.W.Write.contents c.args.taker.now c.pause.new.self c.args.writer.now c.pause.new.writer _ _ _ _ so_far.0 _ so_far.1 c.in-Ok.ensures.bytes.0
     (λ before said.
     let t = c.in_ok-take_piece.ensures.ok so_far.0 before (so_far.2, so_far.3 before said) in
-    stops_pausing c.take_piece.new.self (so_far.0 ++ take c.in-Ok.count c.read.new.buf) _ (stands before) (fails before) c.in_err-pause.ensures.err.0 t.0
+    stops_pausing c.take_piece.new.self (so_far.0 ++ take c.in-Ok.count c.read.new.buf) _ _ _ c.in_err-pause.ensures.err.0 t.0
     (c.in_err-pause.ensures.err.1 before (closed_lines (so_far.0 ++ take c.in-Ok.count c.read.new.buf)) t.1)))
 
 pub returns-clause-ok : goal.returns-clause-ok
@@ -75,9 +63,7 @@ pub returns-clause-err : goal.returns-clause-err
 returns-clause-err g c =
     let so_far = c.loop-count.invariant in
     let none : take c.in-Ok.count c.read.new.buf ≡ [] = ap (λ (n : ℕ). take n c.read.new.buf) c.if-count-eq0.true in
-    let first = λ (before : Option (List ℕ)). g.T.LineTaker.stands c.args.taker.now before (g.W.Write.contents c.args.writer.now) [] in
-    let stands = λ (before : Option (List ℕ)). g.T.LineTaker.stands c.finish.new.taker before (g.W.Write.contents c.finish.new.writer) in
-    let fails = λ (before : Option (List ℕ)). g.T.LineTaker.fails c.finish.new.taker before (g.W.Write.contents c.finish.new.writer) in
     if_err_1 _ _ c.finish.result c.finish.ensures.err (λ fault err.
-    stopped_in _ _ first stands fails fault so_far.0 (consumes_none _ _ _ so_far.0 _ none so_far.1 c.in-Ok.ensures.bytes.0)
+    taker_stopped g.T.LineTaker.stands g.T.LineTaker.fails g.W.Write.contents c.args.taker.now c.finish.new.taker c.args.writer.now c.finish.new.writer _ _ fault so_far.0
+    (consumes_none _ _ _ so_far.0 _ none so_far.1 c.in-Ok.ensures.bytes.0)
     (λ before said. err so_far.0 before (so_far.2, so_far.3 before said)))

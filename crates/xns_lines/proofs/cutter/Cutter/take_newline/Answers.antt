@@ -6,20 +6,14 @@ use Rattle.xns_lines.proofs.cutter.Cutter.take_newline.Goals as goal
 
 pub returns-in_err-take_line-clause-err : goal.returns-in_err-take_line-clause-err
 returns-in_err-take_line-clause-err g c =
-    let stands = g.T.LineTaker.stands c.take_line.new.self in
-    let fails = g.T.LineTaker.fails c.take_line.new.self in
-    let contents = g.W.Write.contents c.take_line.new.writer in
-    let f = c.in_err-take_line.field-0.0 in
     let p = err_from_is_err_and c.from_residual-in_err-take_line.result c.from_residual-in_err-take_line.ensures.1 in
-    rw (p.1, p.2) (λ taken before h. short_at c.args.self.now f (stands before contents) (fails before contents) taken (omega (arith, c.in_ok-number.ensures.ok)) h.0
-    (left_as c.args.self.now f (stands before contents) (fails before contents) taken c.as_slice.result.now c.as_slice.ensures.value h.0
+    rw (p.1, p.2) (λ taken before h. short_at c.args.self.now _ _ _ taken (omega (arith, c.in_ok-number.ensures.ok)) h.0
+    (left_as c.args.self.now c.in_err-take_line.field-0.0 _ _ taken c.as_slice.result.now c.as_slice.ensures.value h.0
     (c.in_err-take_line.ensures.err before (closed_lines taken) (c.in_ok-number.ensures.ok.0 ∙ ap (λ n. n + 1) h.0.count) h.1)))
 
 pub returns-clause-ok : goal.returns-clause-ok
-returns-clause-ok g c =
-    let stands = g.T.LineTaker.stands c.take_line.new.self in
-    let contents = g.W.Write.contents c.take_line.new.writer in
-    λ taken before h. takes_newline c.args.self.now _ (stands before contents) taken c.as_slice.result.now (omega (arith, c.in_ok-number.ensures.ok)) c.clear.ensures.items c.in_ok-number.ensures.ok.0 c.as_slice.ensures.value h.0
+returns-clause-ok g c = λ taken before h.
+    takes_newline c.args.self.now _ (g.T.LineTaker.stands c.take_line.new.self before (g.W.Write.contents c.take_line.new.writer)) taken c.as_slice.result.now (omega (arith, c.in_ok-number.ensures.ok)) c.clear.ensures.items c.in_ok-number.ensures.ok.0 c.as_slice.ensures.value h.0
     (c.in_ok-take_line.ensures.ok before (closed_lines taken) (c.in_ok-number.ensures.ok.0 ∙ ap (λ n. n + 1) h.0.count) h.1)
 
 pub returns-clause-cut : goal.returns-clause-cut

@@ -2,8 +2,8 @@ use Rattle.std.proofs.Common.{arith, refl}
 use Rattle.xns_lines.proofs.Cutting.{cut_run, run_cut, short_long}
 use Rattle.xns_lines.proofs.cutter.Cutter.take_run.Goals as goal
 
-pub returns-then-len-run-gt-MOST_BYTES-clause-err : goal.returns-then-len-run-gt-MOST_BYTES-clause-err
-returns-then-len-run-gt-MOST_BYTES-clause-err c = λ taken h.
+pub returns-then-len-run-gt-MOST_LINE_BYTES-clause-err : goal.returns-then-len-run-gt-MOST_LINE_BYTES-clause-err
+returns-then-len-run-gt-MOST_LINE_BYTES-clause-err c = λ taken h.
     short_long c.args.self.now taken c.args.run.now c.requires (omega (arith, c.in_ok-next_number.ensures.ok)) (omega (arith, c.args.self.now.line.ok.0)) h
 
 pub returns-in-Ok-clause-ok : goal.returns-in-Ok-clause-ok
