@@ -23,15 +23,15 @@ use Rattle.xns_spp.specs.Header.{is_system}
 use Rattle.xns_spp.specs.declared.header.Header.{Header}
 use Rattle.xns_spp.specs.declared.spp_fault.SppFault.{SppFault}
 use Rattle.xns_spp.specs.declared.spp_fault.SppFault.TheVariants as spp
-use Rattle.xns_dump.specs.Dump.Line.{Said, hex_refusal, is_refused, is_said_refused, said_by, said_text, text_of_line}
+use Rattle.xns_dump.specs.Dump.Line.{Said, hex_refusal, hex_refusal_text, is_refused, is_said_refused, said_by, said_text, text_of_line}
 use Rattle.xns_dump.specs.Flows.{DataPacket}
 use Rattle.xns_dump.specs.Laws.{IsLoud, IsQuiet, says_refused}
 use Rattle.xns_dump.specs.Layers.Body.{BodyModel, body_text, is_body_refused}
-use Rattle.xns_dump.specs.Layers.Courier.{callee_text, courier_text, message_line, message_text, report_message}
-use Rattle.xns_dump.specs.Layers.Packets.{idp_line, idp_refusal, kind_text, route_text, size_text, sum_text}
-use Rattle.xns_dump.specs.Layers.Sequenced.{connection_text, content_text, header_line, header_refusal, item_line, item_of, item_text, sequence_text, sequenced_text}
-use Rattle.xns_dump.specs.Layers.Small.{echo_line, error_fields, error_line, exchange_fields, exchange_line, inner_refusal}
-use Rattle.xns_dump.specs.Layers.Text.{address_text, data_line, words_line}
+use Rattle.xns_dump.specs.Layers.Courier.{callee_text, courier_text, message_text, report_message}
+use Rattle.xns_dump.specs.Layers.Packets.{idp_line, idp_refusal, idp_refusal_text, kind_text, route_text, size_text, sum_text}
+use Rattle.xns_dump.specs.Layers.Sequenced.{connection_text, content_text, header_refusal, header_text, item_of, item_text, number_text, sequence_text, sequenced_text}
+use Rattle.xns_dump.specs.Layers.Small.{echo_text, error_text, exchange_fields, exchange_text, inner_refusal, inner_refusal_text}
+use Rattle.xns_dump.specs.Layers.Text.{address_text, data_bytes, data_line, data_words, line_of, words_line}
 use Rattle.xns_lines.specs.Text.{bytes_or_dash, hex_word, words_in_hex, words_or_dash, words_text}
 
 pub both : (xs ys : List ℕ) → IsQuiet xs → IsQuiet ys → IsQuiet (xs ++ ys)
@@ -133,13 +133,17 @@ pub address : (a : Address) → IsQuiet (address_text a)
 unfolding address_text
 address a = both _ _ (both _ _ (both _ _ (both _ _ (hex (to_be_bytes w32 a.network)) (record { skips = λ ys. refl })) (hex a.host)) (record { skips = λ ys. refl })) (word a.socket)
 
+quiet_line : (n : ℕ) (text : List ℕ) → IsQuiet text → IsQuiet (line_of n text)
+quiet_line n text h = both _ _ (both _ _ (number n) h) (record { skips = λ ys. refl })
+
+loud_line : (n : ℕ) (text : List ℕ) → IsLoud text → IsLoud (line_of n text)
+loud_line n text h = longer _ _ (loud _ _ (number n) h)
+
 data_is : (n : ℕ) (xs : List ℕ) → IsQuiet (data_line n xs)
-unfolding data_line
-data_is n xs = both _ _ (both _ _ (both _ _ (number n) (record { skips = λ ys. refl })) (bytes xs)) (record { skips = λ ys. refl })
+data_is n xs = quiet_line n (data_bytes xs) (both (codes " data ") _ (record { skips = λ ys. refl }) (bytes xs))
 
 words_is : (n : ℕ) (xs : List ℕ) → IsQuiet (words_line n xs)
-unfolding words_line
-words_is n xs = both _ _ (both _ _ (both _ _ (number n) (record { skips = λ ys. refl })) (words xs)) (record { skips = λ ys. refl })
+words_is n xs = quiet_line n (data_words xs) (both (codes " words ") _ (record { skips = λ ys. refl }) (words xs))
 
 -- ---- the internet packet
 
@@ -164,40 +168,33 @@ unfolding idp_line
 idp n field p = both _ _ (both _ _ (both _ _ (both _ _ (both _ _ (number n) (record { skips = λ ys. refl })) (size field p)) (kind p)) (route p)) (record { skips = λ ys. refl })
 
 pub idp_loud : (n : ℕ) (fault : IdpFault) → IsLoud (idp_refusal n fault)
-unfolding idp_refusal
-idp_loud n fault = longer _ _ (longer _ _ (loud _ _ (number n) (record { says = λ ys. refl })))
+idp_loud n fault = loud_line n (idp_refusal_text fault) (longer (codes " idp refused ") _ (record { says = λ ys. refl }))
 
 -- ---- Echo, Error and Packet Exchange
 
 inner_loud : (n : ℕ) (fault : SmallFault) → IsLoud (inner_refusal n fault)
-unfolding inner_refusal
-inner_loud n fault = longer _ _ (longer _ _ (loud _ _ (number n) (record { says = λ ys. refl })))
+inner_loud n fault = loud_line n (inner_refusal_text fault) (longer (codes " inner refused ") _ (record { says = λ ys. refl }))
 
-echo : (n : ℕ) (v : EchoModel) → IsQuiet (echo_line n v)
-unfolding echo_line
-echo n v = both _ _ (both _ _ (both _ _ (number n) (either v.reply (codes " echo reply ") (codes " echo request ") (record { skips = λ ys. refl }) (record { skips = λ ys. refl }))) (bytes v.body)) (record { skips = λ ys. refl })
+echo : (v : EchoModel) → IsQuiet (echo_text v)
+unfolding echo_text
+echo v = both _ _ (either v.reply (codes " echo reply ") (codes " echo request ") (record { skips = λ ys. refl }) (record { skips = λ ys. refl })) (bytes v.body)
 
-error_numbers : (v : ErrorReportModel) → IsQuiet (error_fields v)
-unfolding error_fields
-error_numbers v = both _ _ (both _ _ (both _ _ (both _ _ (number v.number) (record { skips = λ ys. refl })) (number v.parameter)) (record { skips = λ ys. refl })) (bytes v.quoted)
-
-error : (n : ℕ) (v : ErrorReportModel) → IsQuiet (error_line n v)
-unfolding error_line
-error n v = both _ _ (both _ _ (both _ _ (number n) (record { skips = λ ys. refl })) (error_numbers v)) (record { skips = λ ys. refl })
+error : (v : ErrorReportModel) → IsQuiet (error_text v)
+unfolding error_text
+error v = both _ _ (both _ _ (both _ _ (both _ _ (both (codes " error ") _ (record { skips = λ ys. refl }) (number v.number)) (record { skips = λ ys. refl })) (number v.parameter)) (record { skips = λ ys. refl })) (bytes v.quoted)
 
 exchange_numbers : (v : ExchangeModel) → IsQuiet (exchange_fields v)
 unfolding exchange_fields
 exchange_numbers v = both _ _ (both _ _ (both _ _ (both _ _ (hex (to_be_bytes w32 v.id)) (record { skips = λ ys. refl })) (number v.client)) (record { skips = λ ys. refl })) (bytes v.body)
 
-exchange : (n : ℕ) (v : ExchangeModel) → IsQuiet (exchange_line n v)
-unfolding exchange_line
-exchange n v = both _ _ (both _ _ (both _ _ (number n) (record { skips = λ ys. refl })) (exchange_numbers v)) (record { skips = λ ys. refl })
+exchange : (v : ExchangeModel) → IsQuiet (exchange_text v)
+exchange v = both (codes " exchange id ") _ (record { skips = λ ys. refl }) (exchange_numbers v)
 
 -- ---- Courier
 
 pub callee : (program version procedure : ℕ) → IsQuiet (callee_text program version procedure)
 unfolding callee_text
-callee program version procedure = both _ _ (both _ _ (both _ _ (both _ _ (both (codes " program ") _ (record { skips = λ ys. refl }) (number program)) (record { skips = λ ys. refl })) (number version)) (record { skips = λ ys. refl })) (number procedure)
+callee program version procedure = both _ _ (both _ _ (both (codes " program ") _ (record { skips = λ ys. refl }) (number program)) (both (codes " version ") _ (record { skips = λ ys. refl }) (number version))) (both (codes " procedure ") _ (record { skips = λ ys. refl }) (number procedure))
 
 message : (m : Message) → IsQuiet (message_text m)
 unfolding message_text
@@ -206,12 +203,8 @@ message (Reject transaction reason ws) = both _ _ (both _ _ (both _ _ (both _ _ 
 message (Return transaction ws) = both _ _ (both _ _ (both (codes " return ") _ (record { skips = λ ys. refl }) (number transaction)) (record { skips = λ ys. refl })) (word_list ws)
 message (Abort transaction error ws) = both _ _ (both _ _ (both _ _ (both _ _ (both (codes " abort ") _ (record { skips = λ ys. refl }) (number transaction)) (record { skips = λ ys. refl })) (number error)) (record { skips = λ ys. refl })) (word_list ws)
 
-message_is : (n : ℕ) (m : Message) → IsQuiet (message_line n m)
-unfolding message_line
-message_is n m = both _ _ (both _ _ (number n) (message m)) (record { skips = λ ys. refl })
-
 report : (n : ℕ) (content : List ℕ) (r : Result Message MessageFault) → IsQuiet (report_message n content r)
-report n content (Ok m) = message_is n m
+report n content (Ok m) = quiet_line n (message_text m) (message m)
 report n content (Err fault) = words_is n content
 
 courier : (n : ℕ) (content : List ℕ) → IsQuiet (courier_text n content)
@@ -228,17 +221,13 @@ sequence : (f : Header) → IsQuiet (sequence_text f)
 unfolding sequence_text
 sequence f = both _ _ (both _ _ (both _ _ (both _ _ (both (codes " seq ") _ (record { skips = λ ys. refl }) (number f.sequence)) (record { skips = λ ys. refl })) (number f.acknowledge)) (record { skips = λ ys. refl })) (number f.allocation)
 
-header : (n : ℕ) (f : Header) → IsQuiet (header_line n f)
-unfolding header_line
-header n f = both _ _ (both _ _ (both _ _ (both _ _ (number n) (record { skips = λ ys. refl })) (connection f)) (sequence f)) (record { skips = λ ys. refl })
-
-item_number_is : (n v : ℕ) → IsQuiet (item_line n v)
-unfolding item_line
-item_number_is n v = both _ _ (both _ _ (both _ _ (number n) (record { skips = λ ys. refl })) (number v)) (record { skips = λ ys. refl })
+header : (f : Header) → IsQuiet (header_text f)
+unfolding header_text
+header f = both _ _ (both (codes " spp control ") _ (record { skips = λ ys. refl }) (connection f)) (sequence f)
 
 item : (n : ℕ) (numbers : DataPacket → ℕ) (o : Option DataPacket) → IsQuiet (item_text n numbers o)
 item n numbers None = record { skips = λ ys. refl }
-item n numbers (Some packet) = item_number_is n (numbers packet)
+item n numbers (Some packet) = quiet_line n (number_text (numbers packet)) (both (codes " item ") _ (record { skips = λ ys. refl }) (number (numbers packet)))
 
 content : (n : ℕ) (f : Header) (xs : List ℕ) → IsQuiet (content_text n f xs)
 unfolding content_text
@@ -249,25 +238,28 @@ header_loud n (spp.Short have) = inner_loud n _
 
 sequenced : (n : ℕ) (numbers : DataPacket → ℕ) (o : Option DataPacket) (f : Header) (xs : List ℕ) → IsQuiet (sequenced_text n numbers o f xs)
 unfolding sequenced_text
-sequenced n numbers o f xs = both _ _ (both _ _ (header n f) (item n numbers o)) (content n f xs)
+sequenced n numbers o f xs = both _ _ (both _ _ (quiet_line n (header_text f) (header f)) (item n numbers o)) (content n f xs)
 
 -- ---- a line
 
 body_is : (n : ℕ) (numbers : DataPacket → ℕ) (p : PacketModel) (b : BodyModel) → says_refused (body_text n numbers p b) ≡ is_body_refused b
-body_is n numbers p (BodyModel.echo v) = alone _ (echo n v)
-body_is n numbers p (BodyModel.error v) = alone _ (error n v)
-body_is n numbers p (BodyModel.exchange v) = alone _ (exchange n v)
+body_is n numbers p (BodyModel.echo v) = alone _ (quiet_line n (echo_text v) (echo v))
+body_is n numbers p (BodyModel.error v) = alone _ (quiet_line n (error_text v) (error v))
+body_is n numbers p (BodyModel.exchange v) = alone _ (quiet_line n (exchange_text v) (exchange v))
 body_is n numbers p (BodyModel.sequenced f xs) = alone _ (sequenced n numbers (item_of p f) f xs)
 body_is n numbers p (BodyModel.no_header fault) = said _ (header_loud n fault)
 body_is n numbers p (BodyModel.refused fault) = said _ (inner_loud n fault)
 body_is n numbers p (BodyModel.other xs) = alone _ (data_is n xs)
 
+hex_loud_text : (error : FromHexError) → IsLoud (hex_refusal_text error)
+unfolding hex_refusal_text
+hex_loud_text (hex_error.InvalidHexCharacter digit place) = longer (codes " hex refused Digit ") _ (record { says = λ ys. refl })
+hex_loud_text hex_error.OddLength = record { says = λ ys. refl }
+hex_loud_text hex_error.InvalidStringLength = record { says = λ ys. refl }
+hex_loud_text hex_error.OutOfMemory = record { says = λ ys. refl }
+
 pub hex_loud : (n : ℕ) (error : FromHexError) → IsLoud (hex_refusal n error)
-unfolding hex_refusal
-hex_loud n (hex_error.InvalidHexCharacter digit place) = longer _ _ (longer _ _ (loud _ _ (number n) (record { says = λ ys. refl })))
-hex_loud n hex_error.OddLength = loud _ _ (number n) (record { says = λ ys. refl })
-hex_loud n hex_error.InvalidStringLength = loud _ _ (number n) (record { says = λ ys. refl })
-hex_loud n hex_error.OutOfMemory = loud _ _ (number n) (record { says = λ ys. refl })
+hex_loud n error = loud_line n (hex_refusal_text error) (hex_loud_text error)
 
 said_is : (n : ℕ) (numbers : DataPacket → ℕ) (s : Said) → says_refused (said_text n numbers s) ≡ is_said_refused s
 said_is n numbers (Said.no_bytes error) = said _ (hex_loud n error)

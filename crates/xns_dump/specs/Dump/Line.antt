@@ -11,6 +11,7 @@ use Rattle.xns_idp.specs.Reading.{packet_of, word_at}
 use Rattle.xns_idp.specs.declared.fault.IdpFault.{IdpFault}
 use Rattle.xns_dump.specs.Layers.Body.{BodyModel, body_of, body_text, body_item, is_body_refused}
 use Rattle.xns_dump.specs.Layers.Packets.{idp_line, idp_refusal}
+use Rattle.xns_dump.specs.Layers.Text.{line_of}
 use Rattle.xns_lines.specs.Lines.{without_return}
 
 -- a space or a tab
@@ -22,9 +23,12 @@ unfoldable pub digits_of : List ℕ → List ℕ
 digits_of line = filter (λ byte. not (is_blank byte)) (without_return line)
 
 -- why the digits spell no bytes: an odd number of them comes before a bad digit, whose place counts from 0
-unfoldable pub hex_refusal : ℕ → FromHexError → List ℕ
-hex_refusal n (InvalidHexCharacter digit place) = decimal n ++ codes " hex refused Digit " ++ decimal place ++ codes "\n"
-hex_refusal n _ = decimal n ++ codes " hex refused OddLength\n"
+unfoldable pub hex_refusal_text : FromHexError → List ℕ
+hex_refusal_text (InvalidHexCharacter digit place) = codes " hex refused Digit " ++ decimal place
+hex_refusal_text _ = codes " hex refused OddLength"
+
+abbrev pub hex_refusal : ℕ → FromHexError → List ℕ
+hex_refusal n error = line_of n (hex_refusal_text error)
 
 -- what a line says: why its digits spell no bytes, why the bytes are no packet, or the packet at their front, with its checksum field and what its body says
 pub data Said : Type 0 where

@@ -12,8 +12,8 @@ use Rattle.xns_dump.specs.declared.layers.body.Body.{Body}
 use Rattle.xns_dump.specs.declared.layers.body.Body.TheVariants.{Echo, Error, Exchange, Sequenced, NoHeader, Refused, Data}
 use Rattle.xns_dump.specs.Flows.{DataPacket}
 use Rattle.xns_dump.specs.Layers.Sequenced.{header_refusal, item_of, sequenced_text}
-use Rattle.xns_dump.specs.Layers.Small.{echo_line, error_line, exchange_line, inner_refusal}
-use Rattle.xns_dump.specs.Layers.Text.{data_line}
+use Rattle.xns_dump.specs.Layers.Small.{echo_text, error_text, exchange_text, inner_refusal}
+use Rattle.xns_dump.specs.Layers.Text.{data_line, line_of}
 
 -- what its packet type makes of it, why it is not that, or data of another packet type
 pub data BodyModel : Type 0 where
@@ -56,9 +56,9 @@ body_of packet =
 
 -- its lines, in a packet of line n, where `number` gives the numbers of items
 abbrev pub body_text : ℕ → (DataPacket → ℕ) → PacketModel → BodyModel → List ℕ
-body_text n number packet (BodyModel.echo v) = echo_line n v
-body_text n number packet (BodyModel.error v) = error_line n v
-body_text n number packet (BodyModel.exchange v) = exchange_line n v
+body_text n number packet (BodyModel.echo v) = line_of n (echo_text v)
+body_text n number packet (BodyModel.error v) = line_of n (error_text v)
+body_text n number packet (BodyModel.exchange v) = line_of n (exchange_text v)
 body_text n number packet (BodyModel.sequenced header content) = sequenced_text n number (item_of packet header) header content
 body_text n number packet (BodyModel.no_header fault) = header_refusal n fault
 body_text n number packet (BodyModel.refused fault) = inner_refusal n fault

@@ -5,12 +5,12 @@ use Rattle.courier_messages.specs.Message.{message_of}
 use Rattle.courier_messages.specs.declared.fault.MessageFault.{MessageFault}
 use Rattle.courier_messages.specs.declared.message.Message.{Message}
 use Rattle.courier_messages.specs.declared.message.Message.TheVariants.{Call, Reject, Return, Abort}
-use Rattle.xns_dump.specs.Layers.Text.{words_line}
+use Rattle.xns_dump.specs.Layers.Text.{line_of, words_line}
 use Rattle.xns_lines.specs.Text.{words_text}
 
 -- what is called
 unfoldable pub callee_text : ℕ → ℕ → ℕ → List ℕ
-callee_text program version procedure = codes " program " ++ decimal program ++ codes " version " ++ decimal version ++ codes " procedure " ++ decimal procedure
+callee_text program version procedure = codes " program " ++ decimal program ++ (codes " version " ++ decimal version) ++ (codes " procedure " ++ decimal procedure)
 
 -- the fields of a message, and its words
 unfoldable pub message_text : Message → List ℕ
@@ -20,8 +20,8 @@ message_text (Reject transaction reason words) = codes " reject " ++ decimal tra
 message_text (Return transaction words) = codes " return " ++ decimal transaction ++ codes " results " ++ words_text words
 message_text (Abort transaction error words) = codes " abort " ++ decimal transaction ++ codes " error " ++ decimal error ++ codes " args " ++ words_text words
 
-unfoldable pub message_line : ℕ → Message → List ℕ
-message_line n message = decimal n ++ message_text message ++ codes "\n"
+abbrev pub message_line : ℕ → Message → List ℕ
+message_line n message = line_of n (message_text message)
 
 abbrev pub report_message : ℕ → List ℕ → Result Message MessageFault → List ℕ
 report_message n content (Ok message) = message_line n message

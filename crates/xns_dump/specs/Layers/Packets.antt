@@ -4,7 +4,7 @@ use Rattle.std.specs.Fmt.{decimal}
 use Rattle.xns_idp.specs.Packet.{PacketModel}
 use Rattle.xns_idp.specs.declared.fault.IdpFault.{IdpFault}
 use Rattle.xns_idp.specs.declared.fault.IdpFault.TheVariants.{Short, LengthSmall, LengthLarge, Cut, BadSum}
-use Rattle.xns_dump.specs.Layers.Text.{address_text}
+use Rattle.xns_dump.specs.Layers.Text.{address_text, line_of}
 use Rattle.xns_lines.specs.Text.{hex_word}
 
 -- ---- the header (XSIS 028112, Internet Datagram Protocol, Packet Format)
@@ -37,5 +37,8 @@ fault_text (LengthLarge size) = codes "LengthLarge " ++ decimal size
 fault_text (Cut needed have) = codes "Cut " ++ decimal needed ++ codes " " ++ decimal have
 fault_text (BadSum found computed) = codes "BadSum " ++ hex_word found ++ codes " " ++ hex_word computed
 
-unfoldable pub idp_refusal : ℕ → IdpFault → List ℕ
-idp_refusal n fault = decimal n ++ codes " idp refused " ++ fault_text fault ++ codes "\n"
+abbrev pub idp_refusal_text : IdpFault → List ℕ
+idp_refusal_text fault = codes " idp refused " ++ fault_text fault
+
+abbrev pub idp_refusal : ℕ → IdpFault → List ℕ
+idp_refusal n fault = line_of n (idp_refusal_text fault)

@@ -11,7 +11,7 @@ use Rattle.xns_small.specs.declared.fault.SmallFault.TheVariants as small
 use Rattle.xns_dump.specs.Flows.{DataPacket}
 use Rattle.xns_dump.specs.Layers.Courier.{courier_text}
 use Rattle.xns_dump.specs.Layers.Small.{inner_refusal}
-use Rattle.xns_dump.specs.Layers.Text.{data_line, words_line}
+use Rattle.xns_dump.specs.Layers.Text.{data_line, line_of, words_line}
 use Rattle.xns_lines.specs.Text.{hex_word}
 
 -- the connection control, the datastream type, and the two connection identifiers
@@ -24,8 +24,8 @@ unfoldable pub sequence_text : Header → List ℕ
 sequence_text f = codes " seq " ++ decimal f.sequence ++ codes " ack " ++ decimal f.acknowledge ++ codes " alloc " ++ decimal f.allocation
 
 -- the fields of a header (XSIS 028112, Sequenced Packet Protocol)
-unfoldable pub header_line : ℕ → Header → List ℕ
-header_line n f = decimal n ++ codes " spp control " ++ connection_text f ++ sequence_text f ++ codes "\n"
+unfoldable pub header_text : Header → List ℕ
+header_text f = codes " spp control " ++ connection_text f ++ sequence_text f
 
 -- the data packet that brings an item, if it is one: no system packet is, and none to an identifier that isn't known
 unfoldable pub item_of : PacketModel → Header → Option DataPacket
@@ -38,10 +38,14 @@ item_of packet f =
       f.sequence,
     ) else None
 
-unfoldable pub item_line : ℕ → ℕ → List ℕ
-item_line n number = decimal n ++ codes " item " ++ decimal number ++ codes "\n"
-
 -- the number of its item (XSIS 028112, Sequenced Packet Protocol, Sequence Number)
+abbrev pub number_text : ℕ → List ℕ
+number_text number = codes " item " ++ decimal number
+
+abbrev pub item_line : ℕ → ℕ → List ℕ
+item_line n number = line_of n (number_text number)
+
+-- its line, if there is an item
 abbrev pub item_text : ℕ → (DataPacket → ℕ) → Option DataPacket → List ℕ
 item_text n number None = []
 item_text n number (Some packet) = item_line n (number packet)
@@ -61,4 +65,4 @@ header_refusal n (Short have) = inner_refusal n (small.Short have)
 
 -- the lines of a sequenced packet, where `number` gives the numbers of items
 unfoldable pub sequenced_text : ℕ → (DataPacket → ℕ) → Option DataPacket → Header → List ℕ → List ℕ
-sequenced_text n number item header content = header_line n header ++ item_text n number item ++ content_text n header content
+sequenced_text n number item header content = line_of n (header_text header) ++ item_text n number item ++ content_text n header content

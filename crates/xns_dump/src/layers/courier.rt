@@ -1,15 +1,16 @@
 //! The lines of Courier messages, a function for each.
 ghost use Rattle.std.specs.Prelude.{◌++◌};
 ghost use Rattle.std.specs.Fmt.{decimal};
-ghost use Rattle.xns_dump.specs.Layers.Courier.{callee_text, courier_text, message_line, message_text};
+ghost use Rattle.xns_dump.specs.Layers.Courier.{callee_text, courier_text, message_text};
 ghost use Rattle.xns_lines.specs.Text.{words_text};
 ghost use Rattle.xns_lines.specs.Report.{Adds};
 
-use crate::layers::text::{append_named, append_words_line};
+use crate::layers::line::{LineText, append_line};
+use crate::layers::text::{DataWords, append_named};
 use courier_messages::{Message, MessageRefusal, Words, read_message};
 use std::alloc::{AllocError, Global};
 use xns_lines::Report;
-use xns_lines::numbers::{append_decimal, append_decimal_u64, append_word_list};
+use xns_lines::numbers::{append_decimal_u64, append_word_list};
 
 /// Appends the line of the data at the end of a message: that of the message that it reads as, or its words.
 #[tactic(auto, unfolding(crate::specs::Layers::Courier::courier_text))]
@@ -22,24 +23,18 @@ pub(crate) fn append_courier(
     ensures { Adds result report.old report.new (courier_text number content.now) }
 {
     match read_message(alloc, content) {
-        Ok(message) => append_message_line(report, number, &message),
-        Err(MessageRefusal::Fault(_)) => append_words_line(report, number, content),
+        Ok(message) => append_line(report, number, &message),
+        Err(MessageRefusal::Fault(_)) => append_line(report, number, &DataWords { content }),
         Err(MessageRefusal::NoMemory) => Err(AllocError),
     }
 }
 
-/// Appends the line of a message.
-#[tactic(auto, unfolding(crate::specs::Layers::Courier::message_line))]
-fn append_message_line(
-    report: &mut Report,
-    number: usize,
-    message: &Message,
-) -> Result<(), AllocError>
-    ensures { Adds result report.old report.new (message_line number message.now) }
-{
-    append_decimal(report, number)?;
-    append_message(report, message)?;
-    report.append(b"\n")
+impl LineText for Message {
+    ghost text = { message_text };
+
+    fn append_text(&self, report: &mut Report) -> Result<(), AllocError> {
+        append_message(report, self)
+    }
 }
 
 /// Appends the fields of a message, and its words.
@@ -111,8 +106,6 @@ pub fn append_callee(
 {
     report.append(b" program ")?;
     append_decimal_u64(report, u64::from(program))?;
-    report.append(b" version ")?;
-    append_decimal(report, usize::from(version))?;
-    report.append(b" procedure ")?;
-    append_decimal(report, usize::from(procedure))
+    append_field(report, b" version ", version)?;
+    append_field(report, b" procedure ", procedure)
 }

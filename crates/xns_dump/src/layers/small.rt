@@ -1,31 +1,27 @@
-//! The lines of Echo, Error and Packet Exchange, each a function.
-ghost use Rattle.std.specs.Prelude.{◌++◌, codes, if◌then◌else◌};
-ghost use Rattle.std.specs.Fmt.{decimal};
+//! What lines of Echo, Error and Packet Exchange say.
+ghost use Rattle.std.specs.Prelude.{codes, if◌then◌else◌};
 ghost use Rattle.xns_small.specs.Echo.{echo_model};
 ghost use Rattle.xns_small.specs.ErrorReport.{error_report_model};
 ghost use Rattle.xns_small.specs.Exchange.{exchange_model};
-ghost use Rattle.xns_dump.specs.Layers.Small.{echo_line, error_fields, error_line, exchange_fields, exchange_line, inner_fault_text, inner_refusal};
+ghost use Rattle.xns_dump.specs.Layers.Small.{echo_text, error_text, exchange_fields, exchange_text, inner_fault_text, inner_refusal_text};
 ghost use Rattle.xns_lines.specs.Report.{Adds};
 
+use crate::layers::courier::append_field;
+use crate::layers::line::LineText;
 use crate::layers::text::append_named;
 use std::alloc::AllocError;
 use xns_lines::Report;
 use xns_lines::numbers::{append_bytes_or_dash, append_decimal, append_hex};
 use xns_small::{Echo, ErrorReport, Exchange, SmallFault};
 
-/// Appends the line of a request or reply.
-#[tactic(auto, unfolding(crate::specs::Layers::Small::echo_line))]
-pub(crate) fn append_echo_line(
-    report: &mut Report,
-    number: usize,
-    echo: &Echo<'_>,
-) -> Result<(), AllocError>
-    ensures { Adds result report.old report.new (echo_line number (echo_model echo.now)) }
-{
-    append_decimal(report, number)?;
-    append_operation(report, echo.reply)?;
-    append_bytes_or_dash(report, echo.body)?;
-    report.append(b"\n")
+impl LineText for Echo<'_> {
+    ghost text = { λ echo. echo_text (echo_model echo) };
+
+    #[tactic(auto, unfolding(crate::specs::Layers::Small::echo_text))]
+    fn append_text(&self, report: &mut Report) -> Result<(), AllocError> {
+        append_operation(report, self.reply)?;
+        append_bytes_or_dash(report, self.body)
+    }
 }
 
 /// Appends what kind of Echo it is.
@@ -39,45 +35,25 @@ fn append_operation(report: &mut Report, reply: bool) -> Result<(), AllocError>
     }
 }
 
-/// Appends the line of an Error report.
-#[tactic(auto, unfolding(crate::specs::Layers::Small::error_line))]
-pub(crate) fn append_error_line(
-    report: &mut Report,
-    number: usize,
-    error: &ErrorReport<'_>,
-) -> Result<(), AllocError>
-    ensures { Adds result report.old report.new (error_line number (error_report_model error.now)) }
-{
-    append_decimal(report, number)?;
-    report.append(b" error ")?;
-    append_error_fields(report, error)?;
-    report.append(b"\n")
+impl LineText for ErrorReport<'_> {
+    ghost text = { λ error. error_text (error_report_model error) };
+
+    #[tactic(auto, unfolding(crate::specs::Layers::Small::error_text))]
+    fn append_text(&self, report: &mut Report) -> Result<(), AllocError> {
+        append_field(report, b" error ", self.number)?;
+        append_field(report, b" parameter ", self.parameter)?;
+        report.append(b" quoted ")?;
+        append_bytes_or_dash(report, self.quoted)
+    }
 }
 
-#[tactic(auto, unfolding(crate::specs::Layers::Small::error_fields))]
-fn append_error_fields(report: &mut Report, error: &ErrorReport<'_>) -> Result<(), AllocError>
-    ensures { Adds result report.old report.new (error_fields (error_report_model error.now)) }
-{
-    append_decimal(report, usize::from(error.number))?;
-    report.append(b" parameter ")?;
-    append_decimal(report, usize::from(error.parameter))?;
-    report.append(b" quoted ")?;
-    append_bytes_or_dash(report, error.quoted)
-}
+impl LineText for Exchange<'_> {
+    ghost text = { λ exchange. exchange_text (exchange_model exchange) };
 
-/// Appends the line of a packet exchange.
-#[tactic(auto, unfolding(crate::specs::Layers::Small::exchange_line))]
-pub(crate) fn append_exchange_line(
-    report: &mut Report,
-    number: usize,
-    exchange: &Exchange<'_>,
-) -> Result<(), AllocError>
-    ensures { Adds result report.old report.new (exchange_line number (exchange_model exchange.now)) }
-{
-    append_decimal(report, number)?;
-    report.append(b" exchange id ")?;
-    append_exchange_fields(report, exchange)?;
-    report.append(b"\n")
+    fn append_text(&self, report: &mut Report) -> Result<(), AllocError> {
+        report.append(b" exchange id ")?;
+        append_exchange_fields(report, self)
+    }
 }
 
 #[tactic(auto, unfolding(crate::specs::Layers::Small::exchange_fields))]
@@ -91,19 +67,14 @@ fn append_exchange_fields(report: &mut Report, exchange: &Exchange<'_>) -> Resul
     append_bytes_or_dash(report, exchange.body)
 }
 
-/// Appends the line of a body that is not what its packet type says.
-#[tactic(auto, unfolding(crate::specs::Layers::Small::inner_refusal))]
-pub(crate) fn append_inner_refusal(
-    report: &mut Report,
-    number: usize,
-    fault: SmallFault,
-) -> Result<(), AllocError>
-    ensures { Adds result report.old report.new (inner_refusal number fault) }
-{
-    append_decimal(report, number)?;
-    report.append(b" inner refused ")?;
-    append_inner_fault(report, fault)?;
-    report.append(b"\n")
+/// A body that is not what its packet type says.
+impl LineText for SmallFault {
+    ghost text = { inner_refusal_text };
+
+    fn append_text(&self, report: &mut Report) -> Result<(), AllocError> {
+        report.append(b" inner refused ")?;
+        append_inner_fault(report, *self)
+    }
 }
 
 #[tactic(auto, unfolding(crate::specs::Layers::Small::inner_fault_text))]
@@ -112,8 +83,6 @@ fn append_inner_fault(report: &mut Report, fault: SmallFault) -> Result<(), Allo
 {
     match fault {
         SmallFault::Short { have } => append_named(report, b"Short ", have),
-        SmallFault::EchoOperation { found } => {
-            append_named(report, b"EchoOperation ", usize::from(found))
-        }
+        SmallFault::EchoOperation { found } => append_field(report, b"EchoOperation ", found),
     }
 }
