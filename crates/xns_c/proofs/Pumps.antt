@@ -1,11 +1,12 @@
 -- What holds while items move.
-use Rattle.std.proofs.Common.{◌≡◌, ℕ, ◌+◌, ◌<◌, ◌≤◌, ◌≢◌, ◌⊎◌, inl, inr, get_or, slice_get, List, [], ◌∷◌, length, Option, Some, None, Ok, Err, refl, sym, ◌∙◌, ap, subst, arith}
+use Rattle.std.proofs.Common.{◌≡◌, ℕ, ◌+◌, ◌<◌, ◌≤◌, ◌≢◌, ◌⊎◌, inl, inr, get_or, slice_get, List, [], ◌∷◌, length, true, Option, Some, None, Ok, Err, refl, sym, ◌∙◌, ap, subst, arith}
 use Rattle.std.proofs.lemmas.Option.{slice_get_past, slice_get_cases}
 use Rattle.xns_spp.specs.Held.{Held, StandsFor}
 use Rattle.xns_spp.specs.Sending.{send_fault, after_send, take_answer, handing, after_take}
 use Rattle.xns_spp.specs.State.{State}
 use Rattle.xns_spp.specs.declared.item.Item.{Item}
 use Rattle.xns_spp.specs.declared.send_fault.SendFault.{SendFault}
+use Rattle.xns_c.specs.Answering.{has_items}
 use Rattle.xns_c.specs.Pumping.{Side, sending, moving, one_step, Leads, on, Pumped}
 
 -- steps led to here
@@ -32,25 +33,24 @@ there_is xs i h = there_in xs i h (slice_get_cases xs i).1
 module _ {S : Type 0} (side : Side S) where
   -- ---- items that are sent
 
-  sends : (t : S) (v : State) (x : Item) (xs ys : List Item) → side.out t ≡ x ∷ xs → send_fault v x ≡ None → ys ≡ xs → one_step side (t, v) ≡ Some (Ok (side.with_out t ys, after_send v x))
-  sends t v x xs ys is none same =
-      ap (λ (o : List Item). moving side t v o) is
-      ∙ (ap (λ (f : Option SendFault). sending f (side.with_out t xs) (after_send v x)) none
-      ∙ ap (λ (o : List Item). Some (Ok (side.with_out t o, after_send v x))) (sym same))
+  sends : (t : S) (v : State) (x : Item) (xs : List Item) → side.out t ≡ x ∷ xs → send_fault v x ≡ None → one_step side (t, v) ≡ Some (Ok (side.with_out t xs, after_send v x))
+  sends t v x xs is none =
+      ap (λ (o : List Item). moving side t v o) is ∙ ap (λ (f : Option SendFault). sending f (side.with_out t xs) (after_send v x)) none
 
-  sent_from : (first : S × State) (t : S) (e f : Held) (left now : List Item) → side.out t ≡ now → length left < length now
-      → ((s : State) (x : Item) (xs : List Item) → StandsFor e s → side.out t ≡ x ∷ xs → (send_fault s x ≡ None) × (left ≡ xs) × StandsFor f (after_send s x))
-      → Going side first t e → Going side first (side.with_out t left) f
-  sent_from first t e f left [] is fewer h g = absurd (omega (arith, fewer))
-  sent_from first t e f left (x ∷ xs) is fewer h g =
+  sent_from : (first : S × State) (t n : S) (e f : Held) (now : List Item) → side.out t ≡ now → length (side.out n) < length now → n ≡ side.with_out t (side.out n)
+      → ((s : State) (x : Item) (xs : List Item) → StandsFor e s → side.out t ≡ x ∷ xs → (send_fault s x ≡ None) × (side.out n ≡ xs) × StandsFor f (after_send s x))
+      → Going side first t e → Going side first n f
+  sent_from first t n e f [] is fewer beside h g = absurd (omega (arith, fewer))
+  sent_from first t n e f (x ∷ xs) is fewer beside h g =
       let k = h g.end x xs g.stands is in
-      record { end = after_send g.end x; leads = on g.leads (sends t g.end x xs left is k.0 k.1); stands = k.2 }
+      let same : side.with_out t xs ≡ n = ap (λ (o : List Item). side.with_out t o) (sym k.1) ∙ sym beside in
+      record { end = after_send g.end x; leads = on g.leads (sends t g.end x xs is k.0 ∙ ap (λ (m : S). Some (Ok (m, after_send g.end x))) same); stands = k.2 }
 
   -- one more item was sent
-  pub sent : (first : S × State) (t : S) (e f : Held) (left : List Item) → length left < length (side.out t)
-      → ((s : State) (x : Item) (xs : List Item) → StandsFor e s → side.out t ≡ x ∷ xs → (send_fault s x ≡ None) × (left ≡ xs) × StandsFor f (after_send s x))
-      → Going side first t e → Going side first (side.with_out t left) f
-  sent first t e f left fewer h g = sent_from first t e f left (side.out t) refl fewer h g
+  pub sent : (first : S × State) (t n : S) (e f : Held) → length (side.out n) < length (side.out t) → n ≡ side.with_out t (side.out n)
+      → ((s : State) (x : Item) (xs : List Item) → StandsFor e s → side.out t ≡ x ∷ xs → (send_fault s x ≡ None) × (side.out n ≡ xs) × StandsFor f (after_send s x))
+      → Going side first t e → Going side first n f
+  sent first t n e f fewer beside h g = sent_from first t n e f (side.out t) refl fewer beside h g
 
   held_back : (t n : S) (v w : State) (o : Option SendFault) → o ≢ None → sending o n w ≡ None
   held_back t n v w None some = absurd (some refl)
@@ -59,6 +59,11 @@ module _ {S : Type 0} (side : Side S) where
   no_send : (t : S) (v : State) (now : List Item) → side.out t ≡ now → side.out t ≢ [] → ((x : Item) (xs : List Item) → side.out t ≡ x ∷ xs → send_fault v x ≢ None) → moving side t v now ≡ None
   no_send t v [] is some h = absurd (some is)
   no_send t v (x ∷ xs) is some h = held_back t (side.with_out t xs) v (after_send v x) (send_fault v x) (h x xs is)
+
+  -- items that are there are some
+  pub some_out : (xs : List Item) → has_items xs ≡ true → xs ≢ []
+  some_out [] h none = absurd cc
+  some_out (x ∷ xs) h none = absurd cc
 
   -- the first item that is out is refused
   pub full : (Stops : S → S → Type 0) (first : S × State) (t n : S) (e f : Held) → n ≡ t → f ≡ e → side.out t ≢ []

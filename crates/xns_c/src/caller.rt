@@ -18,6 +18,7 @@ use crate::caller_handle::XnsCaller;
 use crate::handle::XnsEndpoint;
 use crate::item::XnsItem;
 use crate::message::XnsMessage;
+use crate::pumping::pump;
 use crate::results::{NO_CALLER, NO_ENDPOINT, NO_MEMORY, OK};
 use crate::session::Session;
 use std::alloc::{AllocError, Global};
@@ -163,7 +164,7 @@ pub extern "C" fn xns_caller_pump(
         handle.put(session);
         return NO_ENDPOINT;
     };
-    let result = session.pump(alloc, &mut connection);
+    let result = pump(&mut *session, alloc, &mut connection);
     endpoint.put(connection);
     handle.put(session);
     result

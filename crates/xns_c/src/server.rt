@@ -19,6 +19,7 @@ use crate::handle::XnsEndpoint;
 use crate::item::XnsItem;
 use crate::message::XnsMessage;
 use crate::program::XnsProgram;
+use crate::pumping::pump;
 use crate::results::{NO_ENDPOINT, NO_MEMORY, NO_SERVER, OK};
 use crate::server_handle::XnsServer;
 use crate::server_session::ServerSession;
@@ -221,7 +222,7 @@ pub extern "C" fn xns_server_pump(
         handle.put(session);
         return NO_ENDPOINT;
     };
-    let result = session.pump(alloc, &mut connection);
+    let result = pump(&mut *session, alloc, &mut connection);
     endpoint.put(connection);
     handle.put(session);
     result

@@ -1,9 +1,6 @@
 //! The side of a Courier conversation that is called. It reads no shapes: a call is handed as a message, and its answer goes out with its words.
 
-ghost use Rattle.std.specs.Prelude.{◌≡◌, ◌≢◌, ◌<◌, ◌≤◌, ◌+◌, ◌++◌, ◌∷◌, ℕ, List, [], length, true, false, OnErr, IfOk, Some, None, Ok, Err, option_map, nat_lt, if◌then◌else◌};
-ghost use Rattle.xns_spp.specs.Held.{StandsFor};
-ghost use Rattle.xns_spp.specs.Sending.{take_answer, after_take};
-ghost use Rattle.xns_spp.specs.State.{State};
+ghost use Rattle.std.specs.Prelude.{◌≡◌, ◌≢◌, ◌<◌, ◌≤◌, ◌+◌, ◌++◌, ◌∷◌, ℕ, List, [], length, true, false, OnErr, IfOk, Some, None, Ok, Err, option_map, nat_lt, if◌then◌else◌, refl};
 ghost use Rattle.xns_spp.specs.declared.item.Item.{Item};
 ghost use Rattle.courier_messages.specs.declared.fault.SessionFault.TheVariants.{NoMemory};
 ghost use Rattle.courier_messages.specs.declared.message.Message.{Message};
@@ -14,7 +11,7 @@ ghost use Rattle.courier_messages.specs.Refusal.{Follows};
 ghost use Rattle.xns_c.specs.Answering.{Answering, new_answering, is_busy, after_item, feed_number, IsStopped, is_a_call, transaction_in, after_call, call_refusal, reject_message, after_reject, answer_given, length_number, answers_to, answer_number, answered};
 ghost use Rattle.xns_c.specs.Courier.{MessageIsGiven};
 ghost use Rattle.xns_c.specs.Given.{ItemIsGiven};
-ghost use Rattle.xns_c.specs.Pumping.{server_feeding, server_side, Pumped};
+ghost use Rattle.xns_c.specs.Pumping.{server_side};
 ghost use Rattle.xns_c.specs.Results.{ok, nothing, no_memory, short_buffer, bad_argument, too_long};
 ghost use Rattle.xns_c.specs.Talk.{longest_item};
 ghost use Rattle.xns_c.specs.Views.{item_given};
@@ -28,6 +25,7 @@ use crate::message::XnsMessage;
 use crate::outgoing::{LONGEST_ITEM, copied_item, give_item, send_first, whole_words};
 use crate::program::XnsProgram;
 use crate::results::{BAD_ARGUMENT, BUSY, NO_MEMORY, NOTHING, OK, STOPPED, TOO_LONG};
+use crate::talker::Talker;
 use crate::unlisted::{Unlisted, refusal, reject_words};
 use courier_messages::{
     Head, Incoming, MOST_BYTES, PiecedMessage, SessionFault, put_out, versions,
@@ -195,51 +193,6 @@ impl ServerSession {
         }
     }
 
-    /// Takes in the item that waits first at a connection, which then hands it up, and says by a number whether the session goes on. Where it does not, or
-    /// memory is refused, the item waits still. `None` where none waits, or a session that has not stopped is busy.
-    fn feed_first(&mut self, alloc: Global, connection: &mut Connection) -> Option<u32>
-        ensures heard { (s : State) → StandsFor connection.old.endpoint s → result ≡ Some ok →
-            (server_feeding self.old s (take_answer s) ≡ Some (Ok (self.new, after_take s))) × StandsFor connection.new.endpoint (after_take s) }
-        ensures stops { (s : State) (n : ℕ) → StandsFor connection.old.endpoint s → result ≡ Some n → n ≢ ok → n ≢ no_memory →
-            IsStopped self.old self.new × (server_feeding self.old s (take_answer s) ≡ Some (Err n)) }
-        ensures none { (s : State) → StandsFor connection.old.endpoint s → result ≡ None → server_feeding self.old s (take_answer s) ≡ None }
-        ensures memory { result ≡ Some no_memory → self.new ≡ self.old }
-        ensures unfed { result ≡ None → self.new ≡ self.old }
-        ensures stays { result ≢ Some ok → connection.new ≡ connection.old }
-        ensures packets { connection.new.packets ≡ connection.old.packets }
-        ensures out { self.new.out ≡ self.old.out }
-    {
-        if !self.failed && self.is_busy() {
-            return None;
-        }
-        let item = connection.first_waiting()?;
-        let result = self.feed(alloc, item.stream, as_byte(item.last), item.body.as_slice());
-        if result == OK {
-            let _ = connection.take();
-        }
-        Some(result)
-    }
-
-    /// Moves items both ways until nothing moves, and says by a number whether the session goes on.
-    pub fn pump(&mut self, alloc: Global, connection: &mut Connection) -> u32
-        ensures pumped { (s : State) → StandsFor connection.old.endpoint s → Pumped server_side IsStopped (self.old, s) result self.new connection.new.endpoint }
-        ensures packets { connection.new.packets ≡ connection.old.packets }
-    {
-        while send_first(&mut self.out, connection) {}
-        if !self.out.is_empty() {
-            return OK;
-        }
-        for _ in 0..connection.waiting() {
-            let Some(result) = self.feed_first(alloc, connection) else {
-                return OK;
-            };
-            if result != OK {
-                return result;
-            }
-        }
-        OK
-    }
-
     /// Hands the call that waits, which is listed, its words to the front of a buffer. Where the buffer is too short the call stays, and the number of
     /// its words is told.
     fn hand(&mut self, message: &mut XnsMessage, words: &mut [u16], count: &mut usize) -> u32
@@ -364,5 +317,28 @@ impl ServerSession {
             Ok(()) => OK,
             Err(_) => NO_MEMORY,
         }
+    }
+}
+
+impl Talker for ServerSession {
+    ghost side = { server_side };
+
+    ghost stops = { IsStopped };
+
+    ghost fed_none = { λ t s. refl };
+
+    fn has_out(&self) -> bool {
+        !self.out.is_empty()
+    }
+
+    fn send_first(&mut self, connection: &mut Connection) -> bool {
+        send_first(&mut self.out, connection)
+    }
+
+    fn feed_item(&mut self, alloc: Global, item: &Item) -> Option<u32> {
+        if !self.failed && self.is_busy() {
+            return None;
+        }
+        Some(self.feed(alloc, item.stream, as_byte(item.last), item.body.as_slice()))
     }
 }

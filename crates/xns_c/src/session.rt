@@ -1,9 +1,6 @@
 //! The side of a Courier conversation that calls. It reads no shapes: a call goes out with its words, and its answer comes as a message.
 
-ghost use Rattle.std.specs.Prelude.{◌≡◌, ◌≢◌, ◌<◌, ◌≤◌, ℕ, List, [], ◌∷◌, length, true, false, OnErr, IfOk, Some, None, Ok, Err};
-ghost use Rattle.xns_spp.specs.Held.{StandsFor};
-ghost use Rattle.xns_spp.specs.Sending.{take_answer, after_take};
-ghost use Rattle.xns_spp.specs.State.{State};
+ghost use Rattle.std.specs.Prelude.{◌≡◌, ◌≢◌, ◌<◌, ◌≤◌, ℕ, List, [], ◌∷◌, length, true, false, OnErr, IfOk, Some, None, Ok, Err, refl};
 ghost use Rattle.xns_spp.specs.declared.item.Item.{Item};
 ghost use Rattle.courier_messages.specs.declared.fault.SessionFault.TheVariants.{NoMemory};
 ghost use Rattle.courier_messages.specs.declared.message.Message.{Message};
@@ -12,7 +9,7 @@ ghost use Rattle.courier_messages.specs.Head.{with_words};
 ghost use Rattle.courier_messages.specs.Refusal.{Follows};
 ghost use Rattle.xns_c.specs.Courier.{MessageIsGiven, session_fault_number, heard_number};
 ghost use Rattle.xns_c.specs.Given.{ItemIsGiven};
-ghost use Rattle.xns_c.specs.Pumping.{caller_feeding, caller_side, Pumped};
+ghost use Rattle.xns_c.specs.Pumping.{caller_side};
 ghost use Rattle.xns_c.specs.Results.{ok, nothing, no_memory, short_buffer, stopped, too_long};
 ghost use Rattle.xns_c.specs.Talk.{Talk, new_talk, called, call_number, reply_fault, longest_item, after_item, IsStopped};
 ghost use Rattle.xns_c.specs.Views.{item_given};
@@ -24,6 +21,7 @@ use crate::item::XnsItem;
 use crate::message::XnsMessage;
 use crate::outgoing::{LONGEST_ITEM, copied_item, give_item, send_first, whole_words};
 use crate::results::{BUSY, NO_MEMORY, NOTHING, OK, STOPPED, TOO_LONG};
+use crate::talker::Talker;
 use courier_messages::{
     Head, Incoming, MOST_BYTES, PiecedMessage, SessionFault, put_out, versions,
 };
@@ -217,48 +215,6 @@ impl Session {
         }
     }
 
-    /// Takes in the item that waits first at a connection, which then hands it up, and says by a number whether the session goes on. Where it does not, or
-    /// memory is refused, the item waits still. `None` where none waits.
-    fn feed_first(&mut self, alloc: Global, connection: &mut Connection) -> Option<u32>
-        ensures heard { (s : State) → StandsFor connection.old.endpoint s → result ≡ Some ok →
-            (caller_feeding self.old s (take_answer s) ≡ Some (Ok (self.new, after_take s))) × StandsFor connection.new.endpoint (after_take s) }
-        ensures stops { (s : State) (n : ℕ) → StandsFor connection.old.endpoint s → result ≡ Some n → n ≢ ok → n ≢ no_memory →
-            IsStopped self.old self.new × (caller_feeding self.old s (take_answer s) ≡ Some (Err n)) }
-        ensures none { (s : State) → StandsFor connection.old.endpoint s → result ≡ None → caller_feeding self.old s (take_answer s) ≡ None }
-        ensures memory { result ≡ Some no_memory → self.new ≡ self.old }
-        ensures unfed { result ≡ None → self.new ≡ self.old }
-        ensures stays { result ≢ Some ok → connection.new ≡ connection.old }
-        ensures packets { connection.new.packets ≡ connection.old.packets }
-        ensures out { self.new.out ≡ self.old.out }
-    {
-        let item = connection.first_waiting()?;
-        let result = self.feed(alloc, item.stream, as_byte(item.last), item.body.as_slice());
-        if result == OK {
-            let _ = connection.take();
-        }
-        Some(result)
-    }
-
-    /// Moves items both ways until nothing moves, and says by a number whether the session goes on.
-    pub fn pump(&mut self, alloc: Global, connection: &mut Connection) -> u32
-        ensures pumped { (s : State) → StandsFor connection.old.endpoint s → Pumped caller_side IsStopped (self.old, s) result self.new connection.new.endpoint }
-        ensures packets { connection.new.packets ≡ connection.old.packets }
-    {
-        while send_first(&mut self.out, connection) {}
-        if !self.out.is_empty() {
-            return OK;
-        }
-        for _ in 0..connection.waiting() {
-            let Some(result) = self.feed_first(alloc, connection) else {
-                return OK;
-            };
-            if result != OK {
-                return result;
-            }
-        }
-        OK
-    }
-
     /// Gives the answer that is there, once, its words to the front of a buffer. Where the buffer is too short the answer stays, and the number of its
     /// words is told.
     pub fn outcome(&mut self, message: &mut XnsMessage, words: &mut [u16], count: &mut usize) -> u32
@@ -275,5 +231,25 @@ impl Session {
             self.outcome = None;
         }
         result
+    }
+}
+
+impl Talker for Session {
+    ghost side = { caller_side };
+
+    ghost stops = { IsStopped };
+
+    ghost fed_none = { λ t s. refl };
+
+    fn has_out(&self) -> bool {
+        !self.out.is_empty()
+    }
+
+    fn send_first(&mut self, connection: &mut Connection) -> bool {
+        send_first(&mut self.out, connection)
+    }
+
+    fn feed_item(&mut self, alloc: Global, item: &Item) -> Option<u32> {
+        Some(self.feed(alloc, item.stream, as_byte(item.last), item.body.as_slice()))
     }
 }
