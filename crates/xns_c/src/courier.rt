@@ -3,6 +3,7 @@
 ghost use Rattle.std.specs.Prelude.{◌≡◌, ◌≢◌, ◌<◌, ◌≤◌, ℕ, List, length, IfSome, IfOk, Ok, Err, Some, None, MatchOption};
 ghost use Rattle.courier_messages.specs.Message.{most_bytes, message_bytes, message_of};
 ghost use Rattle.courier_messages.specs.declared.fault.MessageFault.{MessageFault};
+ghost use Rattle.courier_messages.specs.declared.head.Head.TheVariants.{Call};
 ghost use Rattle.courier_messages.specs.declared.message.Message.{Message};
 ghost use Rattle.courier_messages.specs.Head.{with_words, words_in};
 ghost use Rattle.xns_c.specs.Courier.{MessageIsGiven, message_fault_number, message_given, session_fault_number, stream_number};
@@ -67,24 +68,37 @@ pub fn session_fault_number(fault: SessionFault) -> u32
     }
 }
 
+/// The program, version and procedure that a call with this head names; 0 for each where it is no call's.
+pub fn procedure_of(head: Head) -> (u32, u16, u16)
+    ensures { (transaction program version procedure : ℕ) → head ≡ Call transaction program version procedure → result ≡ (program, version, procedure) }
+{
+    match head {
+        Head::Call {
+            program,
+            version,
+            procedure,
+            ..
+        } => (program, version, procedure),
+        _ => (0, 0, 0),
+    }
+}
+
 /// What comes before the words of a message.
 pub fn head_out(head: Head) -> XnsMessage
     ensures { (words : List ℕ) → message_given result words ≡ Some (with_words head words) }
 {
     match head {
-        Head::Call {
-            transaction,
-            program,
-            version,
-            procedure,
-        } => XnsMessage {
-            kind: 0,
-            transaction,
-            program,
-            version,
-            procedure,
-            number: 0,
-        },
+        Head::Call { transaction, .. } => {
+            let (program, version, procedure) = procedure_of(head);
+            XnsMessage {
+                kind: 0,
+                transaction,
+                program,
+                version,
+                procedure,
+                number: 0,
+            }
+        }
         Head::Reject {
             transaction,
             reason,

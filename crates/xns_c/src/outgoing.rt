@@ -1,10 +1,11 @@
 //! Items on their way out, and the words of messages.
 
-ghost use Rattle.std.specs.Prelude.{◌≡◌, ◌≢◌, ◌<◌, ◌≤◌, ℕ, List, [], ◌∷◌, length, true, false, IfOk, None};
+ghost use Rattle.std.specs.Prelude.{◌≡◌, ◌≢◌, ◌<◌, ◌≤◌, ℕ, List, [], ◌∷◌, ◌++◌, length, true, false, OnErr, IfOk, Ok, None};
 ghost use Rattle.xns_spp.specs.Held.{StandsFor};
 ghost use Rattle.xns_spp.specs.Sending.{send_fault, after_send};
 ghost use Rattle.xns_spp.specs.State.{State};
 ghost use Rattle.xns_spp.specs.declared.item.Item.{Item};
+ghost use Rattle.courier_messages.specs.Cutting.{cut};
 ghost use Rattle.courier_messages.specs.Head.{with_words};
 ghost use Rattle.courier_messages.specs.Message.{message_words};
 ghost use Rattle.xns_c.specs.Given.{ItemIsGiven};
@@ -12,11 +13,12 @@ ghost use Rattle.xns_c.specs.Results.{ok, nothing, short_buffer};
 ghost use Rattle.xns_c.specs.Views.{item_given};
 
 use crate::connection::Connection;
+use crate::courier::procedure_of;
 use crate::flag::as_byte;
 use crate::front::put_front;
 use crate::item::XnsItem;
 use crate::results::{NOTHING, OK};
-use courier_messages::{Head, MOST_BYTES};
+use courier_messages::{Head, MOST_BYTES, put_out};
 use std::alloc::{AllocError, Global};
 use std::collections::VecDeque;
 use xns_spp::{Bytes, Item};
@@ -86,17 +88,13 @@ pub fn copied_item(alloc: Global, stream: u8, last: u8, body: &[u8]) -> Result<I
 }
 
 /// The words of a message with this head and these words.
-pub fn whole_words(alloc: Global, head: Head, words: &[u16]) -> Result<Vec<u16>, AllocError>
+fn whole_words(alloc: Global, head: Head, words: &[u16]) -> Result<Vec<u16>, AllocError>
     ensures { IfOk result (λ w. w.items ≡ message_words (with_words head words.now)) }
 {
     let mut all = Vec::with_capacity(alloc, head.size() + words.len())?;
     match head {
-        Head::Call {
-            transaction,
-            program,
-            version,
-            procedure,
-        } => {
+        Head::Call { transaction, .. } => {
+            let (program, version, procedure) = procedure_of(head);
             let high = (program / 65536) as u16;
             let low = (program % 65536) as u16;
             all.extend_from_slice(&[0, transaction, high, low, version, procedure])?;
@@ -110,4 +108,18 @@ pub fn whole_words(alloc: Global, head: Head, words: &[u16]) -> Result<Vec<u16>,
     }
     all.extend_from_slice(words)?;
     Ok(all)
+}
+
+/// Puts the items of a message with this head and these words behind those that are out. Where memory is refused these stay as they are.
+pub fn put_message(
+    alloc: Global,
+    head: Head,
+    words: &[u16],
+    out: &mut VecDeque<Item>,
+) -> Result<(), AllocError>
+    ensures put { result ≡ Ok tt → out.new.items ≡ out.old.items ++ cut (with_words head words.now) }
+    ensures unchanged { OnErr result (out.new.items ≡ out.old.items) }
+{
+    let all = whole_words(alloc, head, words)?;
+    put_out(alloc, all.as_slice(), out)
 }

@@ -22,7 +22,7 @@ use crate::courier::{give_message, session_fault_number};
 use crate::flag::as_byte;
 use crate::item::XnsItem;
 use crate::message::XnsMessage;
-use crate::outgoing::{LONGEST_ITEM, copied_item, give_item, send_first, whole_words};
+use crate::outgoing::{LONGEST_ITEM, copied_item, give_item, put_message, send_first};
 use crate::program::XnsProgram;
 use crate::results::{BAD_ARGUMENT, BUSY, NO_MEMORY, NOTHING, OK, STOPPED, TOO_LONG};
 use crate::talker::Talker;
@@ -272,8 +272,7 @@ impl ServerSession {
         ensures answered { result ≡ Ok tt → self.new ≡ answered self.old (with_words head words.now) }
         ensures unchanged { OnErr result (self.new ≡ self.old) }
     {
-        let all = whole_words(alloc, head, words)?;
-        put_out(alloc, all.as_slice(), &mut self.out)?;
+        put_message(alloc, head, words, &mut self.out)?;
         self.asked = None;
         self.call = None;
         Ok(())

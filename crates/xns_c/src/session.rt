@@ -19,12 +19,10 @@ use crate::courier::{give_message, session_fault_number};
 use crate::flag::as_byte;
 use crate::item::XnsItem;
 use crate::message::XnsMessage;
-use crate::outgoing::{LONGEST_ITEM, copied_item, give_item, send_first, whole_words};
+use crate::outgoing::{LONGEST_ITEM, copied_item, give_item, put_message, send_first};
 use crate::results::{BUSY, NO_MEMORY, NOTHING, OK, STOPPED, TOO_LONG};
 use crate::talker::Talker;
-use courier_messages::{
-    Head, Incoming, MOST_BYTES, PiecedMessage, SessionFault, put_out, versions,
-};
+use courier_messages::{Head, Incoming, MOST_BYTES, PiecedMessage, SessionFault, versions};
 use std::alloc::{AllocError, Global};
 use std::collections::VecDeque;
 use std::marker::Model;
@@ -101,32 +99,6 @@ impl Session {
         }
     }
 
-    /// Puts the items of a call behind those that are to go out.
-    fn put_out(
-        &mut self,
-        alloc: Global,
-        program: u32,
-        version: u16,
-        procedure: u16,
-        words: &[u16],
-    ) -> Result<(), AllocError>
-        ensures called { result ≡ Ok tt → self.new ≡ called self.old (words_call program version procedure words.now) }
-        ensures unchanged { OnErr result (self.new ≡ self.old) }
-    {
-        let transaction = self.transaction.wrapping_add(1);
-        let head = Head::Call {
-            transaction,
-            program,
-            version,
-            procedure,
-        };
-        let all = whole_words(alloc, head, words)?;
-        put_out(alloc, all.as_slice(), &mut self.out)?;
-        self.transaction = transaction;
-        self.waiting = true;
-        Ok(())
-    }
-
     /// Puts out a call, and says by a number whether it did.
     pub fn call(
         &mut self,
@@ -145,10 +117,19 @@ impl Session {
         if number != OK {
             return number;
         }
-        match self.put_out(alloc, program, version, procedure, words) {
-            Ok(()) => OK,
-            Err(_) => NO_MEMORY,
+        let transaction = self.transaction.wrapping_add(1);
+        let head = Head::Call {
+            transaction,
+            program,
+            version,
+            procedure,
+        };
+        if put_message(alloc, head, words, &mut self.out).is_err() {
+            return NO_MEMORY;
         }
+        self.transaction = transaction;
+        self.waiting = true;
+        OK
     }
 
     /// Gives the next item that is to go out, its bytes to the front of the buffer. Where the buffer is too short the item stays, and its length is told.
