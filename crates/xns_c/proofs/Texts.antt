@@ -1,5 +1,5 @@
 -- Texts that are read.
-use Rattle.std.proofs.Common.{◌≡◌, ◌<◌, ◌≤◌, ℕ, zero, suc, ◌+◌, ◌-◌, ◌*◌, ◌/◌, ◌%◌, List, [], ◌∷◌, ◌++◌, length, drop, take, Result, Ok, Err, slice_index_or, slice_set, ap, sym, subst, refl, arith, append-nil, take_all, length-drop, length-take-le, ◌∙◌}
+use Rattle.std.proofs.Common.{◌≡◌, ◌<◌, ◌≤◌, ℕ, zero, suc, ◌+◌, ◌-◌, ◌*◌, ◌/◌, ◌%◌, List, [], ◌∷◌, ◌++◌, length, drop, take, Result, Ok, Err, ◌⊎◌, inl, inr, slice_index_or, slice_set, ap, sym, subst, refl, arith, append-nil, take_all, length-drop, length-take-le, ◌∙◌}
 use Rattle.courier_types.specs.Front.{value_of, placed}
 use Rattle.courier_types.specs.Reading.{◌>>=◌, over, reading, front_bytes, front_text}
 use Rattle.courier_types.specs.Shape.{ShapeModel}
@@ -60,25 +60,41 @@ odd_put words bytes [] last n place enough same none put count more is =
 
 -- where a text's words are all there
 
-bytes_there : (n k : ℕ) (ws : List ℕ) → k ≡ n / 2 + n % 2 → k ≤ length ws → (bytes : List ℕ) × (front_bytes n ws ≡ Ok (bytes, drop k ws)) × (length bytes ≡ n)
+-- the bytes that so many words spell, where they are all there
+abbrev BytesAt : ℕ → ℕ → List ℕ → Type 0
+BytesAt n k ws = (bytes : List ℕ) × (front_bytes n ws ≡ Ok (bytes, drop k ws)) × (length bytes ≡ n) × (k ≤ length ws)
+
+-- either they are, or the words end too soon
+abbrev BytesOrCut : ℕ → ℕ → List ℕ → Type 0
+BytesOrCut n k ws = BytesAt n k ws ⊎ ((length ws < k) × (front_bytes n ws ≡ Err (0, Truncated)))
+
+two_more : (n k w : ℕ) (ws : List ℕ) → BytesOrCut n k ws → BytesOrCut (suc (suc n)) (suc k) (w ∷ ws)
 unfolding front_bytes
-bytes_there zero zero ws e le = ([], refl, refl)
-bytes_there zero (suc k) ws e le = absurd (omega (arith, e))
-bytes_there (suc n) zero ws e le = absurd (omega (arith, e))
-bytes_there (suc n) (suc k) [] e le = absurd (omega (arith, le))
-bytes_there (suc zero) (suc zero) (w ∷ ws) e le = (w / 256 ∷ [], refl, refl)
-bytes_there (suc zero) (suc (suc k)) (w ∷ ws) e le = absurd (omega (arith, e))
-bytes_there (suc (suc n)) (suc k) (w ∷ ws) e le =
-    let r = bytes_there n k ws (omega (arith, e)) (omega (arith, le)) in
-    (w / 256 ∷ w % 256 ∷ r.0, ap (λ r. r >>= λ rest. Ok (w / 256 ∷ w % 256 ∷ rest.0, rest.1)) r.1, ap (λ (m : ℕ). suc (suc m)) r.2)
+two_more n k w ws (inl there) = inl (w / 256 ∷ w % 256 ∷ there.0, ap (λ r. r >>= λ rest. Ok (w / 256 ∷ w % 256 ∷ rest.0, rest.1)) there.1, ap (λ (m : ℕ). suc (suc m)) there.2, omega (arith, there.3))
+two_more n k w ws (inr cut) = inr (omega (arith, cut.0), ap (λ r. r >>= λ rest. Ok (w / 256 ∷ w % 256 ∷ rest.0, rest.1)) cut.1)
+
+bytes_or_cut : (n k : ℕ) (ws : List ℕ) → k ≡ n / 2 + n % 2 → BytesOrCut n k ws
+unfolding front_bytes
+bytes_or_cut zero zero ws e = inl ([], refl, refl, omega arith)
+bytes_or_cut zero (suc k) ws e = absurd (omega (arith, e))
+bytes_or_cut (suc n) zero ws e = absurd (omega (arith, e))
+bytes_or_cut (suc zero) (suc k) [] e = inr (omega arith, refl)
+bytes_or_cut (suc zero) (suc zero) (w ∷ ws) e = inl (w / 256 ∷ [], refl, refl, omega arith)
+bytes_or_cut (suc zero) (suc (suc k)) (w ∷ ws) e = absurd (omega (arith, e))
+bytes_or_cut (suc (suc n)) (suc k) [] e = inr (omega arith, refl)
+bytes_or_cut (suc (suc n)) (suc k) (w ∷ ws) e = two_more n k w ws (bytes_or_cut n k ws (omega (arith, e)))
+
+bytes_there : (n k : ℕ) (ws : List ℕ) → k ≡ n / 2 + n % 2 → k ≤ length ws → BytesAt n k ws
+bytes_there n k ws e le = all (bytes_or_cut n k ws e) where
+  all : BytesOrCut n k ws → BytesAt n k ws
+  all (inl there) = there
+  all (inr cut) = absurd (omega (arith, le, cut.0))
 
 bytes_cut : (n : ℕ) (ws : List ℕ) → length ws < n / 2 + n % 2 → front_bytes n ws ≡ Err (0, Truncated)
-unfolding front_bytes
-bytes_cut zero ws h = absurd (omega (arith, h))
-bytes_cut (suc zero) [] h = refl
-bytes_cut (suc zero) (w ∷ ws) h = absurd (omega (arith, h))
-bytes_cut (suc (suc n)) [] h = refl
-bytes_cut (suc (suc n)) (w ∷ ws) h = ap (λ r. r >>= λ rest. Ok (w / 256 ∷ w % 256 ∷ rest.0, rest.1)) (bytes_cut n ws (omega (arith, h)))
+bytes_cut n ws few = none (bytes_or_cut n (n / 2 + n % 2) ws refl) where
+  none : BytesOrCut n (n / 2 + n % 2) ws → front_bytes n ws ≡ Err (0, Truncated)
+  none (inl there) = absurd (omega (arith, few, there.3))
+  none (inr cut) = cut.1
 
 same_ok : {A E : Type 0} (r : Result A E) (x y : A) → r ≡ Ok x → r ≡ Ok y → x ≡ y
 same_ok r x y d e = cc
