@@ -7,7 +7,8 @@ use Rattle.courier_types.specs.Value.{ValueModel, count, values_from}
 use Rattle.courier_types.specs.Spelling.{values_spelling}
 use Rattle.courier_types.specs.Fits.{has_shape, each_passes, AreValues}
 use Rattle.courier_calls.specs.Table.{EntryModel, ProcedureModel}
-use Rattle.courier_calls.specs.Calls.{Asked, SeenModel, OutcomeModel, found, in_entries, in_procedures, HasArguments, IsAsked, IsSent, AllowsOutcome, IsAllowed, IsLawful}
+use Rattle.courier_calls.specs.Calls.{Asked, SeenModel, OutcomeModel, found, in_procedures, HasArguments, IsAsked, IsSent, AllowsOutcome, IsAllowed, IsLawful}
+use Rattle.courier_calls.specs.OneEntry.{of_one_entry}
 use Rattle.bench.specs.Lists.{list_shape, lists_entry, counted, IsCount, lists}
 
 counted_count : (n : ℕ) → count (values_from (counted n)) ≡ n
@@ -48,19 +49,10 @@ by_procedure : (list v : ValueModel) (listed : Bool) → IsSent list_shape list 
 by_procedure list v true s h = s
 by_procedure list v false s h = absurd h
 
-by_version : (list v : ValueModel) (outside : Bool) (r : Result (EntryModel × ProcedureModel) SeenModel) → (HasArguments r v → AllowsOutcome r (OutcomeModel.returned list)) → HasArguments (if outside then Err (SeenModel.rejected 1 (1 ∷ 1 ∷ [])) else r) v
-    → AllowsOutcome (if outside then Err (SeenModel.rejected 1 (1 ∷ 1 ∷ [])) else r) (OutcomeModel.returned list)
-by_version list v true r f h = absurd h
-by_version list v false r f h = f h
-
-by_program : (version procedure : ℕ) (list v : ValueModel) (listed : Bool) → IsSent list_shape list → HasArguments (in_entries (if listed then Some lists_entry else None) version procedure) v
-    → AllowsOutcome (in_entries (if listed then Some lists_entry else None) version procedure) (OutcomeModel.returned list)
-by_program version procedure list v false s h = absurd h
-by_program version procedure list v true s h = by_version list v (nat_lt version 1 || nat_lt 1 version) _ (λ k. by_procedure list v (1 == procedure) s k) h
-
 allowed : (list : ValueModel) (q : Asked) → IsSent list_shape list → IsAsked lists.table q → IsAllowed lists.table q (OutcomeModel.returned list)
 unfolding found
-allowed list q s h = by_program q.version q.procedure list q.arguments (8 == q.program) s h
+allowed list q s h =
+    of_one_entry (λ r. AllowsOutcome r (OutcomeModel.returned list)) lists_entry q.version q.procedure q.arguments (8 == q.program) (λ k. by_procedure list q.arguments (1 == q.procedure) s k) h
 
 pub lists_lawful : IsLawful lists IsCount
 lists_lawful = record {
