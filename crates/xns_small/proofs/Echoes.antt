@@ -1,7 +1,9 @@
 -- What is read of an Echo is what is spelled.
-use Rattle.std.proofs.Common.{◌≡◌, ℕ, ◌+◌, ◌*◌, ◌<◌, Bool, true, false, eqb, ltb, List, [], ◌∷◌, ◌++◌, length, get_or, Result, Ok, Err, refl, sym, ap, subst, inl, inr, arith}
+use Rattle.std.proofs.Common.{◌≡◌, ℕ, ◌+◌, ◌*◌, ◌<◌, Bool, true, false, eqb, ltb, List, [], ◌∷◌, ◌++◌, length, get_or, Result, Ok, Err, IfOk, refl, sym, ap, subst, inl, inr, arith}
 use Rattle.std.proofs.lemmas.Bool.{eqb-true, cases_Bool, le-ltb}
-use Rattle.xns_small.specs.Echo.{EchoModel, SpellsEcho, echo_of, echo_spelling}
+use Rattle.xns_small.specs.Echo.{EchoModel, SpellsEcho, echo_model, echo_of, echo_spelling}
+use Rattle.xns_small.specs.Reading.{answer_model}
+use Rattle.xns_small.specs.declared.echo.Echo.{Echo}
 use Rattle.xns_small.specs.declared.fault.SmallFault.{SmallFault}
 use Rattle.xns_small.specs.declared.fault.SmallFault.TheVariants.{EchoOperation}
 use Rattle.xns_small.proofs.Numbers.{two_bytes}
@@ -47,3 +49,7 @@ echo_spelled (a ∷ b ∷ rest) v fits e =
         | inr neither ↦ absurd (no_fault (EchoOperation (256 * a + b)) v (rw (whole, other, neither) at e))
       ]
     ]
+
+pub echo_found : (bytes : List ℕ) (r : Result Echo SmallFault) → ((i : ℕ) → get_or bytes i 0 < 256) → answer_model echo_model r ≡ echo_of bytes → IfOk r (λ v. SpellsEcho (echo_model v) bytes)
+echo_found bytes (Ok v) fits e = echo_spelled bytes (echo_model v) fits (sym e)
+echo_found bytes (Err f) fits e = tt

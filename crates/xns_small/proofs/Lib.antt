@@ -1,5 +1,5 @@
 pub mod Numbers
-pub mod Readers
+pub mod Formats
 pub mod Echoes
 pub mod Errors
 pub mod Exchanges
