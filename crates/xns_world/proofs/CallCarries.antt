@@ -1,10 +1,9 @@
 -- What is true of a world of calls stays true as a side takes a step.
-use Rattle.std.proofs.Common.{◌≡◌, ℕ, ◌≤◌, true, List, [], ◌∷◌, ◌++◌, length, take, Some, refl, sym, ◌∙◌, ap, subst, arith}
+use Rattle.std.proofs.Common.{◌≡◌, inl, inr, ℕ, ◌<◌, ◌≤◌, true, List, [], ◌∷◌, ◌++◌, length, Some, refl, sym, ◌∙◌, ap, subst, arith}
 use Rattle.std.specs.Prelude.{slice_get, All, nat_lt, ◌==◌, is_ok}
 use Rattle.std.proofs.lemmas.Bool.{ltb-true, and_parts}
 use Rattle.std.proofs.lemmas.List.Elements.{All-take, All-weaker}
-use Rattle.std.proofs.lemmas.List.{take_all, take-append-le}
-use Rattle.std.proofs.lemmas.Option.{slice_get_within, get_or_from_slice_get}
+use Rattle.std.proofs.lemmas.Option.{slice_get_within, slice_get_cases, get_or_from_slice_get}
 use Rattle.courier_messages.specs.RawCalls.{RawCall}
 use Rattle.courier_calls.specs.Calls.{SeenModel, IsFitting}
 use Rattle.courier_calls.specs.Caller.{answers}
@@ -14,14 +13,14 @@ use Rattle.courier_calls.specs.Server.{server_items}
 use Rattle.xns_spp.specs.Item.{IsItem, IsShortItem}
 use Rattle.xns_spp.specs.Sending.{send_answer, take_answer}
 use Rattle.xns_spp.specs.declared.item.Item.{Item}
-use Rattle.xns_world.proofs.Fronts.{begins_itself, begins_then, begins_length, element, begins_more}
+use Rattle.xns_world.proofs.Fronts.{begins_itself, begins_then, begins_length, front_of, one_more, begins_more}
 use Rattle.item_world.specs.declared.side.Side.{Side}
 use Rattle.item_world.specs.declared.side.Side.TheVariants.{A, B}
 use Rattle.xns_spp.specs.Growth.{Begins}
+use Rattle.item_world.specs.Going.{IsQuiet, Accepts, HandsUp}
 use Rattle.item_world.specs.Invariant.{Holds}
 use Rattle.item_world.specs.World.{World, end_of, sends, takes, sent_at, handed_at}
 use Rattle.xns_world.specs.CallLaws.{Given}
-use Rattle.xns_world.proofs.CallQuiet.{IsQuiet, Accepts, send_accepts, HandsUp, take_hands_up, one_more}
 use Rattle.xns_world.specs.CallOrder.{CallsHold}
 use Rattle.xns_world.specs.CallWorld.{Parties, CallWorld, calls_made, put_out, next_out, outcomes_read, in_world, sends_next, feeds, lists, makes, has_outcome, may_call}
 
@@ -60,9 +59,7 @@ quiet_holds p w v h holds q = grown p w v h holds q.handed (λ t. subst (λ (l :
 -- of a list whose elements are short items, a front is of items
 begun_items : (xs ys : List Item) → Begins xs ys → All IsShortItem ys → All IsItem xs
 begun_items xs ys b h =
-    let all : All IsShortItem (xs ++ b.0) = subst (All IsShortItem) (sym b.1) h in
-    let front : take (length xs) (xs ++ b.0) ≡ xs = take-append-le (length xs) xs b.0 (omega arith) ∙ take_all (length xs) xs (omega arith) in
-    All-weaker IsShortItem IsItem (λ x i. i.fits) xs (subst (All IsShortItem) front (All-take IsShortItem (length xs) (xs ++ b.0) all))
+    All-weaker IsShortItem IsItem (λ x i. i.fits) xs (subst (All IsShortItem) (front_of xs ys b) (All-take IsShortItem (length xs) ys h))
 
 out_pieces : {S : Type 0} (p : Parties S) (w : CallWorld) (side : Side) → Given p → CallsHold p w → All IsSendableItem (put_out p w side)
 out_pieces p w A g h = g.pieces (calls_made p w) (All-take IsFitting w.made p.calls g.fitting)
@@ -84,7 +81,7 @@ sent_out p w B x is a h B = subst (λ (l : List Item). Begins l (put_out p w B))
 
 pub sends_hold : {S : Type 0} (p : Parties S) (w : CallWorld) (side : Side) (x : Item) → Given p → CallsHold p w → next_out p w side ≡ Some x → is_ok (send_answer (end_of w.world side) x) ≡ true → CallsHold p (sends_next w side x)
 sends_hold p w side x g h is ok =
-    let a = send_accepts g.answering.ends w.world side x ok in
+    let a = g.answering.network.items.send w.world side x ok in
     let piece = next_piece p w side x g h is in
     grown p w (sends w.world side x) h (g.world.send w.world side x piece.short.fits h.holds) a.handed (sent_out p w side x is a h)
 
@@ -107,7 +104,7 @@ fed_out p w B x g u h B =
 
 pub feeds_hold : {S : Type 0} (p : Parties S) (w : CallWorld) (side : Side) (x : Item) → Given p → CallsHold p w → take_answer (end_of w.world side) ≡ Some x → CallsHold p (feeds w side)
 feeds_hold p w side x g h is =
-    let u = take_hands_up g.answering.ends w.world side x is in
+    let u = g.answering.network.items.take w.world side x is in
     let more = begins_length (outcomes_read p w) (outcomes_read p (feeds w side)) (read_more p w side x g u) in
     record { holds = g.world.take w.world side h.holds; out = fed_out p w side x g u h; made = h.made; listed = omega (arith, more, h.listed) }
 
@@ -123,6 +120,9 @@ lists_hold p w h is =
       listed = omega (arith, less);
     }
 
+call_at : (cs : List RawCall) (k : ℕ) → k < length cs → (c : RawCall) × (slice_get cs k ≡ Some c)
+call_at cs k less = elim (slice_get_cases cs k).1 [ inl there ↦ (there.0, there.2) | inr past ↦ absurd (omega (arith, less, past.0)) ]
+
 -- one call more, by which nothing that was read changes
 pub record Calls {S : Type 0} (p : Parties S) (w : CallWorld) : Type 0 where
   pub call : RawCall
@@ -133,7 +133,7 @@ pub record Calls {S : Type 0} (p : Parties S) (w : CallWorld) : Type 0 where
 pub calls : {S : Type 0} (p : Parties S) (w : CallWorld) → Given p → CallsHold p w → may_call p w ≡ true → Calls p w
 calls p w g h is =
     let parts = and_parts (length (outcomes_read p w) == w.made) (nat_lt w.made (length p.calls)) is in
-    let e = element p.calls w.made (ltb-true w.made (length p.calls) parts.1) in
+    let e = call_at p.calls w.made (ltb-true w.made (length p.calls) parts.1) in
     let more = one_more p.calls w.made e.0 e.1 in
     record {
       call = e.0;

@@ -2,7 +2,7 @@
 use Rattle.std.proofs.Common.{◌≡◌, ℕ, zero, suc, ◌+◌, ◌<◌, ◌≤◌, Bool, true, false, List, [], ◌∷◌, ◌++◌, length, map, take, Option, Some, None, Result, Ok, Err, refl, sym, ◌∙◌, ap, subst, arith, length-append}
 use Rattle.std.specs.Prelude.{slice_get, ◌≢◌, nat_lt, ◌==◌, ◌&&◌, if◌then◌else◌, IfOk, is_some}
 use Rattle.std.specs.Option.{option_to_list}
-use Rattle.std.proofs.lemmas.Bool.{le-ltb, lt-ltb, ltb-true, ltb-false, eq-eqb, ne_eqb}
+use Rattle.std.proofs.lemmas.Bool.{le-ltb, lt-ltb, ltb-false, eq-eqb, ne_eqb}
 use Rattle.std.proofs.lemmas.List.{take_all, take-append-le, length-take-le, map-append, length-map}
 use Rattle.courier_messages.specs.RawCalls.{RawCall}
 use Rattle.courier_calls.specs.Calls.{SeenModel, seen_model, raw_call}
@@ -16,7 +16,8 @@ use Rattle.xns_spp.specs.Sending.{is_full, waiting_count, after_send, take_answe
 use Rattle.xns_spp.specs.State.{State}
 use Rattle.xns_spp.specs.declared.item.Item.{Item}
 use Rattle.xns_world.proofs.CallCarries.{next_piece, calls, read_more}
-use Rattle.xns_world.proofs.CallQuiet.{not_refused, one_more, send_accepts, take_hands_up}
+use Rattle.xns_world.proofs.Fronts.{one_more}
+use Rattle.xns_world.proofs.Sendable.{not_refused}
 use Rattle.xns_world.specs.declared.calling.CallingEnd.{CallingEnd}
 use Rattle.item_world.specs.declared.side.Side.TheVariants.{A}
 use Rattle.xns_spp.specs.Growth.{Begins}
@@ -76,7 +77,7 @@ pub calling_sends : {S : Type 0} (p : Parties S) (e : CallingEnd) (w : CallWorld
     → caller.StandsFor p.serving.table (caller.held new) (calls_made p w) (handed_at w.world A) (sent_at w.world A ++ x ∷ []) (seen_at p w)
     → IsCalling p (record e { endpoint = endpoint; caller = new }) (sends_next w A x)
 calling_sends p e w x endpoint new g holds h is full stands session =
-    let a = send_accepts g.answering.ends w.world A x (not_refused g.answering.ends w.world.a x (next_piece p w A x g holds is) full) in
+    let a = g.answering.network.items.send w.world A x (not_refused g.answering.ends w.world.a x (next_piece p w A x g holds is) full) in
     let v : World = sends w.world A x in
     let here : caller.StandsFor p.serving.table (caller.held new) (calls_made p w) (handed_at w.world A) (sent_at v A) (seen_at p w) =
     subst (λ (l : List Item). caller.StandsFor p.serving.table (caller.held new) (calls_made p w) (handed_at w.world A) l (seen_at p w)) (sym a.here) session in
@@ -108,7 +109,7 @@ pub calling_feeds : {S : Type 0} (p : Parties S) (e : CallingEnd) (w : CallWorld
     → caller.StandsFor p.serving.table (caller.held new) (calls_made p w) (handed_at w.world A ++ x ∷ []) (sent_at w.world A) (seen_at p w)
     → (true ≡ nat_lt 0 (waiting_count w.world.a)) × IsCalling p (record e { endpoint = endpoint; caller = new }) (feeds w A)
 calling_feeds p e w x endpoint new g holds h is stands session =
-    let u = take_hands_up g.answering.ends w.world A x (sym is) in
+    let u = g.answering.network.items.take w.world A x (sym is) in
     let v : World = takes w.world A in
     let same : seen_at p (feeds w A) ≡ seen_at p w = front_same w.listed (outcomes_read p w) (outcomes_read p (feeds w A)) (read_more p w A x g u) holds.listed in
     let fed : caller.StandsFor p.serving.table (caller.held new) (calls_made p w) (handed_at v A) (sent_at w.world A) (seen_at p w) =

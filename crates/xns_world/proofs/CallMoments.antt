@@ -10,7 +10,6 @@ use Rattle.item_world.specs.Events.{undelivered}
 use Rattle.item_world.specs.Landing.{landing, reached}
 use Rattle.item_world.specs.World.{World, flushes, ticks}
 use Rattle.xns_world.proofs.CallCarries.{quiet_holds}
-use Rattle.xns_world.proofs.CallQuiet.{flush_quiet, tick_quiet, land_quiet}
 use Rattle.xns_world.proofs.CallSettling.{steps_hold}
 use Rattle.xns_world.specs.CallLaws.{Given}
 use Rattle.xns_world.specs.CallOrder.{CallsHold}
@@ -78,14 +77,14 @@ run_all p setup events =
 
 reached_holds : {S : Type 0} (p : Parties S) (w : CallWorld) (k : ℕ) (o : Option (Side × World)) → landing w.world k ≡ o → Given p → CallsHold p w → CallsHold p (in_world w (reached w.world o))
 reached_holds p w k None is g h = h
-reached_holds p w k (Some l) is g h = quiet_holds p w l.1 h (g.world.land w.world k l h.holds is) (land_quiet g.answering.network w.world k l h.holds is)
+reached_holds p w k (Some l) is g h = quiet_holds p w l.1 h (g.world.land w.world k l h.holds is) (g.answering.network.items.land w.world k l h.holds is)
 
 step_holds : {S : Type 0} (p : Parties S) (w : CallWorld) (s : CallStep) → Given p → CallsHold p w → CallsHold p (call_stepped p w s)
 step_holds p w (arrival k) g h = reached_holds p w k (landing w.world k) refl g h
 step_holds p w (noise side bytes) g h = subst (λ (v : World). CallsHold p (in_world w v)) (sym (g.foreign w.world side bytes)) h
-step_holds p w (ticking side) g h = quiet_holds p w (ticks w.world side) h (g.world.tick w.world side h.holds) (tick_quiet g.answering.network w.world side h.holds)
+step_holds p w (ticking side) g h = quiet_holds p w (ticks w.world side) h (g.world.tick w.world side h.holds) (g.answering.network.items.tick w.world side h.holds)
 step_holds p w (acting side) g h = steps_hold p side w (suc zero) g h
-step_holds p w (flushing side) g h = quiet_holds p w (flushes w.world side) h (g.world.flush w.world side h.holds) (flush_quiet g.answering.network w.world side h.holds)
+step_holds p w (flushing side) g h = quiet_holds p w (flushes w.world side) h (g.world.flush w.world side h.holds) (g.answering.network.items.flush w.world side h.holds)
 
 pub all_hold : {S : Type 0} (p : Parties S) (w : CallWorld) (ss : List CallStep) → Given p → CallsHold p w → CallsHold p (all_call_stepped p w ss)
 all_hold p w [] g h = h

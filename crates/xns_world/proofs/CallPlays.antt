@@ -1,6 +1,5 @@
 -- What a play of calls stands for after each event.
 use Rattle.std.proofs.Common.{◌≡◌, ℕ, zero, suc, Bool, true, false, List, [], ◌∷◌, length, map, take, fold, Option, Some, None, refl, sym, ◌∙◌, ap, subst, arith}
-use Rattle.std.specs.Option.{option_to_list}
 use Rattle.std.specs.List.{filter}
 use Rattle.std.specs.Prelude.{All, nat_lt, if◌then◌else◌, is_some}
 use Rattle.std.proofs.lemmas.List.Elements.{All-head, All-tail}
@@ -13,28 +12,23 @@ use Rattle.courier_calls.specs.Server.{call_of}
 use Rattle.courier_calls.specs.declared.call.Call.{Call}
 use Rattle.courier_calls.specs.declared.caller.Caller.{Caller}
 use Rattle.xns_spp.specs.Held.{Held, StandsFor}
-use Rattle.xns_spp.specs.Receiving.{receive_answer, after_receive}
 use Rattle.xns_spp.specs.Sending.{is_full, waiting_count, after_send, after_take, flush_answer, after_flush, tick_answer, after_tick}
 use Rattle.xns_spp.specs.State.{State}
 use Rattle.xns_spp.specs.declared.item.Item.{Item}
-use Rattle.xns_world.proofs.CallQuiet.{IsQuiet, flush_quiet, tick_quiet, land_quiet}
 use Rattle.xns_world.proofs.CallRuns.{LeavesCaller, server_steps, quiet_between}
 use Rattle.xns_world.proofs.CallSettling.{steps_hold}
-use Rattle.xns_world.proofs.Landings.{no_landing}
 use Rattle.xns_world.proofs.ServeEnds.{served_on}
-use Rattle.xns_world.proofs.Sides.{same_other, same_marked}
 use Rattle.xns_world.specs.declared.call_trace.CallTrace.{CallTrace}
 use Rattle.xns_world.specs.declared.calling.CallingEnd.{CallingEnd}
 use Rattle.xns_world.specs.declared.call_pair.CallPair.{CallPair}
 use Rattle.xns_world.specs.declared.call_play.CallPlay.{CallPlay}
-use Rattle.item_world.specs.declared.emitted.Emitted.{Emitted}
 use Rattle.item_world.specs.declared.network.Network.{Network}
 use Rattle.xns_world.specs.declared.serving.ServingEnd.{ServingEnd}
 use Rattle.item_world.specs.declared.side.Side.{Side}
 use Rattle.item_world.specs.declared.side.Side.TheVariants.{A, B}
 use Rattle.xns_spp.specs.Growth.{Begins}
 use Rattle.item_world.specs.Invariant.{Holds}
-use Rattle.item_world.specs.Going.{Later, StaysAway, does_land}
+use Rattle.item_world.specs.Going.{IsQuiet, Later, StaysAway, does_land}
 use Rattle.item_world.specs.Landing.{landing, end_reached}
 use Rattle.item_world.specs.Laws.{NetworkLaws}
 use Rattle.item_world.specs.Events.{undelivered}
@@ -46,7 +40,7 @@ use Rattle.xns_world.specs.CallPlay.{endpoint_at, with_endpoint, Acts, IsCalling
 use Rattle.xns_world.specs.CallWorld.{Parties, CallWorld, or_caller, calls_made, next_out, outcomes_read, in_world, lists, makes, has_outcome, may_call, caller_step, step_with, settles, arrived, delivers, seen_at, carried_at, step}
 use Rattle.xns_world.specs.Settling.{most_steps, onward, steps, stepped_out}
 use Rattle.xns_world.specs.ServeEnd.{IsServed}
-use Rattle.item_world.specs.World.{World, end_of, moved, flushes, ticks, marked, handed_at, sent_at}
+use Rattle.item_world.specs.World.{World, end_of, moved, flushes, ticks, handed_at, sent_at}
 use Rattle.item_world.specs.EndLaws.{EndLaws}
 
 -- ---- what the steps of a side leave
@@ -67,7 +61,7 @@ leaves_same laws side w v same = record {
 -- an end moves that sends and takes nothing
 leaves_moved : NetworkLaws → (side : Side) (w : CallWorld) (t : State) → t.taken ≡ (end_of w.world side).taken → Leaves side w (in_world w (moved w.world side t []))
 leaves_moved laws side w t same = record {
-  there = same_other w.world side t [];
+  there = laws.moves.there w.world side t [];
   network = λ n h. laws.quiet n w.world side t h (ap length same);
   later = laws.goes_on.moved w.world side t [] (omega (arith, ap length same));
 }
@@ -176,6 +170,11 @@ pub acts_at : {S : Type 0} (leads : Side → World → World → Type 0) (e : Ca
     → (EndLaws → (w v : World) → leads t w v → IsEnd (endpoint_at e t) n w t → IsEnd endpoint m v t) → Acts e (with_endpoint e t endpoint) n m side (leads side)
 acts_at leads e side t endpoint n m is h = subst (λ (s : Side). Acts e (with_endpoint e t endpoint) n m s (leads s)) (sym is) (acts e t endpoint n m (leads t) h)
 
+-- and takes a step of its own, as it flushes or ticks
+pub moves_at : {S : Type 0} (moves : World → Side → World) (e : CallPair S) (side t : Side) (endpoint : Held) (n m : Network) → side ≡ t
+    → (EndLaws → (w : World) → IsEnd (endpoint_at e t) n w t → IsEnd endpoint m (moves w t) t) → Acts e (with_endpoint e t endpoint) n m side (λ w v. moves w side ≡ v)
+moves_at moves e side t endpoint n m is h = acts_at (λ (s : Side) (w v : World). moves w s ≡ v) e side t endpoint n m is (λ laws w v to i. subst (λ (u : World). IsEnd endpoint m u t) to (h laws w i))
+
 -- it accepts and hands up nothing
 acted : {S : Type 0} → EndLaws → (p : Parties S) (e f : CallPair S) (n m : Network) (w : CallWorld) (u : World) (side : Side) (leads : World → World → Type 0) → Acts e f n m side leads → leads w.world u → IsQuiet w.world u
     → end_of u (other side) ≡ end_of w.world (other side) → IsCallPair p e w → IsNetwork n w.world → IsCallPlaying p (record { ends = f; network = m }) (in_world w u)
@@ -195,17 +194,9 @@ settled p e f n m w side g b h network a =
     let v = stepped_out (step p side) w in
     let s : State = end_of v.world side in
     let holds = (steps_hold p side w most_steps g b.holds).holds in
-    acted laws p e f n m v (flushes v.world side) side (λ v u. flushes v side ≡ u) a refl (flush_quiet g.answering.network v.world side holds) (same_other v.world side (after_flush s) (flush_answer s)) h ((steps_leave p g.answering side w most_steps).network n network)
+    acted laws p e f n m v (flushes v.world side) side (λ v u. flushes v side ≡ u) a refl (g.answering.network.items.flush v.world side holds) (g.answering.network.moves.there v.world side (after_flush s) (flush_answer s)) h ((steps_leave p g.answering side w most_steps).network n network)
 
 -- ---- a packet is delivered
-
-landed_other : NetworkLaws → (w v : World) (side : Side) (k : ℕ) → landing w k ≡ Some (side, v) → end_of v (other side) ≡ end_of w (other side)
-landed_other laws w v side k e =
-    let l = laws.lands w k side v e in
-    let x : Emitted = l.packet in
-    let s : State = end_of w side in
-    ap (λ (u : World). end_of u (other side)) (sym l.world)
-    ∙ (same_other (marked w k x) side (after_receive s x.bytes) (option_to_list (receive_answer s x.bytes).reply) ∙ same_marked w k x (other side))
 
 -- the world as an end has heard a packet, or has ticked
 pub record Heard {S : Type 0} (serving : Serving S) (cs : List Call) (p : Parties S) (play : CallPlay S) (w : CallWorld) : Type 0 where
@@ -226,7 +217,7 @@ pub landed : {S : Type 0} (serving : Serving S) (cs : List Call) (p : Parties S)
     → landing w.world k ≡ Some (side, u) → Acts e f n m side (λ w v. landing w k ≡ Some (side, v)) → Heard serving cs p (record { ends = f; network = m }) (in_world w u)
 landed serving cs p e f n m w k u side r h came a =
     let holds = r.between.holds.holds in
-    heard serving cs p e f n m w u side (λ w v. landing w k ≡ Some (side, v)) r h a came (r.given.world.land w.world k (side, u) holds came) (land_quiet r.given.answering.network w.world k (side, u) holds came) (landed_other r.given.answering.network w.world u side k came)
+    heard serving cs p e f n m w u side (λ w v. landing w k ≡ Some (side, v)) r h a came (r.given.world.land w.world k (side, u) holds came) (r.given.answering.network.items.land w.world k (side, u) holds came) (r.given.answering.network.moves.land w.world k (side, u) came)
 
 pub delivers_to : {S : Type 0} (p : Parties S) (w : CallWorld) (k : ℕ) (side : Side) (u : World) → landing w.world k ≡ Some (side, u) → settles p side (in_world w u) ≡ delivers p w k
 delivers_to p w k side u lands = sym (ap (λ (o : Option (Side × World)). arrived p w o) lands)
@@ -234,8 +225,8 @@ delivers_to p w k side u lands = sym (ap (λ (o : Option (Side × World)). arriv
 pub delivers_none : {S : Type 0} (p : Parties S) (w : CallWorld) (k : ℕ) → landing w.world k ≡ None → delivers p w k ≡ w
 delivers_none p w k none = ap (λ (o : Option (Side × World)). arrived p w o) none
 
-pub delivers_nowhere : {S : Type 0} (p : Parties S) (w : CallWorld) (k : ℕ) → None ≡ end_reached (landing w.world k) → w ≡ delivers p w k
-delivers_nowhere p w k none = sym (delivers_none p w k (no_landing (landing w.world k) none))
+pub delivers_nowhere : {S : Type 0} → NetworkLaws → (p : Parties S) (w : CallWorld) (k : ℕ) → None ≡ end_reached (landing w.world k) → w ≡ delivers p w k
+delivers_nowhere laws p w k none = sym (delivers_none p w k (laws.reached.none w.world k none))
 
 -- ---- time passes
 
@@ -244,7 +235,7 @@ pub ticked : {S : Type 0} (serving : Serving S) (cs : List Call) (p : Parties S)
 ticked serving cs p e f n m w side r h a =
     let holds = r.between.holds.holds in
     let s : State = end_of w.world side in
-    heard serving cs p e f n m w (ticks w.world side) side (λ w v. ticks w side ≡ v) r h a refl (r.given.world.tick w.world side holds) (tick_quiet r.given.answering.network w.world side holds) (same_other w.world side (after_tick s) (tick_answer s))
+    heard serving cs p e f n m w (ticks w.world side) side (λ w v. ticks w side ≡ v) r h a refl (r.given.world.tick w.world side holds) (r.given.answering.network.items.tick w.world side holds) (r.given.answering.network.moves.there w.world side (after_tick s) (tick_answer s))
 
 -- ---- deliveries in turn
 

@@ -24,7 +24,7 @@ use Rattle.item_world.specs.Setup.{IsSetup, IsGood}
 use Rattle.item_world.specs.World.{World, start, end_of, flushes, ticks, sent_at, handed_at}
 use Rattle.xns_world.proofs.CallCarries.{faces, same_read, quiet_holds}
 use Rattle.xns_world.specs.CallLaws.{Given}
-use Rattle.xns_world.proofs.CallQuiet.{IsQuiet, flush_quiet, tick_quiet, land_quiet}
+use Rattle.item_world.specs.Going.{IsQuiet}
 use Rattle.xns_world.proofs.CallSettling.{steps_hold, settles_end}
 use Rattle.xns_world.specs.CallOrder.{CallsHold, AllListed, IsBetween, AreOnceInOrder, MeetNoFault}
 use Rattle.xns_world.specs.CallWorld.{Parties, CallWorld, or_caller, calls_made, put_out, next_out, outcomes_read, in_world, lists, makes, has_outcome, may_call, step_with, settles, arrived, delivers, call_happens, call_start, begun, run_calls, carried_at, seen_at, step}
@@ -97,11 +97,11 @@ pub settles_between : {S : Type 0} (p : Parties S) (side : Side) (w : CallWorld)
 settles_between p side w g b =
     let v = stepped_out (step p side) w in
     let h = steps_hold p side w most_steps g b.holds in
-    quiet_between p v (flushes v.world side) (record { holds = h; listed = stepped_listed p side w g b }) (g.world.flush v.world side h.holds) (flush_quiet g.answering.network v.world side h.holds)
+    quiet_between p v (flushes v.world side) (record { holds = h; listed = stepped_listed p side w g b }) (g.world.flush v.world side h.holds) (g.answering.network.items.flush v.world side h.holds)
 
 arrived_between : {S : Type 0} (p : Parties S) (w : CallWorld) (k : ℕ) (o : Option (Side × World)) → landing w.world k ≡ o → Given p → IsBetween p w → IsBetween p (arrived p w o)
 arrived_between p w k None is g b = b
-arrived_between p w k (Some l) is g b = settles_between p l.0 (in_world w l.1) g (quiet_between p w l.1 b (g.world.land w.world k l b.holds.holds is) (land_quiet g.answering.network w.world k l b.holds.holds is))
+arrived_between p w k (Some l) is g b = settles_between p l.0 (in_world w l.1) g (quiet_between p w l.1 b (g.world.land w.world k l b.holds.holds is) (g.answering.network.items.land w.world k l b.holds.holds is))
 
 pub delivers_between : {S : Type 0} (p : Parties S) (w : CallWorld) (k : ℕ) → Given p → IsBetween p w → IsBetween p (delivers p w k)
 delivers_between p w k g b = arrived_between p w k (landing w.world k) refl g b
@@ -111,7 +111,7 @@ all_between p w [] g b = b
 all_between p w (k ∷ ks) g b = all_between p (delivers p w k) ks g (delivers_between p w k g b)
 
 pub tick_between : {S : Type 0} (p : Parties S) (w : CallWorld) (side : Side) → Given p → IsBetween p w → IsBetween p (in_world w (ticks w.world side))
-tick_between p w side g b = quiet_between p w (ticks w.world side) b (g.world.tick w.world side b.holds.holds) (tick_quiet g.answering.network w.world side b.holds.holds)
+tick_between p w side g b = quiet_between p w (ticks w.world side) b (g.world.tick w.world side b.holds.holds) (g.answering.network.items.tick w.world side b.holds.holds)
 
 pub happens_between : {S : Type 0} (p : Parties S) (w : CallWorld) (e : Event) → Given p → IsBetween p w → IsBetween p (call_happens p w e)
 happens_between p w (Deliver k) g b = delivers_between p w k g b

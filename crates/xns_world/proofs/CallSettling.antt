@@ -12,8 +12,7 @@ use Rattle.item_world.specs.declared.side.Side.TheVariants.{A, B}
 use Rattle.item_world.specs.World.{World, end_of, sends, handed_at}
 use Rattle.xns_world.proofs.CallCarries.{same_read, next_piece, sends_hold, feeds_hold, lists_hold, calls, makes_hold}
 use Rattle.xns_world.specs.CallLaws.{Given}
-use Rattle.xns_world.proofs.CallQuiet.{not_refused, send_accepts, take_hands_up}
-use Rattle.xns_world.proofs.Sides.{same_end}
+use Rattle.xns_world.proofs.Sendable.{not_refused}
 use Rattle.xns_world.specs.CallOrder.{CallsHold, AllListed, IsBetween, Settles}
 use Rattle.xns_world.specs.CallWorld.{Parties, CallWorld, or_caller, calls_made, next_out, outcomes_read, in_world, sends_next, feeds, lists, makes, has_outcome, may_call, caller_step, step_with, step}
 use Rattle.xns_world.specs.Settling.{most_steps, steps}
@@ -78,8 +77,8 @@ sends_go p w side x g h is full =
     let s : State = end_of w.world side in
     let ok = not_refused g.answering.ends s x (next_piece p w side x g h is) full in
     let falls = send_room g.answering.ends s x (h.holds.ends side).fits full ok in
-    let same = same_end w.world side (after_send s x) [] in
-    let caller = same_left p w (sends w.world side x) side ((send_accepts g.answering.ends w.world side x ok).handed A) in
+    let same = g.answering.network.moves.here w.world side (after_send s x) [] in
+    let caller = same_left p w (sends w.world side x) side ((g.answering.network.items.send w.world side x ok).handed A) in
     record {
       keeps = sends_hold p w side x g h is ok;
       fewer = omega (arith, falls.0, falls.1, caller, ap room_of same, ap waiting_count same);
@@ -88,7 +87,7 @@ sends_go p w side x g h is full =
 fed_left : {S : Type 0} (p : Parties S) (w : CallWorld) (side : Side) (x : Item) → Given p → CallsHold p w → take_answer (end_of w.world side) ≡ Some x → caller_left p (feeds w side) side ≤ caller_left p w side + 2
 unfolding caller_left
 fed_left p w A x g h is =
-    let more = (take_hands_up g.answering.ends w.world A x is).here in
+    let more = (g.answering.network.items.take w.world A x is).here in
     let one = g.heard.single p.serving.table (calls_made p w) (handed_at w.world A) x in
     let read : length (outcomes_read p (feeds w A)) ≤ length (outcomes_read p w) + 1 = subst (λ (l : List Item). length (answers p.serving.table (calls_made p w) l) ≤ length (outcomes_read p w) + 1) (sym more) one in
     let last = one_if_most (length (outcomes_read p (feeds w A)) == w.made) in
@@ -101,7 +100,7 @@ feeds_go p w side g h is =
     let s : State = end_of w.world side in
     let e = waiting_item g.answering.ends s is in
     let falls = take_waiting g.answering.ends s e.0 e.1 in
-    let same = same_end w.world side (after_take s) [] in
+    let same = g.answering.network.moves.here w.world side (after_take s) [] in
     let caller = fed_left p w side e.0 g h e.1 in
     record {
       keeps = feeds_hold p w side e.0 g h e.1;

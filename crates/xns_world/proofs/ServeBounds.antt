@@ -1,7 +1,6 @@
 -- A server's end stays within its bounds, whatever packets come.
-use Rattle.std.proofs.Common.{◌≡◌, ◌∙◌, ℕ, List, [], ◌∷◌, ◌++◌, length, take, fold, Option, Some, None, Bool, true, false, Result, Ok, Err, refl, sym, ap, subst, arith}
+use Rattle.std.proofs.Common.{◌≡◌, ◌∙◌, ℕ, List, [], ◌∷◌, length, fold, Option, Some, None, Bool, true, false, Result, Ok, Err, refl, sym, ap, subst}
 use Rattle.std.specs.Prelude.{All, if◌then◌else◌, is_ok}
-use Rattle.std.proofs.lemmas.List.{take_all, take-append-le}
 use Rattle.std.proofs.lemmas.List.Elements.{All-head, All-tail, All-take, All-weaker}
 use Rattle.xns_idp.specs.Packet.{AreBytes}
 use Rattle.courier_calls.specs.Calls.{Serving}
@@ -16,6 +15,7 @@ use Rattle.xns_spp.specs.Receiving.{after_receive}
 use Rattle.xns_spp.specs.Sending.{after_flush, after_send, send_answer}
 use Rattle.xns_spp.specs.State.{State, IsState}
 use Rattle.xns_spp.specs.declared.item.Item.{Item}
+use Rattle.xns_world.proofs.Fronts.{front_of}
 use Rattle.xns_world.proofs.ServeOuts.{IfOut, step_out, out_same}
 use Rattle.xns_world.proofs.ServeSettling.{Keeps, left_of, step_goes}
 use Rattle.xns_world.proofs.Stepping.{IfGoesOn, steps_keep}
@@ -101,7 +101,4 @@ kept_ending fed p is = ending_if (all_calls (conversation fed)) (ending fed) p i
 -- ---- packets that come first
 
 pub begun_bytes : (come packets : List (List ℕ)) → Begins come packets → All AreBytes packets → All AreBytes come
-begun_bytes come packets b bytes =
-    let all : All AreBytes (come ++ b.0) = subst (All AreBytes) (sym b.1) bytes in
-    let front : take (length come) (come ++ b.0) ≡ come = take-append-le (length come) come b.0 (omega arith) ∙ take_all (length come) come (omega arith) in
-    subst (All AreBytes) front (All-take AreBytes (length come) (come ++ b.0) all)
+begun_bytes come packets b bytes = subst (All AreBytes) (front_of come packets b) (All-take AreBytes (length come) packets bytes)

@@ -20,7 +20,7 @@ use Rattle.xns_spp.specs.State.{State}
 use Rattle.xns_spp.specs.declared.item.Item.{Item}
 use Rattle.xns_world.proofs.CallCarries.{at_place}
 use Rattle.xns_world.proofs.CallEnds.{out_first, not_waiting, is_waiting}
-use Rattle.xns_world.proofs.CallQuiet.{not_refused}
+use Rattle.xns_world.proofs.Sendable.{not_refused}
 use Rattle.xns_world.specs.CallLaws.{Answering}
 use Rattle.xns_world.specs.CallPlay.{IsServing}
 use Rattle.xns_world.specs.CallWorld.{Parties, CallWorld, or_caller, step}

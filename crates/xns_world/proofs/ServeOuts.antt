@@ -14,7 +14,7 @@ use Rattle.xns_spp.specs.Sending.{is_full, waiting_count, after_send, after_take
 use Rattle.xns_spp.specs.State.{State}
 use Rattle.xns_spp.specs.declared.item.Item.{Item}
 use Rattle.xns_world.proofs.CallCarries.{at_place}
-use Rattle.xns_world.proofs.CallQuiet.{not_refused}
+use Rattle.xns_world.proofs.Sendable.{not_refused}
 use Rattle.xns_world.proofs.CallSettling.{waiting_item}
 use Rattle.xns_world.proofs.ServeSettling.{Keeps}
 use Rattle.xns_world.specs.CallLaws.{Answering}

@@ -10,7 +10,7 @@ use Rattle.xns_spp.specs.Sending.{is_full, waiting_count, after_send, after_take
 use Rattle.xns_spp.specs.State.{State, IsState}
 use Rattle.xns_spp.specs.declared.item.Item.{Item}
 use Rattle.xns_world.proofs.CallCarries.{at_place}
-use Rattle.xns_world.proofs.CallQuiet.{not_refused}
+use Rattle.xns_world.proofs.Sendable.{not_refused}
 use Rattle.xns_world.proofs.CallSettling.{room_of, room_most, send_room, take_waiting, waiting_item}
 use Rattle.xns_world.specs.CallLaws.{Answering}
 use Rattle.xns_world.specs.ServeEnd.{next_of}

@@ -10,7 +10,7 @@ use Rattle.courier_calls.specs.Server.{decided, call_of}
 use Rattle.xns_spp.specs.Held.{Held, StandsFor}
 use Rattle.xns_spp.specs.Receiving.{receive_answer, after_receive}
 use Rattle.xns_spp.specs.Sending.{flush_answer, after_flush}
-use Rattle.xns_spp.specs.State.{State}
+use Rattle.xns_spp.specs.State.{State, IsState}
 use Rattle.xns_world.proofs.CallPlays.{raw_again}
 use Rattle.xns_world.proofs.ServeEnds.{served_on}
 use Rattle.xns_world.specs.Serve.{Served, settles_from, serve_receives, IsServeTrace, IsHeard, first_fault}
@@ -48,8 +48,8 @@ heard_along serving s t w h = record {
   fault = h.fault ∙ ap (λ l. first_fault l) (sym h.handed);
 }
 
-pub within : {S : Type 0} (serving : Serving S) (s : S) (t : ServeTrace S) (w : Served) (e : Held) → IsServeTrace serving s t w → StandsFor e w.end → IsWithin t w
-within serving s t w e h stands = record {
-  end = stands.fits;
-  handed = omega (arith, ap length h.handed, length-take-le w.end.handed w.end.taken stands.fits.bounds.handed_taken, stands.fits.bounds.handed_taken, stands.fits.bounds.taken_most);
+pub within : {S : Type 0} (serving : Serving S) (s : S) (t : ServeTrace S) (w : Served) → IsServeTrace serving s t w → IsState w.end → IsWithin t w
+within serving s t w h fits = record {
+  end = fits;
+  handed = omega (arith, ap length h.handed, length-take-le w.end.handed w.end.taken fits.bounds.handed_taken, fits.bounds.handed_taken, fits.bounds.taken_most);
 }

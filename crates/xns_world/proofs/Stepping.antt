@@ -19,15 +19,15 @@ IfGoesOn K left x None = Unit {0}
 IfGoesOn K left x (Some y) = GoesOn K left x y
 
 -- wherever K holds a step keeps it, and leaves fewer
-abbrev pub Goes : {X : Type 0} → (X → Option X) → (X → Type 0) → (X → ℕ) → Type 0
-Goes {X} step K left = (x : X) → K x → IfGoesOn K left x (step x)
+abbrev pub EachGoesOn : {X : Type 0} → (X → Option X) → (X → Type 0) → (X → ℕ) → Type 0
+EachGoesOn {X} step K left = (x : X) → K x → IfGoesOn K left x (step x)
 
 onward_keeps : {X : Type 0} (K : X → Type 0) (left : X → ℕ) (x : X) (o : Option X) → K x → IfGoesOn K left x o → K (onward x o)
 unfolding IfGoesOn
 onward_keeps K left x None k i = k
 onward_keeps K left x (Some y) k i = i.keeps
 
-pub steps_keep : {X : Type 0} (step : X → Option X) (K : X → Type 0) (left : X → ℕ) → Goes step K left → (x : X) (n : ℕ) → K x → K (steps step x n)
+pub steps_keep : {X : Type 0} (step : X → Option X) (K : X → Type 0) (left : X → ℕ) → EachGoesOn step K left → (x : X) (n : ℕ) → K x → K (steps step x n)
 steps_keep step K left go x zero k = k
 steps_keep step K left go x (suc n) k =
     let y = steps step x n in
@@ -51,7 +51,7 @@ unfolding IfGoesOn Below
 below_onward step K left n most x None is i b = subst (Below left (suc n) most x) (sym is) tt
 below_onward step K left n most x (Some y) is i b = below left (suc n) most y (step y) (omega (arith, b, i.fewer))
 
-steps_below : {X : Type 0} (step : X → Option X) (K : X → Type 0) (left : X → ℕ) → Goes step K left → (x : X) (n : ℕ) → K x → Below left n (left x) (steps step x n) (step (steps step x n))
+steps_below : {X : Type 0} (step : X → Option X) (K : X → Type 0) (left : X → ℕ) → EachGoesOn step K left → (x : X) (n : ℕ) → K x → Below left n (left x) (steps step x n) (step (steps step x n))
 steps_below step K left go x zero k = below left 0 (left x) x (step x) (omega arith)
 steps_below step K left go x (suc n) k =
     let y = steps step x n in
@@ -63,7 +63,7 @@ none_below K left n most x None h i b = refl
 none_below K left n most x (Some y) h i b = absurd (omega (arith, h, b, i.fewer))
 
 -- after as many steps as were left none applies
-pub steps_end : {X : Type 0} (step : X → Option X) (K : X → Type 0) (left : X → ℕ) → Goes step K left → (x : X) → K x → left x ≤ most_steps → step (stepped_out step x) ≡ None
+pub steps_end : {X : Type 0} (step : X → Option X) (K : X → Type 0) (left : X → ℕ) → EachGoesOn step K left → (x : X) → K x → left x ≤ most_steps → step (stepped_out step x) ≡ None
 steps_end step K left go x k few =
     let y = stepped_out step x in
     none_below K left most_steps (left x) y (step y) few (go y (steps_keep step K left go x most_steps k)) (steps_below step K left go x most_steps k)

@@ -17,7 +17,8 @@ pub record AreParties {S : Type 0} (serving : Serving S) (IsServiceState : S →
   pub state : IsServiceState p.service
   pub calls : All IsFitting p.calls
 
-pub record Promised {S : Type 0} (serving : Serving S) (IsServiceState : S → Type 0) : Type 0 where
+-- each call is carried out at most once and in order, at every moment
+pub record CallsComeInOrder {S : Type 0} (serving : Serving S) (IsServiceState : S → Type 0) : Type 0 where
   -- after any events
   pub once : (p : Parties S) (setup : Setup) (events : List Event) → AreParties serving IsServiceState p → IsSetup setup → IsGood setup → AreOnceInOrder p (run_calls p setup events)
   pub well : (p : Parties S) (setup : Setup) (events : List Event) → AreParties serving IsServiceState p → IsSetup setup → IsGood setup → MeetNoFault p (run_calls p setup events)

@@ -4,7 +4,7 @@ ghost use Rattle.courier_calls.specs.Calls.{call_model, CallFits};
 ghost use Rattle.item_world.specs.declared.side.Side.{Side};
 ghost use Rattle.item_world.specs.declared.side.Side.TheVariants.{A, B};
 ghost use Rattle.item_world.specs.declared.event.Event.TheVariants.{Deliver, Rest, Tick, Foreign, Send, Take};
-ghost use Rattle.xns_world.specs.CallPlay.{IsCallPlaying, Goes, IsCallTrace, IsOnceInOrder, parties};
+ghost use Rattle.xns_world.specs.CallPlay.{IsCallPlaying, CallStepsBy, IsCallTrace, IsOnceInOrder, parties};
 ghost use Rattle.xns_world.specs.CallWorld.{Parties, call_happens, call_start, run_calls, delivers, settles};
 ghost use Rattle.item_world.specs.Setup.{IsGood};
 
@@ -57,7 +57,7 @@ impl<'a, S: Service> CallPlay<'a, S> {
 
     /// The end at this side settles.
     fn settle(&mut self, alloc: Global, calls: &[Call], side: Side) -> Result<(), AllocError>
-        ensures { OnOk result (Goes S.serving calls.now self.old self.new (λ p w. settles p side w)) }
+        ensures { OnOk result (CallStepsBy S.serving calls.now self.old self.new (λ p w. settles p side w)) }
     {
         self.ends.step_out(alloc, calls, side)?;
         self.ends.flush(alloc, side, &mut self.network)
@@ -65,7 +65,7 @@ impl<'a, S: Service> CallPlay<'a, S> {
 
     /// Delivers the packet of this number, where there is one that still lives.
     fn deliver(&mut self, alloc: Global, calls: &[Call], number: usize) -> Result<(), AllocError>
-        ensures { OnOk result (Goes S.serving calls.now self.old self.new (λ p w. delivers p w number)) }
+        ensures { OnOk result (CallStepsBy S.serving calls.now self.old self.new (λ p w. delivers p w number)) }
     {
         let Some(side) = self.network.lands_at(number) else {
             return Ok(());
@@ -81,7 +81,7 @@ impl<'a, S: Service> CallPlay<'a, S> {
         calls: &[Call],
         numbers: &[usize],
     ) -> Result<(), AllocError>
-        ensures { OnOk result (Goes S.serving calls.now self.old self.new (λ p w. fold (delivers p) w numbers.now)) }
+        ensures { OnOk result (CallStepsBy S.serving calls.now self.old self.new (λ p w. fold (delivers p) w numbers.now)) }
     {
         for number in numbers {
             self.deliver(alloc, calls, *number)?;
@@ -91,14 +91,14 @@ impl<'a, S: Service> CallPlay<'a, S> {
 
     /// Delivers each packet that was never delivered and is there as this begins, in order.
     fn rest(&mut self, alloc: Global, calls: &[Call]) -> Result<(), AllocError>
-        ensures { OnOk result (Goes S.serving calls.now self.old self.new (λ p w. call_happens p w Rest)) }
+        ensures { OnOk result (CallStepsBy S.serving calls.now self.old self.new (λ p w. call_happens p w Rest)) }
     {
         let numbers = self.network.unsettled(alloc)?;
         self.deliver_all(alloc, calls, numbers.as_slice())
     }
 
     fn tick(&mut self, alloc: Global, calls: &[Call], side: Side) -> Result<(), AllocError>
-        ensures { OnOk result (Goes S.serving calls.now self.old self.new (λ p w. call_happens p w (Tick side))) }
+        ensures { OnOk result (CallStepsBy S.serving calls.now self.old self.new (λ p w. call_happens p w (Tick side))) }
     {
         self.ends.tick(alloc, side, &mut self.network)?;
         self.settle(alloc, calls, side)
@@ -107,7 +107,7 @@ impl<'a, S: Service> CallPlay<'a, S> {
     /// Bytes from elsewhere change nothing: those of the connection are passed over, and all others are dropped. Items are sent and taken
     /// by the sessions alone.
     fn happen(&mut self, alloc: Global, calls: &[Call], event: &Event) -> Result<(), AllocError>
-        ensures { OnOk result (Goes S.serving calls.now self.old self.new (λ p w. call_happens p w event.now)) }
+        ensures { OnOk result (CallStepsBy S.serving calls.now self.old self.new (λ p w. call_happens p w event.now)) }
     {
         match event {
             Event::Deliver(number) => self.deliver(alloc, calls, *number),
@@ -126,7 +126,7 @@ impl<'a, S: Service> CallPlay<'a, S> {
         calls: &[Call],
         events: &[Event],
     ) -> Result<(), AllocError>
-        ensures { OnOk result (Goes S.serving calls.now self.old self.new (λ p w. fold (call_happens p) w events.now)) }
+        ensures { OnOk result (CallStepsBy S.serving calls.now self.old self.new (λ p w. fold (call_happens p) w events.now)) }
     {
         for event in events {
             self.happen(alloc, calls, event)?;

@@ -94,7 +94,7 @@ impl<'a> CallingEnd<'a> {
     }
 
     /// Feeds an item, or else lists an outcome, or else makes a call.
-    fn hear<S: Service>(&mut self, alloc: Global, calls: &[Call]) -> Result<bool, AllocError>
+    fn feed_or_act<S: Service>(&mut self, alloc: Global, calls: &[Call]) -> Result<bool, AllocError>
         requires { (held self.old.caller).out ≡ [] }
         ensures { IfOk result (λ b. (p : Parties S) (w : CallWorld) → Given p → CallsHold p w → p.calls ≡ map raw_call calls.now → IsCalling p self.old w →
             Stepped b w (if nat_lt 0 (waiting_count w.world.a) then Some (feeds w A) else caller_step p w A) (IsCalling p self.new)) }
@@ -111,7 +111,7 @@ impl<'a> CallingEnd<'a> {
             Stepped b w (step p A w) (IsCalling p self.new)) }
     {
         if !self.caller.has_out() {
-            return self.hear::<S>(alloc, calls);
+            return self.feed_or_act::<S>(alloc, calls);
         }
         if self.endpoint.is_full() {
             return self.act::<S>(alloc, calls);

@@ -5,7 +5,7 @@ ghost use Rattle.courier_calls.specs.Table.{table_model, IsCheckedTable};
 ghost use Rattle.xns_spp.specs.Growth.{Begins};
 ghost use Rattle.xns_world.specs.Serve.{serve, serve_start, serve_settles, serve_receives, serve_hears, IsServeTrace, IsHeard};
 ghost use Rattle.xns_world.specs.ServeBounds.{IsServedWithin};
-ghost use Rattle.xns_world.specs.ServePlay.{IsServePlaying, GoesOn, IsWithin};
+ghost use Rattle.xns_world.specs.ServePlay.{IsServePlaying, ServeStepsBy, IsWithin};
 ghost use Rattle.item_world.specs.Setup.{IsGood};
 
 use crate::laws::calls::server_laws_are_given;
@@ -48,42 +48,42 @@ impl<'a, S: Service> ServePlay<'a, S> {
 
     /// The end settles, and what it then sends joins the replies.
     fn settle(&mut self, alloc: Global) -> Result<(), AllocError>
-        ensures { OnOk result (GoesOn S.serving self.old self.new (serve_settles S.serving)) }
+        ensures { OnOk result (ServeStepsBy S.serving self.old self.new (serve_settles S.serving)) }
     {
         self.b.step_out(alloc)?;
         let packets = self.b.endpoint.flush(alloc)?;
-        join(&mut self.replies, packets)
+        append(&mut self.replies, packets)
     }
 
     /// A packet comes, ours or not, and the end answers it.
     fn receive(&mut self, alloc: Global, bytes: &[u8]) -> Result<(), AllocError>
-        ensures { OnOk result (GoesOn S.serving self.old self.new (λ s w. serve_receives w bytes.now)) }
+        ensures { OnOk result (ServeStepsBy S.serving self.old self.new (λ s w. serve_receives w bytes.now)) }
     {
         let reply = self.b.endpoint.receive(alloc, bytes)?.reply;
-        join_reply(&mut self.replies, reply)
+        append_reply(&mut self.replies, reply)
     }
 
     /// A packet comes, the end answers it and settles.
-    fn hear(&mut self, alloc: Global, bytes: &[u8]) -> Result<(), AllocError>
-        ensures { OnOk result (GoesOn S.serving self.old self.new (λ s w. serve_hears S.serving s w bytes.now)) }
+    fn serve_one(&mut self, alloc: Global, bytes: &[u8]) -> Result<(), AllocError>
+        ensures { OnOk result (ServeStepsBy S.serving self.old self.new (λ s w. serve_hears S.serving s w bytes.now)) }
     {
         self.receive(alloc, bytes)?;
         self.settle(alloc)
     }
 
     /// All these packets in turn.
-    fn hear_all(&mut self, alloc: Global, packets: &[Bytes]) -> Result<(), AllocError>
-        ensures { OnOk result (GoesOn S.serving self.old self.new (λ s w. fold (serve_hears S.serving s) w packets.now)) }
+    fn serve_each(&mut self, alloc: Global, packets: &[Bytes]) -> Result<(), AllocError>
+        ensures { OnOk result (ServeStepsBy S.serving self.old self.new (λ s w. fold (serve_hears S.serving s) w packets.now)) }
     {
         for packet in packets {
-            self.hear(alloc, packet.as_slice())?;
+            self.serve_one(alloc, packet.as_slice())?;
         }
         Ok(())
     }
 }
 
-/// A reply joins those before, where there is one.
-fn join_reply(replies: &mut Vec<Bytes>, reply: Option<Bytes>) -> Result<(), AllocError>
+/// Appends a reply to those before, where there is one.
+fn append_reply(replies: &mut Vec<Bytes>, reply: Option<Bytes>) -> Result<(), AllocError>
     ensures { OnOk result (replies.new.items ≡ replies.old.items ++ option_to_list reply) }
 {
     if let Some(packet) = reply {
@@ -92,8 +92,8 @@ fn join_reply(replies: &mut Vec<Bytes>, reply: Option<Bytes>) -> Result<(), Allo
     Ok(())
 }
 
-/// Packets join those before.
-fn join(replies: &mut Vec<Bytes>, packets: Vec<Bytes>) -> Result<(), AllocError>
+/// Appends packets to those before.
+fn append(replies: &mut Vec<Bytes>, packets: Vec<Bytes>) -> Result<(), AllocError>
     ensures { OnOk result (replies.new.items ≡ replies.old.items ++ packets.items) }
 {
     for packet in packets {
@@ -139,7 +139,7 @@ pub fn serve_bytes<S: Service>(
     server_laws_are_given::<S>();
     let mut play = ServePlay::new(alloc, setup, table, service)?;
     play.settle(alloc)?;
-    play.hear_all(alloc, packets)?;
+    play.serve_each(alloc, packets)?;
     let ServePlay { b, replies } = play;
     let ServingEnd {
         server,

@@ -3,7 +3,7 @@
 ghost use Rattle.std.specs.Prelude.{◌≡◌, All};
 ghost use Rattle.courier_calls.specs.Calls.{IsFitting};
 ghost use Rattle.xns_world.specs.CallWorld.{Parties};
-ghost use Rattle.xns_world.specs.CallPromises.{AreParties, Promised};
+ghost use Rattle.xns_world.specs.CallPromises.{AreParties, CallsComeInOrder};
 ghost use Rattle.xns_world.specs.CallLaws.{Given, Answering};
 
 use courier_calls::Service;
@@ -19,7 +19,7 @@ use item_world::laws::{
 /// that the caller sees is the server's to its k-th call; neither session ever meets a fault; and a side that settles always comes to
 /// where no step applies.
 pub fn calls_come_in_order<S: Service>()
-    ensures { Promised S.serving S.IsServiceState }
+    ensures { CallsComeInOrder S.serving S.IsServiceState }
 {
     laws_are_given::<S>();
 }

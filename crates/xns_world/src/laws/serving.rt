@@ -1,14 +1,6 @@
 //! What holds of a server's end that is given whatever packets, as contracts of functions that do nothing.
 
-ghost use Rattle.std.specs.Prelude.{◌≡◌, ℕ, List, None, All};
-ghost use Rattle.xns_idp.specs.Packet.{AreBytes};
-ghost use Rattle.xns_spp.specs.Item.{IsItem};
-ghost use Rattle.xns_spp.specs.State.{State, IsState};
-ghost use Rattle.xns_world.specs.Serve.{serve};
-ghost use Rattle.xns_world.specs.ServeBounds.{IsServedWithin, IsOutShort};
-ghost use Rattle.xns_world.specs.Settling.{serve_step, steps, stepped_out};
-ghost use Rattle.item_world.specs.Setup.{IsSetup, IsGood};
-ghost use Rattle.item_world.specs.declared.setup.Setup.{Setup};
+ghost use Rattle.xns_world.specs.ServePromises.{ServedEndsSettle, ServedEndsStayWithinBounds};
 
 use crate::laws::calls::server_laws_are_given;
 use courier_calls::Service;
@@ -20,7 +12,7 @@ use xns_spp::laws::bounds_hold_after_each_step;
 
 /// However its peer behaves, a server's end that settles comes to where no step applies.
 pub fn served_ends_settle<S: Service>()
-    ensures { (s : S) (v : State) → S.IsServiceState s → IsState v → All IsItem v.taken → serve_step S.serving s (stepped_out (serve_step S.serving s) v) ≡ None }
+    ensures { ServedEndsSettle S.serving S.IsServiceState }
 {
     server_laws_are_given::<S>();
 }
@@ -28,10 +20,7 @@ pub fn served_ends_settle<S: Service>()
 /// Whatever packets have come, a server's end, what its session keeps and what is out are within their bounds; and each step by which
 /// the end settles leaves it and what is out so.
 pub fn served_ends_stay_within_bounds<S: Service>()
-    ensures ends { (s : S) (setup : Setup) (packets : List (List ℕ)) → S.IsServiceState s → IsSetup setup → IsGood setup → All AreBytes packets →
-        IsServedWithin S.serving s (serve S.serving s setup packets) }
-    ensures steps { (s : S) (v : State) (n : ℕ) → S.IsServiceState s → IsState v → IsOutShort S.serving s v →
-        IsState (steps (serve_step S.serving s) v n) × IsOutShort S.serving s (steps (serve_step S.serving s) v n) }
+    ensures { ServedEndsStayWithinBounds S.serving S.IsServiceState }
 {
     server_laws_are_given::<S>();
     bounds_hold_after_each_step();

@@ -10,7 +10,7 @@ trace g c =
     let answering = c.server_laws_are_given.ensures s c.requires.state in
     let w = serve_start c.args.setup.now in
     let settled = c.in_ok-settle.ensures s w answering c.in_ok-play.ensures in
-    let h = c.in_ok-hear_all.ensures s (serve_settles serving s w) answering settled in
+    let h = c.in_ok-serve_each.ensures s (serve_settles serving s w) answering settled in
     record {
       handed = h.b.listed;
       carried = h.b.hearing.carried;
@@ -29,11 +29,9 @@ pub returns-clause-within : goal.returns-clause-within
 returns-clause-within g c =
     let serving = g.S.Service.serving in
     let s = c.args.service in
-    let answering = c.server_laws_are_given.ensures s c.requires.state in
-    let w = serve_start c.args.setup.now in
-    let settled = c.in_ok-settle.ensures s w answering c.in_ok-play.ensures in
-    let h = c.in_ok-hear_all.ensures s (serve_settles serving s w) answering settled in
-    within serving s _ (serve serving s c.args.setup.now c.args.packets.now) _ (trace g c) h.b.stands
+    let bytes = c.args.packets.now in
+    let bounds = c.served_ends_stay_within_bounds.ensures.ends s c.args.setup.now bytes c.requires.state c.known.ensures c.requires.good c.known_packets.ensures in
+    within serving s _ (serve serving s c.args.setup.now bytes) (trace g c) bounds.end
 
 pub returns-clause-always : goal.returns-clause-always
 returns-clause-always g c come begins =

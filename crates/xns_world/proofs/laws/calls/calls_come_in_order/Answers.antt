@@ -4,12 +4,11 @@ use Rattle.item_world.specs.declared.event.Event.{Event}
 use Rattle.item_world.specs.declared.setup.Setup.{Setup}
 use Rattle.item_world.specs.Setup.{IsSetup, IsGood}
 use Rattle.std.proofs.Common.{ℕ, List, take}
-use Rattle.xns_world.specs.CallPromises.{AreParties, Promised}
+use Rattle.xns_world.specs.CallPromises.{AreParties, CallsComeInOrder}
 use Rattle.xns_world.specs.CallOrder.{CallsHold}
 use Rattle.xns_world.specs.CallSteps.{all_call_stepped, steps_of_run}
 use Rattle.xns_world.specs.CallWorld.{Parties, CallWorld, call_start, run_calls}
 use Rattle.xns_world.proofs.CallMoments.{run_all, all_hold}
-use Rattle.xns_world.proofs.CallQuiet.{land_quiet}
 use Rattle.xns_world.proofs.CallRuns.{always_between, start_between, quiet_between, tick_between, once_in_order, meet_no_fault}
 use Rattle.xns_world.proofs.CallSettling.{settles_end}
 use Rattle.xns_world.proofs.laws.calls.calls_come_in_order.Goals as goal
@@ -22,9 +21,9 @@ moment_holds : {S : Type 0} (p : Parties S) (setup : Setup) (events : List Event
 unfolding moment
 moment_holds p setup events n g fits good = all_hold p (call_start setup) (take n (steps_of_run p setup events)) g (start_between p setup g fits good).holds
 
-promised : {S : Type 0} (serving : Serving S) (IsServiceState : S → Type 0) → ((p : Parties S) → AreParties serving IsServiceState p → Given p) → Promised serving IsServiceState
+come_in_order : {S : Type 0} (serving : Serving S) (IsServiceState : S → Type 0) → ((p : Parties S) → AreParties serving IsServiceState p → Given p) → CallsComeInOrder serving IsServiceState
 unfolding moment
-promised serving IsServiceState given = record {
+come_in_order serving IsServiceState given = record {
   once = λ p setup events are fits good. let g = given p are in once_in_order p (run_calls p setup events) g (always_between p setup events g fits good).holds;
   well = λ p setup events are fits good. let g = given p are in meet_no_fault p (run_calls p setup events) g (always_between p setup events g fits good).holds;
   between = λ p setup events are fits good. always_between p setup events (given p are) fits good;
@@ -33,9 +32,9 @@ promised serving IsServiceState given = record {
   whole = run_all;
   ends = λ p side w are b. settles_end p side w (given p are) b;
   starts = λ p setup are fits good. start_between p setup (given p are) fits good;
-  lands = λ p w k l are b e. let g = given p are in quiet_between p w l.1 b (g.world.land w.world k l b.holds.holds e) (land_quiet g.answering.network w.world k l b.holds.holds e);
+  lands = λ p w k l are b e. let g = given p are in quiet_between p w l.1 b (g.world.land w.world k l b.holds.holds e) (g.answering.network.items.land w.world k l b.holds.holds e);
   tick = λ p w side are b. tick_between p w side (given p are) b;
 }
 
 pub returns : goal.returns
-returns g c = promised g.S.Service.serving g.S.Service.IsServiceState c.laws_are_given.ensures
+returns g c = come_in_order g.S.Service.serving g.S.Service.IsServiceState c.laws_are_given.ensures

@@ -1,5 +1,5 @@
 use Rattle.xns_world.proofs.CallEnds.{stepped_feed}
-use Rattle.xns_world.proofs.calling.CallingEnd.hear.Goals as goal
+use Rattle.xns_world.proofs.calling.CallingEnd.feed_or_act.Goals as goal
 use Rattle.xns_world.specs.CallPlay.{IsCalling}
 
 pub returns-then-branch : goal.returns-then-branch
