@@ -8,9 +8,9 @@ use Rattle.xns_spp.specs.declared.item.Item.{Item}
 use Rattle.xns_calls.specs.declared.early.Early.{Early}
 use Rattle.xns_calls.specs.declared.heading.Heading.{Heading}
 use Rattle.xns_calls.specs.declared.track.Track.{Track}
-use Rattle.xns_calls.specs.Events.{AreWithin63, Event, IsAmong, IsLate, acknowledged, after_event, after_events, after_whole_event, after_whole_events, brought_if, captured, captured_in, meanwhile, read_on, read_on_over, with_captured}
+use Rattle.xns_calls.specs.Events.{AreWithinReach, Event, IsAmong, IsLate, acknowledged, after_event, after_events, after_whole_event, after_whole_events, brought_if, captured, captured_in, meanwhile, read_on, read_on_over, with_captured}
 use Rattle.xns_calls.specs.Exchange.{Scene, after_new, after_number, after_told, is_repeat, new_number, take_number, told_of, unless_repeat, up_to}
-use Rattle.xns_calls.specs.Numbers.{near}
+use Rattle.xns_calls.specs.Numbers.{most_early, near}
 use Rattle.xns_calls.specs.Queue.{below, kept, last_number}
 use Rattle.xns_calls.specs.Reading.{Told, brought, brought_over, is_due, item_read, passed, past, read_next, said_item, after_heard, with_kept_item}
 use Rattle.xns_calls.proofs.Steps.{early_of, passed_early, passed_same, read_early, with_early}
@@ -317,12 +317,12 @@ record IsReady (k : ℕ) (t : Told) : Type 0 where
   from : AreFrom (next_of t) (early_of t)
   behind : IsBehind k t
 
-ready : (h : Heading) (k : ℕ) (t : Told) → IsOrdered t → is_repeat k t.track ≡ false → IsReady k (brought h (k - 63) t)
+ready : (h : Heading) (k : ℕ) (t : Told) → IsOrdered t → is_repeat k t.track ≡ false → IsReady k (brought h (k - most_early) t)
 ready h k t ordered new =
     let from = from_ordered t ordered in
     let start : IsBehind k t = record { up = not_less k (next_of t) (λ lt. not_known k t new (inl lt)); new = λ old. not_known k t new (inr old) } in record {
-      from = from_ordered (brought h (k - 63) t) (brought_ordered h (k - 63) t from);
-      behind = brought_bears (IsBehind k) h (k - 63) t (behind_bears k h (k - 63) (omega arith)) from start;
+      from = from_ordered (brought h (k - most_early) t) (brought_ordered h (k - most_early) t from);
+      behind = brought_bears (IsBehind k) h (k - most_early) t (behind_bears k h (k - most_early) (omega arith)) from start;
     }
 
 kept_ready : (k : ℕ) (item : Item) (t : Told) → IsReady k t → AreFrom (next_of (with_item k item t)) (early_of (with_item k item t))
@@ -334,8 +334,8 @@ brought_if_ordered h (Some n) t ordered = brought_ordered h n t (from_ordered t 
 
 event_ordered : (e : Event) (t : Told) → IsOrdered t → IsOrdered (after_event e t)
 event_ordered (captured h k item) t ordered =
-    by_test IsOrdered (is_repeat k t.track) t (brought h 0 (with_item k item (brought h (k - 63) t))) (λ old. ordered)
-    (λ new. brought_ordered h 0 (with_item k item (brought h (k - 63) t)) (kept_ready k item (brought h (k - 63) t) (ready h k t ordered new)))
+    by_test IsOrdered (is_repeat k t.track) t (brought h 0 (with_item k item (brought h (k - most_early) t))) (λ old. ordered)
+    (λ new. brought_ordered h 0 (with_item k item (brought h (k - most_early) t)) (kept_ready k item (brought h (k - most_early) t) (ready h k t ordered new)))
 event_ordered (acknowledged h n) t ordered = brought_if_ordered h (up_to (last_number t.track.early) (Some n)) t ordered
 event_ordered (meanwhile calls text is_refused) t ordered = ordered
 
@@ -352,18 +352,18 @@ kept_known m k item t (inr old) = inr (kept_has m k item (early_of t) (inr old))
 
 event_known : (m : ℕ) (e : Event) (t : Told) → IsOrdered t → IsKnown m t → IsKnown m (after_event e t)
 event_known m (captured h k item) t ordered known =
-    by_test (IsKnown m) (is_repeat k t.track) t (brought h 0 (with_item k item (brought h (k - 63) t))) (λ old. known)
-    (λ new. brought_known m h 0 (with_item k item (brought h (k - 63) t)) (kept_ready k item (brought h (k - 63) t) (ready h k t ordered new))
-    (kept_known m k item (brought h (k - 63) t) (brought_known m h (k - 63) t (from_ordered t ordered) known)))
+    by_test (IsKnown m) (is_repeat k t.track) t (brought h 0 (with_item k item (brought h (k - most_early) t))) (λ old. known)
+    (λ new. brought_known m h 0 (with_item k item (brought h (k - most_early) t)) (kept_ready k item (brought h (k - most_early) t) (ready h k t ordered new))
+    (kept_known m k item (brought h (k - most_early) t) (brought_known m h (k - most_early) t (from_ordered t ordered) known)))
 event_known m (acknowledged h n) t ordered known = brought_if_known m h (up_to (last_number t.track.early) (Some n)) t ordered known
 event_known m (meanwhile calls text is_refused) t ordered known = known
 
 -- a captured item is known
 captured_known : (h : Heading) (k : ℕ) (item : Item) (t : Told) → IsOrdered t → IsKnown k (after_event (captured h k item) t)
 captured_known h k item t ordered =
-    by_test (IsKnown k) (is_repeat k t.track) t (brought h 0 (with_item k item (brought h (k - 63) t))) (λ old. known_repeat k t old)
-    (λ new. brought_known k h 0 (with_item k item (brought h (k - 63) t)) (kept_ready k item (brought h (k - 63) t) (ready h k t ordered new))
-    (inr (kept_has k k item (early_of (brought h (k - 63) t)) (inl refl))))
+    by_test (IsKnown k) (is_repeat k t.track) t (brought h 0 (with_item k item (brought h (k - most_early) t))) (λ old. known_repeat k t old)
+    (λ new. brought_known k h 0 (with_item k item (brought h (k - most_early) t)) (kept_ready k item (brought h (k - most_early) t) (ready h k t ordered new))
+    (inr (kept_has k k item (early_of (brought h (k - most_early) t)) (inl refl))))
 
 no_known_next : (t : Told) → IsOrdered t → IsKnown (next_of t) t → ⊥
 no_known_next t ordered (inl lt) = omega (arith, lt)
@@ -398,7 +398,7 @@ pub repeated : (events : List Event) (h : Heading) (number : ℕ) (item : Item) 
     → after_event (captured h number item) (after_events events t) ≡ after_events events t
 repeated events h number item t none old =
     let u = after_events events t in
-    ap (λ p. cond p u (brought h 0 (with_item number item (brought h (number - 63) u)))) (repeat_known number u (is_known old))
+    ap (λ p. cond p u (brought h 0 (with_item number item (brought h (number - most_early) u)))) (repeat_known number u (is_known old))
   where
     is_known : (number < t.track.next) ⊎ IsAmong number (captured_in events []) → IsKnown number (after_events events t)
     is_known (inl lt) = events_known number events t (new_ordered t none) (inl lt)
@@ -436,22 +436,22 @@ acknowledged_same h (Some last) n t ordered le = brought_same h (min n (last + 1
 event_whole : (first : ℕ) (before : List ℕ) (e : Event) (t : Told) → IsOrdered t → ((n : ℕ) → n < first → IsKnown n t) → ((n : ℕ) → IsAmong n before → IsKnown n t) → ((n : ℕ) → first ≤ n → IsLate e n → IsAmong n before)
     → after_event e t ≡ after_whole_event e t
 event_whole first before (captured h k item) t ordered low known late =
-    let near : k ≤ next_of t + 63 = not_less (next_of t + 63) k (in_time first before t ordered low known (λ n. n + 63 < k) late) in
-    let same : brought h (k - 63) t ≡ t = brought_same h (k - 63) t ordered (omega (arith, near)) in
-    cond_same (is_repeat k t.track) t (brought h 0 (with_item k item (brought h (k - 63) t))) (read_on h (with_item k item t))
+    let near : k ≤ next_of t + most_early = not_less (next_of t + most_early) k (in_time first before t ordered low known (λ n. n + most_early < k) late) in
+    let same : brought h (k - most_early) t ≡ t = brought_same h (k - most_early) t ordered (omega (arith, near)) in
+    cond_same (is_repeat k t.track) t (brought h 0 (with_item k item (brought h (k - most_early) t))) (read_on h (with_item k item t))
     (λ new. ap (λ (u : Told). brought h 0 (with_item k item u)) same ∙ read_new h k item t (new_ready k t ordered new))
 event_whole first before (acknowledged h n) t ordered low known late =
     acknowledged_same h (last_number t.track.early) n t ordered (not_less (next_of t) n (in_time first before t ordered low known (λ m. m < n) late))
 event_whole first before (meanwhile calls text is_refused) t ordered low known late = refl
 
-none_missing : (first : ℕ) (before : List ℕ) (events : List Event) (t : Told) → IsOrdered t → ((n : ℕ) → n < first → IsKnown n t) → ((n : ℕ) → IsAmong n before → IsKnown n t) → AreWithin63 first before events
+none_missing : (first : ℕ) (before : List ℕ) (events : List Event) (t : Told) → IsOrdered t → ((n : ℕ) → n < first → IsKnown n t) → ((n : ℕ) → IsAmong n before → IsKnown n t) → AreWithinReach first before events
     → after_events events t ≡ after_whole_events events t
 none_missing first before [] t ordered low known within = refl
 none_missing first before (e ∷ more) t ordered low known within =
     none_missing first (with_captured e before) more (after_event e t) (event_ordered e t ordered) (λ n lt. event_known n e t ordered (low n lt)) (known_step before e t ordered known) within.1
     ∙ ap (after_whole_events more) (event_whole first before e t ordered low known within.0)
 
-pub nothing_missing : (events : List Event) (t : Told) → t.track.early ≡ [] → AreWithin63 t.track.next [] events → after_events events t ≡ after_whole_events events t
+pub nothing_missing : (events : List Event) (t : Told) → t.track.early ≡ [] → AreWithinReach t.track.next [] events → after_events events t ≡ after_whole_events events t
 nothing_missing events t none within = none_missing t.track.next [] events t (new_ordered t none) (λ n lt. inl lt) (λ n nothing. absurd nothing) within
 
 -- ---- no flow goes beyond what is captured
@@ -504,8 +504,8 @@ acknowledged_to most h (Some last) n t ordered le b = brought_to most h (min n (
 event_to : (most : ℕ) (e : Event) (t : Told) → IsOrdered t → ((n : ℕ) → IsAmong n (with_captured e []) → n ≤ most) → IsTo most t → IsTo most (after_event e t)
 event_to most (captured h k item) t ordered up b =
     let le : k ≤ most = up k (inl refl) in
-    let u = brought h (k - 63) t in
-    let at = brought_to most h (k - 63) t (from_ordered t ordered) (omega (arith, le)) b in
+    let u = brought h (k - most_early) t in
+    let at = brought_to most h (k - most_early) t (from_ordered t ordered) (omega (arith, le)) b in
     by_test (IsTo most) (is_repeat k t.track) t (brought h 0 (with_item k item u)) (λ old. b)
     (λ new. brought_to most h 0 (with_item k item u) (kept_ready k item u (ready h k t ordered new)) (omega arith) (record { next = at.next; kept = kept_to most k item (early_of u) le at.kept }))
 event_to most (acknowledged h n) t ordered up b = acknowledged_to most h (last_number t.track.early) n t ordered (got_to most t.track.early (length t.track.early - 1) b.kept) b
@@ -558,10 +558,10 @@ holds_if most h (Some n) t ordered b = brought_bears (Holds most) h n t (holds_b
 
 event_kept : (most : ℕ) (e : Event) (t : Told) → IsOrdered t → ((n : ℕ) → IsAmong n (with_captured e []) → n ≤ most) → Holds most t → Holds most (after_event e t)
 event_kept most (captured h k item) t ordered up b =
-    let u = brought h (k - 63) t in
+    let u = brought h (k - most_early) t in
     by_test (Holds most) (is_repeat k t.track) t (brought h 0 (with_item k item u)) (λ old. b)
     (λ new. brought_bears (Holds most) h 0 (with_item k item u) (holds_bears most h 0) (kept_ready k item u (ready h k t ordered new))
-    (kept_to most k item (early_of u) (up k (inl refl)) (brought_bears (Holds most) h (k - 63) t (holds_bears most h (k - 63)) (from_ordered t ordered) b)))
+    (kept_to most k item (early_of u) (up k (inl refl)) (brought_bears (Holds most) h (k - most_early) t (holds_bears most h (k - most_early)) (from_ordered t ordered) b)))
 event_kept most (acknowledged h n) t ordered up b = holds_if most h (up_to (last_number t.track.early) (Some n)) t ordered b
 event_kept most (meanwhile calls text is_refused) t ordered up b = b
 
@@ -579,8 +579,8 @@ with_before n (meanwhile calls text is_refused) before among = among
 -- an event of a flow that keeps nothing, and of which no item behind the next one is captured
 event_first : (e : Event) (t : Told) → IsOrdered t → early_of t ≡ [] → ((n : ℕ) → IsAmong n (with_captured e []) → n ≤ next_of t) → after_event e t ≡ after_whole_event e t
 event_first (captured h k item) t ordered none up =
-    let same : brought h (k - 63) t ≡ t = brought_same h (k - 63) t ordered (omega (arith, up k (inl refl))) in
-    cond_same (is_repeat k t.track) t (brought h 0 (with_item k item (brought h (k - 63) t))) (read_on h (with_item k item t))
+    let same : brought h (k - most_early) t ≡ t = brought_same h (k - most_early) t ordered (omega (arith, up k (inl refl))) in
+    cond_same (is_repeat k t.track) t (brought h 0 (with_item k item (brought h (k - most_early) t))) (read_on h (with_item k item t))
     (λ new. ap (λ (u : Told). brought h 0 (with_item k item u)) same ∙ read_new h k item t (new_ready k t ordered new))
 event_first (acknowledged h n) t ordered none up = ap (λ es. brought_if h (up_to (last_number es) (Some n)) t) none
 event_first (meanwhile calls text is_refused) t ordered none up = refl
@@ -597,7 +597,7 @@ none_before events e t none up =
 -- ---- what a data packet does is an event
 
 at_side : (h : Heading) (p : Bool) (number : ℕ) (item : Item) (track : Track) (s : Scene) → s.own.track ≡ Some track
-    → after_number h (cond p None (Some number)) item s ≡ after_told (cond p (told_of track s) (brought h 0 (with_item number item (brought h (number - 63) (told_of track s))))) s
+    → after_number h (cond p None (Some number)) item s ≡ after_told (cond p (told_of track s) (brought h 0 (with_item number item (brought h (number - most_early) (told_of track s))))) s
 unfolding after_new
 at_side h p number item track s e = subst (At p) (sym e) (both p)
   where
@@ -606,7 +606,7 @@ at_side h p number item track s e = subst (At p) (sym e) (both p)
 
     At : Bool → Option Track → Type 0
     At q o = after_number h (cond q None (Some number)) item (with_track o)
-        ≡ after_told (cond q (told_of track (with_track o)) (brought h 0 (with_item number item (brought h (number - 63) (told_of track (with_track o)))))) (with_track o)
+        ≡ after_told (cond q (told_of track (with_track o)) (brought h 0 (with_item number item (brought h (number - most_early) (told_of track (with_track o)))))) (with_track o)
 
     both : (q : Bool) → At q (Some track)
     both true = refl

@@ -16,9 +16,11 @@ use Rattle.xns_spp.specs.declared.item.Item.{Item}
 use Rattle.xns_spp.specs.declared.spp_fault.SppFault.{SppFault}
 use Rattle.xns_lines.specs.Lines.{lines_of}
 use Rattle.xns_dump.specs.Dump.Line.{digits_of}
+use Rattle.xns_dump.specs.Flows.{flow_of}
 use Rattle.xns_dump.specs.Laws.{IsLoud, IsQuiet, JoinedTextsSayRefused, OnlyRefusalsSayRefused, says_refused}
+use Rattle.xns_calls.specs.Numbers.{most_early}
 use Rattle.xns_calls.specs.Calls.{after_body, after_bytes, after_digits, after_found, after_header, after_line, calls_text, has_refusal, known_from, line_taken, nothing_known, text_from}
-use Rattle.xns_calls.specs.Capture.{Known, after_at, after_in, after_places, after_sequenced, flow_behind, flow_of, heading_at, place_of, scene_in, with_new}
+use Rattle.xns_calls.specs.Capture.{Known, after_at, after_in, after_places, after_sequenced, flow_behind, heading_at, place_of, scene_in, with_new}
 use Rattle.xns_calls.specs.Exchange.{Scene, acknowledged, advance_other, advance_track, advanced, after_acknowledge, after_data, after_new, after_number, after_packet, begin_track, begun, item_in, new_number, of_other, seen_from_other, take_in_track, told_of}
 use Rattle.xns_calls.specs.Reading.{Told, after_heard, brought, brought_over, is_due, item_read, passed, past, read_next, said_item, with_kept_item}
 use Rattle.xns_calls.specs.Speech.{heard_of}
@@ -53,7 +55,7 @@ module _ (joined : JoinedTextsSayRefused) (only : OnlyRefusalsSayRefused) where
 
   missing_is : (h : Heading) (a b : ℕ) → IsQuiet (missing_line h a b)
   unfolding missing_line
-  missing_is h a b = joined.quiet _ _ (joined.quiet _ _ (joined.quiet _ _ (joined.quiet _ _ (joined.quiet _ _ (heading_is h) (record { skips = λ ys. refl })) (only.number a)) (record { skips = λ ys. refl })) (only.number (b - 1))) (record { skips = λ ys. refl })
+  missing_is h a b = joined.quiet _ _ (joined.quiet _ _ (joined.quiet _ _ (heading_is h) (joined.quiet (codes " missing ") _ (record { skips = λ ys. refl }) (only.number a))) (joined.quiet (codes " to ") _ (record { skips = λ ys. refl }) (only.number (b - 1)))) (record { skips = λ ys. refl })
 
   words_are : (name ws : List ℕ) → IsQuiet name → IsQuiet (words_end name ws)
   unfolding words_end
@@ -206,7 +208,7 @@ module _ (joined : JoinedTextsSayRefused) (only : OnlyRefusalsSayRefused) where
   taken_says : (b : Bool) (h : Heading) (n : ℕ) (item : Item) (o : Option Track) (s : Scene) → SaysScene b s → SaysScene b (take_in_track h n item o s)
   taken_says b h n item None s k = k
   taken_says b h n item (Some track) s k =
-      let moved = brought h (n - 63) (told_of track s) in brought_says b h 0 (with_kept_item n item moved) (brought_says b h (n - 63) (told_of track s) k)
+      let moved = brought h (n - most_early) (told_of track s) in brought_says b h 0 (with_kept_item n item moved) (brought_says b h (n - most_early) (told_of track s) k)
 
   new_says : (b : Bool) (h : Heading) (n : ℕ) (item : Item) (s : Scene) → SaysScene b s → SaysScene b (after_new h n item s)
   unfolding after_new

@@ -4,7 +4,7 @@ use Rattle.xns_spp.specs.Header.{is_system}
 use Rattle.xns_spp.specs.declared.header.Header.{Header}
 use Rattle.xns_spp.specs.declared.item.Item.{Item}
 use Rattle.xns_calls.specs.Exchange.{Scene, is_repeat, item_in, up_to}
-use Rattle.xns_calls.specs.Numbers.{near}
+use Rattle.xns_calls.specs.Numbers.{most_early, near}
 use Rattle.xns_calls.specs.Queue.{last_number}
 use Rattle.xns_calls.specs.Reading.{Told, brought, item_taken, read_next, with_kept_item}
 use Rattle.xns_calls.specs.declared.early.Early.{Early}
@@ -92,11 +92,11 @@ captured_in (e ∷ more) before = captured_in more (with_captured e before)
 -- the items from `first` on which were sent so long before the event that they have to be captured by then: they lie 64 or more before an item,
 -- or they are acknowledged
 abbrev pub IsLate : Event → ℕ → Type 0
-IsLate (captured heading number item) n = n + 63 < number
+IsLate (captured heading number item) n = n + most_early < number
 IsLate (acknowledged heading number) n = n < number
 IsLate (meanwhile calls text is_refused) n = ⊥
 
 -- each item from `first` on is captured within 63 numbers of its place, and before it is acknowledged
-abbrev pub AreWithin63 : ℕ → List ℕ → List Event → Type 0
-AreWithin63 first before [] = Unit {0}
-AreWithin63 first before (e ∷ more) = ((n : ℕ) → first ≤ n → IsLate e n → IsAmong n before) × AreWithin63 first (with_captured e before) more
+abbrev pub AreWithinReach : ℕ → List ℕ → List Event → Type 0
+AreWithinReach first before [] = Unit {0}
+AreWithinReach first before (e ∷ more) = ((n : ℕ) → first ≤ n → IsLate e n → IsAmong n before) × AreWithinReach first (with_captured e before) more

@@ -1,7 +1,6 @@
 -- Flows as numbers, by which their connections are found.
-use Rattle.std.specs.Prelude.{◌≡◌, ◌<◌, All, length}
 use Rattle.std.specs.declared.cmp.Ordering.{Ordering}
-use Rattle.xns_dump.specs.Flows.Places.{host_and_socket}
+use Rattle.xns_dump.specs.Flows.Places.{IsPlace, host_and_socket}
 use Rattle.xns_dump.specs.declared.flows.flow.Flow.{Flow}
 use Rattle.xns_dump.specs.declared.flows.place.Place.{Place}
 use Rattle.xns_calls.specs.contracts.flow_key.FlowKeyOrd.TheImpl as key_ord
@@ -18,12 +17,7 @@ end_key place = record { host_and_socket = host_and_socket place; identifier = p
 abbrev pub flow_key : Flow → FlowKey
 flow_key flow = record { source = end_key flow.source; target = end_key flow.target }
 
--- a host number has six bytes, and a socket number is a word
-pub record IsPlace (place : Place) : Type 0 where
-  pub host : length place.host ≡ 6
-  pub bytes : All (λ byte. byte < 256) place.host
-  pub socket : place.socket < 65536
-
+-- both ends are places
 pub record IsFlow (flow : Flow) : Type 0 where
   pub source : IsPlace flow.source
   pub target : IsPlace flow.target

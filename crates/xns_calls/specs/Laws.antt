@@ -9,7 +9,7 @@ use Rattle.courier_messages.specs.Conversation.{conversation, ending, opening}
 use Rattle.courier_messages.specs.declared.message.Message.{Message}
 use Rattle.xns_dump.specs.Dump.Line.{has_word}
 use Rattle.xns_calls.specs.Calls.{calls_text, has_refusal}
-use Rattle.xns_calls.specs.Events.{AreWithin63, Event, IsAmong, acknowledged_event, after_event, after_events, after_whole_event, after_whole_events, captured, captured_in, own_events, with_captured}
+use Rattle.xns_calls.specs.Events.{AreWithinReach, Event, IsAmong, acknowledged_event, after_event, after_events, after_whole_event, after_whole_events, captured, captured_in, own_events, with_captured}
 use Rattle.xns_calls.specs.Exchange.{Scene, after_acknowledge, after_packet, after_told, of_other, seen_from_other, take_number, told_of}
 use Rattle.xns_calls.specs.Listening.{messages_heard}
 use Rattle.xns_calls.specs.Numbers.{near}
@@ -49,7 +49,7 @@ NumbersAreReadBack = (next number : ℕ) → next ≤ most_items → next ≤ nu
 
 -- where each item of a flow is captured within 63 numbers of its place, and before it is acknowledged, none is missing: what is said is what is said without the line of missing items
 abbrev pub NothingIsMissing : Type 0
-NothingIsMissing = (events : List Event) (t : Told) → t.track.early ≡ [] → AreWithin63 t.track.next [] events → after_events events t ≡ after_whole_events events t
+NothingIsMissing = (events : List Event) (t : Told) → t.track.early ≡ [] → AreWithinReach t.track.next [] events → after_events events t ≡ after_whole_events events t
 
 -- an item that was captured before changes nothing and says nothing
 abbrev pub RepeatsSayNothing : Type 0

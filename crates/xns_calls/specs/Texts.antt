@@ -31,7 +31,7 @@ flow_line heading packet f =
 
 -- the capture lacks the items from the first number up to that before the second
 unfoldable pub missing_line : Heading → ℕ → ℕ → List ℕ
-missing_line heading first behind = heading_text heading ++ codes " missing " ++ decimal first ++ codes " to " ++ decimal (behind - 1) ++ codes "\n"
+missing_line heading first behind = heading_text heading ++ (codes " missing " ++ decimal first) ++ (codes " to " ++ decimal (behind - 1)) ++ codes "\n"
 
 -- words behind what they are, at the end of a line
 unfoldable pub words_end : List ℕ → List ℕ → List ℕ

@@ -26,4 +26,5 @@ mod track;
 mod unanswered;
 mod waiting;
 
+pub use bringing::MOST_EARLY;
 pub use calling::calls;

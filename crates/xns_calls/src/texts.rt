@@ -1,5 +1,6 @@
 //! The lines of the output, a function for each.
 ghost use Rattle.std.specs.Prelude.{◌++◌};
+ghost use Rattle.std.specs.Fmt.{decimal};
 ghost use Rattle.xns_idp.specs.Packet.{packet_model};
 ghost use Rattle.xns_lines.specs.Report.{Adds};
 ghost use Rattle.xns_calls.specs.Texts.{answer_text, call_line, end_text, flow_line, heading_text, missing_line, reason_text, refused_line, words_end};
@@ -72,11 +73,17 @@ pub fn append_missing_line(
     ensures { Adds result report.old report.new (missing_line heading first behind) }
 {
     append_heading(report, heading)?;
-    report.append(b" missing ")?;
-    append_decimal_u64(report, first)?;
-    report.append(b" to ")?;
-    append_decimal_u64(report, behind.saturating_sub(1))?;
+    append_item_number(report, b" missing ", first)?;
+    append_item_number(report, b" to ", behind.saturating_sub(1))?;
     report.append(b"\n")
+}
+
+/// Appends a name and the number of an item.
+fn append_item_number(report: &mut Report, name: &[u8], number: u64) -> Result<(), AllocError>
+    ensures { Adds result report.old report.new (name.now ++ decimal number) }
+{
+    report.append(name)?;
+    append_decimal_u64(report, number)
 }
 
 /// Appends the line of a call.

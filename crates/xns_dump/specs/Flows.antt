@@ -4,7 +4,9 @@ pub mod Places
 use Rattle.std.specs.Prelude.{ℕ, ◌==◌, ◌&&◌, Bool, List, [], ◌∷◌, Option, Some, None, if◌then◌else◌}
 use Rattle.std.specs.Str.{bytes_eq}
 use Rattle.std.specs.Option.{unwrap_or}
+use Rattle.xns_idp.specs.Packet.{PacketModel}
 use Rattle.xns_spp.specs.Nearest.{nearest}
+use Rattle.xns_spp.specs.declared.header.Header.{Header}
 use Rattle.xns_dump.specs.declared.flows.flow.Flow.{Flow}
 use Rattle.xns_dump.specs.declared.flows.place.Place.{Place}
 
@@ -15,6 +17,13 @@ is_place a b = bytes_eq a.host b.host && (a.socket == b.socket && a.identifier =
 -- packets with the same two ends are of one flow
 abbrev pub is_flow : Flow → Flow → Bool
 is_flow a b = is_place a.source b.source && is_place a.target b.target
+
+-- the flow of a packet: its two ends; network numbers do not count
+abbrev pub flow_of : PacketModel → Header → Flow
+flow_of packet f = record {
+  source = record { host = packet.source.host; socket = packet.source.socket; identifier = f.source_id };
+  target = record { host = packet.target.host; socket = packet.target.socket; identifier = f.target_id };
+}
 
 -- a data packet is its flow and its sequence field
 abbrev pub DataPacket : Type 0

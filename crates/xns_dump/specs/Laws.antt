@@ -1,7 +1,7 @@
 -- What the laws say: which texts have the word `refused`, and which flows are one.
 use Rattle.std.specs.Prelude.{◌≡◌, ℕ, Bool, true, false, List, ◌++◌, codes}
 use Rattle.std.specs.Fmt.{decimal}
-use Rattle.std.specs.Ordering.{is_eq}
+use Rattle.std.specs.Ordering.{is_eq, nat_cmp, ordering_then}
 use Rattle.hex.specs.declared.error.FromHexError.{FromHexError}
 use Rattle.xns_idp.specs.declared.address.Address.{Address}
 use Rattle.xns_idp.specs.declared.fault.IdpFault.{IdpFault}
@@ -10,11 +10,13 @@ use Rattle.xns_lines.specs.Text.{hex_word, words_text}
 use Rattle.xns_dump.specs.Dump.Line.{has_word, hex_refusal, is_refused, text_of_line}
 use Rattle.xns_dump.specs.Flows.{DataPacket, is_flow}
 use Rattle.xns_dump.specs.Flows.Numbers.{flow_cmp}
+use Rattle.xns_dump.specs.Flows.Places.{IsPlace, host_and_socket, place_cmp}
 use Rattle.xns_dump.specs.Layers.Courier.{callee_text}
 use Rattle.xns_dump.specs.Layers.Packets.{idp_refusal}
 use Rattle.xns_dump.specs.Layers.Sequenced.{header_refusal}
 use Rattle.xns_dump.specs.Layers.Text.{address_text}
 use Rattle.xns_dump.specs.declared.flows.flow.Flow.{Flow}
+use Rattle.xns_dump.specs.declared.flows.place.Place.{Place}
 
 abbrev pub says_refused : List ℕ → Bool
 says_refused text = has_word (codes "refused") text
@@ -54,3 +56,7 @@ RefusedLinesSaySo = (n : ℕ) (number : DataPacket → ℕ) (line : List ℕ) �
 pub record FlowsAreToldApart : Type 0 where
   pub order : (a b : Flow) → is_eq (flow_cmp a b) ≡ is_flow a b
   pub same : (a b : Flow) → is_flow a b ≡ true → a ≡ b
+
+-- places are ordered by host and socket as one number, and then by their identifiers
+abbrev pub PlacesAreOrderedByNumbers : Type 0
+PlacesAreOrderedByNumbers = (a b : Place) → IsPlace a → IsPlace b → ordering_then (nat_cmp (host_and_socket a) (host_and_socket b)) (nat_cmp a.identifier b.identifier) ≡ place_cmp a b

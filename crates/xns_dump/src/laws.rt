@@ -1,5 +1,5 @@
 //! Laws of the definitions, as functions that do nothing.
-ghost use Rattle.xns_dump.specs.Laws.{FlowsAreToldApart, JoinedTextsSayRefused, OnlyRefusalsSayRefused, RefusedLinesSaySo};
+ghost use Rattle.xns_dump.specs.Laws.{FlowsAreToldApart, JoinedTextsSayRefused, OnlyRefusalsSayRefused, PlacesAreOrderedByNumbers, RefusedLinesSaySo};
 
 /// The text of a line has the word `refused` exactly where the line is refused, whatever its number and those of items.
 pub fn refused_lines_say_so()
@@ -21,4 +21,9 @@ pub fn joined_texts_say_refused()
 /// The order of flows holds two for equal exactly where their hosts, sockets and identifiers are, and then they are one.
 pub fn flows_are_told_apart()
     ensures { FlowsAreToldApart }
+{}
+
+/// Places are ordered by host and socket as one number, and then by their identifiers.
+pub fn places_are_ordered_by_numbers()
+    ensures { PlacesAreOrderedByNumbers }
 {}

@@ -8,7 +8,7 @@ use Rattle.xns_spp.specs.declared.header.Header.{Header}
 use Rattle.xns_spp.specs.declared.spp_fault.SppFault.{SppFault}
 use Rattle.xns_spp.specs.declared.spp_fault.SppFault.TheVariants.{Short}
 use Rattle.xns_small.specs.declared.fault.SmallFault.TheVariants as small
-use Rattle.xns_dump.specs.Flows.{DataPacket}
+use Rattle.xns_dump.specs.Flows.{DataPacket, flow_of}
 use Rattle.xns_dump.specs.Layers.Courier.{courier_text}
 use Rattle.xns_dump.specs.Layers.Small.{inner_refusal}
 use Rattle.xns_dump.specs.Layers.Text.{data_line, line_of, words_line}
@@ -29,14 +29,7 @@ header_text f = codes " spp control " ++ connection_text f ++ sequence_text f
 
 -- the data packet that brings an item, if it is one: no system packet is, and none to an identifier that isn't known
 unfoldable pub item_of : PacketModel → Header → Option DataPacket
-item_of packet f =
-    if brings_item f then Some (
-      record {
-        source = record { host = packet.source.host; socket = packet.source.socket; identifier = f.source_id };
-        target = record { host = packet.target.host; socket = packet.target.socket; identifier = f.target_id };
-      },
-      f.sequence,
-    ) else None
+item_of packet f = if brings_item f then Some (flow_of packet f, f.sequence) else None
 
 -- the number of its item (XSIS 028112, Sequenced Packet Protocol, Sequence Number)
 abbrev pub number_text : ℕ → List ℕ
