@@ -2,9 +2,7 @@
 use Rattle.std.proofs.Common.{sym, subst}
 use Rattle.courier_calls.specs.Calls.{Serving}
 use Rattle.courier_calls.specs.Laws.{WhatIsHeardStays, BothSidesAgree, CallerItemsCanBeSent}
-use Rattle.xns_world.specs.CallLaws.{Answering, Given}
-use Rattle.xns_world.specs.CallPromises.{AreParties}
-use Rattle.xns_world.specs.CallWorld.{Parties}
+use Rattle.xns_world.specs.CallLaws.{Answering, LawsAreGiven, ServerLawsAreGiven}
 use Rattle.item_world.specs.Laws.{EachStepKeepsTheOrder, ForeignBytesChangeNothing}
 
 -- the laws of a service's sessions, in each state that it can be in
@@ -12,9 +10,9 @@ pub record SessionLaws {S : Type 0} (serving : Serving S) (IsServiceState : S �
   pub heard : WhatIsHeardStays serving
   pub pieces : CallerItemsCanBeSent
   pub agree : (s : S) → IsServiceState s → BothSidesAgree serving s
-  pub answering : (s : S) → IsServiceState s → Answering serving s
+  pub answering : ServerLawsAreGiven serving IsServiceState
 
-pub given : {S : Type 0} (serving : Serving S) (IsServiceState : S → Type 0) → EachStepKeepsTheOrder → ForeignBytesChangeNothing → SessionLaws serving IsServiceState → (p : Parties S) → AreParties serving IsServiceState p → Given p
+pub given : {S : Type 0} (serving : Serving S) (IsServiceState : S → Type 0) → EachStepKeepsTheOrder → ForeignBytesChangeNothing → SessionLaws serving IsServiceState → LawsAreGiven serving IsServiceState
 given {S} serving IsServiceState w foreign l p are = record {
   world = w;
   foreign = foreign;

@@ -2,6 +2,7 @@
 use Rattle.std.specs.Prelude.{All}
 use Rattle.courier_calls.specs.Calls.{Serving, IsFitting}
 use Rattle.courier_calls.specs.Laws.{WhatIsHeardStays, BothSidesAgree, CallerItemsCanBeSent, SessionItemsCanBeSent, FirstFaultStays}
+use Rattle.xns_world.specs.CallPromises.{AreParties}
 use Rattle.xns_world.specs.CallWorld.{Parties}
 use Rattle.item_world.specs.EndLaws.{EndLaws}
 use Rattle.item_world.specs.Laws.{EachStepKeepsTheOrder, ForeignBytesChangeNothing, NetworkLaws}
@@ -22,3 +23,10 @@ pub record Given {S : Type 0} (p : Parties S) : Type 0 where
   pub pieces : CallerItemsCanBeSent
   pub answering : Answering p.serving p.service
   pub fitting : All IsFitting p.calls
+
+-- of a server's session in each state that its service can be in, and of all parties with that service
+abbrev pub ServerLawsAreGiven : {S : Type 0} → Serving S → (S → Type 0) → Type 0
+ServerLawsAreGiven {S} serving IsServiceState = (s : S) → IsServiceState s → Answering serving s
+
+abbrev pub LawsAreGiven : {S : Type 0} → Serving S → (S → Type 0) → Type 0
+LawsAreGiven {S} serving IsServiceState = (p : Parties S) → AreParties serving IsServiceState p → Given p

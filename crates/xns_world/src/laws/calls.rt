@@ -1,10 +1,7 @@
 //! The headline for calls, as the contract of a function that does nothing.
 
-ghost use Rattle.std.specs.Prelude.{◌≡◌, All};
-ghost use Rattle.courier_calls.specs.Calls.{IsFitting};
-ghost use Rattle.xns_world.specs.CallWorld.{Parties};
-ghost use Rattle.xns_world.specs.CallPromises.{AreParties, CallsComeInOrder};
-ghost use Rattle.xns_world.specs.CallLaws.{Given, Answering};
+ghost use Rattle.xns_world.specs.CallLaws.{LawsAreGiven, ServerLawsAreGiven};
+ghost use Rattle.xns_world.specs.CallPromises.{CallsComeInOrder};
 
 use courier_calls::Service;
 use courier_calls::laws::{
@@ -26,7 +23,7 @@ pub fn calls_come_in_order<S: Service>()
 
 /// The laws of an end, of the network and of the sessions, as the play's proofs take them.
 pub(crate) fn laws_are_given<S: Service>()
-    ensures { (p : Parties S) → AreParties S.serving S.IsServiceState p → Given p }
+    ensures { LawsAreGiven S.serving S.IsServiceState }
 {
     each_step_keeps_the_order();
     foreign_bytes_change_nothing();
@@ -38,7 +35,7 @@ pub(crate) fn laws_are_given<S: Service>()
 
 /// The laws of an end, of the network and of a server's session.
 pub(crate) fn server_laws_are_given<S: Service>()
-    ensures { (s : S) → S.IsServiceState s → Answering S.serving s }
+    ensures { ServerLawsAreGiven S.serving S.IsServiceState }
 {
     end_laws_are_given();
     network_laws_are_given();

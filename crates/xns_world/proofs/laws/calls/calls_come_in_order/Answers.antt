@@ -1,10 +1,10 @@
 use Rattle.courier_calls.specs.Calls.{Serving}
-use Rattle.xns_world.specs.CallLaws.{Given}
+use Rattle.xns_world.specs.CallLaws.{Given, LawsAreGiven}
 use Rattle.item_world.specs.declared.event.Event.{Event}
 use Rattle.item_world.specs.declared.setup.Setup.{Setup}
 use Rattle.item_world.specs.Setup.{IsSetup, IsGood}
 use Rattle.std.proofs.Common.{ℕ, List, take}
-use Rattle.xns_world.specs.CallPromises.{AreParties, CallsComeInOrder}
+use Rattle.xns_world.specs.CallPromises.{CallsComeInOrder}
 use Rattle.xns_world.specs.CallOrder.{CallsHold}
 use Rattle.xns_world.specs.CallSteps.{all_call_stepped, steps_of_run}
 use Rattle.xns_world.specs.CallWorld.{Parties, CallWorld, call_start, run_calls}
@@ -21,7 +21,7 @@ moment_holds : {S : Type 0} (p : Parties S) (setup : Setup) (events : List Event
 unfolding moment
 moment_holds p setup events n g fits good = all_hold p (call_start setup) (take n (steps_of_run p setup events)) g (start_between p setup g fits good).holds
 
-come_in_order : {S : Type 0} (serving : Serving S) (IsServiceState : S → Type 0) → ((p : Parties S) → AreParties serving IsServiceState p → Given p) → CallsComeInOrder serving IsServiceState
+come_in_order : {S : Type 0} (serving : Serving S) (IsServiceState : S → Type 0) → LawsAreGiven serving IsServiceState → CallsComeInOrder serving IsServiceState
 unfolding moment
 come_in_order serving IsServiceState given = record {
   once = λ p setup events are fits good. let g = given p are in once_in_order p (run_calls p setup events) g (always_between p setup events g fits good).holds;
