@@ -74,27 +74,15 @@ impl<'a, S: Service> CallPlay<'a, S> {
         self.settle(alloc, calls, side)
     }
 
-    /// Delivers these packets in turn.
-    fn deliver_all(
-        &mut self,
-        alloc: Global,
-        calls: &[Call],
-        numbers: &[usize],
-    ) -> Result<(), AllocError>
-        ensures { OnOk result (CallStepsBy S.serving calls.now self.old self.new (λ p w. fold (delivers p) w numbers.now)) }
-    {
-        for number in numbers {
-            self.deliver(alloc, calls, *number)?;
-        }
-        Ok(())
-    }
-
     /// Delivers each packet that was never delivered and is there as this begins, in order.
     fn rest(&mut self, alloc: Global, calls: &[Call]) -> Result<(), AllocError>
         ensures { OnOk result (CallStepsBy S.serving calls.now self.old self.new (λ p w. call_happens p w Rest)) }
     {
         let numbers = self.network.unsettled(alloc)?;
-        self.deliver_all(alloc, calls, numbers.as_slice())
+        for number in numbers {
+            self.deliver(alloc, calls, number)?;
+        }
+        Ok(())
     }
 
     fn tick(&mut self, alloc: Global, calls: &[Call], side: Side) -> Result<(), AllocError>
