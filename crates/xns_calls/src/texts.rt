@@ -8,6 +8,7 @@ ghost use Rattle.xns_calls.specs.Texts.{answer_text, call_line, end_text, flow_l
 use crate::heading::Heading;
 use courier_messages::{MessageFault, SessionFault};
 use std::alloc::AllocError;
+use std::ops::Range;
 use xns_dump::layers::courier::{append_callee, append_field};
 use xns_dump::layers::text::append_address;
 use xns_idp::{Address, Packet};
@@ -62,19 +63,18 @@ pub fn append_flow_line(
     report.append(b"\n")
 }
 
-/// Appends the line of items that the capture hasn't, from the first up to that before the second.
+/// Appends the line of items that the capture hasn't.
 #[tactic(auto, unfolding(crate::specs::Texts::missing_line))]
 pub fn append_missing_line(
     report: &mut Report,
     heading: Heading,
-    first: u64,
-    behind: u64,
+    missing: Range<u64>,
 ) -> Result<(), AllocError>
-    ensures { Adds result report.old report.new (missing_line heading first behind) }
+    ensures { Adds result report.old report.new (missing_line heading missing.start missing.end) }
 {
     append_heading(report, heading)?;
-    append_item_number(report, b" missing ", first)?;
-    append_item_number(report, b" to ", behind.saturating_sub(1))?;
+    append_item_number(report, b" missing ", missing.start)?;
+    append_item_number(report, b" to ", missing.end.saturating_sub(1))?;
     report.append(b"\n")
 }
 
