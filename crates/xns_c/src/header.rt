@@ -1,5 +1,3 @@
-use xns_spp::Header;
-
 /// The twelve bytes before the data of a sequenced packet.
 #[repr(C)]
 #[derive(Clone, Copy)]
@@ -18,39 +16,4 @@ pub struct XnsHeader {
     pub acknowledge: u16,
     /// The last number that the sender will accept.
     pub allocation: u16,
-}
-
-impl XnsHeader {
-    ghost use Rattle.std.specs.Prelude.{◌≡◌};
-    ghost use Rattle.xns_c.specs.Views.{header_in};
-
-    /// The same for C.
-    pub fn of(header: &Header) -> XnsHeader
-        ensures { header_in result ≡ header.now }
-    {
-        XnsHeader {
-            control: header.control,
-            stream: header.stream,
-            source_id: header.source_id,
-            target_id: header.target_id,
-            sequence: header.sequence,
-            acknowledge: header.acknowledge,
-            allocation: header.allocation,
-        }
-    }
-
-    /// The same for the stack.
-    pub fn header(&self) -> Header
-        ensures { result ≡ header_in self.now }
-    {
-        Header {
-            control: self.control,
-            stream: self.stream,
-            source_id: self.source_id,
-            target_id: self.target_id,
-            sequence: self.sequence,
-            acknowledge: self.acknowledge,
-            allocation: self.allocation,
-        }
-    }
 }

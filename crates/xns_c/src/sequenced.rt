@@ -11,7 +11,7 @@ use crate::address::{XnsAddress, tell_end};
 use crate::front::put_front;
 use crate::header::XnsHeader;
 use crate::results::{NOTHING, OK, SHORT};
-use xns_spp::{opening, read_header};
+use xns_spp::{Header, opening, read_header};
 
 /// Reads the header at the front of a packet's data; the rest of the data follows from byte 12 on. `SHORT` for fewer than
 /// 12 bytes (XSIS 028112, Sequenced Packet Protocol).
@@ -25,7 +25,15 @@ pub extern "C" fn xns_header_read(body: &[u8], header: &mut XnsHeader) -> u32
 {
     match read_header(body) {
         Ok((found, _)) => {
-            *header = XnsHeader::of(&found);
+            *header = XnsHeader {
+                control: found.control,
+                stream: found.stream,
+                source_id: found.source_id,
+                target_id: found.target_id,
+                sequence: found.sequence,
+                acknowledge: found.acknowledge,
+                allocation: found.allocation,
+            };
             OK
         }
         Err(_) => SHORT,
@@ -42,7 +50,16 @@ pub extern "C" fn xns_header_write(
     ensures written { 12 ≤ length buffer.old → (result ≡ ok) × IsPut (header_spelling (header_in header.now)) buffer.old buffer.new written.new }
     ensures short { length buffer.old < 12 → (result ≡ short_buffer) × (written.new ≡ 12) × (buffer.new ≡ buffer.old) }
 {
-    put_front(&header.header().to_bytes(), buffer, written)
+    let whole = Header {
+        control: header.control,
+        stream: header.stream,
+        source_id: header.source_id,
+        target_id: header.target_id,
+        sequence: header.sequence,
+        acknowledge: header.acknowledge,
+        allocation: header.allocation,
+    };
+    put_front(&whole.to_bytes(), buffer, written)
 }
 
 /// Who opens a connection by these bytes, and with which identifier. `NOTHING` where nobody does
