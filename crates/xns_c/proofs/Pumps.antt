@@ -1,12 +1,11 @@
 -- What holds while items move.
-use Rattle.std.proofs.Common.{◌≡◌, ℕ, ◌+◌, ◌<◌, ◌≤◌, ◌≢◌, ◌⊎◌, inl, inr, get_or, slice_get, List, [], ◌∷◌, length, true, Option, Some, None, Ok, Err, refl, sym, ◌∙◌, ap, subst, arith}
+use Rattle.std.proofs.Common.{◌≡◌, ℕ, ◌+◌, ◌<◌, ◌≤◌, ◌≢◌, ◌⊎◌, inl, inr, get_or, slice_get, List, [], ◌∷◌, length, Option, Some, None, Ok, Err, refl, sym, ◌∙◌, ap, subst, arith}
 use Rattle.std.proofs.lemmas.Option.{slice_get_past, slice_get_cases}
 use Rattle.xns_spp.specs.Held.{Held, StandsFor}
 use Rattle.xns_spp.specs.Sending.{send_fault, after_send, take_answer, handing, after_take}
 use Rattle.xns_spp.specs.State.{State}
 use Rattle.xns_spp.specs.declared.item.Item.{Item}
 use Rattle.xns_spp.specs.declared.send_fault.SendFault.{SendFault}
-use Rattle.xns_c.specs.Answering.{has_items}
 use Rattle.xns_c.specs.Pumping.{Side, sending, moving, one_step, Leads, on, Pumped}
 
 -- steps led to here
@@ -59,11 +58,6 @@ module _ {S : Type 0} (side : Side S) where
   no_send : (t : S) (v : State) (now : List Item) → side.out t ≡ now → side.out t ≢ [] → ((x : Item) (xs : List Item) → side.out t ≡ x ∷ xs → send_fault v x ≢ None) → moving side t v now ≡ None
   no_send t v [] is some h = absurd (some is)
   no_send t v (x ∷ xs) is some h = held_back t (side.with_out t xs) v (after_send v x) (send_fault v x) (h x xs is)
-
-  -- items that are there are some
-  pub some_out : (xs : List Item) → has_items xs ≡ true → xs ≢ []
-  some_out [] h none = absurd cc
-  some_out (x ∷ xs) h none = absurd cc
 
   -- the first item that is out is refused
   pub full : (Stops : S → S → Type 0) (first : S × State) (t n : S) (e f : Held) → n ≡ t → f ≡ e → side.out t ≢ []

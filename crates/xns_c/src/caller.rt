@@ -18,6 +18,7 @@ use crate::caller_handle::XnsCaller;
 use crate::handle::XnsEndpoint;
 use crate::item::XnsItem;
 use crate::message::XnsMessage;
+use crate::outgoing::next_item;
 use crate::pumping::pump;
 use crate::results::{NO_CALLER, NO_ENDPOINT, NO_MEMORY, OK};
 use crate::session::Session;
@@ -104,7 +105,7 @@ pub extern "C" fn xns_caller_next_item(
     let Some(mut session) = handle.take(alloc) else {
         return NO_CALLER;
     };
-    let result = session.next_item(item, buffer);
+    let result = next_item(&mut *session, item, buffer);
     handle.put(session);
     result
 }

@@ -1,8 +1,10 @@
 //! Courier's messages.
 
-ghost use Rattle.std.specs.Prelude.{◌≡◌, ◌≢◌, ◌<◌, ◌≤◌, ℕ, List, length, IfSome, IfOk, Ok, Err, Some, None, MatchOption};
+ghost use Rattle.std.specs.Prelude.{◌≡◌, ◌≢◌, ◌<◌, ◌≤◌, ℕ, List, length, IfSome, IfOk, Ok, Err, Some, None, MatchOption, true, ◌⊎◌};
 ghost use Rattle.courier_messages.specs.Message.{most_bytes, message_bytes, message_of};
 ghost use Rattle.courier_messages.specs.declared.fault.MessageFault.{MessageFault};
+ghost use Rattle.courier_messages.specs.declared.fault.SessionFault.{SessionFault};
+ghost use Rattle.courier_messages.specs.declared.fault.SessionFault.TheVariants.{NoMemory};
 ghost use Rattle.courier_messages.specs.declared.head.Head.TheVariants.{Call};
 ghost use Rattle.courier_messages.specs.declared.message.Message.{Message};
 ghost use Rattle.courier_messages.specs.Head.{with_words, words_in};
@@ -65,6 +67,26 @@ pub fn session_fault_number(fault: SessionFault) -> u32
         SessionFault::Stream { kind } => stream_number(kind),
         SessionFault::NoMemory => NO_MEMORY,
         SessionFault::Failed => STOPPED,
+    }
+}
+
+/// What is told of an item that a session took in. A fault stops the session; where memory is refused it goes on.
+pub fn told(taken: Result<(), SessionFault>, failed: &mut bool) -> u32
+    ensures good { taken ≡ Ok tt → result ≡ ok }
+    ensures ok { result ≡ ok → taken ≡ Ok tt }
+    ensures err { (fault : SessionFault) → taken ≡ Err fault → result ≡ session_fault_number fault }
+    ensures memory { result ≡ no_memory → taken ≡ Err NoMemory }
+    ensures stays { (result ≡ ok) ⊎ (result ≡ no_memory) → failed.new ≡ failed.old }
+    ensures stops { result ≢ ok → result ≢ no_memory → failed.new ≡ true }
+    ensures apart { result ≢ too_long }
+{
+    match taken {
+        Ok(()) => OK,
+        Err(SessionFault::NoMemory) => NO_MEMORY,
+        Err(fault) => {
+            *failed = true;
+            session_fault_number(fault)
+        }
     }
 }
 

@@ -1,40 +1,38 @@
 //! Items on their way out, and the words of messages.
 
-ghost use Rattle.std.specs.Prelude.{◌≡◌, ◌≢◌, ◌<◌, ◌≤◌, ℕ, List, [], ◌∷◌, ◌++◌, length, true, false, OnErr, IfOk, Ok, None};
-ghost use Rattle.xns_spp.specs.Held.{StandsFor};
-ghost use Rattle.xns_spp.specs.Sending.{send_fault, after_send};
-ghost use Rattle.xns_spp.specs.State.{State};
+ghost use Rattle.std.specs.Prelude.{◌≡◌, ◌≢◌, ◌<◌, ◌≤◌, ℕ, List, [], ◌∷◌, ◌++◌, length, OnErr, IfOk, IfErr, Ok, Err, ◌⊎◌};
 ghost use Rattle.xns_spp.specs.declared.item.Item.{Item};
 ghost use Rattle.courier_messages.specs.Cutting.{cut};
 ghost use Rattle.courier_messages.specs.Head.{with_words};
 ghost use Rattle.courier_messages.specs.Message.{message_words};
 ghost use Rattle.xns_c.specs.Given.{ItemIsGiven};
-ghost use Rattle.xns_c.specs.Results.{ok, nothing, short_buffer};
+ghost use Rattle.xns_c.specs.Results.{ok, nothing, no_memory, short_buffer, too_long};
+ghost use Rattle.xns_c.specs.Talk.{longest_item};
 ghost use Rattle.xns_c.specs.Views.{item_given};
 
-use crate::connection::Connection;
 use crate::courier::procedure_of;
 use crate::flag::as_byte;
 use crate::front::put_front;
 use crate::item::XnsItem;
-use crate::results::{NOTHING, OK};
+use crate::results::{NO_MEMORY, NOTHING, OK, TOO_LONG};
+use crate::talker::Talker;
 use courier_messages::{Head, MOST_BYTES, put_out};
 use std::alloc::{AllocError, Global};
 use std::collections::VecDeque;
 use xns_spp::{Bytes, Item};
 
 /// The most bytes that an item may have: the versions and the longest message.
-pub const LONGEST_ITEM: usize = 4 + MOST_BYTES;
+const LONGEST_ITEM: usize = 4 + MOST_BYTES;
 
-/// Gives the first item that is to go out, its bytes to the front of the buffer. Where the buffer is too short the item stays, and its length is told.
-pub fn give_item(out: &mut VecDeque<Item>, item: &mut XnsItem, buffer: &mut [u8]) -> u32
-    ensures given { (x : Item) (xs : List Item) → out.old.items ≡ x ∷ xs → ItemIsGiven x item.old item.new buffer.old buffer.new result }
-    ensures rest { (x : Item) (xs : List Item) → out.old.items ≡ x ∷ xs → length x.body ≤ length buffer.old → out.new.items ≡ xs }
-    ensures none { out.old.items ≡ [] → result ≡ nothing }
-    ensures unchanged { result ≢ ok → (out.new.items ≡ out.old.items) × (buffer.new ≡ buffer.old) }
+/// Gives the next item that is to go out, its bytes to the front of the buffer. Where the buffer is too short the item stays, and its length is told.
+pub fn next_item<T: Talker>(talker: &mut T, item: &mut XnsItem, buffer: &mut [u8]) -> u32
+    ensures given { (x : Item) (xs : List Item) → T.side.out talker.old ≡ x ∷ xs → ItemIsGiven x item.old item.new buffer.old buffer.new result }
+    ensures rest { (x : Item) (xs : List Item) → T.side.out talker.old ≡ x ∷ xs → length x.body ≤ length buffer.old → talker.new ≡ T.side.with_out talker.old xs }
+    ensures none { T.side.out talker.old ≡ [] → result ≡ nothing }
+    ensures unchanged { result ≢ ok → (talker.new ≡ talker.old) × (buffer.new ≡ buffer.old) }
     ensures untold { result ≢ ok → result ≢ short_buffer → item.new ≡ item.old }
 {
-    let Some(first) = out.front() else {
+    let Some(first) = talker.first_out() else {
         return NOTHING;
     };
     let mut length = 0;
@@ -47,34 +45,13 @@ pub fn give_item(out: &mut VecDeque<Item>, item: &mut XnsItem, buffer: &mut [u8]
             last: as_byte(first.last),
             length,
         };
-        let _ = out.pop_front();
+        let _ = talker.take_out();
     }
     result
 }
 
-/// Sends the first item that is to go out, if there is one and the connection accepts it; whether it did.
-pub fn send_first(out: &mut VecDeque<Item>, connection: &mut Connection) -> bool
-    ensures sent { (s : State) (x : Item) (xs : List Item) → StandsFor connection.old.endpoint s → out.old.items ≡ x ∷ xs → result ≡ true →
-        (send_fault s x ≡ None) × (out.new.items ≡ xs) × StandsFor connection.new.endpoint (after_send s x) }
-    ensures refused { (s : State) (x : Item) (xs : List Item) → StandsFor connection.old.endpoint s → out.old.items ≡ x ∷ xs → result ≡ false → send_fault s x ≢ None }
-    ensures stays { result ≡ false → (out.new.items ≡ out.old.items) × (connection.new ≡ connection.old) }
-    ensures packets { connection.new.packets ≡ connection.old.packets }
-    ensures fewer { result ≡ true → length out.new.items < length out.old.items }
-{
-    let Some(first) = out.front() else {
-        return false;
-    };
-    if connection.refuses(first) {
-        return false;
-    }
-    if let Some(item) = out.pop_front() {
-        connection.accept(item);
-    }
-    true
-}
-
 /// An item of these parts, whose bytes are copied.
-pub fn copied_item(alloc: Global, stream: u8, last: u8, body: &[u8]) -> Result<Item, AllocError>
+fn copied_item(alloc: Global, stream: u8, last: u8, body: &[u8]) -> Result<Item, AllocError>
     ensures { IfOk result (λ x. x ≡ item_given stream 0 last body.now) }
 {
     let mut bytes = Vec::with_capacity(alloc, body.len())?;
@@ -85,6 +62,23 @@ pub fn copied_item(alloc: Global, stream: u8, last: u8, body: &[u8]) -> Result<I
         last: last != 0,
         body: Bytes::new(bytes),
     })
+}
+
+/// An item of these parts, whose bytes are copied. `TOO_LONG` where they are more than an item of a message has, and are not looked at; `NO_MEMORY` where
+/// memory is refused.
+pub fn item_of(alloc: Global, stream: u8, last: u8, body: &[u8]) -> Result<Item, u32>
+    ensures item { IfOk result (λ x. (x ≡ item_given stream 0 last body.now) × (length body.now ≤ longest_item)) }
+    ensures err { IfErr result (λ n. (n ≡ too_long) ⊎ (n ≡ no_memory)) }
+    ensures long { longest_item < length body.now → result ≡ Err too_long }
+    ensures short { length body.now ≤ longest_item → result ≢ Err too_long }
+{
+    if body.len() > LONGEST_ITEM {
+        return Err(TOO_LONG);
+    }
+    match copied_item(alloc, stream, last, body) {
+        Ok(item) => Ok(item),
+        Err(_) => Err(NO_MEMORY),
+    }
 }
 
 /// The words of a message with this head and these words.

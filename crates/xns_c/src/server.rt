@@ -18,6 +18,7 @@ ghost use Rattle.xns_c.specs.declared.unlisted.Unlisted.{Unlisted};
 use crate::handle::XnsEndpoint;
 use crate::item::XnsItem;
 use crate::message::XnsMessage;
+use crate::outgoing::next_item;
 use crate::program::XnsProgram;
 use crate::pumping::pump;
 use crate::results::{NO_ENDPOINT, NO_MEMORY, NO_SERVER, OK};
@@ -193,7 +194,7 @@ pub extern "C" fn xns_server_next_item(
     let Some(mut session) = handle.take(alloc) else {
         return NO_SERVER;
     };
-    let result = session.next_item(item, buffer);
+    let result = next_item(&mut *session, item, buffer);
     handle.put(session);
     result
 }

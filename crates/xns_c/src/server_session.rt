@@ -1,7 +1,6 @@
 //! The side of a Courier conversation that is called. It reads no shapes: a call is handed as a message, and its answer goes out with its words.
 
-ghost use Rattle.std.specs.Prelude.{◌≡◌, ◌≢◌, ◌<◌, ◌≤◌, ◌+◌, ◌++◌, ◌∷◌, ℕ, List, [], length, true, false, OnErr, IfOk, Some, None, Ok, Err, option_map, nat_lt, if◌then◌else◌, refl};
-ghost use Rattle.xns_spp.specs.declared.item.Item.{Item};
+ghost use Rattle.std.specs.Prelude.{◌≡◌, ◌≢◌, ◌<◌, ◌+◌, ◌++◌, ℕ, List, length, true, false, OnErr, IfOk, Some, None, Ok, Err, option_map, nat_lt, if◌then◌else◌, refl};
 ghost use Rattle.courier_messages.specs.declared.fault.SessionFault.TheVariants.{NoMemory};
 ghost use Rattle.courier_messages.specs.declared.message.Message.{Message};
 ghost use Rattle.courier_messages.specs.Cutting.{cut};
@@ -10,19 +9,16 @@ ghost use Rattle.courier_messages.specs.Message.{message_words, most_words};
 ghost use Rattle.courier_messages.specs.Refusal.{Follows};
 ghost use Rattle.xns_c.specs.Answering.{Answering, new_answering, is_busy, after_item, feed_number, IsStopped, is_a_call, transaction_in, after_call, call_refusal, reject_message, after_reject, answer_given, length_number, answers_to, answer_number, answered};
 ghost use Rattle.xns_c.specs.Courier.{MessageIsGiven};
-ghost use Rattle.xns_c.specs.Given.{ItemIsGiven};
 ghost use Rattle.xns_c.specs.Pumping.{server_side};
-ghost use Rattle.xns_c.specs.Results.{ok, nothing, no_memory, short_buffer, bad_argument, too_long};
+ghost use Rattle.xns_c.specs.Results.{ok, nothing, no_memory, bad_argument, too_long};
 ghost use Rattle.xns_c.specs.Talk.{longest_item};
 ghost use Rattle.xns_c.specs.Views.{item_given};
 ghost use Rattle.xns_c.specs.declared.unlisted.Unlisted.{Unlisted};
 
-use crate::connection::Connection;
-use crate::courier::{give_message, session_fault_number};
+use crate::courier::{give_message, told};
 use crate::flag::as_byte;
-use crate::item::XnsItem;
 use crate::message::XnsMessage;
-use crate::outgoing::{LONGEST_ITEM, copied_item, give_item, put_message, send_first};
+use crate::outgoing::{item_of, put_message};
 use crate::program::XnsProgram;
 use crate::results::{BAD_ARGUMENT, BUSY, NO_MEMORY, NOTHING, OK, STOPPED, TOO_LONG};
 use crate::talker::Talker;
@@ -126,31 +122,13 @@ impl ServerSession {
         self.call.is_some() || self.asked.is_some() || !self.out.is_empty()
     }
 
-    /// Gives the next item that is to go out, its bytes to the front of the buffer. Where the buffer is too short the item stays, and its length is told.
-    pub fn next_item(&mut self, item: &mut XnsItem, buffer: &mut [u8]) -> u32
-        ensures given { (x : Item) (xs : List Item) → self.old.out ≡ x ∷ xs → ItemIsGiven x item.old item.new buffer.old buffer.new result }
-        ensures rest { (x : Item) (xs : List Item) → self.old.out ≡ x ∷ xs → length x.body ≤ length buffer.old → self.new ≡ record self.old { out = xs } }
-        ensures none { self.old.out ≡ [] → result ≡ nothing }
-        ensures unchanged { result ≢ ok → (self.new ≡ self.old) × (buffer.new ≡ buffer.old) }
-        ensures untold { result ≢ ok → result ≢ short_buffer → item.new ≡ item.old }
-    {
-        give_item(&mut self.out, item, buffer)
-    }
-
-    /// Takes in one more item, whose bytes are copied, and keeps the call that it ends.
-    fn take_item(
-        &mut self,
-        alloc: Global,
-        stream: u8,
-        last: u8,
-        body: &[u8],
-    ) -> Result<(), SessionFault>
-        ensures hears { Follows result (after_item self.old (item_given stream 0 last body.now)) self.new }
+    /// Takes in one more item, and keeps the call that it ends.
+    fn take_item(&mut self, alloc: Global, item: Item) -> Result<(), SessionFault>
+        ensures hears { Follows result (after_item self.old item) self.new }
         ensures beside { self.new ≡ record self.old { phase = self.new.phase; call = self.new.call } }
         ensures same { OnErr result (self.new.call ≡ self.old.call) }
         ensures memory { result ≡ Err NoMemory → self.new ≡ self.old }
     {
-        let item = copied_item(alloc, stream, last, body)?;
         let Some(message) = self.incoming.take(alloc, item)? else {
             return Ok(());
         };
@@ -164,7 +142,6 @@ impl ServerSession {
     /// Takes in one more item, and says by a number whether the session goes on. Where it does not each further item is refused; but while a call waits or
     /// something is out, and where memory is refused, nothing is changed, and the item can be fed again. One that is too long for any message is not looked
     /// at.
-    #[tactic(auto, using(crate::proofs::Told::told))]
     pub fn feed(&mut self, alloc: Global, stream: u8, last: u8, body: &[u8]) -> u32
         ensures number { result ≢ no_memory → result ≡ feed_number self.old (item_given stream 0 last body.now) }
         ensures heard { result ≡ ok → after_item self.old (item_given stream 0 last body.now) ≡ Ok self.new }
@@ -180,16 +157,9 @@ impl ServerSession {
         if self.is_busy() {
             return BUSY;
         }
-        if body.len() > LONGEST_ITEM {
-            return TOO_LONG;
-        }
-        match self.take_item(alloc, stream, last, body) {
-            Ok(()) => OK,
-            Err(SessionFault::NoMemory) => NO_MEMORY,
-            Err(fault) => {
-                self.failed = true;
-                session_fault_number(fault)
-            }
+        match item_of(alloc, stream, last, body) {
+            Ok(item) => told(self.take_item(alloc, item), &mut self.failed),
+            Err(number) => number,
         }
     }
 
@@ -326,18 +296,18 @@ impl Talker for ServerSession {
 
     ghost fed_none = { λ t s. refl };
 
-    fn has_out(&self) -> bool {
-        !self.out.is_empty()
-    }
-
-    fn send_first(&mut self, connection: &mut Connection) -> bool {
-        send_first(&mut self.out, connection)
-    }
-
     fn feed_item(&mut self, alloc: Global, item: &Item) -> Option<u32> {
         if !self.failed && self.is_busy() {
             return None;
         }
         Some(self.feed(alloc, item.stream, as_byte(item.last), item.body.as_slice()))
+    }
+
+    fn first_out(&self) -> Option<&Item> {
+        self.out.front()
+    }
+
+    fn take_out(&mut self) -> Option<Item> {
+        self.out.pop_front()
     }
 }

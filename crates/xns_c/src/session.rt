@@ -1,25 +1,21 @@
 //! The side of a Courier conversation that calls. It reads no shapes: a call goes out with its words, and its answer comes as a message.
 
-ghost use Rattle.std.specs.Prelude.{◌≡◌, ◌≢◌, ◌<◌, ◌≤◌, ℕ, List, [], ◌∷◌, length, true, false, OnErr, IfOk, Some, None, Ok, Err, refl};
-ghost use Rattle.xns_spp.specs.declared.item.Item.{Item};
+ghost use Rattle.std.specs.Prelude.{◌≡◌, ◌≢◌, ◌<◌, ◌≤◌, ℕ, List, length, true, false, OnErr, IfOk, Some, None, Ok, Err, refl};
 ghost use Rattle.courier_messages.specs.declared.fault.SessionFault.TheVariants.{NoMemory};
 ghost use Rattle.courier_messages.specs.declared.message.Message.{Message};
 ghost use Rattle.courier_messages.specs.RawCalls.{words_call};
 ghost use Rattle.courier_messages.specs.Head.{with_words};
 ghost use Rattle.courier_messages.specs.Refusal.{Follows};
-ghost use Rattle.xns_c.specs.Courier.{MessageIsGiven, session_fault_number, heard_number};
-ghost use Rattle.xns_c.specs.Given.{ItemIsGiven};
+ghost use Rattle.xns_c.specs.Courier.{MessageIsGiven, heard_number};
 ghost use Rattle.xns_c.specs.Pumping.{caller_side};
-ghost use Rattle.xns_c.specs.Results.{ok, nothing, no_memory, short_buffer, stopped, too_long};
+ghost use Rattle.xns_c.specs.Results.{ok, nothing, no_memory, stopped, too_long};
 ghost use Rattle.xns_c.specs.Talk.{Talk, new_talk, called, call_number, reply_fault, longest_item, after_item, IsStopped};
 ghost use Rattle.xns_c.specs.Views.{item_given};
 
-use crate::connection::Connection;
-use crate::courier::{give_message, session_fault_number};
+use crate::courier::{give_message, told};
 use crate::flag::as_byte;
-use crate::item::XnsItem;
 use crate::message::XnsMessage;
-use crate::outgoing::{LONGEST_ITEM, copied_item, give_item, put_message, send_first};
+use crate::outgoing::{item_of, put_message};
 use crate::results::{BUSY, NO_MEMORY, NOTHING, OK, STOPPED, TOO_LONG};
 use crate::talker::Talker;
 use courier_messages::{Head, Incoming, MOST_BYTES, PiecedMessage, SessionFault, versions};
@@ -132,31 +128,13 @@ impl Session {
         OK
     }
 
-    /// Gives the next item that is to go out, its bytes to the front of the buffer. Where the buffer is too short the item stays, and its length is told.
-    pub fn next_item(&mut self, item: &mut XnsItem, buffer: &mut [u8]) -> u32
-        ensures given { (x : Item) (xs : List Item) → self.old.out ≡ x ∷ xs → ItemIsGiven x item.old item.new buffer.old buffer.new result }
-        ensures rest { (x : Item) (xs : List Item) → self.old.out ≡ x ∷ xs → length x.body ≤ length buffer.old → self.new ≡ record self.old { out = xs } }
-        ensures none { self.old.out ≡ [] → result ≡ nothing }
-        ensures unchanged { result ≢ ok → (self.new ≡ self.old) × (buffer.new ≡ buffer.old) }
-        ensures untold { result ≢ ok → result ≢ short_buffer → item.new ≡ item.old }
-    {
-        give_item(&mut self.out, item, buffer)
-    }
-
-    /// Takes in one more item, whose bytes are copied, and keeps the answer that it ends.
-    fn take_item(
-        &mut self,
-        alloc: Global,
-        stream: u8,
-        last: u8,
-        body: &[u8],
-    ) -> Result<(), SessionFault>
-        ensures hears { Follows result (after_item self.old (item_given stream 0 last body.now)) self.new }
+    /// Takes in one more item, and keeps the answer that it ends.
+    fn take_item(&mut self, alloc: Global, item: Item) -> Result<(), SessionFault>
+        ensures hears { Follows result (after_item self.old item) self.new }
         ensures beside { self.new ≡ record self.old { phase = self.new.phase; waiting = self.new.waiting; outcome = self.new.outcome } }
         ensures same { OnErr result ((self.new.waiting ≡ self.old.waiting) × (self.new.outcome ≡ self.old.outcome)) }
         ensures memory { result ≡ Err NoMemory → self.new ≡ self.old }
     {
-        let item = copied_item(alloc, stream, last, body)?;
         let Some(message) = self.incoming.take(alloc, item)? else {
             return Ok(());
         };
@@ -170,7 +148,6 @@ impl Session {
 
     /// Takes in one more item, and says by a number whether the session goes on. Where it does not each further item and call is refused; but where
     /// memory is refused nothing is changed, and the item can be fed again. One that is too long for any message is not looked at.
-    #[tactic(auto, using(crate::proofs::Told::told))]
     pub fn feed(&mut self, alloc: Global, stream: u8, last: u8, body: &[u8]) -> u32
         ensures number { self.old.failed ≡ false → length body.now ≤ longest_item → result ≢ no_memory → result ≡ heard_number (after_item self.old (item_given stream 0 last body.now)) }
         ensures heard { result ≡ ok → after_item self.old (item_given stream 0 last body.now) ≡ Ok self.new }
@@ -183,16 +160,9 @@ impl Session {
         if self.failed {
             return STOPPED;
         }
-        if body.len() > LONGEST_ITEM {
-            return TOO_LONG;
-        }
-        match self.take_item(alloc, stream, last, body) {
-            Ok(()) => OK,
-            Err(SessionFault::NoMemory) => NO_MEMORY,
-            Err(fault) => {
-                self.failed = true;
-                session_fault_number(fault)
-            }
+        match item_of(alloc, stream, last, body) {
+            Ok(item) => told(self.take_item(alloc, item), &mut self.failed),
+            Err(number) => number,
         }
     }
 
@@ -222,15 +192,15 @@ impl Talker for Session {
 
     ghost fed_none = { λ t s. refl };
 
-    fn has_out(&self) -> bool {
-        !self.out.is_empty()
-    }
-
-    fn send_first(&mut self, connection: &mut Connection) -> bool {
-        send_first(&mut self.out, connection)
-    }
-
     fn feed_item(&mut self, alloc: Global, item: &Item) -> Option<u32> {
         Some(self.feed(alloc, item.stream, as_byte(item.last), item.body.as_slice()))
+    }
+
+    fn first_out(&self) -> Option<&Item> {
+        self.out.front()
+    }
+
+    fn take_out(&mut self) -> Option<Item> {
+        self.out.pop_front()
     }
 }

@@ -1,8 +1,8 @@
-use Rattle.std.proofs.Common.{ℕ, Some, refl, sym, ◌∙◌, ap, arith}
-use Rattle.xns_c.specs.Answering.{has_items}
+use Rattle.std.proofs.Common.{ℕ, Some, refl, ◌∙◌, ap, arith}
+use Rattle.std.specs.Option.{is_some}
 use Rattle.xns_c.specs.Line.{Line}
 use Rattle.xns_c.specs.Pumping.{here}
-use Rattle.xns_c.proofs.Pumps.{some_out, sent, full, fed, stopped, settles, all_fed}
+use Rattle.xns_c.proofs.Pumps.{sent, full, fed, stopped, settles, all_fed}
 use Rattle.xns_c.proofs.pumping.pump.Goals as goal
 
 pub loop-init : goal.loop-init
@@ -10,18 +10,18 @@ loop-init g c = (λ s stands. record { end = s; leads = here; stands = stands },
 
 pub loop-preserved : goal.loop-preserved
 loop-preserved g c = (
-  λ s stands. sent g.T.Talker.side (c.args.talker.now, s) c.loop.talker c.send_first.new.self c.loop.connection.endpoint c.send_first.new.connection.endpoint (c.send_first.ensures.fewer c.loop-test.true) c.send_first.ensures.beside
+  λ s stands. sent g.T.Talker.side (c.args.talker.now, s) c.loop.talker c.send_first.new.talker c.loop.connection.endpoint c.send_first.new.connection.endpoint (c.send_first.ensures.fewer c.loop-test.true) (c.send_first.ensures.beside c.loop-test.true)
       (λ u x xs standing is. c.send_first.ensures.sent u x xs standing is c.loop-test.true) (c.loop.invariant.0 s stands),
   c.send_first.ensures.packets ∙ c.loop.invariant.1,
 )
 
-pub returns-then-has_out-clause-pumped : goal.returns-then-has_out-clause-pumped
-returns-then-has_out-clause-pumped g c =
+pub returns-then-is_some-clause-pumped : goal.returns-then-is_some-clause-pumped
+returns-then-is_some-clause-pumped g c =
     let side = g.T.Talker.side in
     let stays = c.send_first.ensures.stays c.loop-test.false in
-    λ s stands. full side g.T.Talker.stops (c.args.talker.now, s) c.loop.talker c.send_first.new.self c.loop.connection.endpoint c.send_first.new.connection.endpoint
+    λ s stands. full side g.T.Talker.stops (c.args.talker.now, s) c.loop.talker c.send_first.new.talker c.loop.connection.endpoint c.send_first.new.connection.endpoint
     stays.0 (ap (λ (l : Line). l.endpoint) stays.1)
-    (some_out side (side.out c.loop.talker) (ap (λ (t : g.row.T.Denot). has_items (side.out t)) (sym stays.0) ∙ sym c.has_out.ensures ∙ c.if-has_out.true))
+    (λ none. c.first_out.ensures.some (λ is. absurd (cc (ap is_some is, c.is_some.ensures, c.if-is_some.true))) (ap (λ (t : g.row.T.Denot). side.out t) stays.0 ∙ none))
     (λ u x xs standing is. c.send_first.ensures.refused u x xs standing is c.loop-test.false) (c.loop.invariant.0 s stands)
 
 pub returns-in_default-clause-pumped : goal.returns-in_default-clause-pumped
