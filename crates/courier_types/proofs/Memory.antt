@@ -1,19 +1,16 @@
 -- Where reading may be refused memory, as its functions come there.
 use Rattle.std.proofs.Common.{◌≡◌, ℕ, zero, suc, ◌+◌, ◌*◌, get_or, ◌<◌, ◌≤◌, Bool, true, false, ◌&&◌, List, [], ◌∷◌, length, drop, None, Result, Ok, Err, is_ok, IsOk, refl, sym, ap, subst, ◌∙◌, arith, inl, inr, ◌⊎◌, eq-eqb}
-use Rattle.std.proofs.lemmas.Bool.{cases_eq, le-ltb}
+use Rattle.std.proofs.lemmas.Bool.{cases_eq}
 use denote.Param.Weighed.{most, at_most}
 use Rattle.courier_types.specs.declared.read_fault.Reason.TheVariants.{Truncated}
 use Rattle.courier_types.specs.declared.shape.Shape.{Shape}
-use Rattle.courier_types.specs.declared.stop.Stop.{Stop}
-use Rattle.courier_types.specs.declared.stop.Stop.TheVariants as stops
 use Rattle.courier_types.specs.Shape.{ShapeModel, ShapeModels, no_shapes, shape_and, MemberModels, no_members, member_and, shape_model, shape_models, member_models}
-use Rattle.courier_types.specs.Value.{ValueModel, ValueModels, value_and}
+use Rattle.courier_types.specs.Value.{ValueModel, value_and}
 use Rattle.courier_types.specs.Check.{wordless, all_wordless, element_fault, first_fault, faults_of_parts, faults_of_members, or_else}
-use Rattle.courier_types.specs.Source.{Fails, Gives}
-use Rattle.courier_types.specs.Memory.{BytesWant, TextWants, ElementsWant, CountedWant, PartsWant, ChoiceWants, WantsMemory, MemberWants}
-use Rattle.courier_types.specs.Reading.{Fault, Reader, ◌>>=◌, over, front_long, front_listed, front_bytes, front_text, reading_times, reading_counted, reading_choice, reading, reading_fields, reading_member}
+use Rattle.courier_types.specs.Memory.{PartsWant, ChoiceWants, WantsMemory, MemberWants}
+use Rattle.courier_types.specs.Reading.{Fault, ◌>>=◌, over, front_long, front_listed, front_text, reading_times, reading_counted, reading_choice, reading, reading_fields, reading_member}
 use Rattle.courier_types.proofs.Sound.{neither}
-use Rattle.courier_types.proofs.Loops.{at_member, past_member, failed, gives_where}
+use Rattle.courier_types.proofs.Loops.{at_member, past_member, failed}
 use Rattle.courier_types.proofs.Wordless.{of_no_words}
 use Rattle.courier_types.proofs.SpelledIsRead.{again}
 
@@ -112,17 +109,6 @@ no_elements_to_read shape (suc n) (x ∷ ws) w h k e = absurd (omega arith)
 
 -- ---- counts
 
-pub text_gives : {X : Type 0} (model : X → List ℕ) (result : Result X Stop) (after : List ℕ) (n : ℕ) (ws rest : List ℕ) → ws ≡ n ∷ rest
-    → Gives (BytesWant n rest) model result after (front_bytes n rest) → Gives (TextWants ws) model result after (front_text ws)
-unfolding front_text
-text_gives model result after n ws rest e h = subst (λ (u : List ℕ). Gives (TextWants u) model result after (front_text u)) (sym e) h
-
-pub counted_gives : {X : Type 0} (model : X → ValueModels) (result : Result X Stop) (after : List ℕ) (one : Reader ValueModel) (most n : ℕ) (ws rest : List ℕ) → ws ≡ n ∷ rest → n ≤ most
-    → Gives (ElementsWant n rest) model result after (reading_times one n rest) → Gives (CountedWant most ws) model result after (reading_counted one most ws)
-unfolding reading_counted
-counted_gives model result after one most n ws rest e le h =
-    rw (e, le-ltb most n le) (gives_where (ElementsWant n rest) (CountedWant most (n ∷ rest)) model result after (reading_times one n rest) (λ k. (le, k)) h)
-
 -- ---- records
 
 -- where room was refused, some was wanted
@@ -160,15 +146,3 @@ read_is_held (member_and e shape members) d ws h =
 
 pub held : (members : MemberModels) (d : ℕ) (ws rest : List ℕ) (v : ValueModel) (after : List ℕ) → ws ≡ d ∷ rest → reading_member members d rest ≡ Ok (v, after) → ChoiceWants (MemberWants members) ws
 held members d ws rest v after e h = subst (λ (u : List ℕ). ChoiceWants (MemberWants members) u) (sym e) (read_is_held members d rest (is_ok_where (Ok (v, after)) (reading_member members d rest) (sym h) refl))
-
-choice_fault : (one : ℕ → Reader ValueModel) (d : ℕ) (rest : List ℕ) (f : Fault) → one d rest ≡ Err f → reading_choice one (d ∷ rest) ≡ Err f
-unfolding reading_choice
-choice_fault one d rest f h = ap (over (ValueModel.choice d)) h
-
-fails_behind : (wants : ℕ → List ℕ → Type 0) (one : ℕ → Reader ValueModel) (e : Stop) (d : ℕ) (rest : List ℕ) → Fails (wants d rest) e (one d rest) → Fails (ChoiceWants wants (d ∷ rest)) e (reading_choice one (d ∷ rest))
-fails_behind wants one stops.NoMemory d rest h = h
-fails_behind wants one stops.Truncated d rest h = choice_fault one d rest (0, Truncated) h
-fails_behind wants one (stops.WrongWord n r) d rest h = choice_fault one d rest (n + 1, r) h
-
-pub choice_fails : (wants : ℕ → List ℕ → Type 0) (one : ℕ → Reader ValueModel) (e : Stop) (d : ℕ) (ws rest : List ℕ) → ws ≡ d ∷ rest → Fails (wants d rest) e (one d rest) → Fails (ChoiceWants wants ws) e (reading_choice one ws)
-choice_fails wants one e d ws rest k h = subst (λ (u : List ℕ). Fails (ChoiceWants wants u) e (reading_choice one u)) (sym k) (fails_behind wants one e d rest h)
