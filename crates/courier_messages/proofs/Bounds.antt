@@ -12,7 +12,7 @@ use Rattle.courier_messages.specs.Message.{message_of}
 use Rattle.courier_messages.specs.Text.{Sign, byte, mark, foreign, written}
 use Rattle.courier_messages.specs.Conversation.{versions_fault, Phase, opening, fresh, inside, ending}
 use Rattle.courier_messages.specs.Phases.{fresh_unless, opened, closed, step, ◌then◌, run}
-use Rattle.courier_messages.specs.Bounds.{IsBounded, bytes_in}
+use Rattle.courier_messages.specs.Bounds.{IsBounded}
 use Rattle.courier_messages.specs.Inside.{phase_in, IsHeld}
 use Rattle.courier_messages.specs.declared.incoming.Stage.{Stage}
 use Rattle.courier_messages.specs.declared.incoming.Stage.TheVariants.{Opening, Fresh, Inside}
@@ -70,8 +70,3 @@ pub held_bound : (stage : Stage) (skipped : ℕ) (bytes : List ℕ) → IsHeld s
 held_bound Opening skipped bytes h = omega (arith, length-drop skipped bytes, h.1)
 held_bound Fresh skipped bytes h = tt
 held_bound Inside skipped bytes h = omega (arith, length-drop skipped bytes, h.1)
-
--- what is left of items has no more bytes
-pub rest_bytes : (items : List Item) → length (bytes_in (drop 1 items)) ≤ length (bytes_in items)
-rest_bytes [] = omega arith
-rest_bytes (x ∷ xs) = omega (arith, length-append x.body (bytes_in xs))

@@ -10,7 +10,7 @@ use Rattle.courier_messages.specs.Text.{signs}
 use Rattle.courier_messages.specs.Conversation.{Phase, conversation, ending}
 use Rattle.courier_messages.specs.Phases.{run, said, onwards, ◌then◌}
 use Rattle.courier_messages.specs.RawCalls.{RawCall}
-use Rattle.courier_messages.specs.Called.{calls_of, all_calls, raws, heard, server_ending}
+use Rattle.courier_messages.specs.Called.{calls_of, all_calls, heard, server_ending}
 use Rattle.courier_messages.specs.Laws.{IsFaultless, GoesOn, Stays}
 use Rattle.courier_messages.proofs.More.{conversation_more, ending_more, item_one, unsaid}
 
@@ -48,10 +48,6 @@ calls_append ms ns h = calls_split ms ns ∙ ap (λ (b : Bool). calls_of ms ++ c
 
 calls_stay : (ms ns : List Message) → all_calls ms ≡ false → calls_of (ms ++ ns) ≡ calls_of ms
 calls_stay ms ns h = calls_split ms ns ∙ ap (λ (b : Bool). calls_of ms ++ calls_behind b ns) h ∙ append-nil (calls_of ms)
-
-pub raws_append : (cs ds : List (ℕ × RawCall)) → raws (cs ++ ds) ≡ raws cs ++ raws ds
-raws_append [] ds = refl
-raws_append (c ∷ cs) ds = ap (λ (rs : List RawCall). c.1 ∷ rs) (raws_append cs ds)
 
 -- what is heard
 

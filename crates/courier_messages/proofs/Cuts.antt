@@ -1,5 +1,5 @@
 -- How words are cut into items.
-use Rattle.std.proofs.Common.{◌≡◌, ◌∙◌, ap, sym, append_assoc, refl, ℕ, zero, suc, ◌+◌, ◌*◌, ◌-◌, ◌/◌, ◌%◌, ◌<◌, ◌≤◌, List, [], ◌∷◌, ◌++◌, length, take, drop, get_or, true, false, arith, add-one, drop-cons, length-append, length-drop, append-nil, take-append-drop}
+use Rattle.std.proofs.Common.{◌≡◌, ◌∙◌, ap, sym, append_assoc, refl, ℕ, zero, suc, ◌+◌, ◌*◌, ◌-◌, ◌/◌, ◌%◌, ◌<◌, ◌≤◌, List, [], ◌∷◌, ◌++◌, length, take, drop, true, false, arith, length-append, length-drop, append-nil, take-append-drop}
 use Rattle.xns_spp.specs.declared.item.Item.{Item}
 use Rattle.courier_types.specs.Source.{bytes_of}
 use Rattle.courier_messages.specs.Bounds.{bytes_in}
@@ -55,9 +55,6 @@ next_cut before after rest a b all x h ea eb ex ei inv =
     one_more_item rest h ∙ ap (λ (l : List ℕ). message_item false (bytes_of l) ∷ cut_bytes (bytes_of (drop 267 rest))) (sym ea)
     ∙ ap (λ (y : Item). y ∷ cut_bytes (bytes_of (drop 267 rest))) (sym ex) ∙ ap (λ (l : List ℕ). x ∷ cut_bytes (bytes_of l)) (sym eb) in
     ap (λ (ys : List Item). ys ++ cut_bytes (bytes_of b)) ei ∙ (append_assoc before (x ∷ []) (cut_bytes (bytes_of b)) ∙ (ap (λ (ys : List Item). before ++ ys) (sym e) ∙ inv))
-
-pub word_next : (ws : List ℕ) (i : ℕ) → i < length ws → bytes_of (drop i ws) ≡ get_or ws i 0 / 256 ∷ get_or ws i 0 % 256 ∷ bytes_of (drop (i + 1) ws)
-word_next ws i h = rw (add-one, drop-cons ws i 0)
 
 -- the items have the bytes that were cut
 

@@ -1,5 +1,5 @@
 -- What a conversation comes to with one more item, and what goes out with one more call.
-use Rattle.std.proofs.Common.{◌≡◌, ◌∙◌, ap, sym, subst, refl, ℕ, List, [], ◌∷◌, ◌++◌, Bool, true, false, append_assoc, append-nil, Ok, Err, ◌≤◌, length, Result, arith, ◌+◌, ◌%◌, map}
+use Rattle.std.proofs.Common.{◌≡◌, ◌∙◌, ap, sym, subst, refl, ℕ, List, [], ◌∷◌, ◌++◌, Bool, true, false, append_assoc, append-nil, Ok, Err, ◌≤◌, length, Result, arith, ◌+◌, map}
 use Rattle.std.specs.Prelude.{if◌then◌else◌, ◌==◌}
 use Rattle.xns_spp.specs.declared.item.Item.{Item}
 use Rattle.courier_messages.specs.declared.fault.SessionFault.{SessionFault}
@@ -7,7 +7,7 @@ use Rattle.courier_messages.specs.declared.message.Message.{Message}
 use Rattle.courier_messages.specs.Text.{Sign, written, signs, byte, mark, foreign, end_of}
 use Rattle.courier_messages.specs.Conversation.{Phase, opening, conversation, ending, fresh, inside}
 use Rattle.courier_messages.specs.Phases.{run, said, onwards, ◌then◌, step, ended, closed, good}
-use Rattle.courier_messages.specs.RawCalls.{RawCall}
+use Rattle.courier_messages.specs.RawCalls.{RawCall, transaction_of}
 use Rattle.courier_messages.specs.Cutting.{cut, versions_item}
 use Rattle.courier_messages.specs.RawCalls.{call_message}
 use Rattle.courier_messages.proofs.Runs.{run_append, run_mark, said_append, said_bytes, said_mark, said_stream}
@@ -98,23 +98,20 @@ unsaid x p e h = unsaid_by (x.stream == 0) x p e h
 
 -- ---- one more call
 
-pub items_more : (k : ℕ) (cs : List RawCall) (c : RawCall) → call_items k (cs ++ c ∷ []) ≡ call_items k cs ++ cut (call_message ((k + length cs) % 65536) c)
+pub items_more : (k : ℕ) (cs : List RawCall) (c : RawCall) → call_items k (cs ++ c ∷ []) ≡ call_items k cs ++ cut (call_message (transaction_of (k + length cs)) c)
 unfolding call_items
-items_more k [] c = append-nil (cut (call_message (k % 65536) c)) ∙ ap (λ (n : ℕ). cut (call_message (n % 65536) c)) (let e : k ≡ k + 0 = omega arith in e)
+items_more k [] c = append-nil (cut (call_message (transaction_of k) c)) ∙ ap (λ (n : ℕ). cut (call_message (transaction_of n) c)) (let e : k ≡ k + 0 = omega arith in e)
 items_more k (d ∷ cs) c =
-    let first : List Item = cut (call_message (k % 65536) d) in
+    let first : List Item = cut (call_message (transaction_of k) d) in
     let e : k + 1 + length cs ≡ k + length (d ∷ cs) = omega arith in
-    ap (λ (xs : List Item). first ++ xs) (items_more (k + 1) cs c ∙ ap (λ (n : ℕ). call_items (k + 1) cs ++ cut (call_message (n % 65536) c)) e)
-    ∙ sym (append_assoc first (call_items (k + 1) cs) (cut (call_message ((k + length (d ∷ cs)) % 65536) c)))
-
-pub next_number : (t n : ℕ) → t ≡ n % 65536 → (t + 1) % 65536 ≡ (1 + n) % 65536
-next_number t n h = omega (arith, h)
+    ap (λ (xs : List Item). first ++ xs) (items_more (k + 1) cs c ∙ ap (λ (n : ℕ). call_items (k + 1) cs ++ cut (call_message (transaction_of n) c)) e)
+    ∙ sym (append_assoc first (call_items (k + 1) cs) (cut (call_message (transaction_of (k + length (d ∷ cs))) c)))
 
 items_begin : (k : ℕ) (cs more : List RawCall) → Begins (call_items k cs) (call_items k (cs ++ more))
 unfolding call_items
 items_begin k [] more = (call_items k more, refl)
 items_begin k (c ∷ cs) more =
-    let first : List Item = cut (call_message (k % 65536) c) in
+    let first : List Item = cut (call_message (transaction_of k) c) in
     let b = items_begin (k + 1) cs more in
     (b.0, append_assoc first (call_items (k + 1) cs) b.0 ∙ ap (λ (xs : List Item). first ++ xs) b.1)
 

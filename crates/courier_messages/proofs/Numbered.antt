@@ -1,13 +1,13 @@
 -- The calls of a caller, as they are heard.
 use Rattle.std.proofs.Common.{◌≡◌, ℕ, ◌+◌, true, List, [], ◌∷◌, ◌++◌, refl, sym, ◌∙◌, ap, subst, arith}
-use Rattle.std.specs.Prelude.{map, ◌%◌}
+use Rattle.std.specs.Prelude.{map}
 use Rattle.std.specs.List.{flat_map, AllByRecursion}
 use Rattle.xns_spp.specs.declared.item.Item.{Item}
 use Rattle.xns_spp.specs.Growth.{Begins}
 use Rattle.courier_messages.specs.declared.message.Message.{Message}
 use Rattle.courier_messages.specs.Conversation.{conversation}
 use Rattle.courier_messages.specs.Cutting.{cut, versions_item}
-use Rattle.courier_messages.specs.RawCalls.{RawCall, IsShortCall, call_message, call_items, caller_items, numbered, numbered_message}
+use Rattle.courier_messages.specs.RawCalls.{RawCall, IsShortCall, call_message, call_items, caller_items, numbered, numbered_message, transaction_of}
 use Rattle.courier_messages.specs.Called.{calls_of, all_calls}
 use Rattle.courier_messages.specs.Laws.{IsShort, items_of, IsFaultless, Hears, HearsCalls}
 use Rattle.courier_messages.proofs.Lists.{front_of_map}
@@ -18,7 +18,7 @@ use Rattle.courier_messages.proofs.Written.{leads_items}
 pub call_items_are : (k : ℕ) (cs : List RawCall) → call_items k cs ≡ flat_map cut (map numbered_message (numbered k cs))
 unfolding call_items numbered numbered_message
 call_items_are k [] = refl
-call_items_are k (c ∷ cs) = ap (λ (l : List Item). cut (call_message (k % 65536) c) ++ l) (call_items_are (k + 1) cs)
+call_items_are k (c ∷ cs) = ap (λ (l : List Item). cut (call_message (transaction_of k) c) ++ l) (call_items_are (k + 1) cs)
 
 pub calls_back : (ns : List (ℕ × RawCall)) → calls_of (map numbered_message ns) ≡ ns
 unfolding calls_of numbered_message

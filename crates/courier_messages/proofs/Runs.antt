@@ -1,5 +1,5 @@
 -- How a conversation goes on.
-use Rattle.std.proofs.Common.{◌≡◌, ◌≢◌, ◌∙◌, ap, sym, refl, ℕ, ◌+◌, ◌<◌, List, [], ◌∷◌, ◌++◌, length, map, drop, get_or, Bool, false, append_assoc, append-nil, arith, add-one, drop-cons, Ok, Err}
+use Rattle.std.proofs.Common.{◌≡◌, ◌≢◌, ◌∙◌, ap, sym, refl, ℕ, List, [], ◌∷◌, ◌++◌, map, Bool, false, append_assoc, append-nil, arith, Ok, Err}
 use Rattle.std.specs.Prelude.{Result}
 use Rattle.xns_spp.specs.declared.item.Item.{Item}
 use Rattle.courier_messages.specs.declared.fault.SessionFault.{SessionFault}
@@ -8,14 +8,6 @@ use Rattle.courier_messages.specs.declared.message.Message.{Message}
 use Rattle.courier_messages.specs.Text.{Sign, byte, mark, foreign, signs, end_of}
 use Rattle.courier_messages.specs.Conversation.{Phase, opening, fresh, inside}
 use Rattle.courier_messages.specs.Phases.{step, ended, run, said, onwards, ◌then◌}
-
-pub byte_next : (p : Phase) (xs : List ℕ) (i : ℕ) → i < length xs → run p (map byte (drop i xs)) ≡ (step p (byte (get_or xs i 0)) then λ q. run q (map byte (drop (i + 1) xs)))
-unfolding run
-byte_next p xs i h = rw (add-one, drop-cons xs i 0)
-
-then_assoc : (r : Result Phase SessionFault) (f g : Phase → Result Phase SessionFault) → ((r then f) then g) ≡ (r then λ q. f q then g)
-then_assoc (Ok p) f g = refl
-then_assoc (Err e) f g = refl
 
 onwards_run : (r : Result Phase SessionFault) (xs ys : List Sign) → ((q : Phase) → run q (xs ++ ys) ≡ (run q xs then λ t. run t ys)) → (r then λ q. run q (xs ++ ys)) ≡ ((r then λ q. run q xs) then λ q. run q ys)
 onwards_run (Ok q) xs ys h = h q

@@ -82,10 +82,3 @@ cut_short m h = cut_bytes_short (message_bytes m) (words_bytes (message_words m)
 
 pub versions_short : IsSendableItem versions_item
 versions_short = part_short true (0 ∷ 3 ∷ 0 ∷ 3 ∷ []) (cons_bytes 0 (3 ∷ 0 ∷ 3 ∷ []) (omega arith) (cons_bytes 3 (0 ∷ 3 ∷ []) (omega arith) (cons_bytes 0 (3 ∷ []) (omega arith) (cons_bytes 3 [] (omega arith) no_bytes)))) (omega arith)
-
-no_words : AreWords []
-no_words i d lt = absurd (omega arith)
-
--- no words, or two
-pub few_words : AreWords [] × ((a b : ℕ) → a < 2 ^ 16 → b < 2 ^ 16 → AreWords (a ∷ b ∷ []))
-few_words = (no_words, λ a b h k. cons_words a (b ∷ []) h (cons_words b [] k no_words))

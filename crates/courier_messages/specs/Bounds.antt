@@ -17,6 +17,10 @@ IsBounded-prop (opening bytes) = le_prop
 IsBounded-prop fresh = Unit-prop
 IsBounded-prop (inside bytes) = le_prop
 
+-- so many words a message that is made has room for at first
+abbrev pub first_room : ℕ
+first_room = 16
+
 -- the bytes of items, one body behind the other
 abbrev pub bytes_in : List Item → List ℕ
 bytes_in items = flat_map (λ x. x.body) items

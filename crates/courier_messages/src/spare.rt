@@ -1,6 +1,7 @@
 //! Room for words.
 ghost use Rattle.std.specs.Prelude.{◌≡◌, ◌≤◌, [], IfOk};
 ghost use Rattle.std.specs.Vec.{vec_capacity};
+ghost use Rattle.courier_messages.specs.Bounds.{first_room};
 
 use std::alloc::{AllocError, Global};
 use std::mem::replace;
@@ -13,7 +14,7 @@ const FIRST_ROOM: usize = 16;
 #[derive(Debug, Drop)]
 pub struct Spare {
     room: Vec<u16>,
-    ghost few: { vec_capacity room ≤ 16 },
+    ghost few: { vec_capacity room ≤ first_room },
 }
 
 impl Spare {
