@@ -5,7 +5,7 @@ use Rattle.std.specs.Io.KnownBytes.{Appends, Consumes}
 use Rattle.xns_script.specs.Reading.{HasRead}
 use Rattle.xns_script.specs.declared.script.Script.{Script}
 use Rattle.xns_sim.specs.declared.script_taker.ScriptTaker.{ScriptTaker}
-use Rattle.xns_lines.specs.Faults.{AppendsFront}
+use Rattle.xns_lines.specs.Faults.{AppendsFront, IsJustified}
 use Rattle.xns_lines.specs.Lines.{IsWithinLimits, lines_of}
 use Rattle.xns_lines.specs.Lines.Cutter.{StandsAfter, StopsShort}
 use Rattle.xns_sim.specs.Sim.{HasLeft, StopsIn, is_script_refused, script_lines, script_text, sim_text}
@@ -60,32 +60,28 @@ some_read start left first mid t0 t f new some = if_some _ _ start some (λ inpu
 abbrev pub Makes : Script → List ℕ → Type 0
 Makes s text = (lines : List (List ℕ)) → HasRead s lines → text ≡ script_text lines
 
--- memory was refused once the whole input was read
-pub unmade : (start left first mid : Option (List ℕ)) (s : Script) → IfSome start (λ input. HasReadAll s input left first mid) → IfSome start (λ input. StopsIn input left first mid fault.NoMemory)
-unmade start left first mid s all = if_some _ _ start all (λ input h. record {
+-- the whole input was read before the fault
+stops_behind : (input : List ℕ) (left first mid after : Option (List ℕ)) (s : Script) (f : RunFault) → HasReadAll s input left first mid → IsJustified f input (lines_of input) [] → HasLeft f input first after → StopsIn input left first after f
+stops_behind input left first mid after s f h shown written = record {
   read = input;
   consumed = h.consumed;
   good = lines_of input;
   next = [];
   lines = sym (append-nil (lines_of input));
   within = h.within;
-  shown = tt;
-  written = h.unwritten;
-})
+  shown = shown;
+  written = written;
+}
+
+-- memory was refused once the whole input was read
+pub unmade : (start left first mid : Option (List ℕ)) (s : Script) → IfSome start (λ input. HasReadAll s input left first mid) → IfSome start (λ input. StopsIn input left first mid fault.NoMemory)
+unmade start left first mid s all = if_some _ _ start all (λ input h. stops_behind input left first mid mid s fault.NoMemory h tt h.unwritten)
 
 -- a write failed
 pub unwritten : (start left first mid after : Option (List ℕ)) (s : Script) (text : List ℕ) (f : RunFault) → f ≡ fault.Write → Makes s text → AppendsFront mid after text
     → IfSome start (λ input. HasReadAll s input left first mid) → IfSome start (λ input. StopsIn input left first after f)
-unwritten start left first mid after s text f which made front all = if_some _ _ start all (λ input h. rw which (record {
-  read = input;
-  consumed = h.consumed;
-  good = lines_of input;
-  next = [];
-  lines = sym (append-nil (lines_of input));
-  within = h.within;
-  shown = tt;
-  written = subst (λ (t : List ℕ). AppendsFront first after t) (made (script_lines input) h.read) (subst (λ (m : Option (List ℕ)). AppendsFront m after text) h.unwritten front);
-}))
+unwritten start left first mid after s text f which made front all = if_some _ _ start all (λ input h. rw which (stops_behind input left first mid after s fault.Write h tt
+    (subst (λ (t : List ℕ). AppendsFront first after t) (made (script_lines input) h.read) (subst (λ (m : Option (List ℕ)). AppendsFront m after text) h.unwritten front))))
 
 pub written : (start left first mid after : Option (List ℕ)) (s : Script) (text : List ℕ) → Makes s text → Appends mid after text
     → IfSome start (λ input. HasReadAll s input left first mid) → IfSome start (λ input. Appends first after (sim_text input))
