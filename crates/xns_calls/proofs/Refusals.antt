@@ -25,7 +25,7 @@ use Rattle.xns_calls.specs.Exchange.{Scene, acknowledged, advance_other, advance
 use Rattle.xns_calls.specs.Reading.{Told, after_heard, brought, brought_over, is_due, item_read, passed, past, read_next, said_item, with_kept_item}
 use Rattle.xns_calls.specs.Speech.{heard_of}
 use Rattle.xns_calls.specs.Telling.{heard_text, is_fault, message_line}
-use Rattle.xns_calls.specs.Texts.{answer_text, call_line, end_text, flow_line, heading_text, line_or_dash, missing_line, refused_line, words_end}
+use Rattle.xns_calls.specs.Texts.{answer_text, call_text, end_text, flow_line, heading_text, line_or_dash, missing_line, refused_line, words_end}
 use Rattle.xns_calls.specs.declared.unanswered.Calls.{Calls}
 use Rattle.xns_calls.specs.declared.connection.Connection.{Connection}
 use Rattle.xns_calls.specs.declared.early.Early.{Early}
@@ -61,10 +61,9 @@ module _ (joined : JoinedTextsSayRefused) (only : OnlyRefusalsSayRefused) where
   unfolding words_end
   words_are name ws h = joined.quiet _ _ (joined.quiet name _ h (only.words ws)) (record { skips = λ ys. refl })
 
-  call_is : (h : Heading) (t p v q : ℕ) (ws : List ℕ) → IsQuiet (call_line h t p v q ws)
-  unfolding call_line
-  call_is h t p v q ws =
-      joined.quiet _ _ (joined.quiet _ _ (joined.quiet _ _ (heading_is h) (joined.quiet (codes " call ") _ (record { skips = λ ys. refl }) (only.number t))) (only.callee p v q)) (words_are _ ws (record { skips = λ ys. refl }))
+  call_is : (h : Heading) (t p v q : ℕ) → IsQuiet (call_text h t p v q)
+  unfolding call_text
+  call_is h t p v q = joined.quiet _ _ (joined.quiet _ _ (heading_is h) (joined.quiet (codes " call ") _ (record { skips = λ ys. refl }) (only.number t))) (only.callee p v q)
 
   dash_is : (o : Option ℕ) → IsQuiet (line_or_dash o)
   dash_is (Some n) = only.number n
@@ -75,7 +74,7 @@ module _ (joined : JoinedTextsSayRefused) (only : OnlyRefusalsSayRefused) where
   answer_is h name t o q = joined.quiet _ _ (joined.quiet _ _ (joined.quiet _ _ (heading_is h) (joined.quiet name _ q (only.number t))) (record { skips = λ ys. refl })) (dash_is o)
 
   message_is : (h : Heading) (calls : Calls) (m : Message) → IsQuiet (message_line h calls m)
-  message_is h calls (Call t p v q ws) = call_is h t p v q ws
+  message_is h calls (Call t p v q ws) = joined.quiet _ _ (call_is h t p v q) (words_are _ ws (record { skips = λ ys. refl }))
   message_is h calls (Reject t reason ws) =
       joined.quiet _ _ (joined.quiet _ _ (answer_is h _ t _ (record { skips = λ ys. refl })) (joined.quiet (codes " reason ") _ (record { skips = λ ys. refl }) (only.number reason))) (words_are _ ws (record { skips = λ ys. refl }))
   message_is h calls (Return t ws) = joined.quiet _ _ (answer_is h _ t _ (record { skips = λ ys. refl })) (words_are _ ws (record { skips = λ ys. refl }))

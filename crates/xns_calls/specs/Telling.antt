@@ -8,7 +8,7 @@ use Rattle.xns_calls.specs.declared.heading.Heading.{Heading}
 use Rattle.xns_calls.specs.declared.heard.Heard.{Heard}
 use Rattle.xns_calls.specs.declared.heard.Heard.TheVariants as heard
 use Rattle.xns_calls.specs.declared.waiting.Waiting.{Waiting}
-use Rattle.xns_calls.specs.Texts.{answer_text, call_line, refused_line, words_end}
+use Rattle.xns_calls.specs.Texts.{answer_text, call_text, refused_line, words_end}
 
 abbrev pub line_if : ℕ → Waiting → Option ℕ
 line_if transaction waiting = if waiting.transaction == transaction then Some waiting.line else None
@@ -25,7 +25,8 @@ call_left (Some waiting) transaction = if waiting.transaction == transaction the
 
 -- the line of a message
 abbrev pub message_line : Heading → Calls → Message → List ℕ
-message_line heading calls (Call transaction program version procedure words) = call_line heading transaction program version procedure words
+message_line heading calls (Call transaction program version procedure words) =
+    call_text heading transaction program version procedure ++ words_end (codes " args ") words
 message_line heading calls (Reject transaction reason words) =
     answer_text heading (codes " reject ") transaction (line_of_call calls.asked transaction) ++ (codes " reason " ++ decimal reason) ++ words_end (codes " words ") words
 message_line heading calls (Return transaction words) =

@@ -37,10 +37,9 @@ missing_line heading first behind = heading_text heading ++ (codes " missing " +
 unfoldable pub words_end : List ℕ → List ℕ → List ℕ
 words_end name words = name ++ words_text words ++ codes "\n"
 
--- a call
-unfoldable pub call_line : Heading → ℕ → ℕ → ℕ → ℕ → List ℕ → List ℕ
-call_line heading transaction program version procedure words =
-    heading_text heading ++ (codes " call " ++ decimal transaction) ++ callee_text program version procedure ++ words_end (codes " args ") words
+-- the front of a call
+unfoldable pub call_text : Heading → ℕ → ℕ → ℕ → ℕ → List ℕ
+call_text heading transaction program version procedure = heading_text heading ++ (codes " call " ++ decimal transaction) ++ callee_text program version procedure
 
 -- the number of the line of a call, or a dash
 abbrev pub line_or_dash : Option ℕ → List ℕ

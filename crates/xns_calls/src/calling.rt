@@ -4,7 +4,7 @@ ghost use Rattle.std.specs.Io.KnownBytes.{Appends};
 ghost use Rattle.xns_lines.specs.Lines.{IsWithinLimits};
 ghost use Rattle.xns_calls.specs.Calls.{StopsIn, calls_text, has_refusal};
 
-use crate::printer::Printer;
+use crate::printer::CallsPrinter;
 use std::alloc::Global;
 use std::io::{Read, Write};
 use xns_lines::{RunFault, print_lines};
@@ -46,5 +46,5 @@ pub fn calls<R: Read, W: Write>(
     ensures fault { IfErr result (λ fault. IfSome (R.remaining reader.old) (λ input.
         StopsIn input (R.remaining reader.new) (W.contents writer.old) (W.contents writer.new) fault)) }
 {
-    print_lines(alloc, reader, writer, Printer::new(alloc))
+    print_lines(alloc, reader, writer, CallsPrinter::new(alloc))
 }

@@ -7,7 +7,7 @@ ghost use Rattle.xns_calls.specs.Telling.{after_message, call_left, calls_after,
 use crate::heading::Heading;
 use crate::heard::Heard;
 use crate::scratch::Scratch;
-use crate::texts::{append_answer, append_call_line, append_refused_line, append_words};
+use crate::texts::{append_answer, append_call, append_refused_line, append_words};
 use crate::unanswered::Calls;
 use crate::waiting::Waiting;
 use courier_messages::{Head, PiecedMessage};
@@ -75,15 +75,8 @@ fn tell_words(
                 transaction,
                 line: heading.number,
             });
-            append_call_line(
-                report,
-                heading,
-                transaction,
-                program,
-                version,
-                procedure,
-                words,
-            )
+            append_call(report, heading, transaction, program, version, procedure)?;
+            append_words(report, b" args ", words)
         }
         Head::Reject {
             transaction,

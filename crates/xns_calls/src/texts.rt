@@ -3,7 +3,7 @@ ghost use Rattle.std.specs.Prelude.{◌++◌};
 ghost use Rattle.std.specs.Fmt.{decimal};
 ghost use Rattle.xns_idp.specs.Packet.{packet_model};
 ghost use Rattle.xns_lines.specs.Report.{Adds};
-ghost use Rattle.xns_calls.specs.Texts.{answer_text, call_line, end_text, flow_line, heading_text, missing_line, reason_text, refused_line, words_end};
+ghost use Rattle.xns_calls.specs.Texts.{answer_text, call_text, end_text, flow_line, heading_text, missing_line, reason_text, refused_line, words_end};
 
 use crate::heading::Heading;
 use courier_messages::{MessageFault, SessionFault};
@@ -86,23 +86,21 @@ fn append_item_number(report: &mut Report, name: &[u8], number: u64) -> Result<(
     append_decimal_u64(report, number)
 }
 
-/// Appends the line of a call.
-#[tactic(auto, unfolding(crate::specs::Texts::call_line))]
-pub fn append_call_line(
+/// Appends what a call begins with.
+#[tactic(auto, unfolding(crate::specs::Texts::call_text))]
+pub fn append_call(
     report: &mut Report,
     heading: Heading,
     transaction: u16,
     program: u32,
     version: u16,
     procedure: u16,
-    words: &[u16],
 ) -> Result<(), AllocError>
-    ensures { Adds result report.old report.new (call_line heading transaction program version procedure words.now) }
+    ensures { Adds result report.old report.new (call_text heading transaction program version procedure) }
 {
     append_heading(report, heading)?;
     append_field(report, b" call ", transaction)?;
-    append_callee(report, program, version, procedure)?;
-    append_words(report, b" args ", words)
+    append_callee(report, program, version, procedure)
 }
 
 /// Appends words behind what they are, and ends the line.

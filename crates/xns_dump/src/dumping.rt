@@ -4,7 +4,7 @@ ghost use Rattle.std.specs.Io.KnownBytes.{Appends};
 ghost use Rattle.xns_dump.specs.Dump.{StopsIn, dump_text, has_refused_line};
 ghost use Rattle.xns_lines.specs.Lines.{IsWithinLimits};
 
-use crate::printer::Printer;
+use crate::printer::DumpPrinter;
 use std::alloc::Global;
 use std::io::{Read, Write};
 use xns_lines::{RunFault, print_lines};
@@ -45,5 +45,5 @@ pub fn dump<R: Read, W: Write>(
     ensures fault { IfErr result (λ fault. IfSome (R.remaining reader.old) (λ input.
         StopsIn input (R.remaining reader.new) (W.contents writer.old) (W.contents writer.new) fault)) }
 {
-    print_lines(alloc, reader, writer, Printer::new(alloc))
+    print_lines(alloc, reader, writer, DumpPrinter::new(alloc))
 }

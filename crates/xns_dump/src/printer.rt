@@ -6,32 +6,32 @@ ghost use Rattle.xns_dump.specs.Dump.Line.{is_refused};
 ghost use Rattle.xns_dump.specs.Flows.Numbers.{StandsFor};
 
 use crate::flows::numbers::FlowNumbers;
-use crate::reporter::Reporter;
+use crate::reporter::LineAppender;
 use std::alloc::{AllocError, Global};
 use xns_lines::{LinePrinter, Page};
 
 /// Says what each line says.
 #[derive(Drop)]
-pub(crate) struct Printer {
+pub(crate) struct DumpPrinter {
     /// Makes what a line says.
-    reporter: Reporter,
+    appender: LineAppender,
     /// The numbers of items so far.
     numbers: FlowNumbers,
 }
 
-impl Printer {
+impl DumpPrinter {
     /// A printer that has printed nothing.
     pub(crate) fn new(alloc: Global) -> Self
         ensures { StandsFor result.numbers.last [] }
     {
-        Printer {
-            reporter: Reporter::new(alloc),
+        DumpPrinter {
+            appender: LineAppender::new(alloc),
             numbers: FlowNumbers::new(alloc),
         }
     }
 }
 
-impl LinePrinter for Printer {
+impl LinePrinter for DumpPrinter {
     ghost has_printed = { λ printer lines. StandsFor printer.numbers.last (items_in lines) };
 
     ghost text_of = { text_of_lines };
@@ -44,11 +44,11 @@ impl LinePrinter for Printer {
         number: usize,
         line: &[u8],
     ) -> Result<(), AllocError> {
-        let reported = self
-            .reporter
+        let outcome = self
+            .appender
             .report_line(&mut page.text, number, line, &self.numbers)?;
-        self.numbers.note_item(reported.item)?;
-        page.is_refused |= reported.is_refused;
+        self.numbers.note_item(outcome.item)?;
+        page.is_refused |= outcome.is_refused;
         Ok(())
     }
 

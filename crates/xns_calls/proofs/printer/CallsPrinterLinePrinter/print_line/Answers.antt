@@ -1,5 +1,5 @@
 use Rattle.xns_calls.proofs.Printed.{printed}
-use Rattle.xns_calls.proofs.printer.PrinterLinePrinter.print_line.Goals as goal
+use Rattle.xns_calls.proofs.printer.CallsPrinterLinePrinter.print_line.Goals as goal
 
 pub returns-clause-ok : goal.returns-clause-ok
 returns-clause-ok c =
