@@ -2,7 +2,7 @@
 use Rattle.std.proofs.Common.{◌≡◌, ◌∙◌, ap, sym, refl, ℕ, Bool, false, List, [], ◌∷◌, ◌++◌, append-nil, subst, Option, Some, None, Result, Ok, Err}
 use Rattle.std.specs.Prelude.{IfErr, IfSome, OnOk}
 use Rattle.std.specs.Io.KnownBytes.{Appends, Consumes}
-use Rattle.xns_lines.specs.Faults.{AppendsFront, Begins, HasWritten}
+use Rattle.xns_lines.specs.Faults.{AppendsFront, AppendsPart, Begins, HasWritten}
 use Rattle.xns_lines.specs.Lines.{IsWithinLimits, lines_of}
 use Rattle.xns_lines.specs.Lines.Cutter.{Says, StandsAfter, StopsShort}
 use Rattle.xns_lines.specs.Printing.{HasFailed, HasRefused, StandsFor, StopsIn, TextOf}
@@ -10,7 +10,7 @@ use Rattle.xns_lines.specs.Report.{whole}
 use Rattle.xns_lines.specs.declared.fault.RunFault.{RunFault}
 use Rattle.xns_lines.specs.declared.fault.RunFault.TheVariants as fault
 use Rattle.xns_lines.specs.declared.page.Page.{Page}
-use Rattle.xns_lines.proofs.Writes.{appends_nothing, appends_trans, begins_trans, front_written}
+use Rattle.xns_lines.proofs.Writes.{appends_nothing, appends_trans, begins_trans, part_written}
 
 -- nothing is printed of no lines
 pub none_printed : (has_printed : Says) (text_of : TextOf) (has_refused : HasRefused) (p : Page) (known : Option (List ℕ)) → whole p.text ≡ [] → p.is_refused ≡ false → text_of [] ≡ [] → has_refused [] ≡ false → has_printed []
@@ -37,17 +37,27 @@ flushed has_printed text_of has_refused p p' is_lost before mid after lines none
 whole_front : (before after : Option (List ℕ)) (text : List ℕ) → Appends before after text → AppendsFront before after text
 whole_front before after text written = (text, written, ([], append-nil text))
 
+part_front : (before after : Option (List ℕ)) (text : List ℕ) → AppendsPart before after text → AppendsFront before after text
+part_front before after text part = (part.0, part.1, (part.2.0, part.2.2))
+
+written_front : (f : RunFault) (before after : Option (List ℕ)) (text : List ℕ) → HasWritten f before after text → AppendsFront before after text
+written_front fault.Write before after text written = part_front before after text written
+written_front fault.Read before after text written = whole_front before after text written
+written_front fault.LineTooLong before after text written = whole_front before after text written
+written_front fault.TooManyLines before after text written = whole_front before after text written
+written_front fault.NoMemory before after text written = whole_front before after text written
+
 no_front : (front rest : List ℕ) → front ++ rest ≡ [] → front ≡ []
 no_front [] rest e = refl
 no_front (byte ∷ front) rest e = (cc)
 
 -- where nothing is pending, nothing more is written
-none_left : (before mid after : Option (List ℕ)) (pending text : List ℕ) → pending ≡ [] → AppendsFront mid after pending → AppendsFront before mid text → AppendsFront before after text
+none_left : (before mid after : Option (List ℕ)) (pending text : List ℕ) → pending ≡ [] → AppendsFront mid after pending → AppendsPart before mid text → AppendsPart before after text
 none_left before mid after pending text none front left =
     let nothing : front.0 ≡ [] = no_front front.0 front.2.0 (front.2.1 ∙ none) in (
       left.0 ++ front.0,
       appends_trans before mid after _ _ left.1 front.1,
-      (left.2.0, ap (λ t. (left.0 ++ t) ++ left.2.0) nothing ∙ ap (λ t. t ++ left.2.0) (append-nil left.0) ∙ left.2.1),
+      (left.2.0, left.2.1, ap (λ t. (left.0 ++ t) ++ left.2.0) nothing ∙ ap (λ t. t ++ left.2.0) (append-nil left.0) ∙ left.2.2),
     )
 
 -- the text of the first lines is a front of the text
@@ -67,16 +77,16 @@ module _ (has_printed : Says) (text_of : TextOf) (has_refused : HasRefused) (p :
   all_left : (before : Option (List ℕ)) (lines : List (List ℕ)) → Appends mid after (whole p.text) → Stands before lines → Appends before after (text_of lines)
   all_left before lines written h = subst (Appends before after) h.written.2 (appends_trans before mid after _ _ h.written.1 written)
 
-  -- or a front of it
-  pub front_left : (before : Option (List ℕ)) (lines : List (List ℕ)) → AppendsFront mid after (whole p.text) → Stands before lines → AppendsFront before after (text_of lines)
-  front_left before lines front h = front_written before mid after h.written.0 (whole p.text) (text_of lines) h.written.1 h.written.2 front
+  -- or a part of it
+  pub part_left : (before : Option (List ℕ)) (lines : List (List ℕ)) → AppendsPart mid after (whole p.text) → Stands before lines → AppendsPart before after (text_of lines)
+  part_left before lines part h = part_written before mid after h.written.0 (whole p.text) (text_of lines) h.written.1 h.written.2 part
 
-  left_front : (f : RunFault) (before : Option (List ℕ)) (lines : List (List ℕ)) → StandsAfter f (Stands before) (Fails before) lines → AppendsFront mid after (whole p.text) → AppendsFront before after (text_of lines)
-  left_front fault.Write before lines left front = none_left before mid after (whole p.text) (text_of lines) left.0 front left.1
-  left_front fault.Read before lines left front = front_left before lines front left
-  left_front fault.LineTooLong before lines left front = front_left before lines front left
-  left_front fault.TooManyLines before lines left front = front_left before lines front left
-  left_front fault.NoMemory before lines left front = front_left before lines front left
+  left_part : (f : RunFault) (before : Option (List ℕ)) (lines : List (List ℕ)) → StandsAfter f (Stands before) (Fails before) lines → AppendsPart mid after (whole p.text) → AppendsPart before after (text_of lines)
+  left_part fault.Write before lines left part = none_left before mid after (whole p.text) (text_of lines) left.0 (part_front mid after (whole p.text) part) left.1
+  left_part fault.Read before lines left part = part_left before lines part left
+  left_part fault.LineTooLong before lines left part = part_left before lines part left
+  left_part fault.TooManyLines before lines left part = part_left before lines part left
+  left_part fault.NoMemory before lines left part = part_left before lines part left
 
   left_whole : (f : RunFault) (before : Option (List ℕ)) (lines : List (List ℕ)) → StandsAfter f (Stands before) (Fails before) lines → Appends mid after (whole p.text) → HasWritten f before after (text_of lines)
   left_whole fault.Write before lines left written = none_left before mid after (whole p.text) (text_of lines) left.0 (whole_front mid after (whole p.text) written) left.1
@@ -96,23 +106,23 @@ module _ (has_printed : Says) (text_of : TextOf) (has_refused : HasRefused) (p :
   TakesSome begun start left f =
       IfSome start (λ input. (read : List ℕ) × Consumes (Some input) left read × ((before : Option (List ℕ)) → begun before → StopsShort f read (StandsAfter f (Stands before) (Fails before))))
 
-  pub unflushed_all : ((lines more : List (List ℕ)) → Begins (text_of lines) (text_of (lines ++ more))) → (begun : Option (List ℕ) → Type 0) (start left first : Option (List ℕ)) (r : Result Unit RunFault) (f : RunFault) → f ≡ fault.Write → begun first
-      → OnOk r (TakesAll begun start left) → IfErr r (TakesSome begun start left) → AppendsFront mid after (whole p.text) → IfSome start (λ input. StopsIn text_of input left first after f)
-  unflushed_all behind begun None left first r f which s all some front = tt
-  unflushed_all behind begun (Some input) left first (Ok x) f which s all some front =
-      let said = front_left first (lines_of input) front (all.2 first s) in
-      rw which (record {
+  pub unflushed_all : ((lines more : List (List ℕ)) → Begins (text_of lines) (text_of (lines ++ more))) → (begun : Option (List ℕ) → Type 0) (start left first : Option (List ℕ)) (r : Result Unit RunFault) (f : RunFault) → (f ≡ fault.Write) × AppendsPart mid after (whole p.text) → begun first
+      → OnOk r (TakesAll begun start left) → IfErr r (TakesSome begun start left) → IfSome start (λ input. StopsIn text_of input left first after f)
+  unflushed_all behind begun None left first r f failed s all some = tt
+  unflushed_all behind begun (Some input) left first (Ok x) f failed s all some =
+      let said = part_left first (lines_of input) failed.1 (all.2 first s) in
+      rw failed.0 (record {
         read = input;
         consumed = all.0;
-        stops = record { front = said; good = lines_of input; next = []; lines = sym (append-nil (lines_of input)); within = all.1; shown = tt; written = said };
+        stops = record { front = part_front first after _ said; good = lines_of input; next = []; lines = sym (append-nil (lines_of input)); within = all.1; shown = tt; written = said };
       })
-  unflushed_all behind begun (Some input) left first (Err e) f which s all some front =
+  unflushed_all behind begun (Some input) left first (Err e) f failed s all some =
       let h = some.2 first s in
-      let said = left_front e first h.good h.is_left front in
-      rw which (record {
+      let said = left_part e first h.good h.is_left failed.1 in
+      rw failed.0 (record {
         read = some.0;
         consumed = some.1;
-        stops = record { front = front_of_lines text_of behind first after some.0 h.good h.next h.lines said; good = h.good; next = h.next; lines = h.lines; within = h.within; shown = tt; written = said };
+        stops = record { front = front_of_lines text_of behind first after some.0 h.good h.next h.lines (part_front first after _ said); good = h.good; next = h.next; lines = h.lines; within = h.within; shown = tt; written = said };
       })
 
   pub flushed_some : ((lines more : List (List ℕ)) → Begins (text_of lines) (text_of (lines ++ more))) → (begun : Option (List ℕ) → Type 0) (start left first : Option (List ℕ)) (f : RunFault) → begun first
@@ -120,17 +130,17 @@ module _ (has_printed : Says) (text_of : TextOf) (has_refused : HasRefused) (p :
   flushed_some behind begun None left first f s some written = tt
   flushed_some behind begun (Some input) left first f s some written =
       let h = some.2 first s in
-      let said = left_front f first h.good h.is_left (whole_front mid after (whole p.text) written) in record {
+      let said = left_whole f first h.good h.is_left written in record {
         read = some.0;
         consumed = some.1;
         stops = record {
-          front = front_of_lines text_of behind first after some.0 h.good h.next h.lines said;
+          front = front_of_lines text_of behind first after some.0 h.good h.next h.lines (written_front f first after _ said);
           good = h.good;
           next = h.next;
           lines = h.lines;
           within = h.within;
           shown = h.shown;
-          written = left_whole f first h.good h.is_left written;
+          written = said;
         };
       }
 

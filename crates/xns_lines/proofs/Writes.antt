@@ -3,7 +3,7 @@ use Rattle.std.proofs.Common.{◌≡◌, ◌∙◌, ap, sym, refl, ℕ, ◌-◌,
 use Rattle.std.specs.Prelude.{IfErr, OnOk}
 use Rattle.std.specs.Io.KnownBytes.{Appends, Consumes, Keeps}
 use Rattle.std.proofs.lemmas.List.{take-append-drop, take_rest}
-use Rattle.xns_lines.specs.Faults.{AppendsFront, Begins}
+use Rattle.xns_lines.specs.Faults.{AppendsPart, Begins}
 
 pub begins_trans : (a b c : List ℕ) → Begins a b → Begins b c → Begins a c
 begins_trans a b c x y = (x.0 ++ y.0, sym (append_assoc a x.0 y.0) ∙ ap (λ t. t ++ y.0) x.1 ∙ y.1)
@@ -18,12 +18,12 @@ appends_trans (Some u) None c x y h k = absurd h
 appends_trans (Some u) (Some v) None x y h k = absurd k
 appends_trans (Some u) (Some v) (Some w) x y h k = k ∙ ap (λ t. t ++ y) h ∙ append_assoc u x y
 
--- a front of what follows what is written
-pub front_written : (before mid after : Option (List ℕ)) (out pending text : List ℕ) → Appends before mid out → out ++ pending ≡ text → AppendsFront mid after pending → AppendsFront before after text
-front_written before mid after out pending text w e front = (
-  out ++ front.0,
-  appends_trans before mid after _ _ w front.1,
-  (front.2.0, append_assoc out front.0 front.2.0 ∙ ap (λ t. out ++ t) front.2.1 ∙ e),
+-- a part of what follows what is written
+pub part_written : (before mid after : Option (List ℕ)) (out pending text : List ℕ) → Appends before mid out → out ++ pending ≡ text → AppendsPart mid after pending → AppendsPart before after text
+part_written before mid after out pending text w e part = (
+  out ++ part.0,
+  appends_trans before mid after _ _ w part.1,
+  (part.2.0, part.2.1, append_assoc out part.0 part.2.0 ∙ ap (λ t. out ++ t) part.2.2 ∙ e),
 )
 
 pub consumes_nothing : (known : Option (List ℕ)) → Consumes known known []

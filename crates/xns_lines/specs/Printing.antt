@@ -1,7 +1,7 @@
 -- What is printed of the lines of an input, between two lines and after a fault.
 use Rattle.std.specs.Prelude.{◌≡◌, ℕ, ◌++◌, Bool, false, List, [], ◌∷◌, Option, Some}
 use Rattle.std.specs.Io.KnownBytes.{Appends, Consumes}
-use Rattle.xns_lines.specs.Faults.{AppendsFront, HasWritten, IsJustified}
+use Rattle.xns_lines.specs.Faults.{AppendsFront, AppendsPart, HasWritten, IsJustified}
 use Rattle.xns_lines.specs.Lines.{AreWithinLimits, lines_of}
 use Rattle.xns_lines.specs.Lines.Cutter.{Says}
 use Rattle.xns_lines.specs.Report.{whole}
@@ -41,9 +41,9 @@ pub record StandsFor (has_printed : Says) (text_of : TextOf) (has_refused : HasR
   pub written : IsWritten before after (whole page.text) (text_of lines)
   pub printed : is_lost ≡ false → has_printed lines
 
--- after a failed write nothing is pending
+-- after a failed write nothing is pending, and something of the text was not written
 abbrev pub HasFailed : TextOf → Page → Option (List ℕ) → Option (List ℕ) → List (List ℕ) → Type 0
-HasFailed text_of page before after lines = (whole page.text ≡ []) × AppendsFront before after (text_of lines)
+HasFailed text_of page before after lines = (whole page.text ≡ []) × AppendsPart before after (text_of lines)
 
 -- ---- after a fault
 

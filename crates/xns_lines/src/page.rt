@@ -1,7 +1,7 @@
 //! Text on its way to a writer.
 ghost use Rattle.std.specs.Prelude.{◌≡◌, [], false, IfErr, OnOk};
 ghost use Rattle.std.specs.Io.KnownBytes.{Appends};
-ghost use Rattle.xns_lines.specs.Faults.{AppendsFront};
+ghost use Rattle.xns_lines.specs.Faults.{AppendsPart};
 ghost use Rattle.xns_lines.specs.Report.{whole};
 
 use crate::fault::RunFault;
@@ -41,11 +41,10 @@ impl Page {
 
     /// Writes the text that isn't written yet. It is gone after a failed write too.
     ///
-    /// The only error is `Write`, where a write fails or takes no byte.
+    /// The only error is `Write`, where a write fails or takes no byte: then something of the text isn't written.
     pub(crate) fn flush<W: Write>(&mut self, writer: &mut W) -> Result<(), RunFault>
         ensures ok { OnOk result (Appends (W.contents writer.old) (W.contents writer.new) (whole self.old.text)) }
-        ensures front { AppendsFront (W.contents writer.old) (W.contents writer.new) (whole self.old.text) }
-        ensures fault { IfErr result (λ fault. fault ≡ RunFault.Write) }
+        ensures fault { IfErr result (λ fault. (fault ≡ RunFault.Write) × AppendsPart (W.contents writer.old) (W.contents writer.new) (whole self.old.text)) }
         ensures text { whole self.new.text ≡ [] }
         ensures refused { self.new.is_refused ≡ self.old.is_refused }
     {

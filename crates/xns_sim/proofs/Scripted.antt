@@ -5,7 +5,7 @@ use Rattle.std.specs.Io.KnownBytes.{Appends, Consumes}
 use Rattle.xns_script.specs.Reading.{HasRead}
 use Rattle.xns_script.specs.declared.script.Script.{Script}
 use Rattle.xns_sim.specs.declared.script_taker.ScriptTaker.{ScriptTaker}
-use Rattle.xns_lines.specs.Faults.{AppendsFront, IsJustified}
+use Rattle.xns_lines.specs.Faults.{AppendsPart, IsJustified}
 use Rattle.xns_lines.specs.Lines.{IsWithinLimits, lines_of}
 use Rattle.xns_lines.specs.Lines.Cutter.{StandsAfter, StopsShort}
 use Rattle.xns_sim.specs.Sim.{HasLeft, StopsIn, is_script_refused, script_lines, script_text, sim_text}
@@ -78,10 +78,10 @@ pub unmade : (start left first mid : Option (List ℕ)) (s : Script) → IfSome 
 unmade start left first mid s all = if_some _ _ start all (λ input h. stops_behind input left first mid mid s fault.NoMemory h tt h.unwritten)
 
 -- a write failed
-pub unwritten : (start left first mid after : Option (List ℕ)) (s : Script) (text : List ℕ) (f : RunFault) → f ≡ fault.Write → Makes s text → AppendsFront mid after text
+pub unwritten : (start left first mid after : Option (List ℕ)) (s : Script) (text : List ℕ) (f : RunFault) → (f ≡ fault.Write) × AppendsPart mid after text → Makes s text
     → IfSome start (λ input. HasReadAll s input left first mid) → IfSome start (λ input. StopsIn input left first after f)
-unwritten start left first mid after s text f which made front all = if_some _ _ start all (λ input h. rw which (stops_behind input left first mid after s fault.Write h tt
-    (subst (λ (t : List ℕ). AppendsFront first after t) (made (script_lines input) h.read) (subst (λ (m : Option (List ℕ)). AppendsFront m after text) h.unwritten front))))
+unwritten start left first mid after s text f failed made all = if_some _ _ start all (λ input h. rw failed.0 (stops_behind input left first mid after s fault.Write h tt
+    (subst (λ (t : List ℕ). AppendsPart first after t) (made (script_lines input) h.read) (subst (λ (m : Option (List ℕ)). AppendsPart m after text) h.unwritten failed.1))))
 
 pub written : (start left first mid after : Option (List ℕ)) (s : Script) (text : List ℕ) → Makes s text → Appends mid after text
     → IfSome start (λ input. HasReadAll s input left first mid) → IfSome start (λ input. Appends first after (sim_text input))

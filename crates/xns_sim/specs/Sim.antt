@@ -8,7 +8,7 @@ use Rattle.std.specs.Io.KnownBytes.{Consumes}
 use Rattle.courier_calls.specs.Calls.{CallModel}
 use Rattle.xns_script.specs.Script.{calls_in, events_in, first_refused}
 use Rattle.item_world.specs.declared.event.Event.{Event}
-use Rattle.xns_lines.specs.Faults.{AppendsFront, IsJustified}
+use Rattle.xns_lines.specs.Faults.{AppendsPart, IsJustified}
 use Rattle.xns_lines.specs.Lines.{AreWithinLimits, lines_of, without_return}
 use Rattle.xns_sim.specs.Sim.Play.{play_text}
 use Rattle.xns_lines.specs.declared.fault.RunFault.{RunFault}
@@ -36,9 +36,9 @@ is_script_refused input = is_some (first_refused (script_lines input))
 
 -- ---- after a fault
 
--- after a failed write a front of the whole input's text is written, and after any other fault nothing
+-- after a failed write a front of the whole input's text is written and not all of it, and after any other fault nothing
 abbrev pub HasLeft : RunFault → List ℕ → Option (List ℕ) → Option (List ℕ) → Type 0
-HasLeft fault.Write input before after = AppendsFront before after (sim_text input)
+HasLeft fault.Write input before after = AppendsPart before after (sim_text input)
 HasLeft _ input before after = after ≡ before
 
 -- what was read is the front of the input that is no longer left; of its lines these are good and those come next, which shows the fault

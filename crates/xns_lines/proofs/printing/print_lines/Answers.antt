@@ -8,7 +8,7 @@ returns-in_err-flush-clause-fault g c =
     let law = c.text_only_grows.ensures in
     rw (p.1, p.2) (unflushed_all _ _ _ _ _ _ _ law.begins _ _ _ _ c.take_lines-taken.result _ c.in_err-flush.ensures.fault
     (none_printed _ _ _ _ _ c.new.ensures.text c.new.ensures.refused law.nothing law.unrefused c.requires.begun)
-    c.take_lines-taken.ensures.ok c.take_lines-taken.ensures.err c.in_err-flush.ensures.front)
+    c.take_lines-taken.ensures.ok c.take_lines-taken.ensures.err)
 
 pub returns-in-Ok-clause-text : goal.returns-in-Ok-clause-text
 returns-in-Ok-clause-text g c =

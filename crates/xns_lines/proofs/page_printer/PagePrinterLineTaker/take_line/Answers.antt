@@ -1,5 +1,5 @@
 use Rattle.std.proofs.Common.{◌++◌, ◌∷◌, []}
-use Rattle.xns_lines.proofs.Pages.{flushed, front_left}
+use Rattle.xns_lines.proofs.Pages.{flushed, part_left}
 use Rattle.xns_lines.proofs.Writes.{if_err_1, on_ok_1}
 use Rattle.xns_lines.proofs.page_printer.PagePrinterLineTaker.take_line.Goals as goal
 
@@ -14,8 +14,8 @@ returns-then-is_full-clause-ok g c =
 
 pub returns-then-is_full-clause-err : goal.returns-then-is_full-clause-err
 returns-then-is_full-clause-err g c =
-    if_err_1 _ _ c.flush.result c.flush.ensures.fault (λ fault which. λ before lines number h.
-    rw which (c.flush.ensures.text, front_left _ _ _ c.print_line.new.self.page _ _ _ before (lines ++ c.args.line.now ∷ []) c.flush.ensures.front (c.in-Ok.ensures.ok before _ lines number h)))
+    if_err_1 _ _ c.flush.result c.flush.ensures.fault (λ fault failed. λ before lines number h.
+    rw failed.0 (c.flush.ensures.text, part_left _ _ _ c.print_line.new.self.page _ _ _ before (lines ++ c.args.line.now ∷ []) failed.1 (c.in-Ok.ensures.ok before _ lines number h)))
 
 pub returns-clause-ok : goal.returns-clause-ok
 returns-clause-ok g c = λ before lines number h. c.in-Ok.ensures.ok before _ lines number h
