@@ -12,7 +12,7 @@ use crate::shape::Shape;
 use crate::value::Value;
 
 /// A shape whose values are spelled by any one word: who goes over many such values matches the shape once.
-#[derive(Clone, Copy, Debug)]
+#[derive(Clone, Copy)]
 pub enum AnyWord {
     Cardinal,
     Integer,

@@ -6,7 +6,7 @@ use crate::moment::Moment;
 use crate::side::Side;
 
 /// How many items each end has taken from packets.
-#[derive(Clone, Copy, Debug, PartialEq, Eq)]
+#[derive(Clone, Copy)]
 pub struct Counts {
     pub a: u64,
     pub b: u64,

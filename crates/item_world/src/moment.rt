@@ -4,7 +4,7 @@ ghost use Rattle.std.specs.Prelude.{◌≡◌};
 const LIFETIME: u64 = 30_000;
 
 /// How many items both ends had taken when a packet was sent.
-#[derive(Clone, Copy, Debug, PartialEq, Eq)]
+#[derive(Clone, Copy)]
 pub struct Moment {
     /// By its sender.
     pub sender: u64,

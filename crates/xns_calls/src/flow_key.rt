@@ -8,7 +8,7 @@ use xns_dump::flows::flow::Flow;
 use xns_dump::flows::place::Place;
 
 /// A flow as numbers.
-#[derive(Clone, Copy, Debug, PartialEq, Eq, PartialOrd, Ord)]
+#[derive(Clone, Copy, PartialEq, Eq, PartialOrd, Ord)]
 pub struct FlowKey {
     /// Who sends.
     pub source: EndKey,

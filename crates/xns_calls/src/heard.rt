@@ -2,7 +2,7 @@
 use courier_messages::{PiecedMessage, SessionFault};
 
 /// What is heard with an item.
-#[derive(Debug, Drop)]
+#[derive(Drop)]
 pub enum Heard {
     /// Nothing that is whole.
     Nothing,

@@ -8,7 +8,7 @@ use std::alloc::{AllocError, Global};
 use xns_spp::Item;
 
 /// What a flow has said of what is not whole.
-#[derive(Debug, Drop)]
+#[derive(Drop)]
 pub enum Speech {
     /// All up to the next mark is lost.
     Waiting,

@@ -2,7 +2,7 @@
 use crate::flows::flow::Flow;
 
 /// A data packet of a flow, and its number there.
-#[derive(Clone, Copy, Debug, PartialEq, Eq)]
+#[derive(Clone, Copy)]
 pub(crate) struct Numbered {
     /// The flow.
     pub(crate) flow: Flow,

@@ -2,7 +2,7 @@
 use crate::flows::numbered::Numbered;
 
 /// Whether a line is refused, and the data packet that it spells, with its number.
-#[derive(Clone, Copy, Debug, PartialEq, Eq)]
+#[derive(Clone, Copy)]
 pub(crate) struct LineOutcome {
     /// Whether its text says that something was refused.
     pub(crate) is_refused: bool,
