@@ -4,9 +4,9 @@ use Rattle.std.proofs.lemmas.List.{drop-drop, drop-take, length-take, take_min}
 use Rattle.std.specs.Prelude.{slice_range}
 use Rattle.xns_idp.specs.Packet.{PacketModel}
 use Rattle.xns_idp.specs.Reading.{packet_of, packet_fault, packet_fields, word_at, made_even, unless}
-use Rattle.xns_c.specs.declared.address.XnsAddress.{XnsAddress}
-use Rattle.xns_c.specs.Given.{is_yes, as_byte}
-use Rattle.xns_c.specs.Views.{address_in}
+use Rattle.xns_c_parts.specs.declared.address.XnsAddress.{XnsAddress}
+use Rattle.xns_c_parts.specs.Given.{is_yes, as_byte}
+use Rattle.xns_c_parts.specs.Views.{address_in}
 use Rattle.xns_spp.specs.declared.header.Header.{Header}
 use Rattle.xns_spp.specs.Header.{header_of, header_fault, header_fields}
 

@@ -1,16 +1,11 @@
--- What the structs that C sees stand for.
+-- What the structs of packets that C sees stand for.
 use Rattle.std.specs.Prelude.{ℕ, ◌+◌, List, slice_range}
-use Rattle.xns_idp.specs.declared.address.Address.{Address}
 use Rattle.xns_idp.specs.Packet.{PacketModel}
 use Rattle.xns_spp.specs.declared.header.Header.{Header}
-use Rattle.xns_spp.specs.declared.item.Item.{Item}
-use Rattle.xns_c.specs.Given.{is_yes}
-use Rattle.xns_c.specs.declared.address.XnsAddress.{XnsAddress}
+use Rattle.xns_c_parts.specs.Given.{is_yes}
+use Rattle.xns_c_parts.specs.Views.{address_in}
 use Rattle.xns_c.specs.declared.header.XnsHeader.{XnsHeader}
 use Rattle.xns_c.specs.declared.packet.XnsPacket.{XnsPacket}
-
-abbrev pub address_in : XnsAddress → Address
-address_in a = record { network = a.network; host = a.host; socket = a.socket }
 
 -- the packet with this body
 abbrev pub packet_with : XnsPacket → List ℕ → PacketModel
@@ -30,7 +25,3 @@ header_in h = record {
   acknowledge = h.acknowledge;
   allocation = h.allocation;
 }
-
--- the item of these parts, as C gives them
-abbrev pub item_given : ℕ → ℕ → ℕ → List ℕ → Item
-item_given stream attention last body = record { stream = stream; attention = is_yes attention; last = is_yes last; body = body }

@@ -5,24 +5,18 @@ ghost use Rattle.xns_spp.specs.State.{State};
 ghost use Rattle.xns_spp.specs.declared.item.Item.{Item};
 ghost use Rattle.courier_messages.specs.declared.message.Message.{Message};
 ghost use Rattle.courier_messages.specs.RawCalls.{words_call};
-ghost use Rattle.xns_c.specs.Handle.{line_of, talk_of};
-ghost use Rattle.xns_c.specs.Courier.{MessageIsGiven, heard_number};
-ghost use Rattle.xns_c.specs.Given.{ItemIsGiven};
-ghost use Rattle.xns_c.specs.Line.{Keeps, packets_of};
-ghost use Rattle.xns_c.specs.Pumping.{caller_side, Pumped, IfBoth};
-ghost use Rattle.xns_c.specs.Results.{ok, nothing, no_memory, no_endpoint, no_caller, short_buffer, stopped, too_long};
-ghost use Rattle.xns_c.specs.Talk.{Talk, new_talk, called, call_number, longest_item, after_item, IsStopped};
-ghost use Rattle.xns_c.specs.Views.{item_given};
+ghost use Rattle.xns_c_parts.specs.Handle.{line_of, talk_of};
+ghost use Rattle.xns_c_parts.specs.Courier.{MessageIsGiven, heard_number};
+ghost use Rattle.xns_c_parts.specs.Given.{ItemIsGiven};
+ghost use Rattle.xns_c_parts.specs.Line.{Keeps, packets_of};
+ghost use Rattle.xns_c_parts.specs.Pumping.{caller_side, Pumped, IfBoth};
+ghost use Rattle.xns_c_parts.specs.Results.{ok, nothing, no_memory, no_endpoint, no_caller, short_buffer, stopped, too_long};
+ghost use Rattle.xns_c_parts.specs.Talk.{Talk, new_talk, called, call_number, longest_item, after_item, IsStopped};
+ghost use Rattle.xns_c_parts.specs.Views.{item_given};
 
-use crate::caller_handle::XnsCaller;
-use crate::handle::XnsEndpoint;
-use crate::item::XnsItem;
-use crate::message::XnsMessage;
-use crate::outgoing::next_item;
-use crate::pumping::pump;
-use crate::results::{NO_CALLER, NO_ENDPOINT, NO_MEMORY, OK};
-use crate::session::Session;
 use std::alloc::{AllocError, Global};
+use xns_c_parts::results::{NO_CALLER, NO_ENDPOINT, NO_MEMORY, OK};
+use xns_c_parts::{Session, XnsCaller, XnsEndpoint, XnsItem, XnsMessage, next_item, pump};
 
 fn make_session(alloc: Global) -> Result<Box<Session>, AllocError>
     ensures { IfOk result (λ b. b.value ≡ new_talk) }

@@ -5,14 +5,13 @@ ghost use Rattle.xns_idp.specs.Checksum.{words, cycle_checksum};
 ghost use Rattle.xns_idp.specs.Packet.{packet_spelling};
 ghost use Rattle.xns_idp.specs.Reading.{made_even, packet_of};
 ghost use Rattle.xns_idp.specs.declared.fault.IdpFault.{IdpFault};
-ghost use Rattle.xns_c.specs.Given.{IsPut};
-ghost use Rattle.xns_c.specs.Results.{ok, bad_argument, short_buffer, too_long, idp_fault_number};
+ghost use Rattle.xns_c_parts.specs.Given.{IsPut};
+ghost use Rattle.xns_c_parts.specs.Results.{ok, bad_argument, short_buffer, too_long, idp_fault_number};
 ghost use Rattle.xns_c.specs.Views.{packet_in, packet_with};
 
-use crate::address::XnsAddress;
-use crate::flag::as_byte;
 use crate::packet::XnsPacket;
-use crate::results::{BAD_ARGUMENT, OK, SHORT_BUFFER, TOO_LONG, idp_fault_number};
+use xns_c_parts::results::{BAD_ARGUMENT, OK, SHORT_BUFFER, TOO_LONG, idp_fault_number};
+use xns_c_parts::{XnsAddress, as_byte};
 use xns_idp::{Packet, cycle_sum, decode, encode_into};
 
 /// The checksum of the words of the bytes, or `BAD_ARGUMENT` for an odd number of bytes

@@ -3,18 +3,14 @@
 ghost use Rattle.std.specs.Prelude.{◌≡◌, ◌≢◌, ◌<◌, ◌≤◌, ℕ, true, false, position, slice_get, IfOk, Some, None};
 ghost use Rattle.std.specs.Option.{is_none};
 ghost use Rattle.xns_idp.specs.declared.address.Address.{Address};
-ghost use Rattle.xns_c.specs.Handle.{listening_of};
-ghost use Rattle.xns_c.specs.Listening.{Listening, IsFor, OpensNew, add_number, guest_of, has_guest, new_listening, with_slot};
-ghost use Rattle.xns_c.specs.Results.{ok, nothing, no_memory, no_listener, bad_argument, opens};
-ghost use Rattle.xns_c.specs.Views.{address_in};
+ghost use Rattle.xns_c_parts.specs.Handle.{listening_of};
+ghost use Rattle.xns_c_parts.specs.Listening.{Listening, IsFor, OpensNew, add_number, guest_of, has_guest, new_listening, with_slot};
+ghost use Rattle.xns_c_parts.specs.Results.{ok, nothing, no_memory, no_listener, bad_argument, opens};
+ghost use Rattle.xns_c_parts.specs.Views.{address_in};
 
-use crate::address::{XnsAddress, tell_end};
-use crate::arrived::Arrived;
-use crate::guest::Guest;
-use crate::listener::Listener;
-use crate::listener_handle::XnsListener;
-use crate::results::{BAD_ARGUMENT, NO_LISTENER, NO_MEMORY, NOTHING, OK, OPENS};
 use std::alloc::{AllocError, Global};
+use xns_c_parts::results::{BAD_ARGUMENT, NO_LISTENER, NO_MEMORY, NOTHING, OK, OPENS};
+use xns_c_parts::{Arrived, Guest, Listener, XnsAddress, XnsListener, tell_end};
 use xns_idp::Address;
 
 /// A listener has at most so many connections, since each has an identifier of its own.

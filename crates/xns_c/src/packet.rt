@@ -1,4 +1,4 @@
-use crate::address::XnsAddress;
+use xns_c_parts::XnsAddress;
 
 /// An internet packet but for its data, of which it says where they stand.
 #[repr(C)]

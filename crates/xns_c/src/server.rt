@@ -4,27 +4,22 @@ ghost use Rattle.std.specs.Prelude.{◌≡◌, ◌≢◌, ◌<◌, ◌≤◌, �
 ghost use Rattle.xns_spp.specs.State.{State};
 ghost use Rattle.xns_spp.specs.declared.item.Item.{Item};
 ghost use Rattle.courier_messages.specs.declared.message.Message.{Message};
-ghost use Rattle.xns_c.specs.Answering.{Answering, new_answering, is_busy, after_item, feed_number, IsStopped, after_call, call_refusal, after_reject, answer_given, answers_to, answer_number, answered};
-ghost use Rattle.xns_c.specs.Courier.{MessageIsGiven};
-ghost use Rattle.xns_c.specs.Given.{ItemIsGiven};
-ghost use Rattle.xns_c.specs.Handle.{answering_of, line_of};
-ghost use Rattle.xns_c.specs.Line.{Keeps, packets_of};
-ghost use Rattle.xns_c.specs.Pumping.{server_side, Pumped, IfBoth};
-ghost use Rattle.xns_c.specs.Results.{ok, nothing, no_memory, no_endpoint, no_server, short_buffer, too_long};
-ghost use Rattle.xns_c.specs.Talk.{longest_item};
-ghost use Rattle.xns_c.specs.Views.{item_given};
-ghost use Rattle.xns_c.specs.declared.unlisted.Unlisted.{Unlisted};
+ghost use Rattle.xns_c_parts.specs.Answering.{Answering, new_answering, is_busy, after_item, feed_number, IsStopped, after_call, call_refusal, after_reject, answer_given, answers_to, answer_number, answered};
+ghost use Rattle.xns_c_parts.specs.Courier.{MessageIsGiven};
+ghost use Rattle.xns_c_parts.specs.Given.{ItemIsGiven};
+ghost use Rattle.xns_c_parts.specs.Handle.{answering_of, line_of};
+ghost use Rattle.xns_c_parts.specs.Line.{Keeps, packets_of};
+ghost use Rattle.xns_c_parts.specs.Pumping.{server_side, Pumped, IfBoth};
+ghost use Rattle.xns_c_parts.specs.Results.{ok, nothing, no_memory, no_endpoint, no_server, short_buffer, too_long};
+ghost use Rattle.xns_c_parts.specs.Talk.{longest_item};
+ghost use Rattle.xns_c_parts.specs.Views.{item_given};
+ghost use Rattle.xns_c_parts.specs.declared.unlisted.Unlisted.{Unlisted};
 
-use crate::handle::XnsEndpoint;
-use crate::item::XnsItem;
-use crate::message::XnsMessage;
-use crate::outgoing::next_item;
-use crate::program::XnsProgram;
-use crate::pumping::pump;
-use crate::results::{NO_ENDPOINT, NO_MEMORY, NO_SERVER, OK};
-use crate::server_handle::XnsServer;
-use crate::server_session::ServerSession;
 use std::alloc::{AllocError, Global};
+use xns_c_parts::results::{NO_ENDPOINT, NO_MEMORY, NO_SERVER, OK};
+use xns_c_parts::{
+    ServerSession, XnsEndpoint, XnsItem, XnsMessage, XnsProgram, XnsServer, next_item, pump,
+};
 
 fn make_session(alloc: Global, programs: &[XnsProgram]) -> Result<Box<ServerSession>, AllocError>
     ensures { IfOk result (λ b. b.value ≡ new_answering programs.now) }

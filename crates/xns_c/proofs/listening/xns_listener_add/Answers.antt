@@ -1,8 +1,8 @@
 use Rattle.std.proofs.Common.{sym, ap, ◌∙◌}
 use Rattle.xns_idp.specs.declared.address.Address.{Address}
-use Rattle.xns_c.specs.Handle.{listening_of}
-use Rattle.xns_c.specs.Listening.{Listening, add_number, guest_of}
-use Rattle.xns_c.proofs.Arrivals.{same_listening}
+use Rattle.xns_c_parts.specs.Handle.{listening_of}
+use Rattle.xns_c_parts.specs.Listening.{Listening, add_number, guest_of}
+use Rattle.xns_c.proofs.Kept.{same_listening}
 use Rattle.xns_c.proofs.listening.xns_listener_add.Goals as goal
 
 pub returns-clause-number : goal.returns-clause-number

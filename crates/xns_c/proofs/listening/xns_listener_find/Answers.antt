@@ -1,7 +1,7 @@
 use Rattle.std.proofs.Common.{◌≡◌, refl}
-use Rattle.xns_c.specs.Handle.{listening_of}
-use Rattle.xns_c.specs.declared.arrived.Arrived.TheVariants.{For, Opens, ForNone}
-use Rattle.xns_c.proofs.Arrivals.{for_of, new_of}
+use Rattle.xns_c_parts.specs.Handle.{listening_of}
+use Rattle.xns_c_parts.specs.declared.arrived.Arrived.TheVariants.{For, Opens, ForNone}
+use Rattle.xns_c.proofs.Kept.{for_of, new_of}
 use Rattle.xns_c.proofs.listening.xns_listener_find.Goals as goal
 
 pub returns-in-For-clause-only : goal.returns-in-For-clause-only

@@ -1,0 +1,15 @@
+pub mod Line
+pub mod Owned
+pub mod Results
+pub mod Views
+pub mod Listening
+pub mod Peers
+pub mod Handle
+pub mod Given
+pub mod Courier
+pub mod Talk
+pub mod Talks
+pub mod Answering
+pub mod Answerings
+pub mod Room
+pub mod Pumping
