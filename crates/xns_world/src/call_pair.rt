@@ -1,13 +1,15 @@
-ghost use Rattle.std.specs.Prelude.{◌≡◌, ◌<◌, length, OnOk, Some};
+ghost use Rattle.std.specs.Prelude.{◌≡◌, ◌<◌, length, map, OnOk, Some};
+ghost use Rattle.courier_calls.specs.Calls.{seen_model};
+ghost use Rattle.courier_calls.specs.Server.{call_of};
 ghost use Rattle.xns_world.specs.CallPlay.{Acts, IsCallPair, IsReady};
-ghost use Rattle.xns_world.specs.CallWorld.{Parties, CallWorld, step};
+ghost use Rattle.xns_world.specs.CallWorld.{Parties, CallWorld, carried_at, seen_at, service_at, step};
 ghost use Rattle.item_world.specs.Landing.{landing};
 ghost use Rattle.xns_world.specs.Settling.{stepped_out};
 ghost use Rattle.item_world.specs.World.{flushes, ticks};
 
 use crate::calling::CallingEnd;
 use crate::serving::ServingEnd;
-use courier_calls::{Call, Service};
+use courier_calls::{Call, Seen, Service};
 use item_world::{Network, Side, flush_end, land, tick_end};
 use std::alloc::{AllocError, Global};
 
@@ -76,5 +78,16 @@ impl<'a, S: Service> CallPair<'a, S> {
             Side::A => land(alloc, Side::A, &mut self.a.endpoint, network, number),
             Side::B => land(alloc, Side::B, &mut self.b.endpoint, network, number),
         }
+    }
+
+    /// The calls that were decided, the outcomes that were seen, and the service as the calls left it.
+    pub fn into_parts(self) -> (Vec<Call>, Vec<Seen>, S)
+        ensures carried { (p : Parties S) (w : CallWorld) → IsCallPair p self.entry w → result.0.items ≡ map call_of (carried_at w) }
+        ensures seen { (p : Parties S) (w : CallWorld) → IsCallPair p self.entry w → map seen_model result.1.items ≡ seen_at p w }
+        ensures service { (p : Parties S) (w : CallWorld) → p.serving ≡ S.serving → IsCallPair p self.entry w → result.2 ≡ service_at p w }
+    {
+        let CallPair { a, b } = self;
+        let (carried, service) = b.into_parts();
+        (carried, a.into_seen(), service)
     }
 }

@@ -5,7 +5,7 @@ ghost use Rattle.item_world.specs.declared.side.Side.{Side};
 ghost use Rattle.item_world.specs.declared.side.Side.TheVariants.{A, B};
 ghost use Rattle.item_world.specs.declared.event.Event.TheVariants.{Deliver, Rest, Tick, Foreign, Send, Take};
 ghost use Rattle.xns_world.specs.CallPlay.{IsCallPlaying, CallStepsBy, IsCallTrace, IsOnceInOrder, parties};
-ghost use Rattle.xns_world.specs.CallWorld.{Parties, call_happens, call_start, run_calls, delivers, settles};
+ghost use Rattle.xns_world.specs.CallWorld.{Parties, CallWorld, call_happens, call_start, run_calls, delivers, settles};
 ghost use Rattle.item_world.specs.Setup.{IsGood};
 
 use crate::call_pair::CallPair;
@@ -13,7 +13,7 @@ use crate::call_trace::CallTrace;
 use crate::calling::CallingEnd;
 use crate::laws::calls::laws_are_given;
 use crate::serving::ServingEnd;
-use courier_calls::{Call, Caller, Service, Table, known_calls};
+use courier_calls::{Call, Service, Table, known_calls};
 use item_world::{Event, Network, Setup, Side};
 use std::alloc::{AllocError, Global};
 
@@ -38,19 +38,10 @@ impl<'a, S: Service> CallPlay<'a, S> {
         requires state { S.IsServiceState service }
         ensures { IfOk result (λ play. (p : Parties S) → p.serving ≡ S.serving → p.service ≡ service → IsCallPlaying p play (call_start setup.now)) }
     {
-        let endpoint = setup.end(alloc, Side::A)?;
-        let caller = Caller::new(alloc, table)?;
         let b = ServingEnd::new(alloc, setup, table, service)?;
+        let a = CallingEnd::new::<S>(alloc, setup, table)?;
         Ok(CallPlay {
-            ends: CallPair {
-                a: CallingEnd {
-                    endpoint,
-                    caller,
-                    made: 0,
-                    seen: Vec::new(alloc),
-                },
-                b,
-            },
+            ends: CallPair { a, b },
             network: Network::new(alloc),
         })
     }
@@ -121,6 +112,30 @@ impl<'a, S: Service> CallPlay<'a, S> {
         }
         Ok(())
     }
+
+    /// Both ends settle, and then all these events happen in turn.
+    fn run(&mut self, alloc: Global, calls: &[Call], events: &[Event]) -> Result<(), AllocError>
+        ensures { OnOk result (CallStepsBy S.serving calls.now self.old self.new (λ p w. fold (call_happens p) (settles p B (settles p A w)) events.now)) }
+    {
+        self.settle(alloc, calls, Side::A)?;
+        self.settle(alloc, calls, Side::B)?;
+        self.happen_all(alloc, calls, events)
+    }
+
+    /// What the play has come to.
+    fn into_trace(self, alloc: Global) -> Result<CallTrace<S>, AllocError>
+        ensures { IfOk result (λ t. (p : Parties S) (w : CallWorld) → p.serving ≡ S.serving → IsCallPlaying p self.entry w → IsCallTrace p t w) }
+    {
+        let CallPlay { ends, network } = self;
+        let (carried, seen, service) = ends.into_parts();
+        let bag = network.into_bag(alloc)?;
+        Ok(CallTrace {
+            carried,
+            seen,
+            service,
+            bag,
+        })
+    }
 }
 
 /// The play of these calls between two ends, the caller at A and the server at B.
@@ -148,17 +163,6 @@ pub fn play_calls<S: Service>(
     known_calls(table, calls);
     laws_are_given::<S>();
     let mut play = CallPlay::new(alloc, setup, table, service)?;
-    play.settle(alloc, calls, Side::A)?;
-    play.settle(alloc, calls, Side::B)?;
-    play.happen_all(alloc, calls, events)?;
-    let CallPlay {
-        ends: CallPair { a, b },
-        network,
-    } = play;
-    Ok(CallTrace {
-        carried: b.carried,
-        seen: a.seen,
-        service: b.server.into_service(),
-        bag: network.into_bag(alloc)?,
-    })
+    play.run(alloc, calls, events)?;
+    play.into_trace(alloc)
 }

@@ -1,16 +1,19 @@
 ghost use Rattle.std.specs.Prelude.{◌≡◌, ◌<◌, ◌==◌, ◌&&◌, nat_lt, length, [], map, OnOk, IfOk, slice_get, Some, None, true, false, if◌then◌else◌};
 ghost use Rattle.courier_calls.specs.Caller.{held};
 ghost use Rattle.courier_calls.specs.Calls.{raw_call};
+ghost use Rattle.courier_calls.specs.Table.{table_model, IsCheckedTable};
+ghost use Rattle.item_world.specs.Setup.{IsGood};
 ghost use Rattle.xns_spp.specs.Sending.{is_full, waiting_count};
 ghost use Rattle.xns_spp.specs.declared.item.Item.{Item};
 ghost use Rattle.item_world.specs.declared.side.Side.TheVariants.{A};
 ghost use Rattle.xns_world.specs.CallLaws.{Given};
 ghost use Rattle.xns_world.specs.CallOrder.{CallsHold};
 ghost use Rattle.xns_world.specs.CallPlay.{IsCalling};
-ghost use Rattle.xns_world.specs.CallWorld.{Parties, CallWorld, next_out, sends_next, feeds, lists, makes, has_outcome, may_call, caller_step, step};
+ghost use Rattle.xns_world.specs.CallWorld.{Parties, CallWorld, next_out, sends_next, feeds, lists, makes, has_outcome, may_call, caller_step, step, call_start};
 ghost use Rattle.xns_world.specs.Settling.{stepped_out, Stepped};
 
-use courier_calls::{Call, Caller, Seen, Service};
+use courier_calls::{Call, Caller, Seen, Service, Table};
+use item_world::{Setup, Side};
 use std::alloc::{AllocError, Global};
 use xns_spp::{Endpoint, MOST_PENDING};
 
@@ -28,6 +31,27 @@ pub struct CallingEnd<'a> {
 }
 
 impl<'a> CallingEnd<'a> {
+    /// The end at A of this setup, before anything has happened; it hasn't settled.
+    pub fn new<S: Service>(
+        alloc: Global,
+        setup: &Setup,
+        table: &'a Table,
+    ) -> Result<CallingEnd<'a>, AllocError>
+        requires good { IsGood setup.now }
+        requires listed { table_model table.now ≡ S.serving.table }
+        requires checked { IsCheckedTable (table_model table.now) }
+        ensures { IfOk result (λ e. (p : Parties S) → p.serving ≡ S.serving → IsCalling p e (call_start setup.now)) }
+    {
+        let endpoint = setup.end(alloc, Side::A)?;
+        let caller = Caller::new(alloc, table)?;
+        Ok(CallingEnd {
+            endpoint,
+            caller,
+            made: 0,
+            seen: Vec::new(alloc),
+        })
+    }
+
     /// Sends the first item that is out.
     fn send<S: Service>(&mut self)
         ensures { (p : Parties S) (w : CallWorld) (x : Item) → Given p → CallsHold p w → IsCalling p self.old w → next_out p w A ≡ Some x → is_full w.world.a ≡ false →
@@ -131,5 +155,12 @@ impl<'a> CallingEnd<'a> {
             }
         }
         Ok(())
+    }
+
+    /// The outcomes that were listed.
+    pub fn into_seen(self) -> Vec<Seen>
+        ensures { result ≡ self.entry.seen }
+    {
+        self.seen
     }
 }

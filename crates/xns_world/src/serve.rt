@@ -3,7 +3,7 @@ ghost use Rattle.std.specs.Option.{option_to_list};
 ghost use Rattle.xns_idp.specs.Packet.{AreBytes};
 ghost use Rattle.courier_calls.specs.Table.{table_model, IsCheckedTable};
 ghost use Rattle.xns_spp.specs.Growth.{Begins};
-ghost use Rattle.xns_world.specs.Serve.{serve, serve_start, serve_settles, serve_receives, serve_hears, IsServeTrace, IsHeard};
+ghost use Rattle.xns_world.specs.Serve.{Served, serve, serve_start, serve_settles, serve_receives, serve_hears, IsServeTrace, IsHeard};
 ghost use Rattle.xns_world.specs.ServeBounds.{IsServedWithin};
 ghost use Rattle.xns_world.specs.ServePlay.{IsServePlaying, ServeStepsBy, IsWithin};
 ghost use Rattle.item_world.specs.Setup.{IsGood};
@@ -80,6 +80,35 @@ impl<'a, S: Service> ServePlay<'a, S> {
         }
         Ok(())
     }
+
+    /// The end settles, and then all these packets come in turn.
+    fn run(&mut self, alloc: Global, packets: &[Bytes]) -> Result<(), AllocError>
+        ensures { OnOk result (ServeStepsBy S.serving self.old self.new (λ s w. fold (serve_hears S.serving s) (serve_settles S.serving s w) packets.now)) }
+    {
+        self.settle(alloc)?;
+        self.serve_each(alloc, packets)
+    }
+
+    /// What the end has come to.
+    fn into_trace(self) -> ServeTrace<S>
+        ensures { (s : S) (w : Served) → IsServePlaying S.serving s self.entry w → IsServeTrace S.serving s result w }
+    {
+        let ServePlay { b, replies } = self;
+        let ServingEnd {
+            server,
+            carried,
+            fault,
+            handed,
+            ..
+        } = b;
+        ServeTrace {
+            handed,
+            carried,
+            fault,
+            replies,
+            service: server.into_service(),
+        }
+    }
 }
 
 /// Appends a reply to those before, where there is one.
@@ -138,21 +167,6 @@ pub fn serve_bytes<S: Service>(
     served_ends_stay_within_bounds::<S>();
     server_laws_are_given::<S>();
     let mut play = ServePlay::new(alloc, setup, table, service)?;
-    play.settle(alloc)?;
-    play.serve_each(alloc, packets)?;
-    let ServePlay { b, replies } = play;
-    let ServingEnd {
-        server,
-        carried,
-        fault,
-        handed,
-        ..
-    } = b;
-    Ok(ServeTrace {
-        handed,
-        carried,
-        fault,
-        replies,
-        service: server.into_service(),
-    })
+    play.run(alloc, packets)?;
+    Ok(play.into_trace())
 }

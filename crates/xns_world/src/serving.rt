@@ -1,5 +1,6 @@
 ghost use Rattle.std.specs.Prelude.{◌≡◌, ◌++◌, ◌∷◌, List, nat_lt, [], OnOk, IfOk, Some, None, true, false, if◌then◌else◌};
 ghost use Rattle.courier_calls.specs.Table.{table_model, IsCheckedTable};
+ghost use Rattle.courier_calls.specs.Server.{server_state};
 ghost use Rattle.courier_messages.specs.declared.fault.SessionFault.{SessionFault};
 ghost use Rattle.xns_spp.specs.Sending.{is_full, waiting_count, after_send, after_take};
 ghost use Rattle.xns_spp.specs.State.{State};
@@ -122,6 +123,14 @@ impl<'a, S: Service> ServingEnd<'a, S> {
             }
         }
         Ok(())
+    }
+
+    /// The calls that were decided, and the service as they left it.
+    pub fn into_parts(self) -> (Vec<Call>, S)
+        ensures carried { result.0 ≡ self.entry.carried }
+        ensures service { (s : S) (F P : List Item) → IsHearing S.serving s self.entry F P → result.1 ≡ server_state S.serving s F }
+    {
+        (self.carried, self.server.into_service())
     }
 }
 

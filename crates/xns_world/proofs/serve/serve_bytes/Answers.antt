@@ -1,6 +1,6 @@
 use Rattle.xns_world.proofs.ServeBounds.{begun_bytes}
 use Rattle.xns_world.proofs.Serves.{heard_along, within}
-use Rattle.xns_world.specs.Serve.{serve, serve_start, serve_settles}
+use Rattle.xns_world.specs.Serve.{serve, serve_start}
 use Rattle.xns_world.proofs.serve.serve_bytes.Goals as goal
 
 trace : goal.returns-clause-trace
@@ -9,15 +9,7 @@ trace g c =
     let s = c.args.service in
     let answering = c.server_laws_are_given.ensures s c.requires.state in
     let w = serve_start c.args.setup.now in
-    let settled = c.in_ok-settle.ensures s w answering c.in_ok-play.ensures in
-    let h = c.in_ok-serve_each.ensures s (serve_settles serving s w) answering settled in
-    record {
-      handed = h.b.listed;
-      carried = h.b.hearing.carried;
-      fault = h.b.hearing.fault;
-      replies = h.replies;
-      service = c.into_service.ensures.stands s _ _ h.b.hearing.session;
-    }
+    c.into_trace.ensures s _ (c.in_ok-run.ensures s w answering c.in_ok-play.ensures)
 
 pub returns-clause-trace : goal.returns-clause-trace
 returns-clause-trace g c = trace g c

@@ -1,4 +1,4 @@
-use Rattle.std.proofs.Common.{◌≡◌, ℕ, List, [], ◌∷◌, fold, ◌∙◌, ap, sym, subst}
+use Rattle.std.proofs.Common.{ℕ, List, [], ◌∷◌, fold, ◌∙◌, ap, sym, subst}
 use Rattle.std.proofs.IntoIterSteps.{All-taken}
 use Rattle.std.proofs.lemmas.List.Sums.{fold-append}
 use Rattle.xns_world.proofs.CallPlays.{unsettled_is_enough}
