@@ -3,7 +3,8 @@
 //! A step is an item or one of these: `add` calls Add of 5, `text` Add of a text, `eight` program 8, `list` the procedure with
 //! a list as its results, `raw` and a number Add with so many words of 0; `outcome` picks up an outcome.
 use crate::script::{item, put_out, put_session_fault, put_words};
-use courier_calls::{Arguments, Call, CallFault, Caller, Procedure, Seen, Table, tally_table};
+use crate::tables::list_procedure;
+use courier_calls::{Arguments, Call, CallFault, Caller, Seen, Table, tally_table};
 use courier_messages::Words;
 use courier_types::{Shape, Value};
 use std::alloc::{AllocError, Global};
@@ -73,18 +74,69 @@ fn raw_words(alloc: Global, count: &str) -> Result<Arguments, AllocError> {
     Ok(Arguments::Raw(Words::new(words)))
 }
 
+/// The arguments of which there is one, a 5.
+fn five() -> Arguments {
+    Arguments::Typed(Value::Cardinal(5))
+}
+
 /// The call that a step makes; `None` where it makes none.
 fn step_call(alloc: Global, step: &str) -> Result<Option<Call>, AllocError> {
-    let five = Arguments::Typed(Value::Cardinal(5));
-    match step {
-        "add" => Ok(Some(make_call(7, 1, five))),
-        "eight" => Ok(Some(make_call(8, 1, five))),
-        "list" => Ok(Some(make_call(7, 3, five))),
-        "text" => Ok(Some(make_call(7, 1, Arguments::Typed(Value::Text(Vec::new(alloc)))))),
-        _ => match step.strip_prefix("raw") {
-            Some(count) => Ok(Some(make_call(7, 1, raw_words(alloc, count)?))),
-            None => Ok(None),
-        },
+    Ok(Some(match step {
+        "add" => make_call(7, 1, five()),
+        "eight" => make_call(8, 1, five()),
+        "list" => make_call(7, 3, five()),
+        "text" => make_call(7, 1, Arguments::Typed(Value::Text(Vec::new(alloc)))),
+        _ => return raw_call(alloc, step),
+    }))
+}
+
+/// The call that a step makes with words of 0.
+fn raw_call(alloc: Global, step: &str) -> Result<Option<Call>, AllocError> {
+    match step.strip_prefix("raw") {
+        Some(count) => Ok(Some(make_call(7, 1, raw_words(alloc, count)?))),
+        None => Ok(None),
+    }
+}
+
+/// Makes a call, and tells what goes out.
+fn put_call(
+    alloc: Global,
+    caller: &mut Caller,
+    call: &Call,
+    text: &mut String,
+) -> Result<(), AllocError> {
+    if let Err(fault) = caller.call(alloc, call) {
+        text.push_str(call_fault(fault))?;
+    }
+    put_out(text, || caller.next_out())
+}
+
+/// Feeds an item when nothing is out, and tells the fault and what goes out.
+fn put_fed(
+    alloc: Global,
+    caller: &mut Caller,
+    step: &str,
+    text: &mut String,
+) -> Result<(), AllocError> {
+    if caller.has_out() {
+        return text.push_str(" more is out");
+    }
+    if let Err(fault) = caller.feed(alloc, item(alloc, step)?) {
+        put_session_fault(text, fault)?;
+    }
+    put_out(text, || caller.next_out())
+}
+
+/// Makes the call of a step, or feeds its item.
+fn put_sent(
+    alloc: Global,
+    caller: &mut Caller,
+    step: &str,
+    text: &mut String,
+) -> Result<(), AllocError> {
+    match step_call(alloc, step)? {
+        Some(call) => put_call(alloc, caller, &call, text),
+        None => put_fed(alloc, caller, step, text),
     }
 }
 
@@ -94,58 +146,52 @@ fn put_step(
     step: &str,
     text: &mut String,
 ) -> Result<(), AllocError> {
-    if step == "outcome" {
-        let outcome = caller.outcome();
-        return put_outcome(text, &outcome);
+    match step {
+        "outcome" => put_outcome(text, &caller.outcome()),
+        _ => put_sent(alloc, caller, step, text),
     }
-    if let Some(call) = step_call(alloc, step)? {
-        if let Err(fault) = caller.call(alloc, &call) {
-            text.push_str(call_fault(fault))?;
-        }
-        return put_out(text, || caller.next_out());
+}
+
+fn put_steps(
+    alloc: Global,
+    caller: &mut Caller,
+    steps: &str,
+    text: &mut String,
+) -> Result<(), AllocError> {
+    for step in steps.split(' ') {
+        put_step(alloc, caller, step, text)?;
     }
-    let item = item(alloc, step)?;
-    if caller.has_out() {
-        return text.push_str(" more is out");
-    }
-    if let Err(fault) = caller.feed(alloc, item) {
-        put_session_fault(text, fault)?;
-    }
-    put_out(text, || caller.next_out())
+    Ok(())
 }
 
 /// The tally's table with one procedure more, whose results are a list of cardinals.
 fn longer_table(alloc: Global) -> Result<Table, AllocError> {
     let mut table = tally_table(alloc)?;
     if let Some(entry) = table.entries.first_mut() {
-        entry.procedures.push(Procedure {
-            number: 3,
-            arguments: Shape::Cardinal,
-            results: Shape::Sequence(9, Box::new(alloc, Shape::Cardinal)?),
-        })?;
+        let results = Shape::Sequence(9, Box::new(alloc, Shape::Cardinal)?);
+        list_procedure(entry, 3, results)?;
     }
     Ok(table)
 }
 
 /// What a caller makes of the steps, over the tally's table with one procedure more.
-pub fn play(alloc: Global, steps: &str) -> Result<String, AllocError> {
-    converse(alloc, &longer_table(alloc)?, steps)
+pub fn play(alloc: Global, steps: &str, text: &mut String) -> Result<(), AllocError> {
+    converse(alloc, &longer_table(alloc)?, steps, text)
 }
 
 /// What a caller makes of the steps, over the tally's own table.
-pub fn play_own(alloc: Global, steps: &str) -> Result<String, AllocError> {
-    converse(alloc, &tally_table(alloc)?, steps)
+pub fn play_own(alloc: Global, steps: &str, text: &mut String) -> Result<(), AllocError> {
+    converse(alloc, &tally_table(alloc)?, steps, text)
 }
 
-fn converse(alloc: Global, table: &Table, steps: &str) -> Result<String, AllocError> {
-    let mut text = String::new(alloc);
-    let Ok(()) = table.check() else {
-        text.push_str(" the table has a fault")?;
-        return Ok(text);
-    };
-    let mut caller = Caller::new(alloc, table)?;
-    for step in steps.split(' ') {
-        put_step(alloc, &mut caller, step, &mut text)?;
+fn converse(
+    alloc: Global,
+    table: &Table,
+    steps: &str,
+    text: &mut String,
+) -> Result<(), AllocError> {
+    if table.check().is_err() {
+        return text.push_str(" the table has a fault");
     }
-    Ok(text)
+    put_steps(alloc, &mut Caller::new(alloc, table)?, steps, text)
 }

@@ -24,26 +24,33 @@ use std::alloc::{AllocError, Global};
 
 fn main(rt: HostRuntime) -> Result<(), anyhow::Error> {
     for line in rt.lines(rt.alloc()) {
-        let line = line?;
-        let text = answer(rt.alloc(), line.as_str())?;
-        println!(rt; "{}", text.as_str().trim_start())?;
+        show(&rt, line?.as_str())?;
     }
     Ok(())
 }
 
-/// What a line of the input is answered.
-fn answer(alloc: Global, line: &str) -> Result<String, AllocError> {
-    match line.split_once(' ') {
-        Some(("message", digits)) => reading::tell(alloc, digits),
-        Some(("zeros", count)) => reading::tell_zeros(alloc, count),
-        Some(("server", steps)) => serving::play(alloc, steps),
-        Some(("caller", steps)) => calling::play(alloc, steps),
-        Some(("own", steps)) => calling::play_own(alloc, steps),
-        Some(("shape", parts)) => values::check(alloc, parts),
-        Some(("words", parts)) => values::read_again(alloc, parts),
-        Some(("pieces", parts)) => values::read_pieced(alloc, parts),
-        Some(("fits", parts)) => values::fit(alloc, parts),
-        Some(("table", change)) => tables::check(alloc, change),
-        _ => String::from_str(alloc, line),
+/// Prints what a line of the input is answered.
+fn show(rt: &HostRuntime, line: &str) -> Result<(), anyhow::Error> {
+    let mut text = String::new(rt.alloc());
+    answer(rt.alloc(), line, &mut text)?;
+    println!(rt; "{}", text.as_str().trim_start())?;
+    Ok(())
+}
+
+/// Puts what a line of the input is answered.
+fn answer(alloc: Global, line: &str, text: &mut String) -> Result<(), AllocError> {
+    let (word, words) = line.split_once(' ').unwrap_or((line, ""));
+    match word {
+        "message" => reading::tell(alloc, words, text),
+        "zeros" => reading::tell_zeros(alloc, words, text),
+        "server" => serving::play(alloc, words, text),
+        "caller" => calling::play(alloc, words, text),
+        "own" => calling::play_own(alloc, words, text),
+        "shape" => values::check(alloc, words, text),
+        "words" => values::read_again(alloc, words, text),
+        "pieces" => values::read_pieced(alloc, words, text),
+        "fits" => values::fit(alloc, words, text),
+        "table" => tables::check(alloc, words, text),
+        _ => text.push_str(line),
     }
 }

@@ -40,16 +40,9 @@ fn zeros(alloc: Global, text: &str) -> Result<Vec<u8>, AllocError> {
     Ok(bytes)
 }
 
-fn make_item(stream: u8, attention: bool, last: bool, body: Vec<u8>) -> Item {
-    Item {
-        stream,
-        attention,
-        last,
-        body: Bytes::new(body),
-    }
-}
-
-fn body(alloc: Global, text: &str) -> Result<Vec<u8>, AllocError> {
+/// The bytes of a step before the sign at its end.
+fn body(alloc: Global, step: &str) -> Result<Vec<u8>, AllocError> {
+    let text = step.trim_end_matches(['|', '*', '!', '/']);
     match text.strip_prefix('=') {
         Some(count) => zeros(alloc, count),
         None => unhexed(alloc, text),
@@ -58,19 +51,13 @@ fn body(alloc: Global, text: &str) -> Result<Vec<u8>, AllocError> {
 
 /// The item that a step stands for.
 pub fn item(alloc: Global, step: &str) -> Result<Item, AllocError> {
-    if let Some(text) = step.strip_suffix('|') {
-        return Ok(make_item(0, false, true, body(alloc, text)?));
-    }
-    if let Some(text) = step.strip_suffix('*') {
-        return Ok(make_item(0, true, true, body(alloc, text)?));
-    }
-    if let Some(text) = step.strip_suffix('!') {
-        return Ok(make_item(254, false, true, body(alloc, text)?));
-    }
-    match step.strip_suffix('/') {
-        Some(text) => Ok(make_item(0, false, false, body(alloc, text)?)),
-        None => Ok(make_item(0, false, false, Vec::new(alloc))),
-    }
+    let sign = step.as_bytes().last();
+    Ok(Item {
+        stream: if sign == Some(&b'!') { 254 } else { 0 },
+        attention: sign == Some(&b'*'),
+        last: matches!(sign, Some(b'|' | b'*' | b'!')),
+        body: Bytes::new(body(alloc, step)?),
+    })
 }
 
 pub fn put_bytes(text: &mut String, bytes: &[u8]) -> Result<(), AllocError> {

@@ -1,9 +1,9 @@
 //! A server of the tally, as lines play it.
 use crate::script::{item, put_out, put_session_fault, put_words};
 use courier_calls::{Arguments, Call, Server, Tally, tally_table};
+use courier_messages::SessionFault;
 use std::alloc::{AllocError, Global};
 use std::fmt::Write;
-use xns_spp::Item;
 
 fn put_call(text: &mut String, call: &Call) -> Result<(), AllocError> {
     write!(
@@ -18,33 +18,46 @@ fn put_call(text: &mut String, call: &Call) -> Result<(), AllocError> {
 }
 
 /// Feeds an item when nothing is out: the call that it ends, or the fault, and then what goes out.
-fn put_fed(
+fn put_step(
     alloc: Global,
     server: &mut Server<Tally>,
-    item: Item,
+    step: &str,
     text: &mut String,
 ) -> Result<(), AllocError> {
     if server.has_out() {
         return text.push_str(" more is out");
     }
-    match server.feed(alloc, item) {
-        Ok(Some(call)) => put_call(text, &call)?,
-        Ok(None) => {}
-        Err(fault) => put_session_fault(text, fault)?,
-    }
+    put_fed(text, server.feed(alloc, item(alloc, step)?))?;
     put_out(text, || server.next_out())
 }
 
+/// What an item comes to: the call that it ends, or the fault.
+fn put_fed(text: &mut String, fed: Result<Option<Call>, SessionFault>) -> Result<(), AllocError> {
+    match fed {
+        Ok(Some(call)) => put_call(text, &call),
+        Ok(None) => Ok(()),
+        Err(fault) => put_session_fault(text, fault),
+    }
+}
+
+/// What a server puts out at first, and what it answers to the items.
+fn put_steps(
+    alloc: Global,
+    server: &mut Server<Tally>,
+    steps: &str,
+    text: &mut String,
+) -> Result<(), AllocError> {
+    put_out(text, || server.next_out())?;
+    for step in steps.split(' ') {
+        put_step(alloc, server, step, text)?;
+    }
+    Ok(())
+}
+
 /// What a server answers to the items, and the total at last.
-pub fn play(alloc: Global, steps: &str) -> Result<String, AllocError> {
+pub fn play(alloc: Global, steps: &str, text: &mut String) -> Result<(), AllocError> {
     let table = tally_table(alloc)?;
     let mut server = Server::new(alloc, &table, Tally::new())?;
-    let mut text = String::new(alloc);
-    put_out(&mut text, || server.next_out())?;
-    for step in steps.split(' ') {
-        let item = item(alloc, step)?;
-        put_fed(alloc, &mut server, item, &mut text)?;
-    }
-    write!(text, " total {}", server.into_service().total())?;
-    Ok(text)
+    put_steps(alloc, &mut server, steps, text)?;
+    write!(text, " total {}", server.into_service().total())
 }

@@ -13,58 +13,52 @@ fn parts(line: &str) -> (&str, &str) {
 }
 
 /// The first fault of a shape: `NAME; SHAPE`.
-pub fn check(alloc: Global, line: &str) -> Result<String, AllocError> {
+pub fn check(alloc: Global, line: &str, text: &mut String) -> Result<(), AllocError> {
     let (name, words) = parts(line);
-    let mut text = String::from_str(alloc, name)?;
-    text.push_str(": ")?;
-    put(&mut text, &shape(alloc, words)?.check())?;
-    Ok(text)
+    write!(text, "{name}: ")?;
+    put(text, &shape(alloc, words)?.check())
 }
 
 fn put_written(
     alloc: Global,
     shape: &Shape,
-    answer: Result<(Value, usize), ReadRefusal>,
+    answer: &Result<(Value, usize), ReadRefusal>,
     text: &mut String,
 ) -> Result<(), AllocError> {
     let Ok((value, _)) = answer else {
         return Ok(());
     };
-    if !fits(shape, &value) {
+    if !fits(shape, value) {
         return text.push_str(", which does not fit");
     }
     let mut words = vec![in alloc; 170]?;
-    write(alloc, shape, &value, &mut words)?;
+    write(alloc, shape, value, &mut words)?;
     text.push_str("\n  written: ")?;
     put(text, &words)
 }
 
 fn put_read(
     alloc: Global,
-    shape: &Shape,
+    spelled: &str,
     words: &[u16],
     text: &mut String,
 ) -> Result<(), AllocError> {
+    let shape = shape(alloc, spelled)?;
     if shape.check().is_err() {
         return text.push_str("the shape has a fault");
     }
-    let answer = read(alloc, shape, words);
+    let answer = read(alloc, &shape, words);
     put(text, &answer)?;
-    put_written(alloc, shape, answer, text)
+    put_written(alloc, &shape, &answer, text)
 }
 
 /// The value that words begin with, and what it is written as behind the word 170: `NAME; SHAPE; WORDS`.
-pub fn read_again(alloc: Global, line: &str) -> Result<String, AllocError> {
+pub fn read_again(alloc: Global, line: &str, text: &mut String) -> Result<(), AllocError> {
     let (name, rest) = parts(line);
     let (spelled, listed) = parts(rest);
     let words = numbers(alloc, listed)?;
-    let mut text = String::new(alloc);
-    write!(text, "{name} from ")?;
-    put(&mut text, &words)?;
-    text.push_str(": ")?;
-    let shape = shape(alloc, spelled)?;
-    put_read(alloc, &shape, &words, &mut text)?;
-    Ok(text)
+    write!(text, "{name} from {words:?}: ")?;
+    put_read(alloc, spelled, &words, text)
 }
 
 fn bytes_between(alloc: Global, digits: &str) -> Result<Vec<Vec<u8>>, AllocError> {
@@ -77,31 +71,27 @@ fn bytes_between(alloc: Global, digits: &str) -> Result<Vec<Vec<u8>>, AllocError
 
 fn put_pieced(
     alloc: Global,
-    shape: &Shape,
+    spelled: &str,
     pieces: &[Vec<u8>],
     skip: usize,
     text: &mut String,
 ) -> Result<(), AllocError> {
+    let shape = shape(alloc, spelled)?;
     if shape.check().is_err() {
         return text.push_str("the shape has a fault");
     }
-    put(text, &read_pieces(alloc, shape, pieces, skip))
+    put(text, &read_pieces(alloc, &shape, pieces, skip))
 }
 
 /// The value that pieces of bytes begin with behind so many words: `NAME; SHAPE; WORDS BEFORE IT; BYTES/BYTES/..`.
-pub fn read_pieced(alloc: Global, line: &str) -> Result<String, AllocError> {
+pub fn read_pieced(alloc: Global, line: &str, text: &mut String) -> Result<(), AllocError> {
     let (name, rest) = parts(line);
     let (spelled, rest) = parts(rest);
     let (skipped, digits) = parts(rest);
     let skip = skipped.parse::<usize>().unwrap_or(0);
     let pieces = bytes_between(alloc, digits)?;
-    let mut text = String::new(alloc);
-    write!(text, "{name} in ")?;
-    put(&mut text, &pieces)?;
-    write!(text, " behind {skip}: ")?;
-    let shape = shape(alloc, spelled)?;
-    put_pieced(alloc, &shape, &pieces, skip, &mut text)?;
-    Ok(text)
+    write!(text, "{name} in {pieces:?} behind {skip}: ")?;
+    put_pieced(alloc, spelled, &pieces, skip, text)
 }
 
 /// The value of a checked shape that words begin with.
@@ -117,20 +107,24 @@ fn value(alloc: Global, spelled: &str, listed: &str) -> Result<Option<Value>, Al
     }
 }
 
-fn tell_fit(alloc: Global, name: &str, other: &str, value: &Value) -> Result<String, AllocError> {
+fn tell_fit(
+    alloc: Global,
+    name: &str,
+    other: &str,
+    value: &Value,
+    text: &mut String,
+) -> Result<(), AllocError> {
     let fit = fits(&shape(alloc, other)?, value);
-    let mut text = String::new(alloc);
-    write!(text, "{name}: {fit}")?;
-    Ok(text)
+    write!(text, "{name}: {fit}")
 }
 
 /// Whether the value of a shape that words begin with fits another shape: `NAME; OTHER SHAPE; SHAPE; WORDS`.
-pub fn fit(alloc: Global, line: &str) -> Result<String, AllocError> {
+pub fn fit(alloc: Global, line: &str, text: &mut String) -> Result<(), AllocError> {
     let (name, rest) = parts(line);
     let (other, rest) = parts(rest);
     let (spelled, listed) = parts(rest);
     match value(alloc, spelled, listed)? {
-        Some(value) => tell_fit(alloc, name, other, &value),
-        None => String::from_str(alloc, "the words begin with no value"),
+        Some(value) => tell_fit(alloc, name, other, &value, text),
+        None => text.push_str("the words begin with no value"),
     }
 }
