@@ -37,28 +37,42 @@ fn put_written(
     put(text, &words)
 }
 
+/// What was read, and what it is written as.
+fn put_answer(
+    alloc: Global,
+    shape: &Shape,
+    answer: &Result<(Value, usize), ReadRefusal>,
+    text: &mut String,
+) -> Result<(), AllocError> {
+    put(text, answer)?;
+    put_written(alloc, shape, answer, text)
+}
+
+/// The value that words begin with, and what it is written as.
 fn put_read(
     alloc: Global,
-    spelled: &str,
+    shape: &Shape,
     words: &[u16],
     text: &mut String,
 ) -> Result<(), AllocError> {
-    let shape = shape(alloc, spelled)?;
-    if shape.check().is_err() {
-        return text.push_str("the shape has a fault");
+    write!(text, " from {words:?}: ")?;
+    match shape.check() {
+        Ok(()) => put_answer(alloc, shape, &read(alloc, shape, words), text),
+        Err(_) => text.push_str("the shape has a fault"),
     }
-    let answer = read(alloc, &shape, words);
-    put(text, &answer)?;
-    put_written(alloc, &shape, &answer, text)
 }
 
 /// The value that words begin with, and what it is written as behind the word 170: `NAME; SHAPE; WORDS`.
 pub fn read_again(alloc: Global, line: &str, text: &mut String) -> Result<(), AllocError> {
     let (name, rest) = parts(line);
     let (spelled, listed) = parts(rest);
-    let words = numbers(alloc, listed)?;
-    write!(text, "{name} from {words:?}: ")?;
-    put_read(alloc, spelled, &words, text)
+    text.push_str(name)?;
+    put_read(
+        alloc,
+        &shape(alloc, spelled)?,
+        &numbers(alloc, listed)?,
+        text,
+    )
 }
 
 fn bytes_between(alloc: Global, digits: &str) -> Result<Vec<Vec<u8>>, AllocError> {
@@ -69,18 +83,19 @@ fn bytes_between(alloc: Global, digits: &str) -> Result<Vec<Vec<u8>>, AllocError
     Ok(pieces)
 }
 
+/// The value that pieces of bytes begin with behind so many words.
 fn put_pieced(
     alloc: Global,
-    spelled: &str,
+    shape: &Shape,
     pieces: &[Vec<u8>],
     skip: usize,
     text: &mut String,
 ) -> Result<(), AllocError> {
-    let shape = shape(alloc, spelled)?;
-    if shape.check().is_err() {
-        return text.push_str("the shape has a fault");
+    write!(text, " in {pieces:?} behind {skip}: ")?;
+    match shape.check() {
+        Ok(()) => put(text, &read_pieces(alloc, shape, pieces, skip)),
+        Err(_) => text.push_str("the shape has a fault"),
     }
-    put(text, &read_pieces(alloc, &shape, pieces, skip))
 }
 
 /// The value that pieces of bytes begin with behind so many words: `NAME; SHAPE; WORDS BEFORE IT; BYTES/BYTES/..`.
@@ -89,9 +104,9 @@ pub fn read_pieced(alloc: Global, line: &str, text: &mut String) -> Result<(), A
     let (spelled, rest) = parts(rest);
     let (skipped, digits) = parts(rest);
     let skip = skipped.parse::<usize>().unwrap_or(0);
+    text.push_str(name)?;
     let pieces = bytes_between(alloc, digits)?;
-    write!(text, "{name} in {pieces:?} behind {skip}: ")?;
-    put_pieced(alloc, spelled, &pieces, skip, text)
+    put_pieced(alloc, &shape(alloc, spelled)?, &pieces, skip, text)
 }
 
 /// The value of a checked shape that words begin with.
