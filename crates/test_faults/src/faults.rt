@@ -12,6 +12,7 @@ use xns_spp::{Dropped, SendFault, SppFault};
 /// What each fault says.
 pub fn tell(text: &mut String) -> Result<(), AllocError> {
     tell_packets(text)?;
+    tell_values(text)?;
     tell_calls(text)
 }
 
@@ -84,12 +85,15 @@ fn tell_packets(text: &mut String) -> Result<(), AllocError> {
     lines(text, &DROPPED)
 }
 
-fn tell_calls(text: &mut String) -> Result<(), AllocError> {
+fn tell_values(text: &mut String) -> Result<(), AllocError> {
     line(text, &DOUBLED)?;
     line(text, &TableFault::BadShape { fault: DOUBLED })?;
     line(text, &Reason::NotBoolean)?;
     line(text, &CUT)?;
-    line(text, &ReadRefusal::Fault(CUT))?;
+    line(text, &ReadRefusal::Fault(CUT))
+}
+
+fn tell_calls(text: &mut String) -> Result<(), AllocError> {
     line(text, &UNKNOWN)?;
     line(text, &MessageRefusal::Fault(UNKNOWN))?;
     line(text, &SessionFault::BadMessage(UNKNOWN))?;
