@@ -15,23 +15,49 @@ pub fn add_five() -> Call {
     }
 }
 
-/// Both sides tell their versions; then a call goes to the server, and its answer to the caller.
+/// Makes a server of the tally and a caller, has them exchange a call and its answer, and prints the server's total.
 pub fn converse(rt: &HostRuntime) -> Result<(), anyhow::Error> {
     let alloc = rt.alloc();
     let table = tally_table(alloc)?;
     let mut server = Server::new(alloc, &table, Tally::new())?;
     let mut caller = Caller::new(alloc, &table)?;
+    exchange(rt, &mut caller, &mut server)?;
+    print_total(rt, server)
+}
+
+/// Both sides tell their versions; then a call goes to the server, and its answer to the caller.
+fn exchange(
+    rt: &HostRuntime,
+    caller: &mut Caller,
+    server: &mut Server<Tally>,
+) -> Result<(), anyhow::Error> {
     let (to_server, to_caller) = (caller.next_out(), server.next_out());
-    feed_server(rt, &mut server, to_server)?;
-    feed_caller(rt, &mut caller, to_caller)?;
-    if let Err(fault) = caller.call(alloc, &add_five()) {
+    feed_server(rt, server, to_server)?;
+    feed_caller(rt, caller, to_caller)?;
+    call(rt, caller)?;
+    feed_server(rt, server, caller.next_out())?;
+    feed_caller(rt, caller, server.next_out())?;
+    print_outcome(rt, caller)
+}
+
+/// Makes a call, which the caller then has out.
+fn call(rt: &HostRuntime, caller: &mut Caller) -> Result<(), anyhow::Error> {
+    if let Err(fault) = caller.call(rt.alloc(), &add_five()) {
         println!(rt; "not called: {fault:?}")?;
     }
-    feed_server(rt, &mut server, caller.next_out())?;
-    feed_caller(rt, &mut caller, server.next_out())?;
+    Ok(())
+}
+
+/// Prints what the call returned.
+fn print_outcome(rt: &HostRuntime, caller: &mut Caller) -> Result<(), anyhow::Error> {
     if let Some(Seen::Returned(value)) = caller.outcome() {
         println!(rt; "returned {value:?}")?;
     }
+    Ok(())
+}
+
+/// Prints the total of the tally, which the server gives back.
+fn print_total(rt: &HostRuntime, server: Server<Tally>) -> Result<(), anyhow::Error> {
     println!(rt; "the total is {}", server.into_service().total())?;
     Ok(())
 }
@@ -51,9 +77,16 @@ fn feed_server(
         return Ok(());
     }
     match server.feed(rt.alloc(), item) {
-        Ok(Some(call)) => println!(rt; "procedure {} of program {}", call.procedure, call.program)?,
-        Ok(None) => {}
+        Ok(call) => print_call(rt, call)?,
         Err(fault) => println!(rt; "the server stops: {fault:?}")?,
+    }
+    Ok(())
+}
+
+/// Prints which call the server decided, where its message has ended.
+fn print_call(rt: &HostRuntime, call: Option<Call>) -> Result<(), anyhow::Error> {
+    if let Some(call) = call {
+        println!(rt; "procedure {} of program {}", call.procedure, call.program)?;
     }
     Ok(())
 }

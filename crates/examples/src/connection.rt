@@ -5,16 +5,26 @@ use crate::hosts::{CALLER, SERVER};
 use std::alloc::{AllocError, Global};
 use xns_spp::{Bytes, Endpoint, Item};
 
-/// Opens a connection, sends an item across, and prints each packet as a line of hex.
+/// Makes both ends of a connection, and sends an item from one to the other.
 pub fn send_an_item(rt: &HostRuntime) -> Result<(), anyhow::Error> {
     let alloc = rt.alloc();
     let mut caller = Endpoint::initiator(alloc, CALLER, 0x1234, SERVER, 4, 16)?;
     let mut server = Endpoint::responder(alloc, SERVER, 0x5678, CALLER, 0x1234, 4, 16)?;
-    carry(rt, &caller.tick(alloc)?, &mut server, &mut caller)?;
+    open_and_send(rt, &mut caller, &mut server)
+}
+
+/// Opens the connection, sends an item across, and prints each packet as a line of hex.
+fn open_and_send(
+    rt: &HostRuntime,
+    caller: &mut Endpoint,
+    server: &mut Endpoint,
+) -> Result<(), anyhow::Error> {
+    let alloc = rt.alloc();
+    carry(rt, &caller.tick(alloc)?, server, caller)?;
     if let Err((fault, _)) = caller.send(hello(alloc)?) {
         println!(rt; "not sent: {fault}")?;
     }
-    carry(rt, &caller.flush(alloc)?, &mut server, &mut caller)?;
+    carry(rt, &caller.flush(alloc)?, server, caller)?;
     if let Some(item) = server.take() {
         println!(rt; "{} bytes came", item.body.as_slice().len())?;
     }

@@ -10,25 +10,33 @@ const MOST: u16 = 100;
 /// The sum of the cardinals that the words spell, as the words of a long cardinal; `None` where they spell no such sequence,
 /// or other words follow.
 pub fn sum_of(alloc: Global, words: &[u16]) -> Result<Option<Vec<u16>>, AllocError> {
+    match read_numbers(alloc, words)? {
+        Some(numbers) => Ok(Some(spelled(alloc, added(&numbers))?)),
+        None => Ok(None),
+    }
+}
+
+/// The sequence of cardinals that the words spell; `None` where they spell none, or other words follow.
+fn read_numbers(alloc: Global, words: &[u16]) -> Result<Option<Value>, AllocError> {
     let numbers = Shape::Sequence(MOST, Box::new(alloc, Shape::Cardinal)?);
     if numbers.check().is_err() {
         return Ok(None);
     }
-    let (value, taken) = match read(alloc, &numbers, words) {
-        Ok(found) => found,
-        Err(ReadRefusal::Fault(_)) => return Ok(None),
-        Err(ReadRefusal::NoMemory) => return Err(AllocError),
-    };
-    if taken != words.len() {
-        return Ok(None);
+    match read(alloc, &numbers, words) {
+        Ok((value, taken)) if taken == words.len() => Ok(Some(value)),
+        Ok(_) | Err(ReadRefusal::Fault(_)) => Ok(None),
+        Err(ReadRefusal::NoMemory) => Err(AllocError),
     }
-    let sum = Value::LongCardinal(added(&value));
-    if !fits(&Shape::LongCardinal, &sum) {
-        return Ok(None);
+}
+
+/// The number as the words of a long cardinal.
+fn spelled(alloc: Global, number: u32) -> Result<Vec<u16>, AllocError> {
+    let value = Value::LongCardinal(number);
+    let mut words = Vec::new(alloc);
+    if fits(&Shape::LongCardinal, &value) {
+        write(alloc, &Shape::LongCardinal, &value, &mut words)?;
     }
-    let mut spelled = Vec::new(alloc);
-    write(alloc, &Shape::LongCardinal, &sum, &mut spelled)?;
-    Ok(Some(spelled))
+    Ok(words)
 }
 
 /// The sum of a sequence's cardinals.
