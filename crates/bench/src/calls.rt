@@ -7,7 +7,7 @@ mod lists;
 
 use crate::calls::carry::repeat;
 use crate::calls::lists::{Lists, lists_table};
-use courier_calls::{Arguments, Call, Caller, Seen, Server, Tally, tally_table};
+use courier_calls::{Arguments, Call, Seen, Tally, tally_table};
 use courier_types::Value;
 use std::alloc::{AllocError, Global};
 
@@ -15,10 +15,10 @@ use std::alloc::{AllocError, Global};
 pub fn run(rt: &HostRuntime, words: &[&str]) -> Result<(), anyhow::Error> {
     let alloc = rt.alloc();
     let adds = count(words, 0);
-    let total = sum(&add(alloc, adds)?);
+    let total = add(alloc, adds)?;
     println!(rt; "{adds} calls, total {total}")?;
     let lists = count(words, 1);
-    let all = sum(&list(alloc, lists)?);
+    let all = list(alloc, lists)?;
     println!(rt; "{lists} lists, sum {all}")?;
     Ok(())
 }
@@ -47,18 +47,20 @@ fn sum(outcome: &Option<Seen>) -> u64 {
     all
 }
 
-/// So many calls Add of 5: the last outcome.
-fn add(alloc: Global, count: u32) -> Result<Option<Seen>, AllocError> {
-    let table = tally_table(alloc)?;
-    let mut server = Server::new(alloc, &table, Tally::new())?;
-    let mut caller = Caller::new(alloc, &table)?;
-    let call = Call {
+/// A call Add of 5.
+fn add_call() -> Call {
+    Call {
         program: 7,
         version: 2,
         procedure: 1,
         arguments: Arguments::Typed(Value::Cardinal(5)),
-    };
-    Ok(repeat(alloc, &mut caller, &mut server, &call, count))
+    }
+}
+
+/// So many calls Add of 5: what the last outcome adds up to.
+fn add(alloc: Global, count: u32) -> Result<u64, AllocError> {
+    let table = tally_table(alloc)?;
+    Ok(sum(&repeat(alloc, &table, Tally::new(), &add_call(), count)?))
 }
 
 /// The numbers from 0 to 59,999.
@@ -70,19 +72,22 @@ fn numbers(alloc: Global) -> Result<Value, AllocError> {
     Ok(Value::Sequence(numbers))
 }
 
-/// So many calls of 60,000 cardinals each way: the last outcome.
-fn list(alloc: Global, count: u32) -> Result<Option<Seen>, AllocError> {
-    let table = lists_table(alloc)?;
-    let Ok(()) = table.check() else {
-        return Ok(None);
-    };
-    let mut server = Server::new(alloc, &table, Lists::new())?;
-    let mut caller = Caller::new(alloc, &table)?;
-    let call = Call {
+/// A call of 60,000 cardinals.
+fn list_call(alloc: Global) -> Result<Call, AllocError> {
+    Ok(Call {
         program: 8,
         version: 1,
         procedure: 1,
         arguments: Arguments::Typed(numbers(alloc)?),
-    };
-    Ok(repeat(alloc, &mut caller, &mut server, &call, count))
+    })
+}
+
+/// So many calls of 60,000 cardinals each way: what the last outcome adds up to.
+fn list(alloc: Global, count: u32) -> Result<u64, AllocError> {
+    let table = lists_table(alloc)?;
+    if table.check().is_err() {
+        return Ok(0);
+    }
+    let call = list_call(alloc)?;
+    Ok(sum(&repeat(alloc, &table, Lists::new(), &call, count)?))
 }

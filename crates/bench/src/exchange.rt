@@ -69,17 +69,23 @@ pub fn run(rt: &HostRuntime, words: &[&str]) -> Result<(), anyhow::Error> {
         .get(1)
         .map_or(1, |word| word.parse::<u32>().unwrap_or(1));
     for _ in 0..times {
-        let Tally {
-            handed,
-            packets,
-            late,
-            lost,
-            again,
-        } = connection(rt.alloc(), way)?;
-        println!(rt;
-            "handed up {handed} of {packets} packets: {late} late, {lost} lost, {again} sent again"
-        )?;
+        print_tally(rt, connection(rt.alloc(), way)?)?;
     }
+    Ok(())
+}
+
+/// Prints what was counted.
+fn print_tally(rt: &HostRuntime, tally: Tally) -> Result<(), anyhow::Error> {
+    let Tally {
+        handed,
+        packets,
+        late,
+        lost,
+        again,
+    } = tally;
+    println!(rt;
+        "handed up {handed} of {packets} packets: {late} late, {lost} lost, {again} sent again"
+    )?;
     Ok(())
 }
 
@@ -96,7 +102,17 @@ fn way_named(name: &str) -> Way {
 fn connection(alloc: Global, way: Way) -> Result<Tally, AllocError> {
     let mut caller = caller(alloc, 64, 64)?;
     let mut server = server(alloc, 64, 64)?;
-    let _ = tick(alloc, &mut caller, &mut server)?;
+    exchange_all(alloc, &mut caller, &mut server, way)
+}
+
+/// Opens the connection of two new ends and exchanges the items.
+fn exchange_all(
+    alloc: Global,
+    caller: &mut Endpoint,
+    server: &mut Endpoint,
+    way: Way,
+) -> Result<Tally, AllocError> {
+    let _ = tick(alloc, caller, server)?;
     let mut tally = Tally {
         handed: 0,
         packets: 0,
@@ -105,8 +121,8 @@ fn connection(alloc: Global, way: Way) -> Result<Tally, AllocError> {
         again: 0,
     };
     for _ in 0..ROUNDS {
-        exchange(alloc, &mut caller, &mut server, way, &mut tally)?;
-        exchange(alloc, &mut server, &mut caller, way, &mut tally)?;
+        exchange(alloc, caller, server, way, &mut tally)?;
+        exchange(alloc, server, caller, way, &mut tally)?;
     }
     Ok(tally)
 }
@@ -119,10 +135,47 @@ fn exchange(
     way: Way,
     tally: &mut Tally,
 ) -> Result<(), AllocError> {
+    send_round(alloc, from)?;
+    deliver_round(alloc, from, to, way, tally)?;
+    let again = tick(alloc, from, to)?.saturating_add(tick(alloc, to, from)?);
+    tally.again = tally.again.saturating_add(again);
+    tally.packets = tally.packets.saturating_add(again);
+    tally.handed = tally.handed.saturating_add(hand_up(to));
+    Ok(())
+}
+
+/// Accepts the items of a round.
+fn send_round(alloc: Global, from: &mut Endpoint) -> Result<(), AllocError> {
     for _ in 0..ROUND {
         let _ = from.send(item(alloc, &BODY)?);
     }
+    Ok(())
+}
+
+/// Delivers the packets of a round, the late ones after the others.
+fn deliver_round(
+    alloc: Global,
+    from: &mut Endpoint,
+    to: &mut Endpoint,
+    way: Way,
+    tally: &mut Tally,
+) -> Result<(), AllocError> {
     let packets = from.flush(alloc)?;
+    deliver_in_turn(alloc, &packets, from, to, way, tally)?;
+    deliver_late(alloc, &packets, from, to, way)?;
+    tally.packets = tally.packets.saturating_add(packets.len() as u64);
+    Ok(())
+}
+
+/// Delivers the packets that come in turn, and counts the others.
+fn deliver_in_turn(
+    alloc: Global,
+    packets: &[Bytes],
+    from: &mut Endpoint,
+    to: &mut Endpoint,
+    way: Way,
+    tally: &mut Tally,
+) -> Result<(), AllocError> {
     for (place, packet) in packets.iter().enumerate() {
         match way.fate(place) {
             Fate::InTurn => deliver(alloc, packet, from, to)?,
@@ -130,18 +183,22 @@ fn exchange(
             Fate::Lost => tally.lost = tally.lost.saturating_add(1),
         }
     }
+    Ok(())
+}
+
+/// Delivers the packets that come late.
+fn deliver_late(
+    alloc: Global,
+    packets: &[Bytes],
+    from: &mut Endpoint,
+    to: &mut Endpoint,
+    way: Way,
+) -> Result<(), AllocError> {
     for (place, packet) in packets.iter().enumerate() {
         if way.fate(place) == Fate::Late {
             deliver(alloc, packet, from, to)?;
         }
     }
-    let again = tick(alloc, from, to)?.saturating_add(tick(alloc, to, from)?);
-    tally.again = tally.again.saturating_add(again);
-    tally.packets = tally
-        .packets
-        .saturating_add(packets.len() as u64)
-        .saturating_add(again);
-    tally.handed = tally.handed.saturating_add(hand_up(to));
     Ok(())
 }
 
@@ -161,7 +218,8 @@ fn deliver(
     from: &mut Endpoint,
     to: &mut Endpoint,
 ) -> Result<(), AllocError> {
-    if let Some(reply) = to.receive(alloc, packet.as_slice())?.reply {
+    let received = to.receive(alloc, packet.as_slice())?;
+    if let Some(reply) = &received.reply {
         from.receive(alloc, reply.as_slice())?;
     }
     Ok(())

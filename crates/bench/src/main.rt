@@ -25,11 +25,22 @@ const SHORT: [&str; 6] = [
 ];
 
 fn main(rt: HostRuntime) -> Result<(), anyhow::Error> {
-    let owned: Vec<String> = env::args(&rt)?.skip(1).collect(rt.alloc())?;
-    let words: Vec<&str> = owned.iter().map(|word| word.as_str()).collect(rt.alloc())?;
-    match words.split_first() {
-        Some((name, words)) => run(&rt, name, words),
-        None => run_each(&rt),
+    let arguments: Vec<String> = env::args(&rt)?.skip(1).collect(rt.alloc())?;
+    if arguments.is_empty() {
+        return run_each(&rt);
+    }
+    let words: Vec<&str> = arguments
+        .iter()
+        .map(|word| word.as_str())
+        .collect(rt.alloc())?;
+    run_line(&rt, &words)
+}
+
+/// Runs what the first word names, where there is one.
+fn run_line(rt: &HostRuntime, line: &[&str]) -> Result<(), anyhow::Error> {
+    match line.split_first() {
+        Some((name, words)) => run(rt, name, words),
+        None => Ok(()),
     }
 }
 
@@ -46,9 +57,7 @@ fn run_each(rt: &HostRuntime) -> Result<(), anyhow::Error> {
     for line in SHORT {
         println!(rt; "{line}:")?;
         let words: Vec<&str> = line.split_whitespace().collect(rt.alloc())?;
-        if let Some((name, words)) = words.split_first() {
-            run(rt, name, words)?;
-        }
+        run_line(rt, &words)?;
     }
     Ok(())
 }

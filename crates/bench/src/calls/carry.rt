@@ -1,8 +1,11 @@
 //! What carries the items of a conversation, in memory.
 
-use courier_calls::{Call, Caller, Seen, Server, Service};
+ghost use Rattle.std.specs.Prelude.{◌≡◌};
+ghost use Rattle.courier_calls.specs.Table.{table_model, IsCheckedTable};
+
+use courier_calls::{Call, Caller, Seen, Server, Service, Table};
 use courier_messages::SessionFault;
-use std::alloc::Global;
+use std::alloc::{AllocError, Global};
 use xns_spp::Item;
 
 /// Feeds the server, which has nothing out; else the answer is `Failed`.
@@ -67,26 +70,62 @@ fn carry<S: Service>(
     Ok(())
 }
 
-/// Makes the call so many times: the last outcome; `None` where a session stops, or a call is not made or not answered.
-pub fn repeat<S: Service>(
+/// Makes the call once: its outcome; `None` where a session stops, or the call is not made or not answered.
+fn make<S: Service>(
+    alloc: Global,
+    caller: &mut Caller,
+    server: &mut Server<S>,
+    call: &Call,
+) -> Option<Seen> {
+    if caller.call(alloc, call).is_err() || carry(alloc, caller, server).is_err() {
+        return None;
+    }
+    caller.outcome()
+}
+
+/// Makes the call so many times: the last outcome; `None` where there is none, a session stops, or a call is not made or not answered.
+fn make_all<S: Service>(
     alloc: Global,
     caller: &mut Caller,
     server: &mut Server<S>,
     call: &Call,
     count: u32,
 ) -> Option<Seen> {
-    if greet(alloc, caller, server).is_err() {
+    if count == 0 || greet(alloc, caller, server).is_err() {
         return None;
     }
-    let mut last = None;
-    for _ in 0..count {
-        if caller.call(alloc, call).is_err() || carry(alloc, caller, server).is_err() {
-            return None;
-        }
-        last = caller.outcome();
-        if last.is_none() {
-            return None;
-        }
+    for _ in 1..count {
+        make(alloc, caller, server, call)?;
     }
-    last
+    make(alloc, caller, server, call)
+}
+
+/// Makes the call so many times between a new caller and a server, as `make_all` does.
+fn repeat_at<S: Service>(
+    alloc: Global,
+    table: &Table,
+    server: &mut Server<S>,
+    call: &Call,
+    count: u32,
+) -> Result<Option<Seen>, AllocError>
+    requires { IsCheckedTable (table_model table.now) }
+{
+    let mut caller = Caller::new(alloc, table)?;
+    Ok(make_all(alloc, &mut caller, server, call, count))
+}
+
+/// Makes the call so many times between a new caller and a new server of the service, as `make_all` does.
+pub fn repeat<S: Service>(
+    alloc: Global,
+    table: &Table,
+    service: S,
+    call: &Call,
+    count: u32,
+) -> Result<Option<Seen>, AllocError>
+    requires listed { table_model table.now ≡ S.serving.table }
+    requires checked { IsCheckedTable (table_model table.now) }
+    requires state { S.IsServiceState service }
+{
+    let mut server = Server::new(alloc, table, service)?;
+    repeat_at(alloc, table, &mut server, call, count)
 }

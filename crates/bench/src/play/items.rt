@@ -1,5 +1,5 @@
 //! Items each way.
-use item_world::{Event, Side, play_items};
+use item_world::{Event, ItemTrace, Side, play_items};
 use std::alloc::{AllocError, Global};
 use test_setting::{WIDE_SETUP, numbered};
 
@@ -8,13 +8,24 @@ const ROUND: u32 = 16;
 
 /// Plays so many items each way, and prints how many came through.
 pub fn play(rt: &HostRuntime, count: u32) -> Result<(), anyhow::Error> {
-    let alloc = rt.alloc();
+    match traced(rt.alloc(), count)? {
+        Some(trace) => print_trace(rt, &trace),
+        None => Ok(()),
+    }
+}
+
+/// What comes of so many items each way; `None` where there are no such ends.
+fn traced(alloc: Global, count: u32) -> Result<Option<ItemTrace>, AllocError> {
     let setup = WIDE_SETUP;
     if !setup.is_good() {
-        return Ok(());
+        return Ok(None);
     }
-    let events = events(alloc, count)?;
-    let trace = play_items(alloc, &setup, &events)?;
+    let trace = play_items(alloc, &setup, &events(alloc, count)?)?;
+    Ok(Some(trace))
+}
+
+/// Prints how many items came through.
+fn print_trace(rt: &HostRuntime, trace: &ItemTrace) -> Result<(), anyhow::Error> {
     println!(rt;
         "sent {} and {}",
         trace.a_sent.as_slice().len(),
