@@ -92,7 +92,7 @@ read : (b : List ℕ) (e : Envelope) → envelope_in b ≡ Some e → Reads b e
 read b e told = reads_of b (spp_packet_of b) e refl told
 
 ours_is : (own : Address) (g : Guest) (s : State) (b : List ℕ) (p : SppPacketModel) → Answers s own g → spp_packet_of b ≡ Ok p → is_ours s b ≡ is_for own (envelope_of p) g
-ours_is own g s b p answers e = ap (is_ours_in s) e ∙ ap (λ (x : Ends). ends.is_ours x p) answers
+ours_is own g s b p answers e = ap (is_ours_in s) e ∙ ap (λ (x : Ends). ends.is_ours_at x p) answers
 
 -- the end that answers a peer, when it is new
 abbrev new_end : Address → Guest → State
