@@ -1,7 +1,9 @@
 //! Reading an answer.
-ghost use Rattle.std.specs.Prelude.{◌≡◌};
+ghost use Rattle.std.specs.Prelude.{◌≡◌, Ok};
 ghost use Rattle.courier_calls.specs.Table.{table_model, IsCheckedTable};
-ghost use Rattle.courier_calls.specs.Caller.{answer_to, Answers, unasked};
+ghost use Rattle.courier_messages.specs.Head.{words_in};
+ghost use Rattle.courier_calls.specs.Calls.{SeenModel, found};
+ghost use Rattle.courier_calls.specs.Caller.{abort_in, answer_to, Answers, results_in, unasked};
 
 use crate::call::Seen;
 use crate::table::Table;
@@ -16,8 +18,59 @@ pub struct Target {
     pub procedure: u16,
 }
 
+/// The message as a reject, with its words.
+fn read_reject(alloc: Global, reason: u16, message: &PiecedMessage) -> Result<Seen, SessionFault>
+    ensures { Answers result (Ok (SeenModel.rejected reason (words_in message.now))) }
+{
+    Ok(Seen::Rejected(reason, message.words(alloc)?))
+}
+
+/// The results that the message spells, of the procedure that was called.
+#[tactic(auto, using(crate::proofs::Found::found_checked))]
+fn read_return(
+    alloc: Global,
+    table: &Table,
+    target: Target,
+    message: &PiecedMessage,
+) -> Result<Seen, SessionFault>
+    requires { IsCheckedTable (table_model table.now) }
+    ensures { Answers result (results_in (found (table_model table.now) target.program target.version target.procedure) (words_in message.now)) }
+{
+    let Ok((_, listed)) = table.find(target.program, target.version, target.procedure) else {
+        return Err(SessionFault::BadReply);
+    };
+    match message.value(alloc, &listed.results)? {
+        Some(value) => Ok(Seen::Returned(value)),
+        None => Err(SessionFault::BadReply),
+    }
+}
+
+/// The error of that number that the message spells, of the program that was called.
+#[tactic(auto, using(crate::proofs::Found::found_checked, crate::proofs::Found::error_checked))]
+fn read_abort(
+    alloc: Global,
+    table: &Table,
+    target: Target,
+    error: u16,
+    message: &PiecedMessage,
+) -> Result<Seen, SessionFault>
+    requires { IsCheckedTable (table_model table.now) }
+    ensures { Answers result (abort_in (found (table_model table.now) target.program target.version target.procedure) error (words_in message.now)) }
+{
+    let Ok((entry, _)) = table.find(target.program, target.version, target.procedure) else {
+        return Err(SessionFault::BadReply);
+    };
+    let Some(listed) = entry.error(error) else {
+        return Err(SessionFault::BadReply);
+    };
+    match message.value(alloc, &listed.arguments)? {
+        Some(value) => Ok(Seen::Aborted(error, value)),
+        None => Err(SessionFault::BadReply),
+    }
+}
+
 /// The message as the answer to the call that waits.
-#[tactic(auto, using(crate::proofs::Found::found_checked, crate::proofs::Found::error_checked), unfolding(crate::specs::Caller::answer_to))]
+#[tactic(auto, unfolding(crate::specs::Caller::answer_to))]
 pub fn read_answer(
     alloc: Global,
     table: &Table,
@@ -28,11 +81,6 @@ pub fn read_answer(
     requires { IsCheckedTable (table_model table.now) }
     ensures { Answers result (answer_to (table_model table.now) expects target.program target.version target.procedure message.now) }
 {
-    let Target {
-        program,
-        version,
-        procedure,
-    } = target;
     match message.head() {
         Head::Call { .. } => Err(SessionFault::BadReply),
         Head::Reject {
@@ -42,34 +90,19 @@ pub fn read_answer(
             if transaction != expects {
                 return Err(SessionFault::WrongTransaction);
             }
-            Ok(Seen::Rejected(reason, message.words(alloc)?))
+            read_reject(alloc, reason, message)
         }
         Head::Return { transaction } => {
             if transaction != expects {
                 return Err(SessionFault::WrongTransaction);
             }
-            let Ok((_, listed)) = table.find(program, version, procedure) else {
-                return Err(SessionFault::BadReply);
-            };
-            match message.value(alloc, &listed.results)? {
-                Some(value) => Ok(Seen::Returned(value)),
-                None => Err(SessionFault::BadReply),
-            }
+            read_return(alloc, table, target, message)
         }
         Head::Abort { transaction, error } => {
             if transaction != expects {
                 return Err(SessionFault::WrongTransaction);
             }
-            let Ok((entry, _)) = table.find(program, version, procedure) else {
-                return Err(SessionFault::BadReply);
-            };
-            let Some(listed) = entry.error(error) else {
-                return Err(SessionFault::BadReply);
-            };
-            match message.value(alloc, &listed.arguments)? {
-                Some(value) => Ok(Seen::Aborted(error, value)),
-                None => Err(SessionFault::BadReply),
-            }
+            read_abort(alloc, table, target, error, message)
         }
     }
 }
