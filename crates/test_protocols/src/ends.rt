@@ -3,9 +3,10 @@ ghost use Rattle.std.specs.Prelude.{◌<◌, ◌≤◌};
 ghost use Rattle.xns_spp.specs.Ends.{most_pending};
 
 use crate::sent::Sent;
-use crate::text::{debugged, first_word, read_bytes};
+use crate::text::{first_word, put, read_bytes};
 use crate::{reading, small, writing};
 use std::alloc::{AllocError, Global};
+use std::fmt::Write;
 use test_setting::{CALLER, CALLER_ID, SERVER, SERVER_ID, caller, server};
 use xns_spp::{Bytes, Endpoint, Item, Received};
 
@@ -51,30 +52,43 @@ impl Ends {
         }
     }
 
-    /// Takes the steps, and gives what the last answers.
-    pub fn take_steps(&mut self, alloc: Global, steps: &str) -> Result<String, AllocError> {
-        let mut answer = String::new(alloc);
+    /// Takes the steps, and leaves what the last answers.
+    pub fn take_steps(
+        &mut self,
+        alloc: Global,
+        steps: &str,
+        text: &mut String,
+    ) -> Result<(), AllocError> {
         for step in steps.split("; ") {
-            answer = self.take_step(alloc, step)?;
+            text.clear();
+            self.take_step(alloc, step, text)?;
         }
-        Ok(answer)
+        Ok(())
     }
 
-    fn take_step(&mut self, alloc: Global, step: &str) -> Result<String, AllocError> {
+    fn take_step(
+        &mut self,
+        alloc: Global,
+        step: &str,
+        text: &mut String,
+    ) -> Result<(), AllocError> {
         let (word, words) = first_word(step);
         match word {
-            "caller" => act(alloc, &mut self.caller, &mut self.sent, words),
-            "server" => act(alloc, &mut self.server, &mut self.sent, words),
-            "ends" => {
-                *self = Ends::read(alloc, words)?;
-                Ok(String::new(alloc))
-            }
-            "write" => writing::tell(alloc, words),
-            "at" => small::tell(alloc, words),
-            "controls" => controls(alloc, words),
-            "nearest" => reading::near(alloc, words),
-            _ => reading::tell(alloc, word, &self.sent.bytes(alloc, words)?),
+            "caller" => act(alloc, &mut self.caller, &mut self.sent, words, text),
+            "server" => act(alloc, &mut self.server, &mut self.sent, words, text),
+            "ends" => self.replace(alloc, words),
+            "write" => writing::tell(alloc, words, text),
+            "at" => small::tell(alloc, words, text),
+            "controls" => controls(alloc, words, text),
+            "nearest" => reading::near(words, text),
+            _ => self.sent.tell(alloc, word, words, text),
         }
+    }
+
+    /// Goes on with new ends.
+    fn replace(&mut self, alloc: Global, words: &str) -> Result<(), AllocError> {
+        *self = Ends::read(alloc, words)?;
+        Ok(())
     }
 }
 
@@ -84,19 +98,44 @@ fn act(
     end: &mut Endpoint,
     sent: &mut Sent,
     step: &str,
-) -> Result<String, AllocError> {
+    text: &mut String,
+) -> Result<(), AllocError> {
     let (word, words) = first_word(step);
     match word {
-        "send" => debugged(alloc, &end.send(read_item(alloc, words)?)),
-        "take" => debugged(alloc, &end.take()),
-        "flush" => debugged(alloc, &sent.keep_packets(end.flush(alloc)?)),
-        "tick" => debugged(alloc, &sent.keep_packets(end.tick(alloc)?)),
-        "receive" => receive(alloc, end, sent, words),
-        "full" => debugged(alloc, &end.is_full()),
-        "open" => debugged(alloc, &end.is_open()),
-        "waiting" => debugged(alloc, &end.waiting()),
-        _ => debugged(alloc, &end.is_ours(&sent.bytes(alloc, words)?)),
+        "send" => send(alloc, end, words, text),
+        "take" => put(text, &end.take()),
+        "flush" => put(text, &sent.keep_packets(end.flush(alloc)?)),
+        "tick" => put(text, &sent.keep_packets(end.tick(alloc)?)),
+        "receive" => receive(alloc, end, sent, words, text),
+        _ => ask(alloc, end, sent, step, text),
     }
+}
+
+/// What an end is asked.
+fn ask(
+    alloc: Global,
+    end: &Endpoint,
+    sent: &Sent,
+    step: &str,
+    text: &mut String,
+) -> Result<(), AllocError> {
+    let (word, words) = first_word(step);
+    match word {
+        "full" => put(text, &end.is_full()),
+        "open" => put(text, &end.is_open()),
+        "waiting" => put(text, &end.waiting()),
+        _ => put(text, &end.is_ours(&sent.bytes(alloc, words)?)),
+    }
+}
+
+/// Sends the item that words say.
+fn send(
+    alloc: Global,
+    end: &mut Endpoint,
+    words: &str,
+    text: &mut String,
+) -> Result<(), AllocError> {
+    put(text, &end.send(read_item(alloc, words)?))
 }
 
 /// The item that words say, which ends a message.
@@ -114,51 +153,92 @@ fn read_item(alloc: Global, words: &str) -> Result<Item, AllocError> {
     })
 }
 
+/// Gives an end the packet that words stand for.
 fn receive(
     alloc: Global,
     end: &mut Endpoint,
     sent: &mut Sent,
     words: &str,
-) -> Result<String, AllocError> {
-    let bytes = sent.bytes(alloc, words)?;
-    let received = end.receive(alloc, &bytes)?;
-    let text = outcome(alloc, &received)?;
+    text: &mut String,
+) -> Result<(), AllocError> {
+    let packet = sent.bytes(alloc, words)?;
+    let received = end.receive(alloc, &packet)?;
+    put_outcome(text, &received)?;
     sent.keep_reply(received.reply);
-    Ok(text)
+    Ok(())
 }
 
 /// What an end made of a packet.
-fn outcome(alloc: Global, received: &Received) -> Result<String, AllocError> {
+fn put_outcome(text: &mut String, received: &Received) -> Result<(), AllocError> {
     let answered = match received.reply {
         Some(_) => "answered",
         None => "not answered",
     };
-    format!(in alloc;
+    write!(
+        text,
         "{} taken, {answered}, dropped {:?}",
         received.took, received.dropped
     )
 }
 
+/// What a new server makes of a packet.
+fn received(alloc: Global, packet: &[u8]) -> Result<Received, AllocError> {
+    let mut server = server(alloc, 4, BACKLOG)?;
+    server.receive(alloc, packet)
+}
+
 /// What a new server makes of the packet with this control.
-fn with_control(alloc: Global, packet: &mut [u8], control: u8) -> Result<String, AllocError> {
+fn put_control(
+    alloc: Global,
+    packet: &mut [u8],
+    control: u8,
+    text: &mut String,
+) -> Result<(), AllocError> {
     if let Some(place) = packet.get_mut(CONTROL) {
         *place = control;
     }
-    let mut server = server(alloc, 4, BACKLOG)?;
-    outcome(alloc, &server.receive(alloc, packet)?)
+    put_outcome(text, &received(alloc, packet)?)
 }
 
-/// What new servers make of a packet with each control from its own on, while they come to the same.
-fn controls(alloc: Global, words: &str) -> Result<String, AllocError> {
-    let mut packet = read_bytes(alloc, words)?;
-    let first = packet.get(CONTROL).copied().unwrap_or(0);
-    let same = with_control(alloc, &mut packet, first)?;
+/// Whether a new server makes this of the packet with this control.
+fn comes_to(
+    alloc: Global,
+    packet: &mut [u8],
+    control: u8,
+    outcome: &str,
+) -> Result<bool, AllocError> {
+    let mut text = String::new(alloc);
+    put_control(alloc, packet, control, &mut text)?;
+    Ok(text.as_str() == outcome)
+}
+
+/// The last control from the first on with which the packet comes to the same.
+fn last_alike(
+    alloc: Global,
+    packet: &mut [u8],
+    first: u8,
+    outcome: &str,
+) -> Result<u8, AllocError> {
     let mut last = first;
     for control in first..=255 {
-        if with_control(alloc, &mut packet, control)?.as_str() != same.as_str() {
+        if !comes_to(alloc, packet, control, outcome)? {
             break;
         }
         last = control;
     }
-    format!(in alloc; "{first} to {last}: {}", same.as_str())
+    Ok(last)
+}
+
+/// What new servers make of a packet with each control from its own on, while they come to the same.
+fn controls(alloc: Global, words: &str, text: &mut String) -> Result<(), AllocError> {
+    let mut packet = read_bytes(alloc, words)?;
+    put_controls(alloc, &mut packet, text)
+}
+
+fn put_controls(alloc: Global, packet: &mut [u8], text: &mut String) -> Result<(), AllocError> {
+    let first = packet.get(CONTROL).copied().unwrap_or(0);
+    let mut outcome = String::new(alloc);
+    put_control(alloc, packet, first, &mut outcome)?;
+    let last = last_alike(alloc, packet, first, outcome.as_str())?;
+    write!(text, "{first} to {last}: {}", outcome.as_str())
 }

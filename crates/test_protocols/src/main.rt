@@ -33,33 +33,44 @@ use test_setting::SERVER_ID;
 
 fn main(rt: HostRuntime) -> Result<(), anyhow::Error> {
     let mut ends = Ends::new(rt.alloc(), 4, SERVER_ID)?;
+    show_all(&rt, &mut ends)
+}
+
+fn show_all(rt: &HostRuntime, ends: &mut Ends) -> Result<(), anyhow::Error> {
     for line in rt.lines(rt.alloc()) {
-        let line = line?;
-        let text = answer(rt.alloc(), &mut ends, line.as_str())?;
-        print!(rt; "{}", text.as_str())?;
+        show(rt, ends, line?.as_str())?;
     }
     Ok(())
 }
 
-/// What comes of a line: nothing of a comment and of steps without a name.
-fn answer(alloc: Global, ends: &mut Ends, line: &str) -> Result<String, AllocError> {
+/// Does what a line says, and prints the answer: nothing of a comment and of steps without a name.
+fn show(rt: &HostRuntime, ends: &mut Ends, line: &str) -> Result<(), anyhow::Error> {
     if let [] | [b'#', ..] = line.as_bytes() {
-        return Ok(String::new(alloc));
+        return Ok(());
     }
-    let Some((name, steps)) = line.split_once(" = ") else {
-        repeat(alloc, ends, line)?;
-        return Ok(String::new(alloc));
+    let (name, steps) = match line.split_once(" = ") {
+        Some((name, steps)) => (Some(name), steps),
+        None => (None, line),
     };
-    let answer = repeat(alloc, ends, steps)?;
-    format!(in alloc; "{name} {}\n", answer.as_str())
+    let answer = answer(rt.alloc(), ends, steps)?;
+    if let Some(name) = name {
+        println!(rt; "{name} {}", answer.as_str())?;
+    }
+    Ok(())
 }
 
-/// Takes the steps as often as the line says, and gives what the last answers.
-fn repeat(alloc: Global, ends: &mut Ends, line: &str) -> Result<String, AllocError> {
+/// What the last of the steps answers.
+fn answer(alloc: Global, ends: &mut Ends, line: &str) -> Result<String, AllocError> {
+    let mut text = String::new(alloc);
+    repeat(alloc, ends, line, &mut text)?;
+    Ok(text)
+}
+
+/// Takes the steps as often as the line says, and leaves what the last answers.
+fn repeat(alloc: Global, ends: &mut Ends, line: &str, text: &mut String) -> Result<(), AllocError> {
     let (count, steps) = line.split_once(" times ").unwrap_or(("1", line));
-    let mut answer = String::new(alloc);
     for _ in 0..count.parse::<u16>().unwrap_or(0) {
-        answer = ends.take_steps(alloc, steps)?;
+        ends.take_steps(alloc, steps, text)?;
     }
-    Ok(answer)
+    Ok(())
 }

@@ -1,4 +1,5 @@
 //! What ends sent last.
+use crate::reading;
 use crate::text::read_bytes;
 use std::alloc::{AllocError, Global};
 use xns_idp::decode;
@@ -49,6 +50,17 @@ impl Sent {
             Some(packet) => packet.as_slice().to_vec(alloc),
             None => read_bytes(alloc, words),
         }
+    }
+
+    /// What the function of this name makes of the bytes that words stand for.
+    pub fn tell(
+        &self,
+        alloc: Global,
+        name: &str,
+        words: &str,
+        text: &mut String,
+    ) -> Result<(), AllocError> {
+        reading::tell(alloc, name, &self.bytes(alloc, words)?, text)
     }
 }
 

@@ -1,23 +1,35 @@
 //! Servers of Echo, complaints and a requester.
 use crate::hexed::Hexed;
-use crate::text::{debugged, first_word, hexed_if_any, read_bytes};
+use crate::text::{first_word, put, put_hexed_if_any, read_bytes};
 use std::alloc::{AllocError, Global};
+use std::fmt::Write;
 use test_setting::{CALLER, ECHO_SERVER, SERVER};
 use xns_idp::{Address, decode};
 use xns_small::error_number::{BAD_CHECKSUM, UNSPECIFIED};
 use xns_small::{Requester, answer_echo, complain};
 
 /// What is sent from an address about a packet, or only whether something is.
-pub fn tell(alloc: Global, words: &str) -> Result<String, AllocError> {
+pub fn tell(alloc: Global, words: &str, text: &mut String) -> Result<(), AllocError> {
     let (name, words) = first_word(words);
     let (word, words) = first_word(words);
-    let packet = read_bytes(alloc, words)?;
-    let own = address(name);
+    let answer = answer(alloc, address(name), word, words)?;
     match word {
-        "echo" => hexed_if_any(alloc, &reply(alloc, own, &packet)?),
-        "answered" => debugged(alloc, &reply(alloc, own, &packet)?.is_some()),
-        "complain" => hexed_if_any(alloc, &complain(alloc, own, BAD_CHECKSUM, 0, &packet)?),
-        _ => hexed_if_any(alloc, &complain(alloc, own, UNSPECIFIED, 0, &packet)?),
+        "answered" => put(text, &answer.is_some()),
+        _ => put_hexed_if_any(text, &answer),
+    }
+}
+
+fn answer(
+    alloc: Global,
+    own: Address,
+    word: &str,
+    words: &str,
+) -> Result<Option<Vec<u8>>, AllocError> {
+    let packet = read_bytes(alloc, words)?;
+    match word {
+        "echo" | "answered" => reply(alloc, own, &packet),
+        "complain" => complain(alloc, own, BAD_CHECKSUM, 0, &packet),
+        _ => complain(alloc, own, UNSPECIFIED, 0, &packet),
     }
 }
 
@@ -42,18 +54,18 @@ fn requester(alloc: Global) -> Result<Requester, AllocError> {
 }
 
 /// The request, and what is sent when no response comes.
-pub fn request(alloc: Global) -> Result<String, AllocError> {
+pub fn request(alloc: Global, text: &mut String) -> Result<(), AllocError> {
     let requester = requester(alloc)?;
     let first = Hexed(requester.try_again());
     let again = Hexed(requester.try_again());
-    format!(in alloc; "{first}\nit once more: {again}")
+    write!(text, "{first}\nit once more: {again}")
 }
 
 /// The bytes of a response that the requester accepts.
-pub fn accept(alloc: Global, packet: &[u8]) -> Result<String, AllocError> {
+pub fn accept(alloc: Global, packet: &[u8], text: &mut String) -> Result<(), AllocError> {
     let requester = requester(alloc)?;
     match decode(packet) {
-        Ok((packet, _)) => debugged(alloc, &requester.accept(&packet)),
-        Err(_) => String::from_str(alloc, "no packet"),
+        Ok((packet, _)) => put(text, &requester.accept(&packet)),
+        Err(_) => text.push_str("no packet"),
     }
 }

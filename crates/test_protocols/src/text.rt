@@ -3,22 +3,22 @@ ghost use Rattle.std.specs.Prelude.{◌<◌};
 
 use crate::hexed::Hexed;
 use std::alloc::{AllocError, Global};
-use std::fmt::Debug;
+use std::fmt::{Debug, Write};
 
 /// A value as Rust prints it.
-pub fn debugged<T: Debug>(alloc: Global, value: &T) -> Result<String, AllocError> {
-    format!(in alloc; "{value:?}")
+pub fn put<T: Debug>(text: &mut String, value: &T) -> Result<(), AllocError> {
+    write!(text, "{value:?}")
 }
 
-pub fn hexed(alloc: Global, bytes: &[u8]) -> Result<String, AllocError> {
-    format!(in alloc; "{}", Hexed(bytes))
+pub fn put_hexed(text: &mut String, bytes: &[u8]) -> Result<(), AllocError> {
+    write!(text, "{}", Hexed(bytes))
 }
 
 /// Bytes as digits of hex, or that there are none.
-pub fn hexed_if_any(alloc: Global, bytes: &Option<Vec<u8>>) -> Result<String, AllocError> {
+pub fn put_hexed_if_any(text: &mut String, bytes: &Option<Vec<u8>>) -> Result<(), AllocError> {
     match bytes {
-        Some(bytes) => hexed(alloc, bytes),
-        None => String::from_str(alloc, "none"),
+        Some(bytes) => put_hexed(text, bytes),
+        None => text.push_str("none"),
     }
 }
 
