@@ -103,9 +103,9 @@ fn act(
     let (word, words) = first_word(step);
     match word {
         "send" => send(alloc, end, words, text),
-        "take" => put(text, &end.take()),
-        "flush" => put(text, &sent.keep_packets(end.flush(alloc)?)),
-        "tick" => put(text, &sent.keep_packets(end.tick(alloc)?)),
+        "take" => take(end, text),
+        "flush" => flush(alloc, end, sent, text),
+        "tick" => tick(alloc, end, sent, text),
         "receive" => receive(alloc, end, sent, words, text),
         _ => ask(alloc, end, sent, step, text),
     }
@@ -136,6 +136,33 @@ fn send(
     text: &mut String,
 ) -> Result<(), AllocError> {
     put(text, &end.send(read_item(alloc, words)?))
+}
+
+/// Hands up the item that came next.
+fn take(end: &mut Endpoint, text: &mut String) -> Result<(), AllocError> {
+    put(text, &end.take())
+}
+
+/// Has an end send what it has, and tells how many packets that takes.
+fn flush(
+    alloc: Global,
+    end: &mut Endpoint,
+    sent: &mut Sent,
+    text: &mut String,
+) -> Result<(), AllocError> {
+    let packets = end.flush(alloc)?;
+    put(text, &sent.keep_packets(packets))
+}
+
+/// Has an end send again what may be lost, and tells how many packets that takes.
+fn tick(
+    alloc: Global,
+    end: &mut Endpoint,
+    sent: &mut Sent,
+    text: &mut String,
+) -> Result<(), AllocError> {
+    let packets = end.tick(alloc)?;
+    put(text, &sent.keep_packets(packets))
 }
 
 /// The item that words say, which ends a message.
