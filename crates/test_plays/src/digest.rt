@@ -3,7 +3,7 @@ use std::fmt;
 use xns_spp::Bytes;
 
 /// A number that other bytes are unlikely to have: the bytes as digits of a number to base 31, of which the lowest 32 bits are kept.
-#[derive(Drop)]
+#[derive(Clone, Copy)]
 pub struct Digest(u32);
 
 impl Digest {

@@ -41,18 +41,26 @@ pub fn read_hex(alloc: Global, digits: &str) -> Result<Vec<u8>, AllocError> {
     }
 }
 
-/// The bytes of words: hex digits, or `=` and how many bytes of 0.
+fn push_zeros(bytes: &mut Vec<u8>, count: u16) -> Result<(), AllocError> {
+    for _ in 0..count {
+        bytes.push(0)?;
+    }
+    Ok(())
+}
+
+/// Adds the bytes of a word: hex digits, or `=` and how many bytes of 0.
+fn push_word(alloc: Global, bytes: &mut Vec<u8>, word: &str) -> Result<(), AllocError> {
+    match word.strip_prefix("=") {
+        Some(count) => push_zeros(bytes, count.parse::<u16>().unwrap_or(0)),
+        None => bytes.extend_from_slice(read_hex(alloc, word)?.as_slice()),
+    }
+}
+
+/// The bytes of words.
 fn read_words(alloc: Global, words: &str) -> Result<Vec<u8>, AllocError> {
     let mut bytes = Vec::new(alloc);
     for word in words.split(" ") {
-        match word.strip_prefix("=") {
-            Some(count) => {
-                for _ in 0..count.parse::<u16>().unwrap_or(0) {
-                    bytes.push(0)?;
-                }
-            }
-            None => bytes.extend_from_slice(read_hex(alloc, word)?.as_slice())?,
-        }
+        push_word(alloc, &mut bytes, word)?;
     }
     Ok(bytes)
 }

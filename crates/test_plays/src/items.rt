@@ -63,7 +63,12 @@ fn event(alloc: Global, step: &str) -> Result<Option<Event>, AllocError> {
     }
 }
 
-fn put_items(alloc: Global, lines: &mut Lines, who: &str, items: &Items) -> Result<(), AllocError> {
+pub fn put_items(
+    alloc: Global,
+    lines: &mut Lines,
+    who: &str,
+    items: &Items,
+) -> Result<(), AllocError> {
     for item in items.as_slice() {
         lines.put(item_text(alloc, who, item)?)?;
     }
@@ -77,18 +82,33 @@ fn name(side: Side) -> &'static str {
     }
 }
 
+/// The digest of packets with their senders' names.
+fn digest_of(packets: &[(Side, Bytes)]) -> Digest {
+    let mut digest = Digest::new();
+    for (side, bytes) in packets {
+        digest.add(name(*side).as_bytes());
+        digest.add(bytes.as_slice());
+    }
+    digest
+}
+
+/// How many packets were sent, with the digest of many.
+fn packet_count(alloc: Global, packets: &[(Side, Bytes)]) -> Result<String, AllocError> {
+    let count = packets.len();
+    if count > MOST_PACKETS {
+        let digest = digest_of(packets);
+        return format!(in alloc; "packets {count} digest {digest}");
+    }
+    format!(in alloc; "packets {count}")
+}
+
 /// How many packets were sent, and the packets, or the digest of them with their senders' names.
 pub fn put_bag(alloc: Global, lines: &mut Lines, bag: &Bag) -> Result<(), AllocError> {
     let packets = bag.as_slice();
+    lines.put(packet_count(alloc, packets)?)?;
     if packets.len() > MOST_PACKETS {
-        let mut digest = Digest::new();
-        for (side, bytes) in packets {
-            digest.add(name(*side).as_bytes());
-            digest.add(bytes.as_slice());
-        }
-        return lines.put(format!(in alloc; "packets {} digest {digest}", packets.len())?);
+        return Ok(());
     }
-    lines.put(format!(in alloc; "packets {}", packets.len())?)?;
     for (side, bytes) in packets {
         lines.put(packet_text(alloc, name(*side), *side, bytes.as_slice())?)?;
     }
@@ -106,13 +126,17 @@ fn read_events(alloc: Global, steps: &str) -> Result<Vec<Event>, AllocError> {
     Ok(events)
 }
 
+fn put_trace(alloc: Global, lines: &mut Lines, trace: &ItemTrace) -> Result<(), AllocError> {
+    put_items(alloc, lines, "a sent", &trace.a_sent)?;
+    put_items(alloc, lines, "b sent", &trace.b_sent)?;
+    put_items(alloc, lines, "a handed", &trace.a_handed)?;
+    put_items(alloc, lines, "b handed", &trace.b_handed)?;
+    put_bag(alloc, lines, &trace.bag)
+}
+
 fn trace_text(alloc: Global, trace: &ItemTrace) -> Result<String, AllocError> {
     let mut lines = Lines::new(alloc);
-    put_items(alloc, &mut lines, "a sent", &trace.a_sent)?;
-    put_items(alloc, &mut lines, "b sent", &trace.b_sent)?;
-    put_items(alloc, &mut lines, "a handed", &trace.a_handed)?;
-    put_items(alloc, &mut lines, "b handed", &trace.b_handed)?;
-    put_bag(alloc, &mut lines, &trace.bag)?;
+    put_trace(alloc, &mut lines, trace)?;
     lines.into_text()
 }
 

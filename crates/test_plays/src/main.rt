@@ -34,11 +34,16 @@ use std::alloc::{AllocError, Global};
 
 fn main(rt: HostRuntime) -> Result<(), anyhow::Error> {
     for line in rt.lines(rt.alloc()) {
-        let line = line?;
-        match answer(rt.alloc(), line.as_str()) {
-            Ok(text) => print!(rt; "{}", text.as_str())?,
-            Err(AllocError) => println!(rt; "no memory")?,
-        }
+        tell(&rt, line?.as_str())?;
+    }
+    Ok(())
+}
+
+/// Prints what comes of a line.
+fn tell(rt: &HostRuntime, line: &str) -> Result<(), anyhow::Error> {
+    match answer(rt.alloc(), line) {
+        Ok(text) => print!(rt; "{}", text.as_str())?,
+        Err(AllocError) => println!(rt; "no memory")?,
     }
     Ok(())
 }

@@ -157,20 +157,44 @@ fn serve_within(
     }
 }
 
+/// Gives a server the packets, and adds a block that is made of what it answered; `false` where `serve_within` has no trace.
+fn push_next(
+    alloc: Global,
+    setup: &Setup,
+    generator: &mut Generator,
+    packets: &mut Vec<Bytes>,
+) -> Result<bool, AllocError> {
+    let Some(trace) = serve_within(alloc, setup, packets)? else {
+        return Ok(false);
+    };
+    push_block(alloc, generator, &trace, packets)?;
+    Ok(true)
+}
+
+/// The packets of so many blocks, or of fewer where the server has no trace of them.
+fn blocks_of(
+    alloc: Global,
+    setup: &Setup,
+    seed: u16,
+    blocks: u16,
+) -> Result<Vec<Bytes>, AllocError> {
+    let mut generator = Generator::new(u64::from(seed));
+    let mut packets = Vec::new(alloc);
+    for _ in 0..blocks {
+        if !push_next(alloc, setup, &mut generator, &mut packets)? {
+            break;
+        }
+    }
+    Ok(packets)
+}
+
 /// Gives a server one block of packets after another, each made of what it answered to those before, and looks after each whether its
 /// trace is within its bounds.
 pub fn play(alloc: Global, setup: &Setup, steps: &str) -> Result<String, AllocError> {
     let Some((seed, blocks)) = read_numbers(steps) else {
         return String::from_str(alloc, "no seed\n");
     };
-    let mut generator = Generator::new(u64::from(seed));
-    let mut packets = Vec::new(alloc);
-    for _ in 0..blocks {
-        let Some(trace) = serve_within(alloc, setup, &packets)? else {
-            break;
-        };
-        push_block(alloc, &mut generator, &trace, &mut packets)?;
-    }
+    let packets = blocks_of(alloc, setup, seed, blocks)?;
     match serve_within(alloc, setup, &packets)? {
         Some(trace) => trace_text(alloc, &trace, packets.len()),
         None => format!(in alloc;

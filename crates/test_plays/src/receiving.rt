@@ -43,37 +43,73 @@ struct Trial<'a> {
 }
 
 impl Trial<'_> {
-    /// What a new end makes of the packet with this number in the field in this place, and what it would then send again.
-    fn receives(&self, alloc: Global, place: usize, number: u16) -> Result<String, AllocError> {
+    /// The packet with this number in the field in this place.
+    fn packet(&self, alloc: Global, place: usize, number: u16) -> Result<Bytes, AllocError> {
         let mut body = self.body.as_slice().to_vec(alloc)?;
         change(&mut body, place, number);
-        let packet = packet_of(alloc, &body)?;
+        packet_of(alloc, &body)
+    }
+
+    /// A new end, which the steps bring to its state; `None` where there is none.
+    fn end(&self, alloc: Global) -> Result<Option<Endpoint>, AllocError> {
         if !self.setup.is_good() {
-            return String::from_str(alloc, "no such end");
+            return Ok(None);
         }
         let mut end = self.setup.end(alloc, self.side)?;
         take_steps(alloc, &mut end, self.steps)?;
-        received_text(alloc, &end.receive(alloc, packet.as_slice())?, &mut end)
+        Ok(Some(end))
+    }
+
+    /// What a new end makes of the packet with this number in the field in this place, and what it would then send again.
+    fn receives(&self, alloc: Global, place: usize, number: u16) -> Result<String, AllocError> {
+        let packet = self.packet(alloc, place, number)?;
+        match self.end(alloc)? {
+            Some(mut end) => answer_text(alloc, &mut end, &packet),
+            None => String::from_str(alloc, "no such end"),
+        }
+    }
+
+    /// What an end makes of the packet with this control byte, of which the upper half counts.
+    fn control_text(&self, alloc: Global, control: u8) -> Result<String, AllocError> {
+        let text = self.receives(alloc, CONTROL, u16::from(control))?;
+        let (low, high) = (control & 0xf0, control | 15);
+        format!(in alloc; "control {low:02x} to {high:02x}: {}", text.as_str())
     }
 
     fn put_controls(&self, alloc: Global, lines: &mut Lines) -> Result<(), AllocError> {
         for control in 0..=255_u8 {
-            let text = self.receives(alloc, CONTROL, u16::from(control))?;
-            let (low, high) = (control & 0xf0, control | 15);
-            let text = text.as_str();
-            lines.put(format!(in alloc; "control {low:02x} to {high:02x}: {text}")?)?;
+            lines.put(self.control_text(alloc, control)?)?;
         }
         Ok(())
+    }
+
+    /// What an end makes of the packet with this number in the field of this name.
+    fn field_text(
+        &self,
+        alloc: Global,
+        place: usize,
+        name: &str,
+        number: u16,
+    ) -> Result<String, AllocError> {
+        let text = self.receives(alloc, place, number)?;
+        format!(in alloc; "{name} {number}: {}", text.as_str())
     }
 
     fn put_fields(&self, alloc: Global, lines: &mut Lines) -> Result<(), AllocError> {
         for (place, name) in FIELDS {
             for number in NUMBERS {
-                let text = self.receives(alloc, place, number)?;
-                lines.put(format!(in alloc; "{name} {number}: {}", text.as_str())?)?;
+                lines.put(self.field_text(alloc, place, name, number)?)?;
             }
         }
         Ok(())
+    }
+
+    /// What an end makes of the packet with each control byte, and with each other field changed.
+    fn text(&self, alloc: Global) -> Result<String, AllocError> {
+        let mut lines = Lines::new(alloc);
+        self.put_controls(alloc, &mut lines)?;
+        self.put_fields(alloc, &mut lines)?;
+        lines.into_text()
     }
 }
 
@@ -92,40 +128,47 @@ fn get(alloc: Global, end: &mut Endpoint, words: &str) -> Result<(), AllocError>
     Ok(())
 }
 
-fn take_steps(alloc: Global, end: &mut Endpoint, steps: &str) -> Result<(), AllocError> {
-    for step in steps.split(", ") {
-        match step.split_once(" ").unwrap_or((step, "")) {
-            ("send", digits) => send(alloc, end, digits)?,
-            ("get", words) => get(alloc, end, words)?,
-            ("take", _) => {
-                let _ = end.take();
-            }
-            ("tick", _) => {
-                end.tick(alloc)?;
-            }
-            _ => {}
+fn take_step(alloc: Global, end: &mut Endpoint, step: &str) -> Result<(), AllocError> {
+    match step.split_once(" ").unwrap_or((step, "")) {
+        ("send", digits) => send(alloc, end, digits)?,
+        ("get", words) => get(alloc, end, words)?,
+        ("take", _) => {
+            let _ = end.take();
         }
+        ("tick", _) => {
+            end.tick(alloc)?;
+        }
+        _ => {}
     }
     Ok(())
 }
 
-/// How many items were taken, why the packet's was dropped, how many wait, the reply, and what the end then sends as time passes.
-fn received_text(
-    alloc: Global,
-    received: &Received,
-    end: &mut Endpoint,
-) -> Result<String, AllocError> {
+fn take_steps(alloc: Global, end: &mut Endpoint, steps: &str) -> Result<(), AllocError> {
+    for step in steps.split(", ") {
+        take_step(alloc, end, step)?;
+    }
+    Ok(())
+}
+
+/// What the end makes of a packet, and what it then sends as time passes.
+fn answer_text(alloc: Global, end: &mut Endpoint, packet: &Bytes) -> Result<String, AllocError> {
+    let received = end.receive(alloc, packet.as_slice())?;
+    let mut text = received_text(alloc, &received, end.waiting())?;
+    for packet in end.tick(alloc)? {
+        put_packet(alloc, &mut text, "then", &packet)?;
+    }
+    Ok(text)
+}
+
+/// How many items were taken, why the packet's was dropped, how many wait, and the reply.
+fn received_text(alloc: Global, received: &Received, waiting: usize) -> Result<String, AllocError> {
     let mut text = format!(in alloc;
-        "took {} dropped {} waiting {}",
+        "took {} dropped {} waiting {waiting}",
         received.took,
-        dropped_text(&received.dropped),
-        end.waiting()
+        dropped_text(&received.dropped)
     )?;
     if let Some(reply) = &received.reply {
         put_packet(alloc, &mut text, "reply", reply)?;
-    }
-    for packet in end.tick(alloc)? {
-        put_packet(alloc, &mut text, "then", &packet)?;
     }
     Ok(text)
 }
@@ -164,8 +207,5 @@ pub fn play(alloc: Global, setup: Setup, side: Side, steps: &str) -> Result<Stri
         steps,
         body,
     };
-    let mut lines = Lines::new(alloc);
-    trial.put_controls(alloc, &mut lines)?;
-    trial.put_fields(alloc, &mut lines)?;
-    lines.into_text()
+    trial.text(alloc)
 }

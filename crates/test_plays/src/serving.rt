@@ -1,10 +1,11 @@
 //! Packets that are given to a server of the tally.
-use crate::calls::put_carried;
+use crate::calls::{put_carried, total_text};
 use crate::digest::Digest;
 use crate::draft::{SEQUENCE, number_at, packet_of, put_number, read_body, read_hex};
+use crate::items::put_items;
 use crate::lines::Lines;
 use crate::steps::counted;
-use crate::telling::{Fault, item_text, packet_text};
+use crate::telling::{Fault, packet_text};
 use courier_calls::{Tally, tally_table};
 use item_world::{Setup, Side};
 use std::alloc::{AllocError, Global};
@@ -24,40 +25,63 @@ fn push_group(alloc: Global, packets: &mut Vec<Bytes>, group: &str) -> Result<()
     let Some(mut body) = read_body(alloc, words)? else {
         return Ok(());
     };
-    let first = number_at(&body, SEQUENCE);
+    push_numbered(alloc, packets, &mut body, count)
+}
+
+/// Adds so many packets with this body, each with the next sequence number.
+fn push_numbered(
+    alloc: Global,
+    packets: &mut Vec<Bytes>,
+    body: &mut [u8],
+    count: u16,
+) -> Result<(), AllocError> {
+    let first = number_at(body, SEQUENCE);
     for number in 0..count {
-        put_number(&mut body, SEQUENCE, first.wrapping_add(number));
-        packets.push(packet_of(alloc, &body)?)?;
+        put_number(body, SEQUENCE, first.wrapping_add(number));
+        packets.push(packet_of(alloc, body)?)?;
     }
     Ok(())
 }
 
-/// How many packets the server sent, with the digest of many, and the packets, or the last two of many.
-fn put_replies(alloc: Global, lines: &mut Lines, replies: &[Bytes]) -> Result<(), AllocError> {
+/// How many packets the server sent, with the digest of many.
+fn reply_count(alloc: Global, replies: &[Bytes]) -> Result<String, AllocError> {
     let count = replies.len();
-    let mut shown = 0;
     if count > MOST_REPLIES {
         let digest = Digest::of_all(replies);
-        lines.put(format!(in alloc; "replies {count} digest {digest}")?)?;
-        shown = count - 2;
-    } else {
-        lines.put(format!(in alloc; "replies {count}")?)?;
+        return format!(in alloc; "replies {count} digest {digest}");
     }
-    for reply in replies.iter().skip(shown) {
+    format!(in alloc; "replies {count}")
+}
+
+/// How many packets the server sent, with the digest of many, and the packets, or the last two of many.
+fn put_replies(alloc: Global, lines: &mut Lines, replies: &[Bytes]) -> Result<(), AllocError> {
+    lines.put(reply_count(alloc, replies)?)?;
+    let skipped = if replies.len() > MOST_REPLIES {
+        replies.len() - 2
+    } else {
+        0
+    };
+    for reply in replies.iter().skip(skipped) {
         lines.put(packet_text(alloc, "reply", Side::B, reply.as_slice())?)?;
     }
     Ok(())
 }
 
+fn put_trace(
+    alloc: Global,
+    lines: &mut Lines,
+    trace: &ServeTrace<Tally>,
+) -> Result<(), AllocError> {
+    put_items(alloc, lines, "handed", &trace.handed)?;
+    put_carried(alloc, lines, trace.carried.as_slice())?;
+    lines.put(format!(in alloc; "fault {}", Fault(&trace.fault))?)?;
+    put_replies(alloc, lines, trace.replies.as_slice())?;
+    lines.put(total_text(alloc, &trace.service)?)
+}
+
 fn trace_text(alloc: Global, trace: &ServeTrace<Tally>) -> Result<String, AllocError> {
     let mut lines = Lines::new(alloc);
-    for item in trace.handed.as_slice() {
-        lines.put(item_text(alloc, "handed", item)?)?;
-    }
-    put_carried(alloc, &mut lines, trace.carried.as_slice())?;
-    lines.put(format!(in alloc; "fault {}", Fault(&trace.fault))?)?;
-    put_replies(alloc, &mut lines, trace.replies.as_slice())?;
-    lines.put(format!(in alloc; "total {}", trace.service.total())?)?;
+    put_trace(alloc, &mut lines, trace)?;
     lines.into_text()
 }
 
@@ -75,13 +99,18 @@ pub fn serve(
     Ok(Some(trace))
 }
 
-/// What a server makes of the packets: the items handed up, the calls that it decided, its session's fault, the packets that it sent, and
-/// the total.
-pub fn play(alloc: Global, setup: &Setup, steps: &str) -> Result<String, AllocError> {
+fn read_packets(alloc: Global, steps: &str) -> Result<Vec<Bytes>, AllocError> {
     let mut packets = Vec::new(alloc);
     for group in steps.split(", ") {
         push_group(alloc, &mut packets, group)?;
     }
+    Ok(packets)
+}
+
+/// What a server makes of the packets: the items handed up, the calls that it decided, its session's fault, the packets that it sent, and
+/// the total.
+pub fn play(alloc: Global, setup: &Setup, steps: &str) -> Result<String, AllocError> {
+    let packets = read_packets(alloc, steps)?;
     match serve(alloc, setup, &packets)? {
         Some(trace) => trace_text(alloc, &trace),
         None => String::from_str(alloc, "no such ends\n"),

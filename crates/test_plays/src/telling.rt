@@ -13,14 +13,14 @@ use xns_spp::{Dropped, Header, Item, read_header};
 const MOST_SHOWN: usize = 40;
 
 /// Bytes in hex, `-` for none, and many by their number.
-#[derive(Drop)]
+#[derive(Clone, Copy)]
 struct Hex<'a>(&'a [u8]);
 
 impl fmt::Display for Hex<'_> {
     fn fmt<W: fmt::Write>(&self, f: &mut fmt::Formatter<W>) -> fmt::Result {
         let bytes = self.0;
         if bytes.is_empty() {
-            return write!(f, "-");
+            return f.write_str("-");
         }
         if bytes.len() > MOST_SHOWN {
             return write!(f, "={}", bytes.len());
@@ -33,14 +33,14 @@ impl fmt::Display for Hex<'_> {
 }
 
 /// Words in hex, parted by spaces; `-` for none, and many by their number.
-#[derive(Drop)]
+#[derive(Clone, Copy)]
 struct WordsInHex<'a>(&'a [u16]);
 
 impl fmt::Display for WordsInHex<'_> {
     fn fmt<W: fmt::Write>(&self, f: &mut fmt::Formatter<W>) -> fmt::Result {
         let words = self.0;
         let Some((first, rest)) = words.split_first() else {
-            return write!(f, "-");
+            return f.write_str("-");
         };
         if words.len() > MOST_SHOWN {
             return write!(f, "={}", words.len());
@@ -155,7 +155,7 @@ pub fn packet_text(
 }
 
 /// Why bytes are no message; of an unknown kind, which.
-#[derive(Drop)]
+#[derive(Clone, Copy)]
 struct WrongMessage(MessageFault);
 
 impl fmt::Display for WrongMessage {
@@ -166,12 +166,12 @@ impl fmt::Display for WrongMessage {
             MessageFault::UnknownKind { found } => return write!(f, "UnknownKind {found}"),
             MessageFault::TooLong => "TooLong",
         };
-        write!(f, "{name}")
+        f.write_str(name)
     }
 }
 
 /// Why a session stopped; of an item of another datastream, which.
-#[derive(Drop)]
+#[derive(Clone, Copy)]
 pub struct Fault<'a>(pub &'a Option<SessionFault>);
 
 impl fmt::Display for Fault<'_> {
@@ -187,7 +187,7 @@ impl fmt::Display for Fault<'_> {
             Some(SessionFault::NoMemory) => "NoMemory",
             Some(SessionFault::Failed) => "Failed",
         };
-        write!(f, "{name}")
+        f.write_str(name)
     }
 }
 
