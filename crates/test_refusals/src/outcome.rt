@@ -3,6 +3,7 @@
 use std::alloc::AllocError;
 
 /// What came of a call that could be made.
+#[derive(Clone, Copy)]
 pub enum Outcome {
     Done,
     Refused,
@@ -28,7 +29,7 @@ pub fn refused(as_before: bool, right: bool) -> Outcome {
 }
 
 /// As it is printed; an error is that of making what the call is given.
-pub fn text(outcome: Result<Outcome, AllocError>) -> &'static str {
+pub fn text(outcome: &Result<Outcome, AllocError>) -> &'static str {
     match outcome {
         Ok(Outcome::Done) => "done",
         Ok(Outcome::Refused) => "refused, then done",

@@ -78,35 +78,49 @@ pub fn reads_a_count_of_values(alloc: Global) -> Result<Outcome, AllocError> {
     Ok(reads_a_count(alloc, &shape))
 }
 
-pub fn reads_pieces(alloc: Global) -> Result<Outcome, AllocError> {
-    let shape = shape(alloc)?;
+/// The bytes of the words, in two pieces.
+fn pieces(alloc: Global) -> Result<[Vec<u8>; 2], AllocError> {
     let front = Vec::from_slice(alloc, &[0, 2, 0])?;
     let back = Vec::from_slice(alloc, &[0, 0, 1, 0, 0, 0, 2])?;
-    let pieces = [front, back];
+    Ok([front, back])
+}
+
+/// What comes of reading all the words of the pieces as one value.
+fn reads_all_pieces(alloc: Global, shape: &Shape, pieces: &[Vec<u8>]) -> Outcome {
     if shape.check().is_err() {
-        return Ok(Outcome::Broken);
+        return Outcome::Broken;
     }
-    match read_pieces(alloc, &shape, &pieces, 0) {
-        Ok((_, taken)) => return Ok(done(taken == 5)),
+    match read_pieces(alloc, shape, pieces, 0) {
+        Ok((_, taken)) => return done(taken == WORDS.len()),
         Err(ReadRefusal::NoMemory) => {}
-        Err(ReadRefusal::Fault(_)) => return Ok(Outcome::Broken),
+        Err(ReadRefusal::Fault(_)) => return Outcome::Broken,
     }
-    match read_pieces(alloc, &shape, &pieces, 0) {
-        Ok((_, taken)) => Ok(refused(true, taken == 5)),
-        Err(_) => Ok(Outcome::Broken),
+    match read_pieces(alloc, shape, pieces, 0) {
+        Ok((_, taken)) => refused(true, taken == WORDS.len()),
+        Err(_) => Outcome::Broken,
     }
 }
 
-pub fn writes(alloc: Global) -> Result<Outcome, AllocError> {
-    let value = Value::LongCardinal(0x10002);
-    let mut out = vec![in alloc; 0x00aa]?;
-    if !fits(&Shape::LongCardinal, &value) {
-        return Ok(Outcome::Broken);
+pub fn reads_pieces(alloc: Global) -> Result<Outcome, AllocError> {
+    let shape = shape(alloc)?;
+    let pieces = pieces(alloc)?;
+    Ok(reads_all_pieces(alloc, &shape, &pieces))
+}
+
+/// What comes of writing the value behind the one word of the vector.
+fn writes_behind(alloc: Global, value: &Value, out: &mut Vec<u16>) -> Outcome {
+    if !fits(&Shape::LongCardinal, value) {
+        return Outcome::Broken;
     }
-    if write(alloc, &Shape::LongCardinal, &value, &mut out).is_ok() {
-        return Ok(done(out.as_slice() == [0xaa, 1, 2].as_slice()));
+    if write(alloc, &Shape::LongCardinal, value, out).is_ok() {
+        return done(out.as_slice() == [0xaa, 1, 2].as_slice());
     }
     let stood = out.as_slice() == [0xaa].as_slice();
-    let again = write(alloc, &Shape::LongCardinal, &value, &mut out).is_ok();
-    Ok(refused(stood, again && out.as_slice() == [0xaa, 1, 2].as_slice()))
+    let again = write(alloc, &Shape::LongCardinal, value, out).is_ok();
+    refused(stood, again && out.as_slice() == [0xaa, 1, 2].as_slice())
+}
+
+pub fn writes(alloc: Global) -> Result<Outcome, AllocError> {
+    let mut out = vec![in alloc; 0x00aa]?;
+    Ok(writes_behind(alloc, &Value::LongCardinal(0x10002), &mut out))
 }
