@@ -73,13 +73,18 @@ fn feed_server(
     };
     print_hex(rt, item.body.as_slice())?;
     if server.has_out() {
-        println!(rt; "the server has more out")?;
-        return Ok(());
+        return tell_more_out(rt, "server");
     }
     match server.feed(rt.alloc(), item) {
         Ok(call) => print_call(rt, call)?,
         Err(fault) => println!(rt; "the server stops: {fault:?}")?,
     }
+    Ok(())
+}
+
+/// Says that a side is not fed, since it has more out.
+fn tell_more_out(rt: &HostRuntime, side: &str) -> Result<(), anyhow::Error> {
+    println!(rt; "the {side} has more out")?;
     Ok(())
 }
 
@@ -102,8 +107,7 @@ fn feed_caller(
     };
     print_hex(rt, item.body.as_slice())?;
     if caller.has_out() {
-        println!(rt; "the caller has more out")?;
-        return Ok(());
+        return tell_more_out(rt, "caller");
     }
     if let Err(fault) = caller.feed(rt.alloc(), item) {
         println!(rt; "the caller stops: {fault:?}")?;

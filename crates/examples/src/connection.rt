@@ -51,7 +51,7 @@ fn carry(
     for packet in packets {
         print_hex(rt, packet.as_slice())?;
         let received = to.receive(rt.alloc(), packet.as_slice())?;
-        if let Some(reply) = received.reply {
+        if let Some(reply) = &received.reply {
             print_hex(rt, reply.as_slice())?;
             from.receive(rt.alloc(), reply.as_slice())?;
         }

@@ -4,7 +4,7 @@ use crate::calls::add_five;
 use crate::hosts::{CALLER, SERVER};
 use courier_calls::{Tally, call_fits, tally_table};
 use item_world::{Event, Setup, Side};
-use xns_world::play_calls;
+use xns_world::{CallTrace, play_calls};
 
 /// The two ends: the caller is at A.
 const SETUP: Setup = Setup {
@@ -41,6 +41,11 @@ pub fn play(rt: &HostRuntime) -> Result<(), anyhow::Error> {
         return Ok(());
     }
     let trace = play_calls(alloc, &SETUP, &table, Tally::new(), &[call], &EVENTS)?;
+    print_trace(rt, &trace)
+}
+
+/// Prints how often the call was carried out and answered, and the server's total.
+fn print_trace(rt: &HostRuntime, trace: &CallTrace<Tally>) -> Result<(), anyhow::Error> {
     println!(rt;
         "{} carried out, {} answered, the total is {}",
         trace.carried.len(),
