@@ -38,11 +38,17 @@ fn print_trace(
 ) -> Result<(), anyhow::Error> {
     println!(rt; "calls {calls}")?;
     println!(rt; "carried {}", trace.carried.len())?;
-    for (place, seen) in trace.seen.as_slice().iter().enumerate() {
-        println!(rt; "{} returned {}", place.saturating_add(1), total(seen))?;
-    }
+    print_seen(rt, trace.seen.as_slice())?;
     println!(rt; "total {}", trace.service.total())?;
     println!(rt; "packets {}", trace.bag.as_slice().len())?;
+    Ok(())
+}
+
+/// Prints the total that each call returned.
+fn print_seen(rt: &HostRuntime, outcomes: &[Seen]) -> Result<(), anyhow::Error> {
+    for (place, seen) in outcomes.iter().enumerate() {
+        println!(rt; "{} returned {}", place.saturating_add(1), total(seen))?;
+    }
     Ok(())
 }
 

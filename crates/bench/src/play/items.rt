@@ -46,16 +46,26 @@ fn events(alloc: Global, count: u32) -> Result<Vec<Event>, AllocError> {
     events.push(Event::Tick(Side::A))?;
     push_rest(&mut events)?;
     for number in 0..count {
-        events.push(Event::Send(Side::A, numbered(alloc, number)?))?;
-        events.push(Event::Send(Side::B, numbered(alloc, number)?))?;
+        push_sends(alloc, &mut events, number)?;
         if number % ROUND == ROUND - 1 {
-            push_rest(&mut events)?;
-            push_takes(&mut events)?;
+            push_arrival(&mut events)?;
         }
     }
-    push_rest(&mut events)?;
-    push_takes(&mut events)?;
+    push_arrival(&mut events)?;
     Ok(events)
+}
+
+/// Both sides send the item with this number.
+fn push_sends(alloc: Global, events: &mut Vec<Event>, number: u32) -> Result<(), AllocError> {
+    events.push(Event::Send(Side::A, numbered(alloc, number)?))?;
+    events.push(Event::Send(Side::B, numbered(alloc, number)?))?;
+    Ok(())
+}
+
+/// All packets arrive, and both sides hand up what they bring.
+fn push_arrival(events: &mut Vec<Event>) -> Result<(), AllocError> {
+    push_rest(events)?;
+    push_takes(events)
 }
 
 /// All packets arrive, and the replies to them.
