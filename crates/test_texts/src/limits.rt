@@ -1,6 +1,7 @@
 //! The limits on lines, and the text of the lines before the one that passes them.
 use crate::ending;
 use crate::failing_reader::{Endless, FailingReader};
+use std::alloc::{AllocError, Global};
 use std::io::{self, Read, Write};
 use xns_dump::dump;
 
@@ -8,23 +9,35 @@ pub fn show(rt: &HostRuntime) -> Result<(), anyhow::Error> {
     show_run(rt, "0 for ever", &mut Endless(b'0'))?;
     show_run(rt, "newlines for ever", &mut Endless(b'\n'))?;
     for count in [4096, 4097] {
-        let blanks = vec![in rt.alloc(); b' '; count]?;
-        println!(rt; "{count} blanks:")?;
-        show_run(rt, "in one piece", &mut blanks.as_slice())?;
+        show_many(rt, count, b' ', "blanks")?;
     }
     for count in [65536, 65537] {
-        let newlines = vec![in rt.alloc(); b'\n'; count]?;
-        println!(rt; "{count} newlines:")?;
-        show_run(rt, "in one piece", &mut newlines.as_slice())?;
+        show_many(rt, count, b'\n', "newlines")?;
     }
     show_pieces(rt)
 }
 
+/// What comes of so many of one sign.
+fn show_many(rt: &HostRuntime, count: usize, sign: u8, name: &str) -> Result<(), anyhow::Error> {
+    let input = vec![in rt.alloc(); sign; count]?;
+    println!(rt; "{count} {name}:")?;
+    show_run(rt, "in one piece", &mut input.as_slice())
+}
+
+/// A good line, and a line that is too long.
+fn long_input(alloc: Global) -> Result<Vec<u8>, AllocError> {
+    let mut input = Vec::from_slice(alloc, b"48\n")?;
+    input.resize(5000, b'0')?;
+    Ok(input)
+}
+
 /// A good line is written before a fault, however the input is cut into pieces.
 fn show_pieces(rt: &HostRuntime) -> Result<(), anyhow::Error> {
-    let mut input = Vec::from_slice(rt.alloc(), b"48\n")?;
-    input.resize(5000, b'0')?;
     println!(rt; "a good line and 4997 digits:")?;
+    show_each_piece(rt, long_input(rt.alloc())?.as_slice())
+}
+
+fn show_each_piece(rt: &HostRuntime, input: &[u8]) -> Result<(), anyhow::Error> {
     for (most, name) in [
         (1, "in pieces of 1"),
         (2, "in pieces of 2"),
@@ -34,7 +47,7 @@ fn show_pieces(rt: &HostRuntime) -> Result<(), anyhow::Error> {
         (5000, "in one piece"),
     ] {
         let mut reader = FailingReader {
-            rest: input.as_slice(),
+            rest: input,
             most,
             reads: 0,
             fails_at: 0,

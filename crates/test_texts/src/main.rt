@@ -15,7 +15,7 @@ mod faults;
 mod limits;
 mod mode;
 
-use crate::mode::Mode;
+use crate::mode::{Mode, Outcome};
 use std::alloc::{AllocError, Global};
 use std::io::{self, Write};
 use xns_lines::RunFault;
@@ -44,12 +44,15 @@ fn show(rt: &HostRuntime, line: &str) -> Result<(), anyhow::Error> {
 
 /// What is written of the text, and how that ended.
 fn show_text(rt: &HostRuntime, words: &str) -> Result<(), anyhow::Error> {
-    let (mode, input) = run_of(rt.alloc(), words)?;
-    let mut text = Vec::new(rt.alloc());
-    let answer = mode.run(rt.alloc(), &mut input.as_slice(), &mut text);
-    io::writer(rt).write_all(text.as_slice())?;
-    println!(rt; "# {}", ending(&answer))?;
+    let outcome = outcome(rt.alloc(), words)?;
+    io::writer(rt).write_all(outcome.text.as_slice())?;
+    println!(rt; "# {}", ending(&outcome.answer))?;
     Ok(())
+}
+
+fn outcome(alloc: Global, words: &str) -> Result<Outcome, AllocError> {
+    let (mode, input) = run_of(alloc, words)?;
+    Ok(mode.outcome(alloc, &mut input.as_slice()))
 }
 
 /// The mode and the text of the words.

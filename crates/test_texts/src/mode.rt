@@ -4,6 +4,13 @@ use xns_dump::dump;
 use xns_lines::RunFault;
 use xns_sim::sim;
 
+/// How a run ended, and what it wrote.
+#[derive(Drop)]
+pub struct Outcome {
+    pub answer: Result<bool, RunFault>,
+    pub text: Vec<u8>,
+}
+
 /// What is made of a text.
 #[derive(Clone, Copy)]
 pub enum Mode {
@@ -31,5 +38,12 @@ impl Mode {
             Mode::Dump => dump(alloc, reader, writer),
             Mode::Sim => sim(alloc, reader, writer),
         }
+    }
+
+    /// What comes of the input where all that is made of it is written.
+    pub fn outcome<R: Read>(self, alloc: Global, reader: &mut R) -> Outcome {
+        let mut text = Vec::new(alloc);
+        let answer = self.run(alloc, reader, &mut text);
+        Outcome { answer, text }
     }
 }
