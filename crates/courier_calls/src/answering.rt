@@ -11,7 +11,7 @@ use courier_messages::{Head, PiecedMessage, SessionFault};
 use std::alloc::Global;
 
 /// What a call that waits for its answer has called.
-#[derive(Clone, Copy, Debug)]
+#[derive(Clone, Copy)]
 pub struct Target {
     pub program: u32,
     pub version: u16,

@@ -1,7 +1,7 @@
-//! What the library for C, `xns_c`, is made of and exports nothing: both sides of a Courier conversation over words, and the connections behind one
-//! socket.
+//! What the library for C, `xns_c`, is made of: both sides of a Courier conversation over words, the connections behind one socket, and their
+//! handles. Nothing of it is exported.
 //!
-//! Each has a handle, by which C keeps it. What C is told of each is a number of `results`.
+//! C keeps each by its handle, and is told of each by a number of `results`.
 #![tactic(auto)]
 
 mod address;
