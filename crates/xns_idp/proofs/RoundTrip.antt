@@ -6,7 +6,7 @@ use Rattle.std.proofs.lemmas.Bool.{ltb-false, le-ltb, eqb-true, eq-eqb, ne_eqb, 
 use Rattle.std.proofs.lemmas.List.{take_at, take-append-drop, length-append, length-take, length-drop, length-replicate}
 use Rattle.std.proofs.lemmas.List.Elements.{All-take, All-drop, All-from_get_or, All-replicate}
 use Rattle.xns_idp.specs.Checksum.{words, cycle_checksum}
-use Rattle.xns_idp.specs.Packet.{PacketModel, AreBytes, IsAddress, IsPacket, SpellsPacket, IsPacketAtFront, packet_model, address_bytes, after_checksum, packet_bytes, packet_spelling}
+use Rattle.xns_idp.specs.Packet.{PacketModel, AreBytes, IsAddress, IsPacket, SpellsPacket, IsPacketAtFront, most_data, most_packet, packet_model, address_bytes, after_checksum, packet_bytes, packet_spelling}
 use Rattle.xns_idp.specs.Reading.{word_at, address_at, made_even, computed_sum, packet_fault, packet_fields, unless, packet_of, decode_model}
 use Rattle.xns_idp.specs.declared.address.Address.{Address}
 use Rattle.xns_idp.specs.declared.packet.Packet.{Packet}
@@ -18,7 +18,7 @@ use Rattle.xns_idp.proofs.Slices.{slice-join, slice_two, byte_below, word_below,
 pub record NoFault (b : List ℕ) : Type 0 where
   pub have : 30 ≤ length b
   pub small : 30 ≤ word_at b 2
-  pub large : word_at b 2 ≤ 576
+  pub large : word_at b 2 ≤ most_packet
   pub whole : made_even (word_at b 2) ≤ length b
   pub sum : (word_at b 0 ≡ 65535) ⊎ ((eqb (word_at b 0) 65535 ≡ false) × (word_at b 0 ≡ computed_sum b))
 
@@ -42,7 +42,7 @@ unfolding packet_fault
 no_fault b e =
     let a = passed (ltb (length b) 30) (Short (length b)) _ e in
     let c = passed (ltb (word_at b 2) 30) (LengthSmall (word_at b 2)) _ a.1 in
-    let d = passed (ltb 576 (word_at b 2)) (LengthLarge (word_at b 2)) _ c.1 in
+    let d = passed (ltb most_packet (word_at b 2)) (LengthLarge (word_at b 2)) _ c.1 in
     let f = passed (ltb (length b) (made_even (word_at b 2))) (Cut (made_even (word_at b 2)) (length b)) _ d.1 in
     record {
       have = ltb-false _ _ a.0;
@@ -57,7 +57,7 @@ unfolding packet_fault
 none_from b h =
     let a : ltb (length b) 30 ≡ false = le-ltb _ _ h.have in
     let c : ltb (word_at b 2) 30 ≡ false = le-ltb _ _ h.small in
-    let d : ltb 576 (word_at b 2) ≡ false = le-ltb _ _ h.large in
+    let d : ltb most_packet (word_at b 2) ≡ false = le-ltb _ _ h.large in
     let f : ltb (length b) (made_even (word_at b 2)) ≡ false = le-ltb _ _ h.whole in
     elim h.sum [
       | inl e ↦ let g : eqb (word_at b 0) 65535 ≡ true = eq-eqb _ _ e in rw (a, c, d, f, g) refl
@@ -208,7 +208,7 @@ unfolding cycle_checksum
 cyc_below ws = omega arith
 
 -- the fields in the bytes of a packet, whatever follows
-pub fields_again : (p : PacketModel) (garbage rest : List ℕ) (sum : ℕ) → IsPacket p → length p.body ≤ 546 → sum < 65536 → not (eqb sum 65535) ≡ p.summed
+pub fields_again : (p : PacketModel) (garbage rest : List ℕ) (sum : ℕ) → IsPacket p → length p.body ≤ most_data → sum < 65536 → not (eqb sum 65535) ≡ p.summed
     → packet_fields (header_and sum (30 + length p.body) p (p.body ++ (garbage ++ rest))) ≡ p
 unfolding packet_fields address_at
 fields_again p garbage rest sum fits size small summed =
@@ -239,7 +239,7 @@ spelled_length : (p : PacketModel) (garbage : List ℕ) → length (packet_bytes
 unfolding packet_bytes
 spelled_length p garbage = omega arith
 
-packet_again : (p : PacketModel) (garbage rest : List ℕ) → IsPacket p → length p.body ≤ 546 → length garbage ≡ length p.body % 2
+packet_again : (p : PacketModel) (garbage rest : List ℕ) → IsPacket p → length p.body ≤ most_data → length garbage ≡ length p.body % 2
     → packet_of (packet_bytes p garbage ++ rest) ≡ Ok (p, made_even (30 + length p.body))
 unfolding packet_of
 packet_again p garbage rest fits size len =
@@ -285,7 +285,7 @@ none_spelled b f refused p taken front =
 
 -- ---- the laws of the written form
 
-pub plain_spells : (p : PacketModel) → length p.body ≤ 546 → SpellsPacket p (packet_spelling p)
+pub plain_spells : (p : PacketModel) → length p.body ≤ most_data → SpellsPacket p (packet_spelling p)
 unfolding packet_spelling
 plain_spells p size = record {
   size = size;
@@ -295,7 +295,7 @@ plain_spells p size = record {
   spells = refl;
 }
 
-pub plain_again : (p : PacketModel) (rest : List ℕ) → IsPacket p → length p.body ≤ 546 → packet_of (packet_spelling p ++ rest) ≡ Ok (p, length (packet_spelling p))
+pub plain_again : (p : PacketModel) (rest : List ℕ) → IsPacket p → length p.body ≤ most_data → packet_of (packet_spelling p ++ rest) ≡ Ok (p, length (packet_spelling p))
 plain_again p rest fits size = spelling_again p (packet_spelling p) rest (packet_spelling p ++ rest) fits (plain_spells p size) refl
 
 pub plain_length : (p : PacketModel) → IsPacket p → length (packet_spelling p) ≡ made_even (30 + length p.body)

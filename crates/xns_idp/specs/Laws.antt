@@ -1,7 +1,7 @@
 -- What the definitions imply: the statements of the laws, each under the name of its law.
 use Rattle.std.specs.Prelude.{◌≡◌, ◌+◌, ◌^◌, ◌<◌, ◌≤◌, ◌↔◌, All, List, ℕ, ◌∷◌, ◌++◌, length, Ok, Err}
 use Rattle.xns_idp.specs.Checksum.{cycle_checksum, added_and_rotated, zero_for_all_ones, AreAlike}
-use Rattle.xns_idp.specs.Packet.{PacketModel, AreBytes, IsPacket, SpellsPacket, IsPacketAtFront, packet_spelling}
+use Rattle.xns_idp.specs.Packet.{PacketModel, AreBytes, IsPacket, SpellsPacket, IsPacketAtFront, packet_spelling, most_data}
 use Rattle.xns_idp.specs.Reading.{packet_of, made_even}
 use Rattle.xns_idp.specs.declared.fault.IdpFault.{IdpFault}
 
@@ -17,8 +17,8 @@ AnExchangeShows = (front back : List ℕ) (v w : ℕ) → v < 2 ^ 16 → w < 2 ^
     (cycle_checksum (front ++ v ∷ w ∷ back) ≡ cycle_checksum (front ++ w ∷ v ∷ back)) ↔ AreAlike v w
 
 pub record WrittenPacketIsReadAgain : Type 0 where
-  pub spells : (p : PacketModel) → length p.body ≤ 546 → SpellsPacket p (packet_spelling p)
-  pub again : (p : PacketModel) (rest : List ℕ) → IsPacket p → length p.body ≤ 546 →
+  pub spells : (p : PacketModel) → length p.body ≤ most_data → SpellsPacket p (packet_spelling p)
+  pub again : (p : PacketModel) (rest : List ℕ) → IsPacket p → length p.body ≤ most_data →
       packet_of (packet_spelling p ++ rest) ≡ Ok (p, length (packet_spelling p))
   pub size : (p : PacketModel) → IsPacket p → length (packet_spelling p) ≡ made_even (30 + length p.body)
 

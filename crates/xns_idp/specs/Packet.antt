@@ -45,6 +45,14 @@ broadcast = replicate 6 255
 
 -- ---- the bytes of a packet
 
+-- a packet has at most so many bytes of data (the limit is this project's, to bound memory)
+abbrev pub most_data : ℕ
+most_data = 546
+
+-- a packet has at most so many bytes, those of its header and its data without the garbage byte (the limit is this project's)
+abbrev pub most_packet : ℕ
+most_packet = 576
+
 -- network, host, socket (Network Addresses)
 abbrev pub address_bytes : Address → List ℕ
 address_bytes a = to_be_bytes w32 a.network ++ a.host ++ to_be_bytes w16 a.socket
@@ -59,9 +67,9 @@ unfoldable pub packet_bytes : PacketModel → List ℕ → List ℕ
 packet_bytes p garbage =
     to_be_bytes w16 (if p.summed then cycle_checksum (words (after_checksum p garbage)) else 65535) ++ after_checksum p garbage
 
--- the bytes spell the packet: it has at most 546 bytes of data, and behind an odd number of them stands one garbage byte of any value
+-- the bytes spell the packet: it has at most `most_data` bytes of data, and behind an odd number of them stands one garbage byte of any value
 pub record SpellsPacket (p : PacketModel) (bytes : List ℕ) : Type 0 where
-  pub size : length p.body ≤ 546
+  pub size : length p.body ≤ most_data
   pub garbage : List ℕ
   pub garbage_length : length garbage ≡ length p.body % 2
   pub garbage_bytes : AreBytes garbage

@@ -1,7 +1,7 @@
 -- The packet at the front of bytes, by the places of its fields, or the first fault (XSIS 028112, Internet Datagram Protocol, Packet Format).
 use Rattle.std.specs.Prelude.{ℕ, ◌+◌, ◌*◌, ◌%◌, ◌==◌, nat_lt, not, if◌then◌else◌, List, length, slice_index, slice_range, Option, Some, None, Result, Ok, Err}
 use Rattle.xns_idp.specs.Checksum.{words, cycle_checksum}
-use Rattle.xns_idp.specs.Packet.{PacketModel, packet_model}
+use Rattle.xns_idp.specs.Packet.{PacketModel, most_packet, packet_model}
 use Rattle.xns_idp.specs.declared.address.Address.{Address}
 use Rattle.xns_idp.specs.declared.packet.Packet.{Packet}
 use Rattle.xns_idp.specs.declared.fault.IdpFault.{IdpFault}
@@ -31,7 +31,7 @@ unfoldable pub packet_fault : List ℕ → Option IdpFault
 packet_fault bytes =
     if nat_lt (length bytes) 30 then Some (Short (length bytes))
     else if nat_lt (word_at bytes 2) 30 then Some (LengthSmall (word_at bytes 2))
-    else if nat_lt 576 (word_at bytes 2) then Some (LengthLarge (word_at bytes 2))
+    else if nat_lt most_packet (word_at bytes 2) then Some (LengthLarge (word_at bytes 2))
     else if nat_lt (length bytes) (made_even (word_at bytes 2)) then Some (Cut (made_even (word_at bytes 2)) (length bytes))
     else if word_at bytes 0 == 65535 then None
     else if word_at bytes 0 == computed_sum bytes then None

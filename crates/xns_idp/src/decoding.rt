@@ -5,7 +5,7 @@ ghost use Rattle.xns_idp.specs.Reading.{packet_fault, packet_of, decode_model};
 use crate::address::Address;
 use crate::checksum::cycle_sum;
 use crate::fault::IdpFault;
-use crate::packet::{HEADER, HEADER_BYTES, LONGEST, NO_SUM, Packet};
+use crate::packet::{HEADER, HEADER_BYTES, MOST_PACKET, NO_SUM, Packet};
 use crate::places::{read_address, read_word};
 
 /// Reads the packet at the front of the bytes, and says how many bytes it took: its length made even, with the garbage
@@ -39,7 +39,7 @@ fn read_packet(bytes: &[u8]) -> Result<(Packet<'_>, usize), IdpFault>
     if length < HEADER {
         return Err(IdpFault::LengthSmall { length });
     }
-    if length > LONGEST {
+    if usize::from(length) > MOST_PACKET {
         return Err(IdpFault::LengthLarge { length });
     }
     let needed = usize::from(length + length % 2);

@@ -1,7 +1,7 @@
 ghost use Rattle.std.specs.Prelude.{◌≡◌, ◌+◌, ◌<◌, ◌≤◌, ◌++◌, ◌%◌, if◌then◌else◌, length, drop, replicate, IsOk, OnOk, OnErr, vec_len, vec_capacity};
 ghost use Rattle.std.specs.Int.{w16, to_be_bytes};
 ghost use Rattle.xns_idp.specs.Checksum.{words, cycle_checksum};
-ghost use Rattle.xns_idp.specs.Packet.{packet_model, packet_spelling, with_data_behind};
+ghost use Rattle.xns_idp.specs.Packet.{most_data, packet_model, packet_spelling, with_data_behind};
 ghost use Rattle.xns_idp.specs.Reading.{made_even};
 
 use crate::checksum::cycle_sum;
@@ -16,7 +16,7 @@ pub(crate) const GARBAGE: u8 = 0;
 ///
 /// The only error is want of memory, after which `out` is as it was.
 pub fn encode(alloc: Global, packet: &Packet<'_>, out: &mut Vec<u8>) -> Result<(), AllocError>
-    requires { length packet.now.body.now ≤ 546 }
+    requires { length packet.now.body.now ≤ most_data }
     ensures ok { OnOk result (out.new.items ≡ out.old.items ++ packet_spelling (packet_model packet.now)) }
     ensures err { OnErr result (out.new.items ≡ out.old.items) }
     // It is refused memory only where `out` has no room for the packet's bytes.
@@ -35,7 +35,7 @@ pub fn encode_parts(
     rest: &[u8],
     out: &mut Vec<u8>,
 ) -> Result<(), AllocError>
-    requires { length packet.now.body.now + length rest.now ≤ 546 }
+    requires { length packet.now.body.now + length rest.now ≤ most_data }
     ensures ok { OnOk result (out.new.items ≡ out.old.items ++ packet_spelling (with_data_behind (packet_model packet.now) rest.now)) }
     ensures err { OnErr result (out.new.items ≡ out.old.items) }
     // It is refused memory only where `out` has no room for the packet's bytes.

@@ -1,5 +1,5 @@
 ghost use Rattle.std.specs.Prelude.{◌≡◌, ◌+◌, ◌≤◌, ◌++◌, ℕ, length, take, drop};
-ghost use Rattle.xns_idp.specs.Packet.{packet_model, packet_spelling};
+ghost use Rattle.xns_idp.specs.Packet.{most_data, packet_model, packet_spelling};
 ghost use Rattle.xns_idp.specs.Reading.{made_even};
 
 use crate::encoding::{GARBAGE, put_checksum};
@@ -22,7 +22,7 @@ fn put_behind(out: &mut [u8], at: usize, bytes: &[u8]) -> usize
 /// Puts the bytes of a packet, as [`crate::encode`] writes them, to the front of `out`, and says how many there are. It takes no memory.
 /// What stands behind them is left.
 pub fn encode_into(packet: &Packet<'_>, out: &mut [u8]) -> usize
-    requires short { length packet.now.body.now ≤ 546 }
+    requires short { length packet.now.body.now ≤ most_data }
     requires room { made_even (30 + length packet.now.body.now) ≤ length out.old }
     ensures { (result ≡ length (packet_spelling (packet_model packet.now))) × (out.new ≡ packet_spelling (packet_model packet.now) ++ drop (length (packet_spelling (packet_model packet.now))) out.old) }
 {

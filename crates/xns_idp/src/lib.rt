@@ -22,4 +22,4 @@ pub use decoding::decode;
 pub use encoding::{encode, encode_parts};
 pub use encoding_into::encode_into;
 pub use fault::IdpFault;
-pub use packet::{HEADER_BYTES, Packet};
+pub use packet::{HEADER_BYTES, MOST_DATA, MOST_PACKET, Packet};

@@ -9,8 +9,12 @@ pub(crate) const HEADER: u16 = 30;
 /// A header has so many bytes.
 pub const HEADER_BYTES: usize = HEADER as usize;
 
-/// A packet has at most so many bytes, without the garbage byte.
-pub(crate) const LONGEST: u16 = 576;
+/// A packet has at most so many bytes of data (XSIS 028112, Internet Datagram Protocol; the limit is this project's, to bound memory).
+pub const MOST_DATA: usize = 546;
+
+/// A packet has at most so many bytes, those of its header and its data without the garbage byte (XSIS 028112, Internet Datagram
+/// Protocol; the limit is this project's, to bound memory).
+pub const MOST_PACKET: usize = 576;
 
 /// The checksum field of a packet without a checksum.
 pub(crate) const NO_SUM: u16 = 65535;
@@ -29,7 +33,7 @@ pub struct Packet<'a> {
     pub target: Address,
     /// The source.
     pub source: Address,
-    /// The data, at most 546 bytes; a garbage byte after an odd number of them is no part of it.
+    /// The data, at most [`MOST_DATA`] bytes; a garbage byte after an odd number of them is no part of it.
     pub body: &'a [u8],
 }
 
