@@ -1,6 +1,6 @@
 -- What the definitions imply: the statements of the laws, each under the name of its law.
 use Rattle.std.specs.Prelude.{◌≡◌, ◌≤◌, ◌++◌, List, ℕ, length, Ok}
-use Rattle.xns_idp.specs.Packet.{PacketModel, IsAddress, IsPacket}
+use Rattle.xns_idp.specs.Packet.{PacketModel, IsAddress, IsPacket, most_data}
 use Rattle.xns_idp.specs.Reading.{packet_of}
 use Rattle.xns_idp.specs.declared.address.Address.{Address}
 use Rattle.xns_small.specs.Echo.{EchoModel, IsAnswered, IsReplyTo, echo_of, echo_reply, echo_spelling}
@@ -18,5 +18,5 @@ WrittenExchangeIsReadAgain = (exchange : ExchangeModel) → IsExchange exchange 
 
 abbrev pub AnAnsweredEchoCarriesTheRequest : Type 0
 AnAnsweredEchoCarriesTheRequest = (own : Address) (request : PacketModel) (rest : List ℕ) → IsAddress own → IsPacket request →
-    length request.body ≤ 546 → IsAnswered own request →
+    length request.body ≤ most_data → IsAnswered own request →
     (reply : PacketModel) × (packet_of (echo_reply own request ++ rest) ≡ Ok (reply, length (echo_reply own request))) × IsReplyTo own request reply

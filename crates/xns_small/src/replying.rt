@@ -1,5 +1,5 @@
 ghost use Rattle.std.specs.Prelude.{◌≡◌, ◌≢◌, ◌≤◌, drop, false, length, IfOk, OnErr, MatchOption, Ok};
-ghost use Rattle.xns_idp.specs.Packet.{packet_model};
+ghost use Rattle.xns_idp.specs.Packet.{most_data, packet_model};
 ghost use Rattle.xns_small.specs.Echo.{EchoModel, IsAnswered, echo_of, echo_reply};
 
 use crate::echo::{Echo, read_echo, write_echo};
@@ -19,7 +19,7 @@ pub fn answer_echo(
     own: Address,
     packet: &Packet<'_>,
 ) -> Result<Option<Vec<u8>>, AllocError>
-    requires { length packet.now.body.now ≤ 546 }
+    requires { length packet.now.body.now ≤ most_data }
     ensures answer { IfOk result (λ answer. MatchOption answer (IsAnswered own (packet_model packet.now) → ⊥)
         (λ reply. IsAnswered own (packet_model packet.now) × (reply.items ≡ echo_reply own (packet_model packet.now)))) }
     // It is refused memory only where there is something to answer.

@@ -1,6 +1,7 @@
 //! Packets that go out.
 
 ghost use Rattle.std.specs.Prelude.{◌≡◌, ◌≤◌, length, IfOk};
+ghost use Rattle.xns_idp.specs.Packet.{most_data};
 ghost use Rattle.xns_small.specs.Sending.{sent_packet as sent_packet_of};
 
 use std::alloc::{AllocError, Global};
@@ -14,7 +15,7 @@ pub(crate) fn sent_packet(
     target: Address,
     body: &[u8],
 ) -> Result<Vec<u8>, AllocError>
-    requires { length body.now ≤ 546 }
+    requires { length body.now ≤ most_data }
     ensures { IfOk result (λ bytes. bytes.items ≡ sent_packet_of kind source target body.now) }
 {
     let packet = Packet {
