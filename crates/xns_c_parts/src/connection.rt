@@ -1,5 +1,6 @@
 ghost use Rattle.std.specs.Prelude.{◌≡◌, ◌≢◌, ◌<◌, ◌≤◌, ℕ, List, [], ◌∷◌, length, OnOk, OnErr, IfOk, IfSome, Some, None, option_copied};
 ghost use Rattle.std.specs.Option.{is_some};
+ghost use Rattle.xns_idp.specs.Packet.{most_packet};
 ghost use Rattle.xns_spp.specs.Ends.{is_open};
 ghost use Rattle.xns_spp.specs.Held.{StandsFor};
 ghost use Rattle.xns_spp.specs.Item.{IsShortItem};
@@ -250,7 +251,7 @@ impl Connection {
 
     /// Puts the first of the packets that `tick` would make to the front of the buffer. `NOTHING` where there is none, `NO_MEMORY`.
     pub fn resend_first(&mut self, alloc: Global, buffer: &mut [u8], written: &mut usize) -> u32
-        requires { 576 ≤ length buffer.old }
+        requires { most_packet ≤ length buffer.old }
         ensures put { (s : State) (p : List ℕ) → StandsFor self.old.endpoint s → resend_answer s ≡ Some p → result ≢ no_memory → (result ≡ ok) × IsPut p buffer.old buffer.new written.new }
         ensures nothing { (s : State) → StandsFor self.old.endpoint s → resend_answer s ≡ None → result ≡ nothing }
         ensures stands { (s : State) → StandsFor self.old.endpoint s → result ≢ no_memory → StandsFor self.new.endpoint (after_resend s) }
