@@ -1,6 +1,7 @@
 //! An endpoint that C holds by its handle.
 
 ghost use Rattle.std.specs.Prelude.{◌≡◌, ◌≢◌, ◌⊎◌, ◌<◌, ◌≤◌, ◌-◌, ℕ, List, [], ◌∷◌, length, false, All, IfSome, Some, None};
+ghost use Rattle.xns_idp.specs.Packet.{most_packet};
 ghost use Rattle.xns_spp.specs.Ends.{is_open, most_pending};
 ghost use Rattle.xns_spp.specs.Held.{StandsFor};
 ghost use Rattle.xns_spp.specs.Packet.{most_body};
@@ -297,7 +298,7 @@ pub extern "C" fn xns_endpoint_receive(
 pub extern "C" fn xns_endpoint_flush(alloc: Global, handle: &mut XnsEndpoint) -> u32
     ensures stands { (s : State) → Keeps (line_of handle.old) s → result ≡ ok → Keeps (line_of handle.new) (after_flush s) }
     ensures packets { (s : State) → Keeps (line_of handle.old) s → result ≡ ok → packets_of (line_of handle.new) ≡ flush_answer s }
-    ensures short { (s : State) → Keeps (line_of handle.old) s → result ≡ ok → All (λ p. length p ≤ 576) (packets_of (line_of handle.new)) }
+    ensures short { (s : State) → Keeps (line_of handle.old) s → result ≡ ok → All (λ p. length p ≤ most_packet) (packets_of (line_of handle.new)) }
     ensures memory { (s : State) → Keeps (line_of handle.old) s → result ≢ ok → (result ≡ no_memory) × (0 < length (flush_answer s)) }
     ensures none { line_of handle.old ≡ None → result ≡ no_endpoint }
     ensures unchanged { result ≢ ok → line_of handle.new ≡ line_of handle.old }
@@ -319,7 +320,7 @@ pub extern "C" fn xns_endpoint_flush(alloc: Global, handle: &mut XnsEndpoint) ->
 pub extern "C" fn xns_endpoint_tick(alloc: Global, handle: &mut XnsEndpoint) -> u32
     ensures stands { (s : State) → Keeps (line_of handle.old) s → result ≡ ok → Keeps (line_of handle.new) (after_tick s) }
     ensures packets { (s : State) → Keeps (line_of handle.old) s → result ≡ ok → packets_of (line_of handle.new) ≡ tick_answer s }
-    ensures short { (s : State) → Keeps (line_of handle.old) s → result ≡ ok → All (λ p. length p ≤ 576) (packets_of (line_of handle.new)) }
+    ensures short { (s : State) → Keeps (line_of handle.old) s → result ≡ ok → All (λ p. length p ≤ most_packet) (packets_of (line_of handle.new)) }
     ensures memory { (s : State) → Keeps (line_of handle.old) s → result ≢ ok → (result ≡ no_memory) × (0 < length (tick_answer s)) }
     ensures none { line_of handle.old ≡ None → result ≡ no_endpoint }
     ensures unchanged { result ≢ ok → line_of handle.new ≡ line_of handle.old }

@@ -2,7 +2,7 @@
 
 ghost use Rattle.std.specs.Prelude.{◌≡◌, ◌≢◌, ◌+◌, ◌<◌, ◌≤◌, ◌%◌, length, Ok, Err};
 ghost use Rattle.xns_idp.specs.Checksum.{words, cycle_checksum};
-ghost use Rattle.xns_idp.specs.Packet.{packet_spelling};
+ghost use Rattle.xns_idp.specs.Packet.{most_data, packet_spelling};
 ghost use Rattle.xns_idp.specs.Reading.{made_even, packet_of};
 ghost use Rattle.xns_idp.specs.declared.fault.IdpFault.{IdpFault};
 ghost use Rattle.xns_c_parts.specs.Given.{IsPut};
@@ -12,7 +12,7 @@ ghost use Rattle.xns_c.specs.Views.{packet_in, packet_with};
 use crate::packet::XnsPacket;
 use xns_c_parts::results::{BAD_ARGUMENT, OK, SHORT_BUFFER, TOO_LONG, idp_fault_number};
 use xns_c_parts::{XnsAddress, as_byte};
-use xns_idp::{Packet, cycle_sum, decode, encode_into};
+use xns_idp::{MOST_DATA, Packet, cycle_sum, decode, encode_into};
 
 /// The checksum of the words of the bytes, or `BAD_ARGUMENT` for an odd number of bytes
 /// (XSIS 028112, Internet Datagram Protocol, Checksum).
@@ -64,15 +64,15 @@ pub extern "C" fn xns_encode(
     buffer: &mut [u8],
     written: &mut usize,
 ) -> u32
-    ensures written { length body.now ≤ 546 → made_even (30 + length body.now) ≤ length buffer.old →
+    ensures written { length body.now ≤ most_data → made_even (30 + length body.now) ≤ length buffer.old →
         (result ≡ ok) × IsPut (packet_spelling (packet_with packet.now body.now)) buffer.old buffer.new written.new }
-    ensures long { 546 < length body.now → result ≡ too_long }
-    ensures short { length body.now ≤ 546 → length buffer.old < made_even (30 + length body.now) → (result ≡ short_buffer) × (written.new ≡ made_even (30 + length body.now)) }
+    ensures long { most_data < length body.now → result ≡ too_long }
+    ensures short { length body.now ≤ most_data → length buffer.old < made_even (30 + length body.now) → (result ≡ short_buffer) × (written.new ≡ made_even (30 + length body.now)) }
     ensures unchanged { result ≢ ok → buffer.new ≡ buffer.old }
     ensures untold { result ≢ ok → result ≢ short_buffer → written.new ≡ written.old }
 {
     let size = body.len();
-    if size > 546 {
+    if size > MOST_DATA {
         return TOO_LONG;
     }
     let needed = 30 + size + size % 2;
