@@ -4,7 +4,7 @@ use crate::text::{first_word, put, put_hexed_if_any, read_bytes};
 use std::alloc::{AllocError, Global};
 use std::fmt::Write;
 use test_setting::{CALLER, ECHO_SERVER, SERVER};
-use xns_idp::{Address, decode};
+use xns_idp::{Address, MOST_DATA, decode};
 use xns_small::error_number::{BAD_CHECKSUM, UNSPECIFIED};
 use xns_small::{Requester, answer_echo, complain};
 
@@ -43,7 +43,7 @@ fn address(name: &str) -> Address {
 /// The reply of an Echo server to a packet, if there is one.
 fn reply(alloc: Global, own: Address, packet: &[u8]) -> Result<Option<Vec<u8>>, AllocError> {
     match decode(packet) {
-        Ok((packet, _)) if packet.body.len() <= 546 => answer_echo(alloc, own, &packet),
+        Ok((packet, _)) if packet.body.len() <= MOST_DATA => answer_echo(alloc, own, &packet),
         _ => Ok(None),
     }
 }
