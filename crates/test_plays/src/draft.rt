@@ -2,11 +2,8 @@
 use hex::FromHexError;
 use std::alloc::{AllocError, Global};
 use test_setting::{CALLER, SERVER};
-use xns_idp::{Packet, encode, packet_type};
+use xns_idp::{MOST_DATA, Packet, encode, packet_type};
 use xns_spp::Bytes;
-
-/// An internet packet has at most so many bytes of data.
-const MOST_DATA: usize = 546;
 
 /// A header has so many bytes.
 const HEADER: usize = 12;

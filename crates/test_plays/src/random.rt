@@ -8,15 +8,12 @@ use crate::telling::Fault;
 use courier_calls::Tally;
 use item_world::Setup;
 use std::alloc::{AllocError, Global};
-use xns_idp::decode;
+use xns_idp::{MOST_PACKET, decode};
 use xns_spp::{Bytes, Header, read_header};
 use xns_world::ServeTrace;
 
 /// So many packets are made before it is looked again at what the server has made of all of them.
 const BLOCK: u16 = 8;
-
-/// An internet packet has at most so many bytes.
-const MOST_BYTES: usize = 576;
 
 /// A tally comes to at most so much.
 const MOST_TOTAL: u32 = 1_000_000;
@@ -48,7 +45,7 @@ fn is_within(trace: &ServeTrace<Tally>, packets: usize) -> bool {
     let carried = trace.carried.len();
     let replies = trace.replies.as_slice();
     let most_replies = packets.saturating_add(carried).saturating_add(1);
-    let whole = replies.iter().all(|reply| reply.as_slice().len() <= MOST_BYTES
+    let whole = replies.iter().all(|reply| reply.as_slice().len() <= MOST_PACKET
         && header_of(reply).is_some());
     handed <= packets
         && carried <= handed
