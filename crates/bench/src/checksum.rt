@@ -1,9 +1,9 @@
-//! Packets of 576 bytes are summed. The add-and-rotate loop of `bench/checksum_peer.rs` does the same.
+//! The longest packets are summed. The add-and-rotate loop of `bench/checksum_peer.rs` does the same.
 
-use xns_idp::cycle_sum;
+use xns_idp::{MOST_PACKET, cycle_sum};
 
-/// The bytes of a packet of 576 bytes that are summed: all but the checksum field.
-const SUMMED: usize = 574;
+/// The bytes of the longest packet that are summed: all but the checksum field.
+const SUMMED: usize = MOST_PACKET - 2;
 
 /// So many packets are summed.
 const PACKETS: usize = 1_000_000;

@@ -1,13 +1,7 @@
-//! Packets of 576 bytes are written and read. `bench/c_codec.c` does the same through the library for C.
+//! The longest packets are written and read. `bench/c_codec.c` does the same through the library for C.
 
 use test_setting::{CALLER, SERVER};
-use xns_idp::{Packet, decode, encode_into};
-
-/// So many bytes of data has a packet.
-const DATA: usize = 546;
-
-/// So many bytes has a packet.
-const SIZE: usize = 576;
+use xns_idp::{MOST_DATA, MOST_PACKET, Packet, decode, encode_into};
 
 /// So many packets are written and read.
 const PACKETS: usize = 1_000_000;
@@ -24,11 +18,11 @@ fn mark(bytes: &[u8], index: usize) -> u64 {
 
 /// Writes and reads the packets, and prints the total of their marks.
 pub fn run(rt: &HostRuntime) -> Result<(), anyhow::Error> {
-    let mut body = [0u8; DATA];
-    let mut bytes = [0u8; SIZE];
+    let mut body = [0u8; MOST_DATA];
+    let mut bytes = [0u8; MOST_PACKET];
     let mut total = 0u64;
     for i in 0..PACKETS {
-        body[i % DATA] = (i % 251) as u8;
+        body[i % MOST_DATA] = (i % 251) as u8;
         let packet = Packet {
             summed: true,
             control: 0,
@@ -38,7 +32,7 @@ pub fn run(rt: &HostRuntime) -> Result<(), anyhow::Error> {
             body: &body,
         };
         let written = encode_into(&packet, &mut bytes);
-        total = total.wrapping_add(mark(&bytes[..written], i % DATA));
+        total = total.wrapping_add(mark(&bytes[..written], i % MOST_DATA));
     }
     println!(rt; "{PACKETS} packets, total {total}")?;
     Ok(())

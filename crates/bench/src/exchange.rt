@@ -3,7 +3,7 @@
 
 use std::alloc::{AllocError, Global};
 use test_setting::{caller, item, server};
-use xns_spp::{Bytes, Endpoint};
+use xns_spp::{Bytes, Endpoint, MOST_BODY};
 
 /// So many items go out one way before as many go out the other way.
 const ROUND: usize = 51;
@@ -15,7 +15,7 @@ const ROUNDS: usize = 1285;
 const FIRST_LOST: usize = 44;
 
 /// Each item has the most bytes that a packet holds.
-const BODY: [u8; 534] = [0x5a; 534];
+const BODY: [u8; MOST_BODY] = [0x5a; MOST_BODY];
 
 /// What the way does to the packets of a round.
 #[derive(Clone, Copy)]

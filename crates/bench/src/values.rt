@@ -10,9 +10,10 @@ use courier_types::{Shape, Value, read, read_pieces, write};
 use std::alloc::{AllocError, Global};
 use std::io::Print;
 use std::time::{Clock, Instant};
+use xns_spp::MOST_BODY;
 
-/// How many bytes a piece has, as the body of a data packet has.
-const PIECE: usize = 534;
+/// How many bytes a piece has, as the longest item has.
+const PIECE: usize = MOST_BODY;
 
 /// How deep the records within one another are, the value inside them among them.
 const DEPTH: usize = 16;
