@@ -79,12 +79,12 @@ pub fn more_calls_go_out()
     ensures { MoreCallsGoOut }
 {}
 
-/// Of a front of what was sent a front is heard, without a fault.
+/// Of a prefix of what was sent a prefix is heard, without a fault.
 pub fn a_front_is_heard()
     ensures { AFrontIsHeard }
 {}
 
-/// Of a front of what a caller puts out its first calls are heard, each with its transaction, without a fault.
+/// Of a prefix of what a caller puts out its first calls are heard, each with its transaction, without a fault.
 pub fn calls_are_heard()
     ensures { CallsAreHeard }
 {}

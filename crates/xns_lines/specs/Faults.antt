@@ -8,15 +8,15 @@ use Rattle.xns_lines.specs.declared.fault.RunFault.TheVariants as fault
 abbrev pub Begins : List ℕ → List ℕ → Type 0
 Begins front text = (rest : List ℕ) × (front ++ rest ≡ text)
 
--- the text goes on behind the front
+-- the text goes on behind the prefix
 abbrev pub GoesOn : List ℕ → List ℕ → Type 0
 GoesOn front text = (rest : List ℕ) × (0 < length rest) × (front ++ rest ≡ text)
 
--- a writer with `before` has now `after`: a front of the text was written
+-- a writer with `before` has now `after`: a prefix of the text was written
 abbrev pub AppendsFront : Option (List ℕ) → Option (List ℕ) → List ℕ → Type 0
 AppendsFront before after text = (front : List ℕ) × Appends before after front × Begins front text
 
--- a front of the text was written, and something of the text was not
+-- a prefix of the text was written, and something of the text was not
 abbrev pub AppendsPart : Option (List ℕ) → Option (List ℕ) → List ℕ → Type 0
 AppendsPart before after text = (front : List ℕ) × Appends before after front × GoesOn front text
 
@@ -28,7 +28,7 @@ IsJustified fault.LineTooLong read good next = (length good < most_lines) × Beg
 IsJustified fault.TooManyLines read good next = (length good ≡ most_lines) × (0 < length next)
 IsJustified fault.NoMemory read good next = Unit {0}
 
--- the text is written, and after a failed write a front of it and not all
+-- the text is written, and after a failed write a prefix of it and not all
 abbrev pub HasWritten : RunFault → Option (List ℕ) → Option (List ℕ) → List ℕ → Type 0
 HasWritten fault.Write before after text = AppendsPart before after text
 HasWritten _ before after text = Appends before after text

@@ -47,7 +47,7 @@ HasFailed text_of page before after lines = (whole page.text ≡ []) × AppendsP
 
 -- ---- after a fault
 
--- a front of the text of what was read is written, and that is the text of all lines before the one at which it stopped
+-- a prefix of the text of what was read is written, and that is the text of all lines before the one at which it stopped
 pub record Stops (text_of : TextOf) (before after : Option (List ℕ)) (read : List ℕ) (f : RunFault) : Type 0 where
   pub front : AppendsFront before after (text_of (lines_of read))
   pub good : List (List ℕ)
@@ -57,7 +57,7 @@ pub record Stops (text_of : TextOf) (before after : Option (List ℕ)) (read : L
   pub shown : IsJustified f read good next
   pub written : HasWritten f before after (text_of good)
 
--- what was read is the front of the input that is no longer left
+-- what was read is the prefix of the input that is no longer left
 pub record StopsIn (text_of : TextOf) (input : List ℕ) (left before after : Option (List ℕ)) (f : RunFault) : Type 0 where
   pub read : List ℕ
   pub consumed : Consumes (Some input) left read
