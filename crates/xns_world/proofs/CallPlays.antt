@@ -10,7 +10,6 @@ use Rattle.courier_calls.specs.Caller as caller
 use Rattle.courier_calls.specs.Caller.{answers}
 use Rattle.courier_calls.specs.Server.{call_of}
 use Rattle.courier_calls.specs.declared.call.Call.{Call}
-use Rattle.courier_calls.specs.declared.caller.Caller.{Caller}
 use Rattle.xns_spp.specs.Held.{Held, StandsFor}
 use Rattle.xns_spp.specs.Sending.{is_full, waiting_count, after_send, after_take, flush_answer, after_flush, tick_answer, after_tick}
 use Rattle.xns_spp.specs.State.{State}
@@ -98,8 +97,8 @@ steps_leave p laws side w (suc n) =
 
 -- ---- an end whose world goes on elsewhere
 
-abbrev Session : {S : Type 0} → Parties S → Caller → State → ℕ → ℕ → Type 0
-Session p c s made listed = caller.StandsFor p.serving.table (caller.held c) (take made p.calls) (take s.handed s.taken) s.accepted (take listed (answers p.serving.table (take made p.calls) (take s.handed s.taken)))
+abbrev Session : {S : Type 0} → Parties S → caller.CallerState → State → ℕ → ℕ → Type 0
+Session p c s made listed = caller.StandsFor p.serving.table c (take made p.calls) (take s.handed s.taken) s.accepted (take listed (answers p.serving.table (take made p.calls) (take s.handed s.taken)))
 
 pub other_calling : {S : Type 0} (p : Parties S) (e : CallingEnd) (w v : CallWorld) → LeavesCaller w v → IsCalling p e w → IsCalling p e v
 other_calling p e w v l h =
@@ -123,11 +122,11 @@ other_serving p e w v same h = subst (λ (s : State). IsServed p.serving p.servi
 
 pub quiet_calling : {S : Type 0} (p : Parties S) (e : CallingEnd) (w : CallWorld) (u : World) (endpoint : Held) → IsQuiet w.world u → StandsFor endpoint u.a → IsCalling p e w → IsCalling p (record e { endpoint = endpoint }) (in_world w u)
 quiet_calling p e w u endpoint q stands h =
-    let fed : caller.StandsFor p.serving.table (caller.held e.caller) (calls_made p w) (handed_at u A) (sent_at w.world A) (take w.listed (answers p.serving.table (calls_made p w) (handed_at u A))) =
-    subst (λ (l : List Item). caller.StandsFor p.serving.table (caller.held e.caller) (calls_made p w) l (sent_at w.world A) (take w.listed (answers p.serving.table (calls_made p w) l))) (sym (q.handed A)) h.session in
+    let fed : caller.StandsFor p.serving.table e.caller (calls_made p w) (handed_at u A) (sent_at w.world A) (take w.listed (answers p.serving.table (calls_made p w) (handed_at u A))) =
+    subst (λ (l : List Item). caller.StandsFor p.serving.table e.caller (calls_made p w) l (sent_at w.world A) (take w.listed (answers p.serving.table (calls_made p w) l))) (sym (q.handed A)) h.session in
     record {
       stands = stands;
-      session = subst (λ (l : List Item). caller.StandsFor p.serving.table (caller.held e.caller) (calls_made p w) (handed_at u A) l (take w.listed (answers p.serving.table (calls_made p w) (handed_at u A)))) (sym (q.accepted A)) fed;
+      session = subst (λ (l : List Item). caller.StandsFor p.serving.table e.caller (calls_made p w) (handed_at u A) l (take w.listed (answers p.serving.table (calls_made p w) (handed_at u A)))) (sym (q.accepted A)) fed;
       made = h.made;
       seen = h.seen ∙ ap (λ (l : List Item). take w.listed (answers p.serving.table (calls_made p w) l)) (sym (q.handed A));
     }

@@ -25,7 +25,7 @@ use Rattle.item_world.specs.World.{World, handed_at, sent_at, packets_of}
 -- the caller's end, with its session, the calls made and the outcomes listed
 pub record IsCalling {S : Type 0} (p : Parties S) (e : CallingEnd) (w : CallWorld) : Type 0 where
   pub stands : StandsFor e.endpoint w.world.a
-  pub session : caller.StandsFor p.serving.table (caller.held e.caller) (calls_made p w) (handed_at w.world A) (sent_at w.world A) (seen_at p w)
+  pub session : caller.StandsFor p.serving.table e.caller (calls_made p w) (handed_at w.world A) (sent_at w.world A) (seen_at p w)
   pub made : e.made ≡ w.made
   pub seen : map seen_model e.seen.items ≡ seen_at p w
 

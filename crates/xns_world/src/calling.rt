@@ -1,5 +1,4 @@
 ghost use Rattle.std.specs.Prelude.{◌≡◌, ◌<◌, ◌==◌, ◌&&◌, nat_lt, length, [], map, OnOk, IfOk, slice_get, Some, None, true, false, if◌then◌else◌};
-ghost use Rattle.courier_calls.specs.Caller.{held};
 ghost use Rattle.courier_calls.specs.Calls.{raw_call};
 ghost use Rattle.courier_calls.specs.Table.{table_model, IsCheckedTable};
 ghost use Rattle.item_world.specs.Setup.{IsGood};
@@ -64,7 +63,7 @@ impl<'a> CallingEnd<'a> {
 
     /// Feeds the next item that waits to the session; whether there was one.
     fn feed<S: Service>(&mut self, alloc: Global) -> Result<bool, AllocError>
-        requires { (held self.old.caller).out ≡ [] }
+        requires { self.old.caller.out ≡ [] }
         ensures { IfOk result (λ b. (p : Parties S) (w : CallWorld) → Given p → CallsHold p w → IsCalling p self.old w →
             (b ≡ nat_lt 0 (waiting_count w.world.a)) × IsCalling p self.new (if b then feeds w A else w)) }
     {
@@ -119,7 +118,7 @@ impl<'a> CallingEnd<'a> {
 
     /// Feeds an item, or else lists an outcome, or else makes a call.
     fn feed_or_act<S: Service>(&mut self, alloc: Global, calls: &[Call]) -> Result<bool, AllocError>
-        requires { (held self.old.caller).out ≡ [] }
+        requires { self.old.caller.out ≡ [] }
         ensures { IfOk result (λ b. (p : Parties S) (w : CallWorld) → Given p → CallsHold p w → p.calls ≡ map raw_call calls.now → IsCalling p self.old w →
             Stepped b w (if nat_lt 0 (waiting_count w.world.a) then Some (feeds w A) else caller_step p w A) (IsCalling p self.new)) }
     {

@@ -29,9 +29,3 @@ returns-clause-once g c =
     let given : Given p = c.laws_are_given.ensures p (record { serving_is = refl; state = c.requires.state; calls = c.known_calls.ensures }) in
     let once = once_in_order p w given (always_between p c.args.setup.now c.args.events.now given c.known.ensures c.requires.good).holds in
     IfOk-weaker c.into_trace.result _ _ (λ t is. once_along g.S.Service.serving c.args.service c.args.calls.now t w is once) (trace g c)
-
--- the caller that is left is one whole
-pub invariant_of-play : goal.invariant_of-play
-invariant_of-play g c =
-    let caller = c.run.new.self.ends.a.caller in
-    record { kept = caller.kept; few = caller.few }
