@@ -76,7 +76,7 @@ serving_next serving s e v h =
     ap (λ (l : List Item). slice_get l (length v.accepted)) (sym h.hearing.session.items)
     ∙ out_first v.accepted e.server.out
 
-pub serving_sends : {S : Type 0} (serving : Serving S) (s : S) (e : ServingEnd S) (v : State) (x : Item) (endpoint : Held) (new : server.Held S) → Answering serving s → IsServed serving s e v → next_of serving s v ≡ Some x → is_full v ≡ false
+pub serving_sends : {S : Type 0} (serving : Serving S) (s : S) (e : ServingEnd S) (v : State) (x : Item) (endpoint : Held) (new : server.ServerState S) → Answering serving s → IsServed serving s e v → next_of serving s v ≡ Some x → is_full v ≡ false
     → StandsFor endpoint (after_send v x) → server.StandsFor serving new s (handed_by v) (v.accepted ++ x ∷ []) → IsServed serving s (record e { endpoint = endpoint; server = new }) (after_send v x)
 serving_sends {S = S} serving s e v x endpoint new a h is full stands session =
     let piece : IsSendableItem x = at_place (server_items serving s (handed_by v)) (length v.accepted) x is (a.pieces.server (handed_by v) h.items) in
