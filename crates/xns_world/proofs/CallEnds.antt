@@ -22,7 +22,7 @@ use Rattle.item_world.specs.declared.side.Side.TheVariants.{A}
 use Rattle.xns_spp.specs.Growth.{Begins}
 use Rattle.xns_world.specs.CallLaws.{Given}
 use Rattle.xns_world.specs.CallOrder.{CallsHold}
-use Rattle.xns_world.specs.CallPlay.{IsCalling}
+use Rattle.xns_world.specs.CallPlay.{IsCalling, caller_history}
 use Rattle.xns_world.specs.CallWorld.{Parties, CallWorld, or_caller, calls_made, next_out, outcomes_read, sends_next, feeds, lists, makes, has_outcome, may_call, caller_step, step_with, step, seen_at}
 use Rattle.xns_world.specs.Settling.{Stepped}
 use Rattle.item_world.specs.World.{World, sends, takes, sent_at, handed_at}
@@ -56,14 +56,14 @@ some_lists p w o r within all is =
 
 pub list_some : {S : Type 0} (p : Parties S) (e f : CallingEnd) (w : CallWorld) (x : Seen) → CallsHold p w → IsCalling p e w → Some x ≡ e.caller.outcome
     → f.endpoint ≡ e.endpoint → f.made ≡ e.made → f.seen.items ≡ e.seen.items ++ x ∷ []
-    → caller.StandsFor p.serving.table f.caller (calls_made p w) (handed_at w.world A) (sent_at w.world A) (seen_at p w ++ seen_model x ∷ [])
+    → caller.StandsFor p.serving.table f.caller (record (caller_history p w) { handed = seen_at p w ++ seen_model x ∷ [] })
     → (true ≡ has_outcome p w) × IsCalling p f (lists w)
 list_some p e f w x holds h is endpoint made seen session =
     let l = some_lists p w (option_map seen_model e.caller.outcome) (seen_model x) holds.listed h.session.outcomes (ap (option_map seen_model) is) in (
       sym l.there,
       record {
         stands = subst (λ (v : Held). StandsFor v w.world.a) (sym endpoint) h.stands;
-        session = subst (λ (rs : List SeenModel). caller.StandsFor p.serving.table f.caller (calls_made p w) (handed_at w.world A) (sent_at w.world A) rs) (sym l.more) session;
+        session = subst (λ (rs : List SeenModel). caller.StandsFor p.serving.table f.caller (record (caller_history p w) { handed = rs })) (sym l.more) session;
         made = made ∙ h.made;
         seen = ap (map seen_model) seen ∙ (map-append seen_model e.seen.items (x ∷ []) ∙ (ap (λ (rs : List SeenModel). rs ++ seen_model x ∷ []) h.seen ∙ sym l.more));
       },
@@ -73,16 +73,16 @@ list_some p e f w x holds h is endpoint made seen session =
 
 pub calling_sends : {S : Type 0} (p : Parties S) (e : CallingEnd) (w : CallWorld) (x : Item) (endpoint : Held) (new : caller.CallerState) → Given p → CallsHold p w → IsCalling p e w → next_out p w A ≡ Some x → is_full w.world.a ≡ false
     → StandsFor endpoint (after_send w.world.a x)
-    → caller.StandsFor p.serving.table new (calls_made p w) (handed_at w.world A) (sent_at w.world A ++ x ∷ []) (seen_at p w)
+    → caller.StandsFor p.serving.table new (record (caller_history p w) { fetched = sent_at w.world A ++ x ∷ [] })
     → IsCalling p (record e { endpoint = endpoint; caller = new }) (sends_next w A x)
 calling_sends p e w x endpoint new g holds h is full stands session =
     let a = g.answering.network.items.send w.world A x (not_refused g.answering.ends w.world.a x (next_piece p w A x g holds is) full) in
     let v : World = sends w.world A x in
-    let here : caller.StandsFor p.serving.table new (calls_made p w) (handed_at w.world A) (sent_at v A) (seen_at p w) =
-    subst (λ (l : List Item). caller.StandsFor p.serving.table new (calls_made p w) (handed_at w.world A) l (seen_at p w)) (sym a.here) session in
+    let here : caller.StandsFor p.serving.table new (record (caller_history p w) { fetched = sent_at v A }) =
+    subst (λ (l : List Item). caller.StandsFor p.serving.table new (record (caller_history p w) { fetched = l })) (sym a.here) session in
     record {
       stands = stands;
-      session = subst (λ (l : List Item). caller.StandsFor p.serving.table new (calls_made p w) l (sent_at v A) (take w.listed (answers p.serving.table (calls_made p w) l))) (sym (a.handed A)) here;
+      session = subst (λ (l : List Item). caller.StandsFor p.serving.table new (record { made = calls_made p w; fed = l; fetched = sent_at v A; handed = take w.listed (answers p.serving.table (calls_made p w) l) })) (sym (a.handed A)) here;
       made = h.made;
       seen = h.seen ∙ ap (λ (l : List Item). take w.listed (answers p.serving.table (calls_made p w) l)) (sym (a.handed A));
     }
@@ -105,20 +105,20 @@ front_same n xs ys b h = ap (take n) (sym b.1) ∙ take-append-le n xs b.0 h
 
 pub calling_feeds : {S : Type 0} (p : Parties S) (e : CallingEnd) (w : CallWorld) (x : Item) (endpoint : Held) (new : caller.CallerState) → Given p → CallsHold p w → IsCalling p e w → Some x ≡ take_answer w.world.a
     → StandsFor endpoint (after_take w.world.a)
-    → caller.StandsFor p.serving.table new (calls_made p w) (handed_at w.world A ++ x ∷ []) (sent_at w.world A) (seen_at p w)
+    → caller.StandsFor p.serving.table new (caller.with_item (caller_history p w) x)
     → (true ≡ nat_lt 0 (waiting_count w.world.a)) × IsCalling p (record e { endpoint = endpoint; caller = new }) (feeds w A)
 calling_feeds p e w x endpoint new g holds h is stands session =
     let u = g.answering.network.items.take w.world A x (sym is) in
     let v : World = takes w.world A in
     let same : seen_at p (feeds w A) ≡ seen_at p w = front_same w.listed (outcomes_read p w) (outcomes_read p (feeds w A)) (read_more p w A x g u) holds.listed in
-    let fed : caller.StandsFor p.serving.table new (calls_made p w) (handed_at v A) (sent_at w.world A) (seen_at p w) =
-    subst (λ (l : List Item). caller.StandsFor p.serving.table new (calls_made p w) l (sent_at w.world A) (seen_at p w)) (sym u.here) session in
-    let put : caller.StandsFor p.serving.table new (calls_made p w) (handed_at v A) (sent_at v A) (seen_at p w) =
-    subst (λ (l : List Item). caller.StandsFor p.serving.table new (calls_made p w) (handed_at v A) l (seen_at p w)) (sym (u.accepted A)) fed in (
+    let fed : caller.StandsFor p.serving.table new (record (caller_history p w) { fed = handed_at v A }) =
+    subst (λ (l : List Item). caller.StandsFor p.serving.table new (record (caller_history p w) { fed = l })) (sym u.here) session in
+    let put : caller.StandsFor p.serving.table new (record (caller_history p w) { fed = handed_at v A; fetched = sent_at v A }) =
+    subst (λ (l : List Item). caller.StandsFor p.serving.table new (record (caller_history p w) { fed = handed_at v A; fetched = l })) (sym (u.accepted A)) fed in (
       sym (is_waiting g.answering.ends w.world.a x is),
       record {
         stands = stands;
-        session = subst (λ (l : List SeenModel). caller.StandsFor p.serving.table new (calls_made p w) (handed_at v A) (sent_at v A) l) (sym same) put;
+        session = subst (λ (l : List SeenModel). caller.StandsFor p.serving.table new (record { made = calls_made p w; fed = handed_at v A; fetched = sent_at v A; handed = l })) (sym same) put;
         made = h.made;
         seen = h.seen ∙ sym same;
       },
@@ -158,7 +158,7 @@ get_map (x ∷ cs) (suc k) c h = get_map cs k c h
 pub calling_makes : {S : Type 0} (p : Parties S) (e f : CallingEnd) (w : CallWorld) (cs : List Call) (call : Call) → Given p → CallsHold p w → IsCalling p e w → p.calls ≡ map raw_call cs → has_outcome p w ≡ false
     → length e.seen.items ≡ e.made → e.made < length cs → slice_get cs e.made ≡ Some call
     → f.endpoint ≡ e.endpoint → f.made ≡ e.made + 1 → f.seen ≡ e.seen
-    → caller.StandsFor p.serving.table f.caller (calls_made p w ++ raw_call call ∷ []) (handed_at w.world A) (sent_at w.world A) (seen_at p w)
+    → caller.StandsFor p.serving.table f.caller (record (caller_history p w) { made = calls_made p w ++ raw_call call ∷ [] })
     → (true ≡ may_call p w) × IsCalling p f (makes w)
 calling_makes p e f w cs call g holds h are none all less there endpoint made seen session =
     let n : ℕ = length (outcomes_read p w) in
@@ -169,12 +169,12 @@ calling_makes p e f w cs call g holds h are none all less there endpoint made se
     let at : slice_get p.calls w.made ≡ Some (raw_call call) = ap (λ (k : ℕ). slice_get p.calls k) (sym h.made) ∙ (ap (λ (l : List RawCall). slice_get l e.made) are ∙ get_map cs e.made call there) in
     let more : calls_made p (makes w) ≡ calls_made p w ++ raw_call call ∷ [] = one_more p.calls w.made (raw_call call) at in
     let same : seen_at p (makes w) ≡ seen_at p w = ap (take w.listed) c.same in
-    let made_now : caller.StandsFor p.serving.table f.caller (calls_made p (makes w)) (handed_at w.world A) (sent_at w.world A) (seen_at p w) =
-    subst (λ (l : List RawCall). caller.StandsFor p.serving.table f.caller l (handed_at w.world A) (sent_at w.world A) (seen_at p w)) (sym more) session in (
+    let made_now : caller.StandsFor p.serving.table f.caller (record (caller_history p w) { made = calls_made p (makes w) }) =
+    subst (λ (l : List RawCall). caller.StandsFor p.serving.table f.caller (record (caller_history p w) { made = l })) (sym more) session in (
       sym may,
       record {
         stands = subst (λ (v : Held). StandsFor v w.world.a) (sym endpoint) h.stands;
-        session = subst (λ (l : List SeenModel). caller.StandsFor p.serving.table f.caller (calls_made p (makes w)) (handed_at w.world A) (sent_at w.world A) l) (sym same) made_now;
+        session = subst (λ (l : List SeenModel). caller.StandsFor p.serving.table f.caller (record (caller_history p w) { made = calls_made p (makes w); handed = l })) (sym same) made_now;
         made = omega (arith, made, h.made);
         seen = ap (λ (l : List Seen). map seen_model l) (ap (λ v. v.items) seen) ∙ (h.seen ∙ sym same);
       },

@@ -35,7 +35,7 @@ use Rattle.item_world.specs.Network.{IsNetwork, IsEnd, unsettled}
 use Rattle.item_world.specs.Side.{other}
 use Rattle.xns_world.specs.CallLaws.{Answering, Given}
 use Rattle.xns_world.specs.CallOrder.{IsBetween, AreOnceInOrder}
-use Rattle.xns_world.specs.CallPlay.{endpoint_at, with_endpoint, Acts, IsCalling, IsServing, IsAtSide, IsCallPair, IsCallPlaying, IsReady, IsCallTrace, IsOnceInOrder, parties}
+use Rattle.xns_world.specs.CallPlay.{endpoint_at, with_endpoint, Acts, IsCalling, caller_history, IsServing, IsAtSide, IsCallPair, IsCallPlaying, IsReady, IsCallTrace, IsOnceInOrder, parties}
 use Rattle.xns_world.specs.CallWorld.{Parties, CallWorld, or_caller, calls_made, next_out, outcomes_read, in_world, lists, makes, has_outcome, may_call, caller_step, step_with, settles, arrived, delivers, seen_at, carried_at, step}
 use Rattle.xns_world.specs.Settling.{most_steps, onward, steps, stepped_out}
 use Rattle.xns_world.specs.ServeEnd.{IsServed}
@@ -98,7 +98,7 @@ steps_leave p laws side w (suc n) =
 -- ---- an end whose world goes on elsewhere
 
 abbrev Session : {S : Type 0} → Parties S → caller.CallerState → State → ℕ → ℕ → Type 0
-Session p c s made listed = caller.StandsFor p.serving.table c (take made p.calls) (take s.handed s.taken) s.accepted (take listed (answers p.serving.table (take made p.calls) (take s.handed s.taken)))
+Session p c s made listed = caller.StandsFor p.serving.table c (record { made = take made p.calls; fed = take s.handed s.taken; fetched = s.accepted; handed = take listed (answers p.serving.table (take made p.calls) (take s.handed s.taken)) })
 
 pub other_calling : {S : Type 0} (p : Parties S) (e : CallingEnd) (w v : CallWorld) → LeavesCaller w v → IsCalling p e w → IsCalling p e v
 other_calling p e w v l h =
@@ -122,11 +122,11 @@ other_serving p e w v same h = subst (λ (s : State). IsServed p.serving p.servi
 
 pub quiet_calling : {S : Type 0} (p : Parties S) (e : CallingEnd) (w : CallWorld) (u : World) (endpoint : Held) → IsQuiet w.world u → StandsFor endpoint u.a → IsCalling p e w → IsCalling p (record e { endpoint = endpoint }) (in_world w u)
 quiet_calling p e w u endpoint q stands h =
-    let fed : caller.StandsFor p.serving.table e.caller (calls_made p w) (handed_at u A) (sent_at w.world A) (take w.listed (answers p.serving.table (calls_made p w) (handed_at u A))) =
-    subst (λ (l : List Item). caller.StandsFor p.serving.table e.caller (calls_made p w) l (sent_at w.world A) (take w.listed (answers p.serving.table (calls_made p w) l))) (sym (q.handed A)) h.session in
+    let fed : caller.StandsFor p.serving.table e.caller (record (caller_history p w) { fed = handed_at u A; handed = take w.listed (answers p.serving.table (calls_made p w) (handed_at u A)) }) =
+    subst (λ (l : List Item). caller.StandsFor p.serving.table e.caller (record (caller_history p w) { fed = l; handed = take w.listed (answers p.serving.table (calls_made p w) l) })) (sym (q.handed A)) h.session in
     record {
       stands = stands;
-      session = subst (λ (l : List Item). caller.StandsFor p.serving.table e.caller (calls_made p w) (handed_at u A) l (take w.listed (answers p.serving.table (calls_made p w) (handed_at u A)))) (sym (q.accepted A)) fed;
+      session = subst (λ (l : List Item). caller.StandsFor p.serving.table e.caller (record { made = calls_made p w; fed = handed_at u A; fetched = l; handed = take w.listed (answers p.serving.table (calls_made p w) (handed_at u A)) })) (sym (q.accepted A)) fed;
       made = h.made;
       seen = h.seen ∙ ap (λ (l : List Item). take w.listed (answers p.serving.table (calls_made p w) l)) (sym (q.handed A));
     }

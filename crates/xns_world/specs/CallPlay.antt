@@ -22,10 +22,14 @@ use Rattle.item_world.specs.declared.side.Side.TheVariants.{A, B}
 use Rattle.xns_world.specs.CallWorld.{Parties, CallWorld, calls_made, seen_at, carried_at, service_at}
 use Rattle.item_world.specs.World.{World, handed_at, sent_at, packets_of}
 
+-- what was done with the session of the caller's end
+abbrev pub caller_history : {S : Type 0} → Parties S → CallWorld → caller.CallerHistory
+caller_history p w = record { made = calls_made p w; fed = handed_at w.world A; fetched = sent_at w.world A; handed = seen_at p w }
+
 -- the caller's end, with its session, the calls made and the outcomes listed
 pub record IsCalling {S : Type 0} (p : Parties S) (e : CallingEnd) (w : CallWorld) : Type 0 where
   pub stands : StandsFor e.endpoint w.world.a
-  pub session : caller.StandsFor p.serving.table e.caller (calls_made p w) (handed_at w.world A) (sent_at w.world A) (seen_at p w)
+  pub session : caller.StandsFor p.serving.table e.caller (caller_history p w)
   pub made : e.made ≡ w.made
   pub seen : map seen_model e.seen.items ≡ seen_at p w
 

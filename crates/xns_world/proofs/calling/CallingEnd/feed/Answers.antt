@@ -1,13 +1,11 @@
 use Rattle.xns_world.proofs.CallEnds.{calling_feeds, calling_none}
-use Rattle.xns_world.specs.CallWorld.{calls_made, seen_at}
-use Rattle.item_world.specs.World.{handed_at, sent_at}
-use Rattle.item_world.specs.declared.side.Side.TheVariants.{A}
+use Rattle.xns_world.specs.CallPlay.{caller_history}
 use Rattle.xns_world.proofs.calling.CallingEnd.feed.Goals as goal
 
 pub returns-in-Ok : goal.returns-in-Ok
 returns-in-Ok g c p w given holds h =
     calling_feeds p c.args.self.now w c.in-Some.item c.take.new.self c.feed.new.self given holds h (c.in-Some.ensures.answer w.world.a h.stands) (c.in-Some.ensures.stands w.world.a h.stands)
-    (c.in-Ok.ensures.stands p.serving.table (calls_made p w) (handed_at w.world A) (sent_at w.world A) (seen_at p w) h.session).0
+    (c.in-Ok.ensures.stands p.serving.table (caller_history p w) h.session).0
 
 pub returns-in_default : goal.returns-in_default
 returns-in_default g c p w given holds h =
