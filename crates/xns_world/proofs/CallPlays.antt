@@ -39,7 +39,7 @@ use Rattle.xns_world.specs.CallPlay.{endpoint_at, with_endpoint, Acts, IsCalling
 use Rattle.xns_world.specs.CallWorld.{Parties, CallWorld, or_caller, calls_made, next_out, outcomes_read, in_world, lists, makes, has_outcome, may_call, caller_step, step_with, settles, arrived, delivers, seen_at, carried_at, step}
 use Rattle.xns_world.specs.Settling.{most_steps, onward, steps, stepped_out}
 use Rattle.xns_world.specs.ServeEnd.{IsServed}
-use Rattle.item_world.specs.World.{World, end_of, moved, flushes, ticks, handed_at, sent_at}
+use Rattle.item_world.specs.World.{World, end_of, moved, flushes, ticks, handed_at}
 use Rattle.item_world.specs.EndLaws.{EndLaws}
 
 -- ---- what the steps of a side leave

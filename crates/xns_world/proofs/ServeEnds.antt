@@ -25,7 +25,7 @@ use Rattle.xns_world.specs.CallLaws.{Answering}
 use Rattle.xns_world.specs.CallPlay.{IsServing}
 use Rattle.xns_world.specs.CallWorld.{Parties, CallWorld, or_caller, step}
 use Rattle.xns_world.specs.Serve.{first_fault, fault_in}
-use Rattle.xns_world.specs.ServeEnd.{next_of, IsHearing, IsServed, noted}
+use Rattle.xns_world.specs.ServeEnd.{next_of, server_history, IsHearing, IsServed, noted}
 use Rattle.xns_world.specs.Settling.{handed_by, end_step_with, serve_step, onward, most_steps, steps, stepped_out, Stepped}
 use Rattle.xns_world.specs.declared.serving.ServingEnd.{ServingEnd}
 use Rattle.item_world.specs.declared.side.Side.TheVariants.{B}
@@ -55,7 +55,7 @@ none_wrong : first_fault [] ≡ None
 unfolding conversation conversation_fault ending all_calls
 none_wrong = refl
 
-pub served_first : {S : Type 0} (serving : Serving S) (s : S) (e : ServingEnd S) (v : State) → StandsFor e.endpoint v → server.StandsFor serving e.server s [] [] → e.carried.items ≡ [] → e.fault ≡ None → e.handed ≡ []
+pub served_first : {S : Type 0} (serving : Serving S) (s : S) (e : ServingEnd S) (v : State) → StandsFor e.endpoint v → server.StandsFor serving e.server (server.empty_history s) → e.carried.items ≡ [] → e.fault ≡ None → e.handed ≡ []
     → handed_by v ≡ [] → v.accepted ≡ [] → IsServed serving s e v
 served_first serving s e v stands session carried fault listed handed accepted =
     let first : IsHearing serving s e [] [] = record { session = session; carried = carried ∙ sym (ap (map call_of) none_decided); fault = fault ∙ sym none_wrong } in
@@ -77,7 +77,7 @@ serving_next serving s e v h =
     ∙ out_first v.accepted e.server.out
 
 pub serving_sends : {S : Type 0} (serving : Serving S) (s : S) (e : ServingEnd S) (v : State) (x : Item) (endpoint : Held) (new : server.ServerState S) → Answering serving s → IsServed serving s e v → next_of serving s v ≡ Some x → is_full v ≡ false
-    → StandsFor endpoint (after_send v x) → server.StandsFor serving new s (handed_by v) (v.accepted ++ x ∷ []) → IsServed serving s (record e { endpoint = endpoint; server = new }) (after_send v x)
+    → StandsFor endpoint (after_send v x) → server.StandsFor serving new (server_history s (handed_by v) (v.accepted ++ x ∷ [])) → IsServed serving s (record e { endpoint = endpoint; server = new }) (after_send v x)
 serving_sends {S = S} serving s e v x endpoint new a h is full stands session =
     let piece : IsSendableItem x = at_place (server_items serving s (handed_by v)) (length v.accepted) x is (a.pieces.server (handed_by v) h.items) in
     let one = a.ends.accepts.accepted v x (not_refused a.ends v x piece full) in
@@ -97,7 +97,7 @@ fault_none : (F : List Item) (x : Item) (p : Phase) (r : Result Phase SessionFau
 fault_none F x p (Ok q) f was is = sym (ap fault_in is)
 fault_none F x p (Err e) f was is = absurd (let stays = f.stays F x e was in cc)
 
-pub hears_well : {S : Type 0} (serving : Serving S) (s : S) (e f : ServingEnd S) (F P : List Item) (x : Item) (o : Option Call) → FirstFaultStays → IsHearing serving s e F P → Feeds serving f.server s F P x (Ok o)
+pub hears_well : {S : Type 0} (serving : Serving S) (s : S) (e f : ServingEnd S) (F P : List Item) (x : Item) (o : Option Call) → FirstFaultStays → IsHearing serving s e F P → Feeds serving f.server (server_history s F P) x (Ok o)
     → map call_of (decided (F ++ x ∷ [])) ≡ map call_of (decided F) ++ option_to_list o → f.carried.items ≡ e.carried.items ++ option_to_list o → f.fault ≡ e.fault → IsHearing serving s f (F ++ x ∷ []) P
 hears_well serving s e f F P x o faults h fed more carried fault = record {
   session = fed.0;
@@ -106,7 +106,7 @@ hears_well serving s e f F P x o faults h fed more carried fault = record {
 }
 
 record Refused {S : Type 0} (serving : Serving S) (s : S) (f : ServingEnd S) (F P : List Item) (x : Item) (e : SessionFault) : Type 0 where
-  session : server.StandsFor serving f.server s (F ++ x ∷ []) P
+  session : server.StandsFor serving f.server (server_history s (F ++ x ∷ []) P)
   ends : server_ending (F ++ x ∷ []) ≡ Err e
   fault : f.fault ≡ Some e
 
@@ -118,7 +118,7 @@ refused serving s e f F P x fault faults h carried r = record {
   fault = r.fault ∙ sym (ap fault_in r.ends);
 }
 
-pub hears_badly : {S : Type 0} (serving : Serving S) (s : S) (e f : ServingEnd S) (F P : List Item) (x : Item) (fault : SessionFault) → FirstFaultStays → IsHearing serving s e F P → Feeds serving f.server s F P x (Err fault)
+pub hears_badly : {S : Type 0} (serving : Serving S) (s : S) (e f : ServingEnd S) (F P : List Item) (x : Item) (fault : SessionFault) → FirstFaultStays → IsHearing serving s e F P → Feeds serving f.server (server_history s F P) x (Err fault)
     → f.carried.items ≡ e.carried.items → noted fault e.fault f.fault → IsHearing serving s f (F ++ x ∷ []) P
 hears_badly serving s e f F P x NoMemory faults h fed carried n = absurd n
 hears_badly serving s e f F P x Failed faults h fed carried n =

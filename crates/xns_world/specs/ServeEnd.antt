@@ -17,9 +17,13 @@ use Rattle.xns_world.specs.declared.serving.ServingEnd.{ServingEnd}
 abbrev pub next_of : {S : Type 0} → Serving S → S → State → Option Item
 next_of serving s v = slice_get (server_items serving s (handed_by v)) (length v.accepted)
 
+-- the service of the session began in the state s, and the session was fed the items F and has handed out the items P
+abbrev pub server_history : {S : Type 0} → S → List Item → List Item → server.ServerHistory S
+server_history s F P = record { start = s; fed = F; fetched = P }
+
 -- the session was fed the items F and has handed out the items P; the calls decided and the first fault were noted
 pub record IsHearing {S : Type 0} (serving : Serving S) (s : S) (e : ServingEnd S) (F P : List Item) : Type 0 where
-  pub session : server.StandsFor serving e.server s F P
+  pub session : server.StandsFor serving e.server (server_history s F P)
   pub carried : e.carried.items ≡ map call_of (decided F)
   pub fault : e.fault ≡ first_fault F
 

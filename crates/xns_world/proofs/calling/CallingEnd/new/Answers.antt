@@ -1,4 +1,4 @@
-use Rattle.std.proofs.Common.{List, [], map, refl, sym, ◌∙◌, ap, subst}
+use Rattle.std.proofs.Common.{List, map, refl, sym, ◌∙◌, ap, subst}
 use Rattle.courier_calls.specs.Caller as caller
 use Rattle.courier_calls.specs.Table.{EntryModel}
 use Rattle.courier_calls.specs.Calls.{seen_model}

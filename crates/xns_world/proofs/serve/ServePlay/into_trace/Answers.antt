@@ -6,5 +6,5 @@ returns g c s w h = record {
   carried = h.b.hearing.carried;
   fault = h.b.hearing.fault;
   replies = h.replies;
-  service = c.into_service.ensures.stands s _ _ h.b.hearing.session;
+  service = c.into_service.ensures.stands _ h.b.hearing.session;
 }
