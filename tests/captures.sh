@@ -95,10 +95,11 @@ same 'the command of the manual page' mixture_expected from_manual
 
 # ---- calls, and one conversation of them
 
+# What stands behind the name of a capture. Of the input that is a line with the capture's text, in which \n is a newline.
 worked() {
-    awk '/^#/ {there = $0 == "# two connections"; next} there' "$root/crates/test_captures/$1"
+    awk '/^#/ {there = $0 == "# two connections"; next} there' "$root/crates/test_texts/$1"
 }
-worked stdin > calls.hex
+worked stdin | sed 's/^calls //; s/\\n$//; s/\\n/\n/g' > calls.hex
 worked stdout > calls_expected
 text2pcap -q -r '^(?<data>[0-9a-f]+)$' -e 0x600 calls.hex calls.pcap 2> /dev/null
 xns_hex -r calls.pcap 2> /dev/null | xns calls > from_calls

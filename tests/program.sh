@@ -112,14 +112,14 @@ saw 'the examples have not 8 packets' $?
 
 # ---- calls of a capture
 
-# What stands behind a name in a file of captures.
+# What stands behind the name of a capture. Of the input that is a line with the capture's text, in which \n is a newline.
 behind() {
     awk -v name="# $1" '/^#/ {there = $0 == name; next} there' "$2"
 }
 
 # Calls and answers whose items come out of order, an Echo request, which prints nothing, and a line that is no packet.
-behind reordered crates/test_captures/stdin > "$work/in"
-behind reordered crates/test_captures/stdout > "$work/text"
+behind reordered crates/test_texts/stdin | sed 's/^calls //; s/\\n$//; s/\\n/\n/g' > "$work/in"
+behind reordered crates/test_texts/stdout > "$work/text"
 [ "$(grep -c ' call \| return ' "$work/text")" -eq 2 ]
 saw 'no call with its answer to print' $?
 run calls

@@ -1,7 +1,7 @@
-//! Prints what `dump` and `sim` make of the texts on its lines, so that it can be compared. In a text `\n`, `\r` and `\t` stand for a newline,
-//! a carriage return and a tab.
+//! Prints what `dump`, `calls` and `sim` make of the texts on its lines, so that it can be compared. In a text `\n`, `\r` and `\t` stand
+//! for a newline, a carriage return and a tab.
 //!
-//! - `dump TEXT` and `sim TEXT` print what is written of the text, and how that ended.
+//! - `dump TEXT`, `calls TEXT` and `sim TEXT` print what is written of the text, and how that ended.
 //! - `reads 7 dump TEXT` reads the text in pieces of 7 bytes: once with each read failing.
 //! - `writes dump TEXT` writes a byte at a time: once with each write failing. Then it writes to what takes nothing.
 //! - `limits` reads inputs at the limits on lines, and beyond them.
@@ -31,7 +31,7 @@ fn main(rt: HostRuntime) -> Result<(), anyhow::Error> {
 fn show(rt: &HostRuntime, line: &str) -> Result<(), anyhow::Error> {
     let (first, rest) = line.split_once(' ').unwrap_or((line, ""));
     match first {
-        "dump" | "sim" => show_text(rt, line),
+        "dump" | "calls" | "sim" => show_text(rt, line),
         "reads" => faults::show_reads(rt, rest),
         "writes" => faults::show_writes(rt, rest),
         "limits" => limits::show(rt),

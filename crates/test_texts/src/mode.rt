@@ -1,5 +1,6 @@
 use std::alloc::Global;
 use std::io::{Read, Write};
+use xns_calls::calls;
 use xns_dump::dump;
 use xns_lines::RunFault;
 use xns_sim::sim;
@@ -15,13 +16,15 @@ pub struct Outcome {
 #[derive(Clone, Copy)]
 pub enum Mode {
     Dump,
+    Calls,
     Sim,
 }
 
 impl Mode {
-    /// `Sim` of its name, else `Dump`.
+    /// `Calls` and `Sim` of their names, else `Dump`.
     pub fn named(name: &str) -> Mode {
         match name {
+            "calls" => Mode::Calls,
             "sim" => Mode::Sim,
             _ => Mode::Dump,
         }
@@ -36,6 +39,7 @@ impl Mode {
     ) -> Result<bool, RunFault> {
         match self {
             Mode::Dump => dump(alloc, reader, writer),
+            Mode::Calls => calls(alloc, reader, writer),
             Mode::Sim => sim(alloc, reader, writer),
         }
     }
