@@ -1,7 +1,5 @@
 //! Plays 140,000 items each way through a network that loses, repeats and reorders packets, and delivers old ones again.
-#![tactic(auto)]
-
-use item_world::{Event, Items, Side, play_items};
+use item_world::{Event, ItemTrace, Items, Side, play_items};
 use std::alloc::{AllocError, Global};
 use test_setting::{WIDE_SETUP, numbered};
 
@@ -17,14 +15,17 @@ const LATE: usize = 3_000;
 /// So many rounds ago one was sent that lives no longer: 32,000 items.
 const PAST: usize = 4_000;
 
-fn main(rt: HostRuntime) -> Result<(), anyhow::Error> {
-    let alloc = rt.alloc();
+/// Prints how many items went out and were handed up, and in how many packets.
+pub fn show(rt: &HostRuntime) -> Result<(), anyhow::Error> {
     let setup = WIDE_SETUP;
     if !setup.is_good() {
         return Ok(());
     }
-    let events = events(alloc)?;
-    let trace = play_items(alloc, &setup, &events)?;
+    let events = events(rt.alloc())?;
+    show_trace(rt, &play_items(rt.alloc(), &setup, &events)?)
+}
+
+fn show_trace(rt: &HostRuntime, trace: &ItemTrace) -> Result<(), anyhow::Error> {
     println!(rt;
         "sent {} and {}",
         trace.a_sent.as_slice().len(),
