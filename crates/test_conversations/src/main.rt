@@ -9,10 +9,12 @@
 //! `shape NAME; SHAPE` tells the first fault of a shape. `words NAME; SHAPE; WORDS` tells the value that the words begin with, and what
 //! it is written as behind the word 170. `pieces NAME; SHAPE; SKIP; BYTES/BYTES/..` tells the value that the bytes begin with, behind so
 //! many words. `fits NAME; OTHER; SHAPE; WORDS` tells whether the value of the shape that the words begin with fits the other shape.
-//! `table CHANGE` tells the first fault of the tally's table with a change. All other lines come back as they are.
+//! `table CHANGE` tells the first fault of the tally's table with a change. `faults` tells what faults of each kind say, each in a line
+//! of its own. All other lines come back as they are.
 #![tactic(auto)]
 
 mod calling;
+mod faults;
 mod reading;
 mod script;
 mod serving;
@@ -51,6 +53,7 @@ fn answer(alloc: Global, line: &str, text: &mut String) -> Result<(), AllocError
         "pieces" => values::read_pieced(alloc, words, text),
         "fits" => values::fit(alloc, words, text),
         "table" => tables::check(alloc, words, text),
+        "faults" => faults::tell(text),
         _ => text.push_str(line),
     }
 }

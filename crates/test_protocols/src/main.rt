@@ -17,9 +17,12 @@
 //! - `ends 4` makes a caller and a server with a window of four, `ends 4 another` with another server. Then `caller` and `server` each may
 //!   `tick`, `flush`, `send BYTES`, `send attention BYTES`, `receive BYTES` and `take`; `full`, `open`, `waiting` and `owns BYTES` ask.
 //! - `controls BYTES` gives new servers a packet with each control from its own on, while they come to the same.
+//!
+//! The line `faults` prints what the faults of each kind say.
 #![tactic(auto)]
 
 mod ends;
+mod faults;
 mod hexed;
 mod reading;
 mod sent;
@@ -45,8 +48,10 @@ fn show_all(rt: &HostRuntime, ends: &mut Ends) -> Result<(), anyhow::Error> {
 
 /// Does what a line says, and prints the answer: nothing of a comment and of steps without a name.
 fn show(rt: &HostRuntime, ends: &mut Ends, line: &str) -> Result<(), anyhow::Error> {
-    if let [] | [b'#', ..] = line.as_bytes() {
-        return Ok(());
+    match line.as_bytes() {
+        [] | [b'#', ..] => return Ok(()),
+        b"faults" => return faults::show(rt),
+        _ => {}
     }
     let (name, steps) = match line.split_once(" = ") {
         Some((name, steps)) => (Some(name), steps),
