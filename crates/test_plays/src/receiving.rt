@@ -7,6 +7,7 @@ use crate::lines::Lines;
 use crate::telling::{dropped_text, packet_text};
 use item_world::{Setup, Side};
 use std::alloc::{AllocError, Global};
+use std::fmt::Write;
 use test_setting::item;
 use xns_spp::{Bytes, Endpoint, Received};
 
@@ -60,20 +61,27 @@ impl Trial<'_> {
         Ok(Some(end))
     }
 
-    /// What a new end makes of the packet with this number in the field in this place, and what it would then send again.
-    fn receives(&self, alloc: Global, place: usize, number: u16) -> Result<String, AllocError> {
+    /// Adds what a new end makes of the packet with this number in the field in this place, and what it would then send again.
+    fn put_answer(
+        &self,
+        alloc: Global,
+        text: &mut String,
+        place: usize,
+        number: u16,
+    ) -> Result<(), AllocError> {
         let packet = self.packet(alloc, place, number)?;
         match self.end(alloc)? {
-            Some(mut end) => answer_text(alloc, &mut end, &packet),
-            None => String::from_str(alloc, "no such end"),
+            Some(mut end) => put_answer(alloc, text, &mut end, packet.as_slice()),
+            None => text.push_str("no such end"),
         }
     }
 
     /// What an end makes of the packet with this control byte, of which the upper half counts.
     fn control_text(&self, alloc: Global, control: u8) -> Result<String, AllocError> {
-        let text = self.receives(alloc, CONTROL, u16::from(control))?;
         let (low, high) = (control & 0xf0, control | 15);
-        format!(in alloc; "control {low:02x} to {high:02x}: {}", text.as_str())
+        let mut text = format!(in alloc; "control {low:02x} to {high:02x}: ")?;
+        self.put_answer(alloc, &mut text, CONTROL, u16::from(control))?;
+        Ok(text)
     }
 
     fn put_controls(&self, alloc: Global, lines: &mut Lines) -> Result<(), AllocError> {
@@ -91,8 +99,9 @@ impl Trial<'_> {
         name: &str,
         number: u16,
     ) -> Result<String, AllocError> {
-        let text = self.receives(alloc, place, number)?;
-        format!(in alloc; "{name} {number}: {}", text.as_str())
+        let mut text = format!(in alloc; "{name} {number}: ")?;
+        self.put_answer(alloc, &mut text, place, number)?;
+        Ok(text)
     }
 
     fn put_fields(&self, alloc: Global, lines: &mut Lines) -> Result<(), AllocError> {
@@ -150,27 +159,38 @@ fn take_steps(alloc: Global, end: &mut Endpoint, steps: &str) -> Result<(), Allo
     Ok(())
 }
 
-/// What the end makes of a packet, and what it then sends as time passes.
-fn answer_text(alloc: Global, end: &mut Endpoint, packet: &Bytes) -> Result<String, AllocError> {
-    let received = end.receive(alloc, packet.as_slice())?;
-    let mut text = received_text(alloc, &received, end.waiting())?;
-    for packet in end.tick(alloc)? {
-        put_packet(alloc, &mut text, "then", &packet)?;
+/// Adds what the end makes of a packet, and what it then sends as time passes.
+fn put_answer(
+    alloc: Global,
+    text: &mut String,
+    end: &mut Endpoint,
+    packet: &[u8],
+) -> Result<(), AllocError> {
+    let received = end.receive(alloc, packet)?;
+    put_received(alloc, text, &received, end.waiting())?;
+    for packet in &end.tick(alloc)? {
+        put_packet(alloc, text, "then", packet)?;
     }
-    Ok(text)
+    Ok(())
 }
 
-/// How many items were taken, why the packet's was dropped, how many wait, and the reply.
-fn received_text(alloc: Global, received: &Received, waiting: usize) -> Result<String, AllocError> {
-    let mut text = format!(in alloc;
-        "took {} dropped {} waiting {waiting}",
-        received.took,
-        dropped_text(&received.dropped)
+/// Adds how many items were taken, why the packet's was dropped, how many wait, and the reply.
+fn put_received(
+    alloc: Global,
+    text: &mut String,
+    received: &Received,
+    waiting: usize,
+) -> Result<(), AllocError> {
+    let dropped = dropped_text(&received.dropped);
+    write!(
+        text,
+        "took {} dropped {dropped} waiting {waiting}",
+        received.took
     )?;
-    if let Some(reply) = &received.reply {
-        put_packet(alloc, &mut text, "reply", reply)?;
+    match &received.reply {
+        Some(reply) => put_packet(alloc, text, "reply", reply),
+        None => Ok(()),
     }
-    Ok(text)
 }
 
 fn put_packet(

@@ -53,18 +53,27 @@ fn reply_count(alloc: Global, replies: &[Bytes]) -> Result<String, AllocError> {
     format!(in alloc; "replies {count}")
 }
 
-/// How many packets the server sent, with the digest of many, and the packets, or the last two of many.
+/// The packets that are told: all, or the last two of many.
+fn told(replies: &[Bytes]) -> &[Bytes] {
+    if replies.len() > MOST_REPLIES {
+        &replies[replies.len() - 2..]
+    } else {
+        replies
+    }
+}
+
+/// How many packets the server sent, with the digest of many, and the packets that are told.
 fn put_replies(alloc: Global, lines: &mut Lines, replies: &[Bytes]) -> Result<(), AllocError> {
     lines.put(reply_count(alloc, replies)?)?;
-    let skipped = if replies.len() > MOST_REPLIES {
-        replies.len() - 2
-    } else {
-        0
-    };
-    for reply in replies.iter().skip(skipped) {
+    for reply in told(replies) {
         lines.put(packet_text(alloc, "reply", Side::B, reply.as_slice())?)?;
     }
     Ok(())
+}
+
+/// Why the server's session stopped.
+fn fault_text(alloc: Global, trace: &ServeTrace<Tally>) -> Result<String, AllocError> {
+    format!(in alloc; "fault {}", Fault(&trace.fault))
 }
 
 fn put_trace(
@@ -74,7 +83,7 @@ fn put_trace(
 ) -> Result<(), AllocError> {
     put_items(alloc, lines, "handed", &trace.handed)?;
     put_carried(alloc, lines, trace.carried.as_slice())?;
-    lines.put(format!(in alloc; "fault {}", Fault(&trace.fault))?)?;
+    lines.put(fault_text(alloc, trace)?)?;
     put_replies(alloc, lines, trace.replies.as_slice())?;
     lines.put(total_text(alloc, &trace.service)?)
 }
