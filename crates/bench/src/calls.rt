@@ -7,7 +7,7 @@ mod lists;
 
 use crate::calls::carry::repeat;
 use crate::calls::lists::{Lists, lists_table};
-use courier_calls::{Arguments, Call, Seen, Tally, tally_table};
+use courier_calls::{Arguments, Call, Tally, tally_table};
 use courier_types::Value;
 use std::alloc::{AllocError, Global};
 
@@ -30,23 +30,6 @@ fn count(words: &[&str], place: usize) -> u32 {
         .map_or(0, |word| word.parse::<u32>().unwrap_or(0))
 }
 
-/// What the long cardinal, or the list of cardinals, that was returned adds up to; 0 of any other outcome, and of none.
-fn sum(outcome: &Option<Seen>) -> u64 {
-    let mut all: u64 = 0;
-    match outcome {
-        Some(Seen::Returned(Value::LongCardinal(number))) => all = u64::from(*number),
-        Some(Seen::Returned(Value::Sequence(values))) => {
-            for value in values {
-                if let Value::Cardinal(number) = value {
-                    all = all.saturating_add(u64::from(*number));
-                }
-            }
-        }
-        _ => {}
-    }
-    all
-}
-
 /// A call Add of 5.
 fn add_call() -> Call {
     Call {
@@ -60,7 +43,7 @@ fn add_call() -> Call {
 /// So many calls Add of 5: what the last outcome adds up to.
 fn add(alloc: Global, count: u32) -> Result<u64, AllocError> {
     let table = tally_table(alloc)?;
-    Ok(sum(&repeat(alloc, &table, Tally::new(), &add_call(), count)?))
+    repeat(alloc, &table, Tally::new(), &add_call(), count)
 }
 
 /// The numbers from 0 to 59,999.
@@ -89,5 +72,5 @@ fn list(alloc: Global, count: u32) -> Result<u64, AllocError> {
         return Ok(0);
     }
     let call = list_call(alloc)?;
-    Ok(sum(&repeat(alloc, &table, Lists::new(), &call, count)?))
+    repeat(alloc, &table, Lists::new(), &call, count)
 }

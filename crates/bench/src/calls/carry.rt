@@ -5,6 +5,7 @@ ghost use Rattle.courier_calls.specs.Table.{table_model, IsCheckedTable};
 
 use courier_calls::{Call, Caller, Seen, Server, Service, Table};
 use courier_messages::SessionFault;
+use courier_types::Value;
 use std::alloc::{AllocError, Global};
 use xns_spp::Item;
 
@@ -70,58 +71,77 @@ fn carry<S: Service>(
     Ok(())
 }
 
-/// Makes the call once: its outcome; `None` where a session stops, or the call is not made or not answered.
+/// What the long cardinal, or the list of cardinals, that was returned adds up to; 0 of any other outcome.
+fn sum(outcome: &Seen) -> u64 {
+    let mut all: u64 = 0;
+    match outcome {
+        Seen::Returned(Value::LongCardinal(number)) => all = u64::from(*number),
+        Seen::Returned(Value::Sequence(values)) => {
+            for value in values {
+                if let Value::Cardinal(number) = value {
+                    all = all.saturating_add(u64::from(*number));
+                }
+            }
+        }
+        _ => {}
+    }
+    all
+}
+
+/// Makes the call once: what its outcome adds up to; `None` where a session stops, or the call is not made or not answered.
 fn make<S: Service>(
     alloc: Global,
     caller: &mut Caller,
     server: &mut Server<S>,
     call: &Call,
-) -> Option<Seen> {
+) -> Option<u64> {
     if caller.call(alloc, call).is_err() || carry(alloc, caller, server).is_err() {
         return None;
     }
-    caller.outcome()
+    Some(sum(&caller.outcome()?))
 }
 
-/// Makes the call so many times: the last outcome; `None` where there is none, a session stops, or a call is not made or not answered.
+/// Makes the call so many times: what the last outcome adds up to; `None` where there is none, a session stops, or a call is not made or
+/// not answered.
 fn make_all<S: Service>(
     alloc: Global,
     caller: &mut Caller,
     server: &mut Server<S>,
     call: &Call,
     count: u32,
-) -> Option<Seen> {
-    if count == 0 || greet(alloc, caller, server).is_err() {
+) -> Option<u64> {
+    if greet(alloc, caller, server).is_err() {
         return None;
     }
-    for _ in 1..count {
-        make(alloc, caller, server, call)?;
+    let mut last = None;
+    for _ in 0..count {
+        last = Some(make(alloc, caller, server, call)?);
     }
-    make(alloc, caller, server, call)
+    last
 }
 
-/// Makes the call so many times between a new caller and a server, as `make_all` does.
+/// Makes the call so many times between a new caller and a server, as `make_all` does; 0 where that answers `None`.
 fn repeat_at<S: Service>(
     alloc: Global,
     table: &Table,
     server: &mut Server<S>,
     call: &Call,
     count: u32,
-) -> Result<Option<Seen>, AllocError>
+) -> Result<u64, AllocError>
     requires { IsCheckedTable (table_model table.now) }
 {
     let mut caller = Caller::new(alloc, table)?;
-    Ok(make_all(alloc, &mut caller, server, call, count))
+    Ok(make_all(alloc, &mut caller, server, call, count).unwrap_or(0))
 }
 
-/// Makes the call so many times between a new caller and a new server of the service, as `make_all` does.
+/// Makes the call so many times between a new caller and a new server of the service, as `repeat_at` does.
 pub fn repeat<S: Service>(
     alloc: Global,
     table: &Table,
     service: S,
     call: &Call,
     count: u32,
-) -> Result<Option<Seen>, AllocError>
+) -> Result<u64, AllocError>
     requires listed { table_model table.now ≡ S.serving.table }
     requires checked { IsCheckedTable (table_model table.now) }
     requires state { S.IsServiceState service }
