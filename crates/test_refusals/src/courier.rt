@@ -56,12 +56,8 @@ pub fn writes_a_message(alloc: Global) -> Result<Outcome, AllocError> {
     Ok(writes_behind(alloc, &message, &mut out))
 }
 
-pub fn makes_a_table(alloc: Global) -> Result<Outcome, AllocError> {
-    if let Ok(table) = tally_table(alloc) {
-        return Ok(done(table.entries.len() == 1));
-    }
-    let table = tally_table(alloc)?;
-    Ok(refused(true, table.entries.len() == 1))
+pub fn makes_a_table(alloc: Global) -> Result<bool, AllocError> {
+    Ok(tally_table(alloc)?.entries.len() == 1)
 }
 
 /// Whether a new server of the table has its versions out.
