@@ -1,7 +1,7 @@
 //! The longest packets are written and read. `bench/c_codec.c` does the same through the library for C.
 
 use test_setting::{CALLER, SERVER};
-use xns_idp::{MOST_DATA, MOST_PACKET, Packet, decode, encode_into};
+use xns_idp::{MOST_DATA, MOST_PACKET, Packet, decode, encode_into, packet_type};
 
 /// So many packets are written and read.
 const PACKETS: usize = 1_000_000;
@@ -26,7 +26,7 @@ pub fn run(rt: &HostRuntime) -> Result<(), anyhow::Error> {
         let packet = Packet {
             summed: true,
             control: 0,
-            kind: 5,
+            kind: packet_type::SEQUENCED_PACKET,
             target: SERVER,
             source: CALLER,
             body: &body,

@@ -3,7 +3,7 @@
 
 use std::alloc::{AllocError, Global};
 use test_setting::{caller, item, server};
-use xns_spp::{Bytes, Endpoint, MOST_BODY};
+use xns_spp::{Bytes, Endpoint, MOST_BODY, MOST_PENDING};
 
 /// So many items go out one way before as many go out the other way.
 const ROUND: usize = 51;
@@ -100,8 +100,8 @@ fn way_named(name: &str) -> Way {
 
 /// Opens a connection and exchanges the items.
 fn connection(alloc: Global, way: Way) -> Result<Tally, AllocError> {
-    let mut caller = caller(alloc, 64, 64)?;
-    let mut server = server(alloc, 64, 64)?;
+    let mut caller = caller(alloc, MOST_PENDING, MOST_PENDING)?;
+    let mut server = server(alloc, MOST_PENDING, MOST_PENDING)?;
     exchange_all(alloc, &mut caller, &mut server, way)
 }
 

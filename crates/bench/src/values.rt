@@ -12,9 +12,6 @@ use std::io::Print;
 use std::time::{Clock, Instant};
 use xns_spp::MOST_BODY;
 
-/// How many bytes a piece has, as the longest item has.
-const PIECE: usize = MOST_BODY;
-
 /// How deep the records within one another are, the value inside them among them.
 const DEPTH: usize = 16;
 
@@ -203,12 +200,12 @@ fn time_pieced(
     }
 }
 
-/// The bytes of the words, in pieces.
+/// The bytes of the words, in pieces as long as the body of a data packet can be.
 fn pieces_of(alloc: Global, words: &[u16]) -> Result<Vec<Vec<u8>>, AllocError> {
     let mut pieces = Vec::new(alloc);
     let mut piece = Vec::new(alloc);
     for word in words {
-        if piece.len() >= PIECE {
+        if piece.len() >= MOST_BODY {
             pieces.push(piece)?;
             piece = Vec::new(alloc);
         }
