@@ -8,7 +8,7 @@ use Rattle.courier_types.specs.Spelling.{AreBytes}
 use Rattle.courier_types.specs.Pieces.{joined, words_of}
 use Rattle.courier_types.proofs.Words.{head_below, tail_below}
 
--- past a front
+-- past a prefix
 
 take_past : (front back : List ℕ) (n k : ℕ) → n ≡ length front + k → take n (front ++ back) ≡ front ++ take k back
 take_past [] back n k e = let h : n ≡ k = omega (arith, e) in ap (λ i. take i back) h

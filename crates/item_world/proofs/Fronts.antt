@@ -22,7 +22,7 @@ begins_map f xs ys b = (map f b.0, sym (map-append f xs b.0) ∙ ap (map f) b.1)
 pub begins_length : {X : Type 0} (xs ys : List X) → Begins xs ys → length xs ≤ length ys
 begins_length xs ys b = omega (arith, ap length b.1, length-append xs b.0)
 
--- an element of a front
+-- an element of a prefix
 pub front_get : {X : Type 0} (xs ys : List X) (k : ℕ) (x : X) → slice_get xs k ≡ Some x → slice_get (xs ++ ys) k ≡ Some x
 front_get [] ys k x h = absurd (cc)
 front_get (y ∷ xs) ys zero x h = h
@@ -36,7 +36,7 @@ element [] k l = absurd (omega arith)
 element (y ∷ xs) zero l = (y, refl)
 element (y ∷ xs) (suc k) l = element xs k (omega arith)
 
--- a front with one element more
+-- a prefix with one element more
 rest_more : {X : Type 0} (xs rest : List X) (x : X) → slice_get (xs ++ rest) (length xs) ≡ Some x → (r : List X) × ((xs ++ x ∷ []) ++ r ≡ xs ++ rest)
 rest_more [] [] x h = absurd (cc)
 rest_more [] (y ∷ rest) x h = (rest, cc)

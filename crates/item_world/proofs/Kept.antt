@@ -241,7 +241,7 @@ start_kept laws setup fits good =
 
 -- ---- as the definitions say it
 
--- a front that is no longer than n is a front of the first n
+-- a prefix that is no longer than n is a prefix of the first n
 begins_take : (xs ys : List Item) (n : ℕ) → Begins xs ys → length xs ≤ n → Begins xs (take n ys)
 begins_take xs ys n b h =
     let more : length xs + (n - length xs) ≡ n = omega arith in

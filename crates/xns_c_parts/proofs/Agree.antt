@@ -30,7 +30,7 @@ begins_then {X} xs ys zs p q = (p.0 ++ q.0, sym (append_assoc xs p.0 q.0) ∙ ap
 begins_map : {X Y : Type 0} (f : X → Y) (xs ys : List X) → Begins xs ys → Begins (map f xs) (map f ys)
 begins_map f xs ys p = (map f p.0, sym (map-append f xs p.0) ∙ ap (map f) p.1)
 
--- what holds of all of a list holds of all of a front of it
+-- what holds of all of a list holds of all of a prefix of it
 all_front : {X : Type 0} (P : X → Type 0) (xs more : List X) → AllByRecursion P (xs ++ more) → AllByRecursion P xs
 all_front P [] more h = tt
 all_front P (x ∷ xs) more h = (h.0, all_front P xs more h.1)

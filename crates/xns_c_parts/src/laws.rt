@@ -70,7 +70,7 @@ pub fn a_server_session_is_its_conversation()
     courier_messages::laws::a_server_hears_one_item_more();
 }
 
-/// A calling and a called session that face each other, each fed a front of what the other gave: neither stops at the next item; the calls that the one takes
+/// A calling and a called session that face each other, each fed a prefix of what the other gave: neither stops at the next item; the calls that the one takes
 /// begin those that the other made, in order; and the answers that the caller has, handed or not, begin those that were made.
 pub fn sessions_agree()
     ensures server { (made : List RawCall) (back given : List Item) (got : List Message) (t : Talk) (programs : List XnsProgram) (fed sent : List Item) (taken handed answers : List Message) (a : Answering) (x : Item) → HasDone made back given got t → HasAnswered programs fed sent taken handed answers a → Begins (fed ++ x ∷ []) given → (n : Answering) × (after_heard a x ≡ Ok n) }

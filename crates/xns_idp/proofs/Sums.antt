@@ -76,7 +76,7 @@ unlike v w h =
       | inr other ↦ elim other [ inl below ↦ omega (arith, below.0, below.1) | inr above ↦ omega (arith, above.0, above.1) ]
     ]
 
--- the sum behind a front
+-- the sum behind a prefix
 behind : (front ws : List ℕ) → cycle_checksum (front ++ ws) ≡ sum_from (sum_from 0 front) ws % 65535
 behind front ws = cycle_checksum-is (front ++ ws) ∙ ap (λ (n : ℕ). n % 65535) (sum_from-append 0 front ws)
 

@@ -18,7 +18,7 @@ pub fn decode(bytes: &[u8]) -> Result<(Packet<'_>, usize), IdpFault>
     ensures exact { decode_model result ≡ packet_of bytes.now }
     // The bytes that it took spell it.
     ensures found { IfOk result (λ r. IsPacketAtFront bytes.now (packet_model r.0) r.1) }
-    // Whatever a front of the bytes spells is read, whatever follows it.
+    // Whatever a prefix of the bytes spells is read, whatever follows it.
     ensures only { (p : PacketModel) (taken rest : List ℕ) → IsPacket p → SpellsPacket p taken → bytes.now ≡ taken ++ rest →
         decode_model result ≡ Ok (p, length taken) }
     // Which fault it is.

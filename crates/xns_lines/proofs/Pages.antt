@@ -60,7 +60,7 @@ none_left before mid after pending text none front left =
       (left.2.0, left.2.1, ap (λ t. (left.0 ++ t) ++ left.2.0) nothing ∙ ap (λ t. t ++ left.2.0) (append-nil left.0) ∙ left.2.2),
     )
 
--- the text of the first lines is a front of the text
+-- the text of the first lines is a prefix of the text
 front_of_lines : (text_of : TextOf) → ((lines more : List (List ℕ)) → Begins (text_of lines) (text_of (lines ++ more)))
     → (before after : Option (List ℕ)) (read : List ℕ) (good next : List (List ℕ)) → lines_of read ≡ good ++ next → AppendsFront before after (text_of good) → AppendsFront before after (text_of (lines_of read))
 front_of_lines text_of behind before after read good next lines front =

@@ -36,7 +36,7 @@ is_script_refused input = is_some (first_refused (script_lines input))
 
 -- ---- after a fault
 
--- after a failed write a front of the whole input's text is written and not all of it, and after any other fault nothing
+-- after a failed write a prefix of the whole input's text is written and not all of it, and after any other fault nothing
 abbrev pub HasLeft : RunFault → List ℕ → Option (List ℕ) → Option (List ℕ) → Type 0
 HasLeft fault.Write input before after = AppendsPart before after (sim_text input)
 HasLeft _ input before after = after ≡ before

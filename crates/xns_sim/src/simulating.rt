@@ -25,7 +25,7 @@ use xns_script::Script;
 /// line has over 4,096 bytes, its byte 13 among them and its byte 10 not; `TooManyLines` where there are over 65,536
 /// lines; `NoMemory` where a growth is refused. Of the limits' faults the one that comes first in the input is
 /// answered. Nothing is written before the whole input is read and the whole text made, so only a failed write leaves
-/// a front of the text.
+/// a prefix of the text.
 pub fn sim<R: Read, W: Write>(
     alloc: Global,
     reader: &mut R,
@@ -37,7 +37,7 @@ pub fn sim<R: Read, W: Write>(
     ensures refused { IfOk result (λ refused. IfSome (R.remaining reader.old) (λ input. refused ≡ is_script_refused input)) }
     ensures limits { OnOk result (IfSome (R.remaining reader.old) IsWithinLimits) }
 
-    // After a failed write a front of that text is written, and after any other fault nothing; what was read shows a limit that was passed.
+    // After a failed write a prefix of that text is written, and after any other fault nothing; what was read shows a limit that was passed.
     ensures fault { IfErr result (λ fault. IfSome (R.remaining reader.old) (λ input.
         StopsIn input (R.remaining reader.new) (W.contents writer.old) (W.contents writer.new) fault)) }
 {

@@ -56,7 +56,7 @@ quiet_holds p w v h holds q = grown p w v h holds q.handed (λ t. subst (λ (l :
 
 -- ---- an item that is out is sent
 
--- of a list whose elements are short items, a front is of items
+-- of a list whose elements are short items, a prefix is of items
 begun_items : (xs ys : List Item) → Begins xs ys → All IsShortItem ys → All IsItem xs
 begun_items xs ys b h =
     All-weaker IsShortItem IsItem (λ x i. i.fits) xs (subst (All IsShortItem) (front_of xs ys b) (All-take IsShortItem (length xs) ys h))

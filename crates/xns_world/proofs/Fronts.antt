@@ -21,7 +21,7 @@ begins_length xs ys b = omega (arith, ap length b.1, length-append xs b.0)
 pub front_of : {X : Type 0} (xs ys : List X) → Begins xs ys → take (length xs) ys ≡ xs
 front_of xs ys b = ap (take (length xs)) (sym b.1) ∙ (take-append-le (length xs) xs b.0 (omega arith) ∙ take_all (length xs) xs (omega arith))
 
--- a front with one element more
+-- a prefix with one element more
 pub one_more : {X : Type 0} (xs : List X) (k : ℕ) (x : X) → slice_get xs k ≡ Some x → take (k + 1) xs ≡ take k xs ++ x ∷ []
 one_more {X} xs k x h =
     take_more xs k x (slice_get_within xs k x h)

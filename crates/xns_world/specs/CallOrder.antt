@@ -24,7 +24,7 @@ pub record MeetNoFault {S : Type 0} (p : Parties S) (w : CallWorld) : Type 0 whe
   pub server : IsFaultless (server_ending (handed_at w.world B))
   pub caller : IsFaultless (caller_ending p.serving.table (calls_made p w) (handed_at w.world A))
 
--- what is true at every moment: each end accepted a front of what its session puts out, and the network keeps the order
+-- what is true at every moment: each end accepted a prefix of what its session puts out, and the network keeps the order
 pub record CallsHold {S : Type 0} (p : Parties S) (w : CallWorld) : Type 0 where
   pub holds : Holds w.world
   pub out : (side : Side) → Begins (sent_at w.world side) (put_out p w side)
