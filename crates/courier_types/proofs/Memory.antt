@@ -3,6 +3,9 @@ use Rattle.std.proofs.Common.{◌≡◌, ℕ, zero, suc, ◌+◌, ◌*◌, get_o
 use Rattle.std.proofs.lemmas.Bool.{cases_eq}
 use denote.Param.Weighed.{most, at_most}
 use Rattle.courier_types.specs.declared.read_fault.Reason.TheVariants.{Truncated}
+use Rattle.courier_types.specs.declared.stop.Stop.{Stop}
+use Rattle.courier_types.specs.declared.stop.Stop.TheVariants as stops
+use Rattle.courier_types.specs.Source.{Fails}
 use Rattle.courier_types.specs.declared.shape.Shape.{Shape}
 use Rattle.courier_types.specs.Shape.{ShapeModel, ShapeModels, no_shapes, shape_and, MemberModels, no_members, member_and, shape_model, shape_models, member_models}
 use Rattle.courier_types.specs.Value.{ValueModel, value_and}
@@ -146,3 +149,14 @@ read_is_held (member_and e shape members) d ws h =
 
 pub held : (members : MemberModels) (d : ℕ) (ws rest : List ℕ) (v : ValueModel) (after : List ℕ) → ws ≡ d ∷ rest → reading_member members d rest ≡ Ok (v, after) → ChoiceWants (MemberWants members) ws
 held members d ws rest v after e h = subst (λ (u : List ℕ). ChoiceWants (MemberWants members) u) (sym e) (read_is_held members d rest (is_ok_where (Ok (v, after)) (reading_member members d rest) (sym h) refl))
+
+-- a choice stops where its value does, which stands behind the designator
+pub choice_stops : (members : MemberModels) (d : ℕ) (ws rest : List ℕ) (e : Stop) → ws ≡ d ∷ rest → Fails (MemberWants members d rest) e (reading_member members d rest) → Fails (ChoiceWants (MemberWants members) ws) e (reading_choice (reading_member members) ws)
+unfolding reading_choice
+choice_stops members d ws rest stops.Truncated there h = ap (reading_choice (reading_member members)) there ∙ ap (over (ValueModel.choice d)) h
+choice_stops members d ws rest (stops.WrongWord n r) there h = ap (reading_choice (reading_member members)) there ∙ ap (over (ValueModel.choice d)) h
+choice_stops members d ws rest stops.NoMemory there h = subst (λ (u : List ℕ). ChoiceWants (MemberWants members) u) (sym there) h
+
+pub choice_read : (members : MemberModels) (d : ℕ) (ws rest : List ℕ) (v : ValueModel) (after : List ℕ) → ws ≡ d ∷ rest → reading_member members d rest ≡ Ok (v, after) → reading_choice (reading_member members) ws ≡ Ok (ValueModel.choice d v, after)
+unfolding reading_choice
+choice_read members d ws rest v after there h = ap (reading_choice (reading_member members)) there ∙ ap (over (ValueModel.choice d)) h
