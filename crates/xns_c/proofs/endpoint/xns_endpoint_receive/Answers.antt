@@ -1,4 +1,4 @@
-use Rattle.std.proofs.Common.{refl}
+use Rattle.std.proofs.Common.{refl, rules}
 use Rattle.xns_c_parts.specs.Handle.{line_of}
 use Rattle.xns_c.proofs.Kept.{taken}
 use Rattle.xns_c.proofs.endpoint.xns_endpoint_receive.Goals as goal
@@ -6,3 +6,9 @@ use Rattle.xns_c.proofs.endpoint.xns_endpoint_receive.Goals as goal
 pub returns-in-Err-clause-memory : goal.returns-in-Err-clause-memory
 returns-in-Err-clause-memory c = λ s keeps _ _.
     (refl, c.in-Err.ensures.memory s (taken (line_of c.args.handle.now) c.in-Some.connection.value c.deref_mut.result.now s c.in-Some.ensures.answer c.deref_mut.ensures.value keeps))
+
+pub returns-in-Ok-clause-reply : goal.returns-in-Ok-clause-reply
+returns-in-Ok-clause-reply c = search rules
+
+pub returns-in-Ok-clause-acknowledged : goal.returns-in-Ok-clause-acknowledged
+returns-in-Ok-clause-acknowledged c = search rules
