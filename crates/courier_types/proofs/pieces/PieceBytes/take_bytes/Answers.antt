@@ -1,4 +1,5 @@
 use Rattle.std.proofs.Common.{subst, ◌≡◌, ◌≤◌, ◌+◌, ◌++◌, ◌-◌, List, ℕ, drop, length, take, vec_capacity, vec_len, arith}
+use Rattle.std.proofs.lemmas.Grind.{common_steps}
 use Rattle.courier_types.specs.Pieces.{joined}
 use Rattle.courier_types.proofs.Taken.{extended, pieces_next, take_step, drop_step, enough_step}
 use Rattle.courier_types.proofs.pieces.PieceBytes.take_bytes.Goals as goal
@@ -26,3 +27,6 @@ loop-self-preserved c =
       enough = enough_step front back l.wanted le enough;
       room = omega (arith, le, len, put.ensures.capacity, l.invariant.room);
     })
+
+pub returns-clause-items : goal.returns-clause-items
+returns-clause-items c = grind (arith, common_steps)
