@@ -1,4 +1,4 @@
-use Rattle.std.proofs.Common.{◌∙◌, ap, refl}
+use Rattle.std.proofs.Common.{◌∙◌, ap, refl, rules}
 use Rattle.std.specs.Option.{option_to_list}
 use Rattle.std.specs.Prelude.{Option}
 use Rattle.courier_messages.specs.declared.message.Message.{Message}
@@ -11,3 +11,6 @@ returns-clause-heard c =
     let takes = c.in_ok-message.ensures.takes in
     rw (← c.self.view_is) (hears_answer _ _ _ _ c.in-Some.message (takes.1 ∙ ap (λ (o : Option Message). option_to_list o) c.in-Some.is) takes.0
     (record { target = c.in-Some-waiting.target; seen = seen_model c.in_ok-seen.seen; waited = c.in-Some-waiting.is; answer = c.in_ok-seen.ensures; waiting = refl; outcome = refl }))
+
+pub returns-in_default-clause-memory : goal.returns-in_default-clause-memory
+returns-in_default-clause-memory c = search rules

@@ -1,0 +1,6 @@
+use Rattle.std.proofs.Common.{arith}
+use Rattle.std.proofs.lemmas.Grind.{common_steps}
+use Rattle.courier_calls.proofs.table_check.check_procedures.Goals as goal
+
+pub loop-procedure-preserved : goal.loop-procedure-preserved
+loop-procedure-preserved c = grind (arith, common_steps)
