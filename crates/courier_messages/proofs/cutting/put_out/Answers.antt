@@ -1,4 +1,5 @@
-use Rattle.std.proofs.Common.{◌≡◌, ◌∙◌, ◌++◌, ◌∷◌, [], ap, sym, List, length}
+use Rattle.std.proofs.Common.{◌≡◌, ◌∙◌, ◌++◌, ◌∷◌, [], ap, sym, List, length, rules, arith}
+use Rattle.std.proofs.lemmas.Grind.{common_steps}
 use Rattle.xns_spp.specs.declared.item.Item.{Item}
 use Rattle.courier_types.specs.Source.{bytes_of}
 use Rattle.courier_messages.specs.Bounds.{bytes_in}
@@ -14,3 +15,9 @@ returns-clause-size c =
     c.in_ok-push_back.ensures.items
     ∙ (ap (λ (x : Item). before ++ x ∷ []) c.in_ok-item.ensures ∙ ap (λ (xs : List Item). before ++ xs) (sym (last_item words c.if-words-gt-WORDS_AN_ITEM.false))) in
     ap (λ (xs : List Item). length (bytes_in xs)) all ∙ put_length before words
+
+pub returns-then-words-gt-WORDS_AN_ITEM-clause-ok : goal.returns-then-words-gt-WORDS_AN_ITEM-clause-ok
+returns-then-words-gt-WORDS_AN_ITEM-clause-ok c = search rules
+
+pub returns-then-words-gt-WORDS_AN_ITEM-clause-size : goal.returns-then-words-gt-WORDS_AN_ITEM-clause-size
+returns-then-words-gt-WORDS_AN_ITEM-clause-size c = grind (arith, common_steps)
