@@ -1,4 +1,4 @@
-use Rattle.std.proofs.Common.{arith, ap, ◌+◌, ◌<◌, length}
+use Rattle.std.proofs.Common.{arith, ap, ◌+◌, ◌<◌, length, rules}
 use Rattle.std.proofs.lemmas.Bool.Decides.{nat_tests}
 use Rattle.xns_lines.specs.Lines.{closed_lines}
 use Rattle.xns_lines.proofs.Cutting.{finished_open, left_as, stops_finishing}
@@ -24,3 +24,6 @@ returns-clause-ok g c =
     on_ok_1 _ _ c.take_line.result c.take_line.ensures.ok
     (λ ok. λ taken before h. finished_open c.args.self (stands before contents) taken c.as_slice.result.now some c.as_slice.ensures.value h.0
     (ok before (closed_lines taken) (ap (λ n. n + 1) h.0.count) h.1))
+
+pub returns-then-is_empty-clause-ok : goal.returns-then-is_empty-clause-ok
+returns-then-is_empty-clause-ok g c = search rules
