@@ -1,0 +1,7 @@
+use Rattle.std.proofs.Common.{rules}
+use Rattle.xns_small.specs.Exchange.{exchange_of}
+use Rattle.xns_small.proofs.exchange.read_fields.Goals as goal
+
+pub returns : goal.returns
+unfolding exchange_of
+returns c = search rules

@@ -1,0 +1,5 @@
+use Rattle.std.proofs.Common.{rules}
+use Rattle.xns_small.proofs.requester.Requester.try_again.Goals as goal
+
+pub returns : goal.returns
+returns c = search rules
