@@ -1,4 +1,4 @@
-use Rattle.std.proofs.Common.{◌≡◌, ◌+◌, ◌%◌, ◌<◌, ◌++◌, List, ℕ, [], ◌∷◌, get_or, length, replicate, refl, sym, ap, ◌∙◌, arith, length-append}
+use Rattle.std.proofs.Common.{◌≡◌, ◌+◌, ◌%◌, ◌<◌, ◌++◌, List, ℕ, [], ◌∷◌, get_or, length, replicate, refl, sym, ap, ◌∙◌, arith, length-append, rules}
 use Rattle.std.specs.Int.{w16, to_be_bytes}
 use Rattle.xns_idp.specs.Packet.{packet_model, with_data_behind}
 use Rattle.xns_idp.proofs.Writing.{pieces, written}
@@ -17,3 +17,12 @@ returns-clause-ok c =
     c.to_bytes-target.ensures c.to_bytes-source.ensures (ap (λ (n : ℕ). replicate {A = ℕ} (n % 2) 0) long)
     c.in_ok-reserve.ensures.items c.in_ok-extend_from_slice.ensures.items c.in_ok-extend_from_slice-2.ensures.items c.in_ok-extend_from_slice-3.ensures.items c.in_ok-extend_from_slice-4.ensures.items c.in_ok-extend_from_slice-5.ensures.items in
     written (with_data_behind p rest) _ c.len-start.result c.args.out.now.items (0 ∷ 0 ∷ []) c.pad.new.out.items c.as_mut_slice.result.now c.put_checksum.new.packet refl items c.as_mut_slice.ensures.value (omega (arith, c.len-start.ensures)) (omega (arith, c.as_mut_slice.ensures.len, ap (λ (xs : List ℕ). length xs) c.as_mut_slice.ensures.value)) c.put_checksum.ensures
+
+pub returns-in_err-extend_from_slice-4-clause-err : goal.returns-in_err-extend_from_slice-4-clause-err
+returns-in_err-extend_from_slice-4-clause-err c = search rules
+
+pub returns-in_err-extend_from_slice-5-clause-err : goal.returns-in_err-extend_from_slice-5-clause-err
+returns-in_err-extend_from_slice-5-clause-err c = search rules
+
+pub pad-requires : goal.pad-requires
+pad-requires c = search rules
