@@ -10,24 +10,14 @@ use crate::calls::lists::{Lists, lists_table};
 use courier_calls::{Arguments, Call, Tally, tally_table};
 use courier_types::Value;
 use std::alloc::{AllocError, Global};
+use std::io;
 
-/// Makes as many calls of each kind as the words say.
-pub fn run(rt: &HostRuntime, words: &[&str]) -> Result<(), anyhow::Error> {
-    let alloc = rt.alloc();
-    let adds = count(words, 0);
-    let total = add(alloc, adds)?;
+/// Makes so many calls of each kind.
+pub fn run(rt: &HostRuntime, adds: u32, lists: u32) -> io::Result<()> {
+    let total = add(rt.alloc(), adds)?;
     println!(rt; "{adds} calls, total {total}")?;
-    let lists = count(words, 1);
-    let all = list(alloc, lists)?;
-    println!(rt; "{lists} lists, sum {all}")?;
-    Ok(())
-}
-
-/// The number that the word in this place is, else 0.
-fn count(words: &[&str], place: usize) -> u32 {
-    words
-        .get(place)
-        .map_or(0, |word| word.parse::<u32>().unwrap_or(0))
+    let all = list(rt.alloc(), lists)?;
+    println!(rt; "{lists} lists, sum {all}")
 }
 
 /// A call Add of 5.

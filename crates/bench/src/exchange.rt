@@ -2,6 +2,7 @@
 //! of each round lost where it is `lossy`. They do so as often as the second word says, else once.
 
 use std::alloc::{AllocError, Global};
+use std::io;
 use test_setting::{caller, item, server};
 use xns_spp::{Bytes, Endpoint, MOST_BODY, MOST_PENDING};
 
@@ -19,7 +20,7 @@ const BODY: [u8; MOST_BODY] = [0x5a; MOST_BODY];
 
 /// What the way does to the packets of a round.
 #[derive(Clone, Copy)]
-enum Way {
+pub enum Way {
     /// All come in order.
     Ordered,
     /// Every second one comes after the others.
@@ -37,6 +38,15 @@ enum Fate {
 }
 
 impl Way {
+    /// The way of that name, or in order.
+    pub fn named(name: &str) -> Way {
+        match name {
+            "late" => Way::Late,
+            "lossy" => Way::Lossy,
+            _ => Way::Ordered,
+        }
+    }
+
     /// What becomes of the packet in this place of a round.
     fn fate(self, place: usize) -> Fate {
         match self {
@@ -62,12 +72,8 @@ struct Tally {
     again: u64,
 }
 
-/// Makes as many connections as the second word says, and prints what was counted in each.
-pub fn run(rt: &HostRuntime, words: &[&str]) -> Result<(), anyhow::Error> {
-    let way = words.first().map_or(Way::Ordered, |word| way_named(word));
-    let times = words
-        .get(1)
-        .map_or(1, |word| word.parse::<u32>().unwrap_or(1));
+/// Makes so many connections, and prints what was counted in each.
+pub fn run(rt: &HostRuntime, way: Way, times: u32) -> io::Result<()> {
     for _ in 0..times {
         print_tally(rt, connection(rt.alloc(), way)?)?;
     }
@@ -75,7 +81,7 @@ pub fn run(rt: &HostRuntime, words: &[&str]) -> Result<(), anyhow::Error> {
 }
 
 /// Prints what was counted.
-fn print_tally(rt: &HostRuntime, tally: Tally) -> Result<(), anyhow::Error> {
+fn print_tally(rt: &HostRuntime, tally: Tally) -> io::Result<()> {
     let Tally {
         handed,
         packets,
@@ -85,17 +91,7 @@ fn print_tally(rt: &HostRuntime, tally: Tally) -> Result<(), anyhow::Error> {
     } = tally;
     println!(rt;
         "handed up {handed} of {packets} packets: {late} late, {lost} lost, {again} sent again"
-    )?;
-    Ok(())
-}
-
-/// The way of that name, or in order.
-fn way_named(name: &str) -> Way {
-    match name {
-        "late" => Way::Late,
-        "lossy" => Way::Lossy,
-        _ => Way::Ordered,
-    }
+    )
 }
 
 /// Opens a connection and exchanges the items.
@@ -162,7 +158,7 @@ fn deliver_round(
 ) -> Result<(), AllocError> {
     let packets = from.flush(alloc)?;
     deliver_in_turn(alloc, &packets, from, to, way, tally)?;
-    deliver_late(alloc, &packets, from, to, way)?;
+    deliver_fated(alloc, &packets, from, to, way, Fate::Late)?;
     tally.packets = tally.packets.saturating_add(packets.len() as u64);
     Ok(())
 }
@@ -186,16 +182,17 @@ fn deliver_in_turn(
     Ok(())
 }
 
-/// Delivers the packets that come late.
-fn deliver_late(
+/// Delivers the packets that have this fate.
+fn deliver_fated(
     alloc: Global,
     packets: &[Bytes],
     from: &mut Endpoint,
     to: &mut Endpoint,
     way: Way,
+    fate: Fate,
 ) -> Result<(), AllocError> {
     for (place, packet) in packets.iter().enumerate() {
-        if way.fate(place) == Fate::Late {
+        if way.fate(place) == fate {
             deliver(alloc, packet, from, to)?;
         }
     }
@@ -205,9 +202,7 @@ fn deliver_late(
 /// Delivers what an end sends once time has passed, and says how many packets that were.
 fn tick(alloc: Global, from: &mut Endpoint, to: &mut Endpoint) -> Result<u64, AllocError> {
     let packets = from.tick(alloc)?;
-    for packet in &packets {
-        deliver(alloc, packet, from, to)?;
-    }
+    deliver_fated(alloc, &packets, from, to, Way::Ordered, Fate::InTurn)?;
     Ok(packets.len() as u64)
 }
 

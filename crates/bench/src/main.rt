@@ -10,54 +10,42 @@ mod play;
 mod timing;
 mod values;
 
+use crate::exchange::Way;
 use crate::timing::Timing;
 use anyhow::anyhow;
-use std::env;
+use std::{env, io};
 
-/// The words of the short runs. The transactions of the calls pass 65,535 and begin again at 0.
-const SHORT: [&str; 6] = [
-    "calls 100000 5",
-    "checksum",
-    "codec",
-    "exchange lossy",
-    "play 1000",
-    "values",
+/// The short runs, by the words that ask for them. The transactions of the calls pass 65,535 and begin again at 0.
+const SHORT: &[(&str, Timing)] = &[
+    ("calls 100000 5", Timing::Calls(100_000, 5)),
+    ("checksum", Timing::Checksum),
+    ("codec", Timing::Codec),
+    ("exchange lossy", Timing::Exchange(Way::Lossy, 1)),
+    ("play 1000", Timing::PlayItems(1000)),
+    ("values", Timing::Values(0)),
 ];
 
 fn main(rt: HostRuntime) -> Result<(), anyhow::Error> {
     let arguments: Vec<String> = env::args(&rt)?.skip(1).collect(rt.alloc())?;
-    if arguments.is_empty() {
-        return run_each(&rt);
-    }
-    let words: Vec<&str> = arguments
-        .iter()
-        .map(|word| word.as_str())
-        .collect(rt.alloc())?;
-    run_line(&rt, &words)
+    run(&rt, &arguments)
 }
 
-/// Runs what the first word names, where there is one.
-fn run_line(rt: &HostRuntime, line: &[&str]) -> Result<(), anyhow::Error> {
-    match line.split_first() {
-        Some((name, words)) => run(rt, name, words),
-        None => Ok(()),
-    }
-}
-
-/// Runs what the word names.
-fn run(rt: &HostRuntime, name: &str, words: &[&str]) -> Result<(), anyhow::Error> {
-    match Timing::named(name) {
-        Some(timing) => timing.run(rt, words),
+/// Runs what the words ask for, and each in its short form where there are none.
+fn run(rt: &HostRuntime, arguments: &[String]) -> Result<(), anyhow::Error> {
+    let Some((name, words)) = arguments.split_first() else {
+        return Ok(run_each(rt)?);
+    };
+    match Timing::named(name.as_str(), words) {
+        Some(timing) => Ok(timing.run(rt)?),
         None => Err(anyhow!("{name} is none of calls, checksum, codec, exchange, play and values")),
     }
 }
 
 /// Runs each in its short form, whose words stand above what it prints.
-fn run_each(rt: &HostRuntime) -> Result<(), anyhow::Error> {
-    for line in SHORT {
+fn run_each(rt: &HostRuntime) -> io::Result<()> {
+    for (line, timing) in SHORT {
         println!(rt; "{line}:")?;
-        let words: Vec<&str> = line.split_whitespace().collect(rt.alloc())?;
-        run_line(rt, &words)?;
+        timing.run(rt)?;
     }
     Ok(())
 }

@@ -1,45 +1,65 @@
+use crate::exchange::Way;
 use crate::{calls, checksum, codec, exchange, play, values};
+use std::io;
 
-/// What is timed.
+/// What is timed, and how much of it.
 #[derive(Clone, Copy)]
 pub enum Timing {
-    /// Calls of Courier, through a caller and a server in memory.
-    Calls,
+    /// So many calls Add of Courier, and then so many calls of lists, through a caller and a server in memory.
+    Calls(u32, u32),
     /// The checksum of packets.
     Checksum,
     /// Packets that are written and read.
     Codec,
-    /// Items between two ends, through a network that may lose them.
-    Exchange,
-    /// Plays of items, and of the calls of a script.
-    Play,
-    /// Values that are read and written.
-    Values,
+    /// Items between two ends, through a network of this way, so many times.
+    Exchange(Way, u32),
+    /// A play of so many items each way.
+    PlayItems(u32),
+    /// A play of the calls of a script.
+    PlayCalls,
+    /// Values that are read and written, so many times.
+    Values(u32),
 }
 
 impl Timing {
-    /// The timing that the word names; `None` where it names none.
-    pub fn named(word: &str) -> Option<Timing> {
-        match word {
-            "calls" => Some(Timing::Calls),
+    /// The timing that the name and its further words ask for; `None` where the name is none.
+    pub fn named(name: &str, words: &[String]) -> Option<Timing> {
+        let first = word(words, 0);
+        match name {
+            "calls" => Some(Timing::Calls(number(first, 0), number(word(words, 1), 0))),
             "checksum" => Some(Timing::Checksum),
             "codec" => Some(Timing::Codec),
-            "exchange" => Some(Timing::Exchange),
-            "play" => Some(Timing::Play),
-            "values" => Some(Timing::Values),
+            "exchange" => Some(Timing::Exchange(Way::named(first), number(word(words, 1), 1))),
+            "play" if first == "calls" => Some(Timing::PlayCalls),
+            "play" => Some(Timing::PlayItems(number(first, 1000))),
+            "values" => Some(Timing::Values(number(first, 0))),
             _ => None,
         }
     }
 
-    /// Does the work, as much as the words say, and prints what came of it.
-    pub fn run(self, rt: &HostRuntime, words: &[&str]) -> Result<(), anyhow::Error> {
+    /// Does the work, and prints what came of it.
+    pub fn run(self, rt: &HostRuntime) -> io::Result<()> {
         match self {
-            Timing::Calls => calls::run(rt, words),
+            Timing::Calls(adds, lists) => calls::run(rt, adds, lists),
             Timing::Checksum => checksum::run(rt),
             Timing::Codec => codec::run(rt),
-            Timing::Exchange => exchange::run(rt, words),
-            Timing::Play => play::run(rt, words),
-            Timing::Values => values::run(rt, words),
+            Timing::Exchange(way, times) => exchange::run(rt, way, times),
+            Timing::PlayItems(count) => play::items::play(rt, count),
+            Timing::PlayCalls => play::calls::play(rt),
+            Timing::Values(times) => values::run(rt, times),
         }
     }
+}
+
+/// The word in this place; one with no letters where there is none.
+fn word(words: &[String], place: usize) -> &str {
+    match words.get(place) {
+        Some(word) => word.as_str(),
+        None => "",
+    }
+}
+
+/// The number that the word is, or else this one.
+fn number(word: &str, otherwise: u32) -> u32 {
+    word.parse::<u32>().unwrap_or(otherwise)
 }

@@ -8,8 +8,8 @@ ghost use Rattle.courier_types.specs.Fits.{Fits};
 
 use courier_types::{Shape, Value, read, read_pieces, write};
 use std::alloc::{AllocError, Global};
-use std::io::Print;
-use std::time::{Clock, Instant};
+use std::io;
+use std::time::{Duration, Instant};
 use xns_spp::MOST_BODY;
 
 /// How deep the records within one another are, the value inside them among them.
@@ -24,96 +24,127 @@ enum Kind {
     Nested,
 }
 
-const KINDS: [Kind; 4] = [Kind::Cardinals, Kind::Text, Kind::Records, Kind::Nested];
+const KINDS: &[Kind] = &[Kind::Cardinals, Kind::Text, Kind::Records, Kind::Nested];
 
 impl Kind {
-    /// The value of this kind.
-    fn sample(self, alloc: Global) -> Result<Sample, AllocError> {
+    fn name(self) -> &'static str {
         match self {
-            Kind::Cardinals => cardinals(alloc),
-            Kind::Text => text(alloc),
-            Kind::Records => records(alloc),
+            Kind::Cardinals => "cardinals",
+            Kind::Text => "text",
+            Kind::Records => "records",
+            Kind::Nested => "nested",
+        }
+    }
+
+    fn shape(self, alloc: Global) -> Result<Shape, AllocError> {
+        match self {
+            Kind::Cardinals => sequence(alloc, Shape::Cardinal),
+            Kind::Text => Ok(Shape::Text),
+            Kind::Records => sequence(alloc, record(alloc, Shape::Text)?),
             Kind::Nested => nested(alloc),
+        }
+    }
+
+    /// Adds the words of the value: 60,000 cardinals, a text of 65,535 bytes, 15,000 records of a cardinal and a text of 4 bytes,
+    /// or a cardinal for each of the records within one another.
+    fn push_words(self, words: &mut Vec<u16>) -> Result<(), AllocError> {
+        match self {
+            Kind::Cardinals => {
+                words.push(60000)?;
+                push_numbers(words, 60000)
+            }
+            Kind::Text => {
+                words.push(65535)?;
+                push_numbers(words, 32767)?;
+                words.push(0x4100)?;
+                Ok(())
+            }
+            Kind::Records => push_records(words),
+            Kind::Nested => push_numbers(words, 16),
         }
     }
 }
 
-/// A value that is timed.
-#[derive(Drop)]
-struct Sample {
-    name: &'static str,
-    shape: Shape,
-    words: Vec<u16>,
-}
-
-/// The least nanoseconds of each.
+/// How many words a value has, and the least nanoseconds of each kind of work.
 #[derive(Clone, Copy)]
-struct Least {
+struct Found {
+    taken: usize,
     read: u128,
     pieces: u128,
     write: u128,
 }
 
+impl Found {
+    /// Keeps how many words were read over pieces, and the time where it is the least.
+    fn keep_pieces(&mut self, taken: usize, spent: io::Result<Duration>) -> io::Result<bool> {
+        self.taken = taken;
+        self.pieces = self.pieces.min(spent?.as_nanos());
+        Ok(true)
+    }
+}
+
 /// Times each of the values.
-pub fn run(rt: &HostRuntime, words: &[&str]) -> Result<(), anyhow::Error> {
-    let alloc = rt.alloc();
-    let times = words
-        .first()
-        .map_or(0, |word| word.parse::<u32>().unwrap_or(0));
+pub fn run(rt: &HostRuntime, times: u32) -> io::Result<()> {
     for kind in KINDS {
-        time_value(rt, alloc, &kind.sample(alloc)?, times)?;
+        time_kind(rt, *kind, &kind.shape(rt.alloc())?, times)?;
     }
     Ok(())
 }
 
+/// Times the value of a kind.
+fn time_kind(rt: &HostRuntime, kind: Kind, shape: &Shape, times: u32) -> io::Result<()> {
+    let mut words = Vec::new(rt.alloc());
+    kind.push_words(&mut words)?;
+    time_value(rt, kind.name(), shape, &words, times)
+}
+
 /// Times one value, and prints what was found.
 fn time_value(
-    rt: &(impl Print + Clock),
-    alloc: Global,
-    sample: &Sample,
+    rt: &HostRuntime,
+    name: &str,
+    shape: &Shape,
+    words: &[u16],
     times: u32,
-) -> Result<(), anyhow::Error> {
-    let mut least = Least {
+) -> io::Result<()> {
+    let mut found = Found {
+        taken: 0,
         read: u128::MAX,
         pieces: u128::MAX,
         write: u128::MAX,
     };
-    let (shape, words) = (&sample.shape, sample.words.as_slice());
-    if shape.check().is_err() || !time_whole(rt, alloc, shape, words, times, &mut least)? {
+    if shape.check().is_err()
+        || !time_whole(rt, shape, words, times, &mut found)?
+        || !time_pieces(rt, shape, words, times, &mut found)?
+    {
         return Ok(());
     }
-    let Some(taken) = time_pieces(rt, alloc, shape, words, times, &mut least)? else {
-        return Ok(());
-    };
-    println!(rt; "{} {taken} words", sample.name)?;
+    println!(rt; "{name} {} words", found.taken)?;
     if times > 0 {
-        print_least(rt, sample.name, &least)?;
+        return print_least(rt, name, &found);
     }
     Ok(())
 }
 
 /// Prints the least times of the value of this name.
-fn print_least(rt: &impl Print, name: &str, least: &Least) -> Result<(), anyhow::Error> {
-    println!(rt; "{name} read {}", least.read)?;
-    println!(rt; "{name} pieces {}", least.pieces)?;
-    println!(rt; "{name} write {}", least.write)?;
-    Ok(())
+fn print_least(rt: &HostRuntime, name: &str, found: &Found) -> io::Result<()> {
+    println!(rt; "{name} read {}", found.read)?;
+    println!(rt; "{name} pieces {}", found.pieces)?;
+    println!(rt; "{name} write {}", found.write)
 }
 
 /// Reads and writes the value so often, and at least once; `false` where the words do not spell one, or it is written otherwise.
 fn time_whole(
-    rt: &impl Clock,
-    alloc: Global,
+    rt: &HostRuntime,
     shape: &Shape,
     words: &[u16],
     times: u32,
-    least: &mut Least,
-) -> Result<bool, anyhow::Error>
+    found: &mut Found,
+) -> io::Result<bool>
     requires { IsChecked (shape_model shape.now) }
 {
-    let mut out = Vec::new(alloc);
+    let mut out = Vec::new(rt.alloc());
     for _ in 0..times.max(1) {
-        if !time_read(rt, alloc, shape, words, &mut out, least)? {
+        if !time_read(rt, shape, words, &mut out, found)? {
             return Ok(false);
         }
     }
@@ -122,181 +153,132 @@ fn time_whole(
 
 /// Reads the value, and then writes it; `false` where the words spell none.
 fn time_read(
-    rt: &impl Clock,
-    alloc: Global,
+    rt: &HostRuntime,
     shape: &Shape,
     words: &[u16],
     out: &mut Vec<u16>,
-    least: &mut Least,
-) -> Result<bool, anyhow::Error>
+    found: &mut Found,
+) -> io::Result<bool>
     requires { IsChecked (shape_model shape.now) }
 {
     let start = Instant::now(rt)?;
-    let whole = read(alloc, shape, words);
-    least.read = least.read.min(start.elapsed(rt)?.as_nanos());
-    let Ok((value, _)) = whole else {
-        return Ok(false);
-    };
-    time_write(rt, alloc, shape, &value, out, least)?;
+    let whole = read(rt.alloc(), shape, words);
+    let spent = start.elapsed(rt);
+    match &whole {
+        Ok((value, _)) => time_write(rt, shape, value, spent, out, found),
+        Err(_) => Ok(false),
+    }
+}
+
+/// Keeps the time that reading the value took, where it is the least, and writes the value.
+fn time_write(
+    rt: &HostRuntime,
+    shape: &Shape,
+    value: &Value,
+    reading: io::Result<Duration>,
+    out: &mut Vec<u16>,
+    found: &mut Found,
+) -> io::Result<bool>
+    requires { Fits (shape_model shape.now) (value_model value.now) }
+{
+    found.read = found.read.min(reading?.as_nanos());
+    out.clear();
+    let start = Instant::now(rt)?;
+    write(rt.alloc(), shape, value, out)?;
+    found.write = found.write.min(start.elapsed(rt)?.as_nanos());
     Ok(true)
 }
 
-/// Writes the value.
-fn time_write(
-    rt: &impl Clock,
-    alloc: Global,
-    shape: &Shape,
-    value: &Value,
-    out: &mut Vec<u16>,
-    least: &mut Least,
-) -> Result<(), anyhow::Error>
-    requires { Fits (shape_model shape.now) (value_model value.now) }
-{
-    out.clear();
-    let start = Instant::now(rt)?;
-    write(alloc, shape, value, out)?;
-    least.write = least.write.min(start.elapsed(rt)?.as_nanos());
-    Ok(())
-}
-
-/// Reads the value from pieces so often, and at least once: how many words it takes; `None` where the words do not spell one.
+/// Reads the value from pieces so often, and at least once; `false` where the words do not spell one.
 fn time_pieces(
-    rt: &impl Clock,
-    alloc: Global,
+    rt: &HostRuntime,
     shape: &Shape,
     words: &[u16],
     times: u32,
-    least: &mut Least,
-) -> Result<Option<usize>, anyhow::Error>
+    found: &mut Found,
+) -> io::Result<bool>
     requires { IsChecked (shape_model shape.now) }
 {
-    let pieces = pieces_of(alloc, words)?;
-    let mut taken = None;
+    let mut pieces = Vec::new(rt.alloc());
+    push_pieces(rt.alloc(), words, &mut pieces)?;
     for _ in 0..times.max(1) {
-        taken = time_pieced(rt, alloc, shape, &pieces, least)?;
-        if taken.is_none() {
-            return Ok(None);
+        if !time_pieced(rt, shape, &pieces, found)? {
+            return Ok(false);
         }
     }
-    Ok(taken)
+    Ok(true)
 }
 
-/// Reads the value from the pieces: how many words it takes; `None` where they spell none.
+/// Reads the value from the pieces; `false` where they spell none.
 fn time_pieced(
-    rt: &impl Clock,
-    alloc: Global,
+    rt: &HostRuntime,
     shape: &Shape,
     pieces: &[Vec<u8>],
-    least: &mut Least,
-) -> Result<Option<usize>, anyhow::Error>
+    found: &mut Found,
+) -> io::Result<bool>
     requires { IsChecked (shape_model shape.now) }
 {
     let start = Instant::now(rt)?;
-    let pieced = read_pieces(alloc, shape, pieces, 0);
-    least.pieces = least.pieces.min(start.elapsed(rt)?.as_nanos());
-    match pieced {
-        Ok((_, taken)) => Ok(Some(taken)),
-        Err(_) => Ok(None),
+    let pieced = read_pieces(rt.alloc(), shape, pieces, 0);
+    let spent = start.elapsed(rt);
+    match &pieced {
+        Ok((_, taken)) => found.keep_pieces(*taken, spent),
+        Err(_) => Ok(false),
     }
 }
 
-/// The bytes of the words, in pieces as long as the body of a data packet can be.
-fn pieces_of(alloc: Global, words: &[u16]) -> Result<Vec<Vec<u8>>, AllocError> {
-    let mut pieces = Vec::new(alloc);
-    let mut piece = Vec::new(alloc);
+/// Adds the bytes of the words, in pieces as long as the body of a data packet can be.
+fn push_pieces(alloc: Global, words: &[u16], pieces: &mut Vec<Vec<u8>>) -> Result<(), AllocError> {
+    for part in words.chunks(MOST_BODY / 2) {
+        pieces.push(bytes_of(alloc, part)?)?;
+    }
+    Ok(())
+}
+
+/// The bytes of the words.
+fn bytes_of(alloc: Global, words: &[u16]) -> Result<Vec<u8>, AllocError> {
+    let mut bytes = Vec::new(alloc);
     for word in words {
-        if piece.len() >= MOST_BODY {
-            pieces.push(piece)?;
-            piece = Vec::new(alloc);
-        }
-        piece.extend_from_slice(&word.to_be_bytes())?;
+        bytes.extend_from_slice(&word.to_be_bytes())?;
     }
-    pieces.push(piece)?;
-    Ok(pieces)
+    Ok(bytes)
 }
 
-/// A sequence of 60,000 cardinals.
-fn cardinals(alloc: Global) -> Result<Sample, AllocError> {
-    Ok(Sample {
-        name: "cardinals",
-        shape: Shape::Sequence(65535, Box::new(alloc, Shape::Cardinal)?),
-        words: cardinal_words(alloc)?,
-    })
+/// A sequence of such values, as many as there may be.
+fn sequence(alloc: Global, shape: Shape) -> Result<Shape, AllocError> {
+    Ok(Shape::Sequence(65535, Box::new(alloc, shape)?))
 }
 
-/// A count of 60,000, and as many cardinals.
-fn cardinal_words(alloc: Global) -> Result<Vec<u16>, AllocError> {
-    let mut words = Vec::new(alloc);
-    words.push(60000)?;
-    for number in 0..60000 {
-        words.push(number)?;
-    }
-    Ok(words)
-}
-
-/// A text of 65,535 bytes.
-fn text(alloc: Global) -> Result<Sample, AllocError> {
-    let mut words = Vec::new(alloc);
-    words.push(65535)?;
-    for number in 0..32767 {
-        words.push(number)?;
-    }
-    words.push(0x4100)?;
-    Ok(Sample {
-        name: "text",
-        shape: Shape::Text,
-        words,
-    })
-}
-
-/// A sequence of 15,000 records.
-fn records(alloc: Global) -> Result<Sample, AllocError> {
-    Ok(Sample {
-        name: "records",
-        shape: record_sequence(alloc)?,
-        words: record_words(alloc)?,
-    })
-}
-
-/// A sequence of records of a cardinal and a text.
-fn record_sequence(alloc: Global) -> Result<Shape, AllocError> {
-    let record = Shape::Fields(vec![in alloc; Shape::Cardinal, Shape::Text]?);
-    Ok(Shape::Sequence(65535, Box::new(alloc, record)?))
-}
-
-/// A count of 15,000, and as many records with texts of 4 bytes.
-fn record_words(alloc: Global) -> Result<Vec<u16>, AllocError> {
-    let mut words = Vec::new(alloc);
-    words.push(15000)?;
-    for number in 0..15000 {
-        words.extend_from_slice(&[number, 4, 0x4142, 0x4344])?;
-    }
-    Ok(words)
-}
-
-/// Records within records.
-fn nested(alloc: Global) -> Result<Sample, AllocError> {
-    Ok(Sample {
-        name: "nested",
-        shape: nested_records(alloc)?,
-        words: nested_words(alloc)?,
-    })
+/// A record of a cardinal and such a value.
+fn record(alloc: Global, shape: Shape) -> Result<Shape, AllocError> {
+    let mut fields = Vec::new(alloc);
+    fields.push(Shape::Cardinal)?;
+    fields.push(shape)?;
+    Ok(Shape::Fields(fields))
 }
 
 /// Records within records, as deep as `DEPTH` with the cardinal inside them.
-fn nested_records(alloc: Global) -> Result<Shape, AllocError> {
+fn nested(alloc: Global) -> Result<Shape, AllocError> {
     let mut shape = Shape::Cardinal;
     for _ in 1..DEPTH {
-        shape = Shape::Fields(vec![in alloc; Shape::Cardinal, shape]?);
+        shape = record(alloc, shape)?;
     }
     Ok(shape)
 }
 
-/// A cardinal for each of the records.
-fn nested_words(alloc: Global) -> Result<Vec<u16>, AllocError> {
-    let mut words = Vec::new(alloc);
-    for number in 0..16 {
+/// Adds the numbers from 0 to below this one.
+fn push_numbers(words: &mut Vec<u16>, count: u16) -> Result<(), AllocError> {
+    for number in 0..count {
         words.push(number)?;
     }
-    Ok(words)
+    Ok(())
+}
+
+/// Adds a count of 15,000, and as many records with texts of 4 bytes.
+fn push_records(words: &mut Vec<u16>) -> Result<(), AllocError> {
+    words.push(15000)?;
+    for number in 0..15000 {
+        words.extend_from_slice(&[number, 4, 0x4142, 0x4344])?;
+    }
+    Ok(())
 }

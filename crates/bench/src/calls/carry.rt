@@ -9,25 +9,43 @@ use courier_types::Value;
 use std::alloc::{AllocError, Global};
 use xns_spp::Item;
 
-/// Feeds the server, which has nothing out; else the answer is `Failed`.
-fn feed_server<S: Service>(
+/// No message has more items.
+const MOST_ITEMS: usize = 246;
+
+/// Feeds the server what the caller has out, until the server has something out.
+fn ask<S: Service>(
     alloc: Global,
+    caller: &mut Caller,
     server: &mut Server<S>,
-    item: Item,
 ) -> Result<(), SessionFault> {
-    if server.has_out() {
-        return Err(SessionFault::Failed);
+    for _ in 0..MOST_ITEMS {
+        if server.has_out() {
+            break;
+        }
+        let Some(item) = caller.next_out() else {
+            break;
+        };
+        server.feed(alloc, item)?;
     }
-    server.feed(alloc, item)?;
     Ok(())
 }
 
-/// Feeds the caller, which has nothing out; else the answer is `Failed`.
-fn feed_caller(alloc: Global, caller: &mut Caller, item: Item) -> Result<(), SessionFault> {
-    if caller.has_out() {
-        return Err(SessionFault::Failed);
+/// Feeds the caller what the server has out, unless the caller has something out.
+fn answer<S: Service>(
+    alloc: Global,
+    caller: &mut Caller,
+    server: &mut Server<S>,
+) -> Result<(), SessionFault> {
+    for _ in 0..MOST_ITEMS {
+        if caller.has_out() {
+            break;
+        }
+        let Some(item) = server.next_out() else {
+            break;
+        };
+        caller.feed(alloc, item)?;
     }
-    caller.feed(alloc, item)
+    Ok(())
 }
 
 /// Feeds each side the first item of the other, which has its versions.
@@ -36,56 +54,38 @@ fn greet<S: Service>(
     caller: &mut Caller,
     server: &mut Server<S>,
 ) -> Result<(), SessionFault> {
-    let to_server = caller.next_out();
-    let to_caller = server.next_out();
-    if let Some(item) = to_server {
-        feed_server(alloc, server, item)?;
+    let versions = server.next_out();
+    ask(alloc, caller, server)?;
+    match versions {
+        Some(item) if !caller.has_out() => caller.feed(alloc, item),
+        _ => Ok(()),
     }
-    if let Some(item) = to_caller {
-        feed_caller(alloc, caller, item)?;
-    }
-    Ok(())
 }
 
-/// No message has more items.
-const MOST_ITEMS: usize = 246;
-
-/// Feeds the server what the caller has out, and then the caller what the server has.
-fn carry<S: Service>(
-    alloc: Global,
-    caller: &mut Caller,
-    server: &mut Server<S>,
-) -> Result<(), SessionFault> {
-    for _ in 0..MOST_ITEMS {
-        let Some(item) = caller.next_out() else {
-            break;
-        };
-        feed_server(alloc, server, item)?;
-    }
-    for _ in 0..MOST_ITEMS {
-        let Some(item) = server.next_out() else {
-            break;
-        };
-        feed_caller(alloc, caller, item)?;
-    }
-    Ok(())
-}
-
-/// What the long cardinal, or the list of cardinals, that was returned adds up to; 0 of any other outcome.
-fn sum(outcome: &Seen) -> u64 {
-    let mut all: u64 = 0;
+/// What the outcome adds up to, a long cardinal or a list of cardinals that was returned, and 0 of any other; `None` where there is none.
+fn sum(outcome: &Option<Seen>) -> Option<u64> {
     match outcome {
-        Seen::Returned(Value::LongCardinal(number)) => all = u64::from(*number),
-        Seen::Returned(Value::Sequence(values)) => {
-            for value in values {
-                if let Value::Cardinal(number) = value {
-                    all = all.saturating_add(u64::from(*number));
-                }
-            }
+        Some(Seen::Returned(Value::LongCardinal(number))) => Some(u64::from(*number)),
+        Some(Seen::Returned(Value::Sequence(values))) => Some(sum_cardinals(values)),
+        Some(_) => Some(0),
+        None => None,
+    }
+}
+
+/// What the cardinals among the values add up to.
+fn sum_cardinals(values: &[Value]) -> u64 {
+    let mut all: u64 = 0;
+    for value in values {
+        if let Value::Cardinal(number) = value {
+            all = all.saturating_add(u64::from(*number));
         }
-        _ => {}
     }
     all
+}
+
+/// What the caller's outcome adds up to, which is picked up; `None` where there is none.
+fn take_sum(caller: &mut Caller) -> Option<u64> {
+    sum(&caller.outcome())
 }
 
 /// Makes the call once: what its outcome adds up to; `None` where a session stops, or the call is not made or not answered.
@@ -95,10 +95,10 @@ fn make<S: Service>(
     server: &mut Server<S>,
     call: &Call,
 ) -> Option<u64> {
-    if caller.call(alloc, call).is_err() || carry(alloc, caller, server).is_err() {
-        return None;
-    }
-    Some(sum(&caller.outcome()?))
+    caller.call(alloc, call).ok()?;
+    ask(alloc, caller, server).ok()?;
+    answer(alloc, caller, server).ok()?;
+    take_sum(caller)
 }
 
 /// Makes the call so many times: what the last outcome adds up to; `None` where there is none, a session stops, or a call is not made or
@@ -110,9 +110,7 @@ fn make_all<S: Service>(
     call: &Call,
     count: u32,
 ) -> Option<u64> {
-    if greet(alloc, caller, server).is_err() {
-        return None;
-    }
+    greet(alloc, caller, server).ok()?;
     let mut last = None;
     for _ in 0..count {
         last = Some(make(alloc, caller, server, call)?);

@@ -13,7 +13,7 @@ use std::marker::Model;
 
 /// Its one procedure, 1 of version 1 of program 8, takes a list of at most 60,000 cardinals and returns as long a list: the
 /// numbers below 60,000, the greatest first.
-#[derive(Debug, Drop)]
+#[derive(Drop)]
 pub struct Lists {
     count: u16,
 }

@@ -1,7 +1,9 @@
 //! Calls to a tally, through what a script says.
+use crate::play::print_count;
 use courier_calls::{Seen, Tally, tally_table};
 use courier_types::Value;
-use std::alloc::{AllocError, Global};
+use std::alloc::AllocError;
+use std::io;
 use test_setting::SETUP;
 use xns_script::Script;
 use xns_world::{CallTrace, play_calls};
@@ -10,57 +12,49 @@ use xns_world::{CallTrace, play_calls};
 const MOST_BYTES: usize = 4_096;
 
 /// Plays the script of standard input between the ends of `xns sim`, and prints what that prints.
-pub fn play(rt: &HostRuntime) -> Result<(), anyhow::Error> {
-    let script = read_script(rt)?;
-    match traced(rt.alloc(), &script)? {
-        Some(trace) => print_trace(rt, script.calls().len(), &trace),
-        None => Ok(()),
-    }
+pub fn play(rt: &HostRuntime) -> io::Result<()> {
+    let mut script = Script::new(rt.alloc());
+    read_script(rt, &mut script)?;
+    play_script(rt, &script)
 }
 
-/// What comes of the script; `None` where a line of it is refused.
-fn traced(alloc: Global, script: &Script) -> Result<Option<CallTrace<Tally>>, AllocError> {
+/// Plays the script, and prints what comes of it; nothing where a line of it is refused.
+fn play_script(rt: &HostRuntime, script: &Script) -> io::Result<()> {
     let setup = SETUP;
     if script.refused().is_some() || !setup.is_good() {
-        return Ok(None);
+        return Ok(());
     }
-    let table = tally_table(alloc)?;
+    let table = tally_table(rt.alloc())?;
     let (calls, events) = (script.calls(), script.events());
-    let trace = play_calls(alloc, &setup, &table, Tally::new(), calls, events)?;
-    Ok(Some(trace))
+    let trace = play_calls(rt.alloc(), &setup, &table, Tally::new(), calls, events)?;
+    print_trace(rt, calls.len(), &trace)
 }
 
 /// Prints what came of so many calls.
-fn print_trace(
-    rt: &HostRuntime,
-    calls: usize,
-    trace: &CallTrace<Tally>,
-) -> Result<(), anyhow::Error> {
-    println!(rt; "calls {calls}")?;
-    println!(rt; "carried {}", trace.carried.len())?;
+fn print_trace(rt: &HostRuntime, calls: usize, trace: &CallTrace<Tally>) -> io::Result<()> {
+    print_count(rt, "calls", calls)?;
+    print_count(rt, "carried", trace.carried.len())?;
     print_seen(rt, trace.seen.as_slice())?;
-    println!(rt; "total {}", trace.service.total())?;
-    println!(rt; "packets {}", trace.bag.as_slice().len())?;
-    Ok(())
+    print_count(rt, "total", trace.service.total() as usize)?;
+    print_count(rt, "packets", trace.bag.as_slice().len())
 }
 
 /// Prints the total that each call returned.
-fn print_seen(rt: &HostRuntime, outcomes: &[Seen]) -> Result<(), anyhow::Error> {
+fn print_seen(rt: &HostRuntime, outcomes: &[Seen]) -> io::Result<()> {
     for (place, seen) in outcomes.iter().enumerate() {
         println!(rt; "{} returned {}", place.saturating_add(1), total(seen))?;
     }
     Ok(())
 }
 
-/// The script of standard input.
-fn read_script(rt: &HostRuntime) -> Result<Script, anyhow::Error> {
-    let mut script = Script::new(rt.alloc());
+/// Reads the script of standard input.
+fn read_script(rt: &HostRuntime, script: &mut Script) -> io::Result<()> {
     let mut number: usize = 0;
     for line in rt.lines(rt.alloc()) {
         number = number.saturating_add(1);
-        read_line(&mut script, number, line?.as_str())?;
+        read_line(script, number, line?.as_str())?;
     }
-    Ok(script)
+    Ok(())
 }
 
 /// Reads a line that is not too long.

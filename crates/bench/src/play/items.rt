@@ -1,64 +1,64 @@
 //! Items each way.
-use item_world::{Event, ItemTrace, Side, play_items};
+use crate::play::print_count;
+use item_world::{Event, ItemTrace, Items, Side, play_items};
 use std::alloc::{AllocError, Global};
+use std::io;
 use test_setting::{WIDE_SETUP, numbered};
 
 /// So many items go out each way before packets are delivered.
 const ROUND: u32 = 16;
 
 /// Plays so many items each way, and prints how many came through.
-pub fn play(rt: &HostRuntime, count: u32) -> Result<(), anyhow::Error> {
-    match traced(rt.alloc(), count)? {
-        Some(trace) => print_trace(rt, &trace),
-        None => Ok(()),
-    }
+pub fn play(rt: &HostRuntime, count: u32) -> io::Result<()> {
+    let mut events = Vec::new(rt.alloc());
+    push_events(rt.alloc(), &mut events, count)?;
+    play_events(rt, &events)
 }
 
-/// What comes of so many items each way; `None` where there are no such ends.
-fn traced(alloc: Global, count: u32) -> Result<Option<ItemTrace>, AllocError> {
+/// Plays the events, and prints what comes of them; nothing where there are no such ends.
+fn play_events(rt: &HostRuntime, events: &[Event]) -> io::Result<()> {
     let setup = WIDE_SETUP;
     if !setup.is_good() {
-        return Ok(None);
+        return Ok(());
     }
-    let trace = play_items(alloc, &setup, &events(alloc, count)?)?;
-    Ok(Some(trace))
+    let trace = play_items(rt.alloc(), &setup, events)?;
+    print_trace(rt, &trace)
 }
 
 /// Prints how many items came through.
-fn print_trace(rt: &HostRuntime, trace: &ItemTrace) -> Result<(), anyhow::Error> {
+fn print_trace(rt: &HostRuntime, trace: &ItemTrace) -> io::Result<()> {
+    print_both(rt, "sent", &trace.a_sent, &trace.b_sent)?;
+    print_both(rt, "handed up", &trace.b_handed, &trace.a_handed)?;
+    print_count(rt, "packets", trace.bag.as_slice().len())
+}
+
+/// Prints how many items these are, those from A first.
+fn print_both(rt: &HostRuntime, what: &str, from_a: &Items, from_b: &Items) -> io::Result<()> {
     println!(rt;
-        "sent {} and {}",
-        trace.a_sent.as_slice().len(),
-        trace.b_sent.as_slice().len()
-    )?;
-    println!(rt;
-        "handed up {} and {}",
-        trace.b_handed.as_slice().len(),
-        trace.a_handed.as_slice().len()
-    )?;
-    println!(rt; "packets {}", trace.bag.as_slice().len())?;
-    Ok(())
+        "{what} {} and {}",
+        from_a.as_slice().len(),
+        from_b.as_slice().len()
+    )
 }
 
 /// The connection is opened, and then each side sends this many items.
-fn events(alloc: Global, count: u32) -> Result<Vec<Event>, AllocError> {
-    let mut events = Vec::new(alloc);
+fn push_events(alloc: Global, events: &mut Vec<Event>, count: u32) -> Result<(), AllocError> {
     events.push(Event::Tick(Side::A))?;
-    push_rest(&mut events)?;
+    push_rest(events)?;
     for number in 0..count {
-        push_sends(alloc, &mut events, number)?;
+        push_sends(alloc, events, number)?;
         if number % ROUND == ROUND - 1 {
-            push_arrival(&mut events)?;
+            push_arrival(events)?;
         }
     }
-    push_arrival(&mut events)?;
-    Ok(events)
+    push_arrival(events)
 }
 
 /// Both sides send the item with this number.
 fn push_sends(alloc: Global, events: &mut Vec<Event>, number: u32) -> Result<(), AllocError> {
-    events.push(Event::Send(Side::A, numbered(alloc, number)?))?;
-    events.push(Event::Send(Side::B, numbered(alloc, number)?))?;
+    for side in &[Side::A, Side::B] {
+        events.push(Event::Send(*side, numbered(alloc, number)?))?;
+    }
     Ok(())
 }
 
@@ -70,8 +70,9 @@ fn push_arrival(events: &mut Vec<Event>) -> Result<(), AllocError> {
 
 /// All packets arrive, and the replies to them.
 fn push_rest(events: &mut Vec<Event>) -> Result<(), AllocError> {
-    events.push(Event::Rest)?;
-    events.push(Event::Rest)?;
+    for _ in 0..2 {
+        events.push(Event::Rest)?;
+    }
     Ok(())
 }
 
