@@ -2,11 +2,12 @@
 
 use crate::hex_lines::print_hex;
 use crate::hosts::{CALLER, SERVER};
+use std::io;
 use xns_idp::{Packet, packet_type};
 use xns_small::Requester;
 
 /// Prints the request, and the bytes of the response once it comes.
-pub fn ask(rt: &HostRuntime) -> Result<(), anyhow::Error> {
+pub fn ask(rt: &HostRuntime) -> io::Result<()> {
     let requester = Requester::request(rt.alloc(), CALLER, SERVER, 0x10002, 3, &[0xaa, 0xbb])?;
     print_hex(rt, requester.try_again())?;
     let response = Packet {
@@ -17,8 +18,8 @@ pub fn ask(rt: &HostRuntime) -> Result<(), anyhow::Error> {
         source: SERVER,
         body: &[0, 1, 0, 2, 0, 4, 0xcc],
     };
-    if let Some(bytes) = requester.accept(&response) {
-        print_hex(rt, bytes)?;
+    match requester.accept(&response) {
+        Some(bytes) => print_hex(rt, bytes),
+        None => Ok(()),
     }
-    Ok(())
 }

@@ -3,6 +3,7 @@
 use crate::hex_lines::print_hex;
 use courier_calls::{Arguments, Call, Caller, Seen, Server, Tally, tally_table};
 use courier_types::Value;
+use std::io;
 use xns_spp::Item;
 
 /// Add of 5, as the table of the tally lists it.
@@ -16,24 +17,24 @@ pub fn add_five() -> Call {
 }
 
 /// Makes a server of the tally and a caller, has them exchange a call and its answer, and prints the server's total.
-pub fn converse(rt: &HostRuntime) -> Result<(), anyhow::Error> {
+pub fn converse(rt: &HostRuntime) -> io::Result<()> {
     let alloc = rt.alloc();
     let table = tally_table(alloc)?;
     let mut server = Server::new(alloc, &table, Tally::new())?;
-    let mut caller = Caller::new(alloc, &table)?;
-    exchange(rt, &mut caller, &mut server)?;
+    talk(rt, Caller::new(alloc, &table)?, &mut server)?;
     print_total(rt, server)
 }
 
+/// Has the caller talk to the server, and then drops it.
+fn talk(rt: &HostRuntime, mut caller: Caller, server: &mut Server<Tally>) -> io::Result<()> {
+    exchange(rt, &mut caller, server)
+}
+
 /// Both sides tell their versions; then a call goes to the server, and its answer to the caller.
-fn exchange(
-    rt: &HostRuntime,
-    caller: &mut Caller,
-    server: &mut Server<Tally>,
-) -> Result<(), anyhow::Error> {
-    let (to_server, to_caller) = (caller.next_out(), server.next_out());
-    feed_server(rt, server, to_server)?;
-    feed_caller(rt, caller, to_caller)?;
+fn exchange(rt: &HostRuntime, caller: &mut Caller, server: &mut Server<Tally>) -> io::Result<()> {
+    let versions = server.next_out();
+    feed_server(rt, server, caller.next_out())?;
+    feed_caller(rt, caller, versions)?;
     call(rt, caller)?;
     feed_server(rt, server, caller.next_out())?;
     feed_caller(rt, caller, server.next_out())?;
@@ -41,33 +42,29 @@ fn exchange(
 }
 
 /// Makes a call, which the caller then has out.
-fn call(rt: &HostRuntime, caller: &mut Caller) -> Result<(), anyhow::Error> {
-    if let Err(fault) = caller.call(rt.alloc(), &add_five()) {
-        println!(rt; "not called: {fault:?}")?;
+fn call(rt: &HostRuntime, caller: &mut Caller) -> io::Result<()> {
+    let called = caller.call(rt.alloc(), &add_five());
+    match called {
+        Ok(()) => Ok(()),
+        Err(fault) => println!(rt; "not called: {fault:?}"),
     }
-    Ok(())
 }
 
 /// Prints what the call returned.
-fn print_outcome(rt: &HostRuntime, caller: &mut Caller) -> Result<(), anyhow::Error> {
-    if let Some(Seen::Returned(value)) = caller.outcome() {
-        println!(rt; "returned {value:?}")?;
+fn print_outcome(rt: &HostRuntime, caller: &mut Caller) -> io::Result<()> {
+    match caller.outcome() {
+        Some(Seen::Returned(value)) => println!(rt; "returned {value:?}"),
+        _ => Ok(()),
     }
-    Ok(())
 }
 
 /// Prints the total of the tally, which the server gives back.
-fn print_total(rt: &HostRuntime, server: Server<Tally>) -> Result<(), anyhow::Error> {
-    println!(rt; "the total is {}", server.into_service().total())?;
-    Ok(())
+fn print_total(rt: &HostRuntime, server: Server<Tally>) -> io::Result<()> {
+    println!(rt; "the total is {}", server.into_service().total())
 }
 
 /// Feeds the server an item, where there is one and the server has nothing out.
-fn feed_server(
-    rt: &HostRuntime,
-    server: &mut Server<Tally>,
-    item: Option<Item>,
-) -> Result<(), anyhow::Error> {
+fn feed_server(rt: &HostRuntime, server: &mut Server<Tally>, item: Option<Item>) -> io::Result<()> {
     let Some(item) = item else {
         return Ok(());
     };
@@ -76,32 +73,26 @@ fn feed_server(
         return tell_more_out(rt, "server");
     }
     match server.feed(rt.alloc(), item) {
-        Ok(call) => print_call(rt, call)?,
-        Err(fault) => println!(rt; "the server stops: {fault:?}")?,
+        Ok(call) => print_call(rt, call),
+        Err(fault) => println!(rt; "the server stops: {fault:?}"),
     }
-    Ok(())
 }
 
 /// Says that a side is not fed, since it has more out.
-fn tell_more_out(rt: &HostRuntime, side: &str) -> Result<(), anyhow::Error> {
-    println!(rt; "the {side} has more out")?;
-    Ok(())
+fn tell_more_out(rt: &HostRuntime, side: &str) -> io::Result<()> {
+    println!(rt; "the {side} has more out")
 }
 
 /// Prints which call the server decided, where its message has ended.
-fn print_call(rt: &HostRuntime, call: Option<Call>) -> Result<(), anyhow::Error> {
-    if let Some(call) = call {
-        println!(rt; "procedure {} of program {}", call.procedure, call.program)?;
+fn print_call(rt: &HostRuntime, call: Option<Call>) -> io::Result<()> {
+    match call {
+        Some(call) => println!(rt; "procedure {} of program {}", call.procedure, call.program),
+        None => Ok(()),
     }
-    Ok(())
 }
 
 /// Feeds the caller an item, where there is one and the caller has nothing out.
-fn feed_caller(
-    rt: &HostRuntime,
-    caller: &mut Caller,
-    item: Option<Item>,
-) -> Result<(), anyhow::Error> {
+fn feed_caller(rt: &HostRuntime, caller: &mut Caller, item: Option<Item>) -> io::Result<()> {
     let Some(item) = item else {
         return Ok(());
     };
@@ -109,8 +100,8 @@ fn feed_caller(
     if caller.has_out() {
         return tell_more_out(rt, "caller");
     }
-    if let Err(fault) = caller.feed(rt.alloc(), item) {
-        println!(rt; "the caller stops: {fault:?}")?;
+    match caller.feed(rt.alloc(), item) {
+        Ok(()) => Ok(()),
+        Err(fault) => println!(rt; "the caller stops: {fault:?}"),
     }
-    Ok(())
 }

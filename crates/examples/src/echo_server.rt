@@ -2,6 +2,7 @@
 
 use crate::hex_lines::print_hex;
 use crate::hosts::SERVER;
+use std::io;
 use xns_idp::{Address, decode};
 use xns_small::{answer_echo, complain, error_number};
 
@@ -19,7 +20,7 @@ const RECEIVED: [u8; 34] = [
 ];
 
 /// Answers the request as it came, and complains of the same packet with a byte changed on the way.
-pub fn answer(rt: &HostRuntime) -> Result<(), anyhow::Error> {
+pub fn answer(rt: &HostRuntime) -> io::Result<()> {
     respond(rt, &RECEIVED)?;
     let mut damaged = RECEIVED;
     damaged[33] = 0x6a;
@@ -27,14 +28,14 @@ pub fn answer(rt: &HostRuntime) -> Result<(), anyhow::Error> {
 }
 
 /// The reply to a request, or the complaint of bytes that are no packet.
-fn respond(rt: &HostRuntime, bytes: &[u8]) -> Result<(), anyhow::Error> {
+fn respond(rt: &HostRuntime, bytes: &[u8]) -> io::Result<()> {
     let alloc = rt.alloc();
     let response = match decode(bytes) {
         Ok((packet, _)) => answer_echo(alloc, ECHO_SERVER, &packet)?,
         Err(_) => complain(alloc, ECHO_SERVER, error_number::BAD_CHECKSUM, 0, bytes)?,
     };
-    if let Some(packet) = response {
-        print_hex(rt, packet.as_slice())?;
+    match response {
+        Some(packet) => print_hex(rt, packet.as_slice()),
+        None => Ok(()),
     }
-    Ok(())
 }

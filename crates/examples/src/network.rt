@@ -4,6 +4,7 @@ use crate::calls::add_five;
 use crate::hosts::{CALLER, SERVER};
 use courier_calls::{Tally, call_fits, tally_table};
 use item_world::{Event, Setup, Side};
+use std::io;
 use xns_world::{CallTrace, play_calls};
 
 /// The two ends: the caller is at A.
@@ -33,7 +34,7 @@ const EVENTS: [Event; 12] = [
 ];
 
 /// Plays a call of Add of 5 over such a network.
-pub fn play(rt: &HostRuntime) -> Result<(), anyhow::Error> {
+pub fn play(rt: &HostRuntime) -> io::Result<()> {
     let alloc = rt.alloc();
     let table = tally_table(alloc)?;
     let call = add_five();
@@ -45,12 +46,11 @@ pub fn play(rt: &HostRuntime) -> Result<(), anyhow::Error> {
 }
 
 /// Prints how often the call was carried out and answered, and the server's total.
-fn print_trace(rt: &HostRuntime, trace: &CallTrace<Tally>) -> Result<(), anyhow::Error> {
+fn print_trace(rt: &HostRuntime, trace: &CallTrace<Tally>) -> io::Result<()> {
     println!(rt;
         "{} carried out, {} answered, the total is {}",
         trace.carried.len(),
         trace.seen.len(),
         trace.service.total()
-    )?;
-    Ok(())
+    )
 }

@@ -3,6 +3,7 @@ ghost use Rattle.std.specs.Prelude.{◌≤◌, [], ◌∷◌, IfOk, length};
 ghost use Rattle.xns_script.specs.Reading.{HasRead};
 
 use std::alloc::{AllocError, Global};
+use std::io;
 use xns_script::Script;
 
 /// The script of two lines.
@@ -18,18 +19,20 @@ fn script_of(alloc: Global, first: &[u8], second: &[u8]) -> Result<Script, Alloc
 }
 
 /// A call and what opens its connection, and then a line that is refused.
-pub fn read(rt: &HostRuntime) -> Result<(), anyhow::Error> {
-    let seconds: [&[u8]; 2] = [b"tick a", b"tick c"];
-    for second in seconds {
-        let script = script_of(rt.alloc(), b"call add 5", second)?;
-        match script.refused() {
-            Some(number) => println!(rt; "line {number} is refused")?,
-            None => println!(rt;
-                "{} call, {} event",
-                script.calls().len(),
-                script.events().len()
-            )?,
-        }
+pub fn read(rt: &HostRuntime) -> io::Result<()> {
+    print_script(rt, b"tick a")?;
+    print_script(rt, b"tick c")
+}
+
+/// What a script has whose first line is a call.
+fn print_script(rt: &HostRuntime, second: &[u8; 6]) -> io::Result<()> {
+    let script = script_of(rt.alloc(), b"call add 5", second)?;
+    match script.refused() {
+        Some(number) => println!(rt; "line {number} is refused"),
+        None => println!(rt;
+            "{} call, {} event",
+            script.calls().len(),
+            script.events().len()
+        ),
     }
-    Ok(())
 }

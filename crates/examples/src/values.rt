@@ -2,7 +2,7 @@
 
 use courier_types::{ReadRefusal, Shape, Value, fits, read, write};
 use std::alloc::{AllocError, Global};
-use std::io::Print;
+use std::io::{self, Print};
 
 /// At most so many numbers are added.
 const MOST: u16 = 100;
@@ -10,20 +10,28 @@ const MOST: u16 = 100;
 /// The sum of the cardinals that the words spell, as the words of a long cardinal; `None` where they spell no such sequence,
 /// or other words follow.
 pub fn sum_of(alloc: Global, words: &[u16]) -> Result<Option<Vec<u16>>, AllocError> {
-    match read_numbers(alloc, words)? {
-        Some(numbers) => Ok(Some(spelled(alloc, added(&numbers))?)),
+    match read_sum(alloc, words)? {
+        Some(sum) => Ok(Some(spelled(alloc, sum)?)),
         None => Ok(None),
     }
 }
 
-/// The sequence of cardinals that the words spell; `None` where they spell none, or other words follow.
-fn read_numbers(alloc: Global, words: &[u16]) -> Result<Option<Value>, AllocError> {
+/// The sum of the cardinals that the words spell; `None` where they spell no such sequence, or other words follow.
+fn read_sum(alloc: Global, words: &[u16]) -> Result<Option<u32>, AllocError> {
     let numbers = Shape::Sequence(MOST, Box::new(alloc, Shape::Cardinal)?);
     if numbers.check().is_err() {
         return Ok(None);
     }
-    match read(alloc, &numbers, words) {
-        Ok((value, taken)) if taken == words.len() => Ok(Some(value)),
+    whole_sum(&read(alloc, &numbers, words), words.len())
+}
+
+/// The sum of the sequence that was read, where it took so many words.
+fn whole_sum(
+    answer: &Result<(Value, usize), ReadRefusal>,
+    count: usize,
+) -> Result<Option<u32>, AllocError> {
+    match answer {
+        Ok((value, taken)) if *taken == count => Ok(Some(added(value))),
         Ok(_) | Err(ReadRefusal::Fault(_)) => Ok(None),
         Err(ReadRefusal::NoMemory) => Err(AllocError),
     }
@@ -53,14 +61,14 @@ fn added(value: &Value) -> u32 {
 }
 
 /// Adds three numbers, and then a sequence whose last number is missing.
-pub fn show(rt: &impl Print, alloc: Global) -> Result<(), anyhow::Error> {
-    println!(rt;
-        "1, 2 and 65535 add up to the words {:?}",
-        sum_of(alloc, &[3, 1, 2, 65535])?
-    )?;
-    println!(rt;
-        "a sequence that is cut short gives {:?}",
-        sum_of(alloc, &[3, 1, 2])?
-    )?;
-    Ok(())
+pub fn show(rt: &impl Print, alloc: Global) -> io::Result<()> {
+    let added = "1, 2 and 65535 add up to the words";
+    print_sum(rt, alloc, added, &[3, 1, 2, 65535])?;
+    let cut = "a sequence that is cut short gives";
+    print_sum(rt, alloc, cut, &[3, 1, 2])
+}
+
+/// Prints the sum behind what the words are.
+fn print_sum(rt: &impl Print, alloc: Global, told: &str, words: &[u16]) -> io::Result<()> {
+    println!(rt; "{told} {:?}", sum_of(alloc, words)?)
 }
