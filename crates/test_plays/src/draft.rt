@@ -53,8 +53,8 @@ fn push_word(alloc: Global, bytes: &mut Vec<u8>, word: &str) -> Result<(), Alloc
     }
 }
 
-/// The bytes of words.
-fn read_words(alloc: Global, words: &str) -> Result<Vec<u8>, AllocError> {
+/// The body that words spell.
+pub fn read_body(alloc: Global, words: &str) -> Result<Vec<u8>, AllocError> {
     let mut bytes = Vec::new(alloc);
     for word in words.split(" ") {
         push_word(alloc, &mut bytes, word)?;
@@ -62,13 +62,9 @@ fn read_words(alloc: Global, words: &str) -> Result<Vec<u8>, AllocError> {
     Ok(bytes)
 }
 
-/// The body that words spell; `None` where it is shorter than a header.
-pub fn read_body(alloc: Global, words: &str) -> Result<Option<Vec<u8>>, AllocError> {
-    let body = read_words(alloc, words)?;
-    if body.len() < HEADER {
-        return Ok(None);
-    }
-    Ok(Some(body))
+/// Whether a body is as long as a header.
+pub fn has_header(body: &[u8]) -> bool {
+    body.len() >= HEADER
 }
 
 /// The packet without a sum that has this body and goes from the initiator to the responder.

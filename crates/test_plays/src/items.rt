@@ -1,9 +1,9 @@
 //! Plays of items.
-use crate::digest::Digest;
+use crate::digest::with_bytes;
 use crate::draft::read_hex;
 use crate::lines::Lines;
 use crate::steps::unfold;
-use crate::telling::{item_text, packet_text};
+use crate::telling::{put_count, put_item, put_packet};
 use item_world::{Bag, Event, ItemTrace, Items, Setup, Side, play_items};
 use std::alloc::{AllocError, Global};
 use xns_script::{Command, read_command};
@@ -26,51 +26,74 @@ fn read_stream(number: &str) -> u8 {
 }
 
 /// An item of the words: its bytes, and what is special of it. It ends a message and is of datastream 0 where they say no other.
-fn item(alloc: Global, words: &str) -> Result<Item, AllocError> {
-    let (mut stream, mut attention, mut last) = (0, false, true);
-    let mut body = Vec::new(alloc);
+pub fn item(alloc: Global, words: &str) -> Result<Item, AllocError> {
+    let mut item = Item {
+        stream: 0,
+        attention: false,
+        last: true,
+        body: Bytes::new(Vec::new(alloc)),
+    };
     for word in words.split(" ") {
-        match word {
-            "attention" => attention = true,
-            "part" => last = false,
-            _ => match word.strip_prefix("stream=") {
-                Some(number) => stream = read_stream(number),
-                None => body = read_hex(alloc, word)?,
-            },
-        }
+        read_word(alloc, &mut item, word)?;
     }
-    let body = Bytes::new(body);
-    Ok(Item {
-        stream,
-        attention,
-        last,
-        body,
-    })
+    Ok(item)
 }
 
-/// What a step does; `None` where it says nothing.
-fn event(alloc: Global, step: &str) -> Result<Option<Event>, AllocError> {
-    if let Some(words) = step.strip_prefix("send ") {
-        let (word, rest) = words.split_once(" ").unwrap_or((words, ""));
-        return Ok(Some(Event::Send(side(word), item(alloc, rest)?)));
+/// Gives the item what a word says.
+fn read_word(alloc: Global, item: &mut Item, word: &str) -> Result<(), AllocError> {
+    match word {
+        "attention" => item.attention = true,
+        "part" => item.last = false,
+        _ => match word.strip_prefix("stream=") {
+            Some(number) => item.stream = read_stream(number),
+            None => item.body = Bytes::new(read_hex(alloc, word)?),
+        },
     }
-    if let Some(word) = step.strip_prefix("take ") {
-        return Ok(Some(Event::Take(side(word))));
+    Ok(())
+}
+
+/// Adds what a step does. Nothing where it says nothing.
+fn push_event(alloc: Global, events: &mut Vec<Event>, step: &str) -> Result<(), AllocError> {
+    match step.split_once(" ") {
+        Some(("send", words)) => push_send(alloc, events, words),
+        Some(("take", word)) => push(events, Event::Take(side(word))),
+        _ => push_command(alloc, events, step),
     }
+}
+
+fn push(events: &mut Vec<Event>, event: Event) -> Result<(), AllocError> {
+    events.push(event)?;
+    Ok(())
+}
+
+/// Adds that a side sends an item.
+fn push_send(alloc: Global, events: &mut Vec<Event>, words: &str) -> Result<(), AllocError> {
+    let (word, rest) = words.split_once(" ").unwrap_or((words, ""));
+    let item = item(alloc, rest)?;
+    push(events, Event::Send(side(word), item))
+}
+
+/// Adds what happens at a line of a simulation.
+fn push_command(alloc: Global, events: &mut Vec<Event>, step: &str) -> Result<(), AllocError> {
     match read_command(alloc, step.as_bytes())? {
-        Some(Command::Happen(event)) => Ok(Some(event)),
-        _ => Ok(None),
+        Some(Command::Happen(event)) => push(events, event),
+        _ => Ok(()),
     }
 }
 
-pub fn put_items(
-    alloc: Global,
-    lines: &mut Lines,
-    who: &str,
-    items: &Items,
-) -> Result<(), AllocError> {
+/// The events of the steps.
+fn read_events(alloc: Global, steps: &str) -> Result<Vec<Event>, AllocError> {
+    let mut events = Vec::new(alloc);
+    let steps = unfold(alloc, steps)?;
+    for step in steps.as_slice() {
+        push_event(alloc, &mut events, step)?;
+    }
+    Ok(events)
+}
+
+pub fn put_items(lines: &mut Lines, who: &str, items: &Items) -> Result<(), AllocError> {
     for item in items.as_slice() {
-        lines.put(item_text(alloc, who, item)?)?;
+        put_item(lines, who, item)?;
     }
     Ok(())
 }
@@ -83,68 +106,48 @@ fn name(side: Side) -> &'static str {
 }
 
 /// The digest of packets with their senders' names.
-fn digest_of(packets: &[(Side, Bytes)]) -> Digest {
-    let mut digest = Digest::new();
+fn digest_of(packets: &[(Side, Bytes)]) -> u32 {
+    let mut digest = 0;
     for (side, bytes) in packets {
-        digest.add(name(*side).as_bytes());
-        digest.add(bytes.as_slice());
+        digest = with_bytes(digest, name(*side).as_bytes());
+        digest = with_bytes(digest, bytes.as_slice());
     }
     digest
 }
 
-/// How many packets were sent, with the digest of many.
-fn packet_count(alloc: Global, packets: &[(Side, Bytes)]) -> Result<String, AllocError> {
+/// How many packets were sent, and the packets, or the digest of them with their senders' names.
+pub fn put_bag(lines: &mut Lines, bag: &Bag) -> Result<(), AllocError> {
+    let packets = bag.as_slice();
     let count = packets.len();
     if count > MOST_PACKETS {
-        let digest = digest_of(packets);
-        return format!(in alloc; "packets {count} digest {digest}");
+        return put_count(lines, "packets", count, Some(digest_of(packets)));
     }
-    format!(in alloc; "packets {count}")
-}
-
-/// How many packets were sent, and the packets, or the digest of them with their senders' names.
-pub fn put_bag(alloc: Global, lines: &mut Lines, bag: &Bag) -> Result<(), AllocError> {
-    let packets = bag.as_slice();
-    lines.put(packet_count(alloc, packets)?)?;
-    if packets.len() > MOST_PACKETS {
-        return Ok(());
-    }
+    put_count(lines, "packets", count, None)?;
     for (side, bytes) in packets {
-        lines.put(packet_text(alloc, name(*side), *side, bytes.as_slice())?)?;
+        put_packet(lines, name(*side), *side, bytes.as_slice())?;
     }
     Ok(())
 }
 
-/// The events of the steps.
-fn read_events(alloc: Global, steps: &str) -> Result<Vec<Event>, AllocError> {
-    let mut events = Vec::new(alloc);
-    for step in unfold(alloc, steps)? {
-        if let Some(event) = event(alloc, step)? {
-            events.push(event)?;
-        }
-    }
-    Ok(events)
+fn put_trace(lines: &mut Lines, trace: &ItemTrace) -> Result<(), AllocError> {
+    put_items(lines, "a sent", &trace.a_sent)?;
+    put_items(lines, "b sent", &trace.b_sent)?;
+    put_items(lines, "a handed", &trace.a_handed)?;
+    put_items(lines, "b handed", &trace.b_handed)?;
+    put_bag(lines, &trace.bag)
 }
 
-fn put_trace(alloc: Global, lines: &mut Lines, trace: &ItemTrace) -> Result<(), AllocError> {
-    put_items(alloc, lines, "a sent", &trace.a_sent)?;
-    put_items(alloc, lines, "b sent", &trace.b_sent)?;
-    put_items(alloc, lines, "a handed", &trace.a_handed)?;
-    put_items(alloc, lines, "b handed", &trace.b_handed)?;
-    put_bag(alloc, lines, &trace.bag)
-}
-
-fn trace_text(alloc: Global, trace: &ItemTrace) -> Result<String, AllocError> {
-    let mut lines = Lines::new(alloc);
-    put_trace(alloc, &mut lines, trace)?;
-    lines.into_text()
-}
-
-/// What comes of the steps: the items that were accepted and handed up, and the packets.
-pub fn play(alloc: Global, setup: &Setup, steps: &str) -> Result<String, AllocError> {
-    let events = read_events(alloc, steps)?;
+/// Tells what comes of the steps: the items that were accepted and handed up, and the packets.
+pub fn play(
+    alloc: Global,
+    lines: &mut Lines,
+    setup: &Setup,
+    steps: &str,
+) -> Result<(), AllocError> {
     if !setup.is_good() {
-        return String::from_str(alloc, "no such ends\n");
+        return lines.put("no such ends");
     }
-    trace_text(alloc, &play_items(alloc, setup, &events)?)
+    let events = read_events(alloc, steps)?;
+    let trace = play_items(alloc, setup, &events)?;
+    put_trace(lines, &trace)
 }

@@ -1,48 +1,59 @@
 //! Lines of text.
 use std::alloc::{AllocError, Global};
 use std::fmt::Write;
+use std::mem::swap;
 
 /// Lines of text, of which equal ones in a row are told once, with their number.
 #[derive(Drop)]
 pub struct Lines {
-    text: String,
-    line: String,
+    /// The line that is being written.
+    pub next: String,
+    last: String,
     times: usize,
+    text: String,
 }
 
 impl Lines {
     pub fn new(alloc: Global) -> Lines {
         Lines {
-            text: String::new(alloc),
-            line: String::new(alloc),
+            next: String::new(alloc),
+            last: String::new(alloc),
             times: 0,
+            text: String::new(alloc),
         }
     }
 
-    /// A line more.
-    pub fn put(&mut self, line: String) -> Result<(), AllocError> {
-        if self.times > 0 && line.as_str() == self.line.as_str() {
+    /// Ends the line that is being written with these words.
+    pub fn put(&mut self, words: &str) -> Result<(), AllocError> {
+        self.next.push_str(words)?;
+        self.end()
+    }
+
+    /// Ends the line that is being written.
+    pub fn end(&mut self) -> Result<(), AllocError> {
+        if self.times > 0 && self.next.as_str() == self.last.as_str() {
             self.times = self.times.saturating_add(1);
-            return Ok(());
+        } else {
+            self.tell_last()?;
+            swap(&mut self.last, &mut self.next);
+            self.times = 1;
         }
-        self.end_line()?;
-        self.line = line;
-        self.times = 1;
+        self.next.clear();
         Ok(())
     }
 
-    fn end_line(&mut self) -> Result<(), AllocError> {
+    /// Tells the line that was ended last, and how often it came.
+    pub fn tell_last(&mut self) -> Result<(), AllocError> {
+        self.text.push_str(self.last.as_str())?;
         match self.times {
             0 => Ok(()),
-            1 => writeln!(self.text, "{}", self.line.as_str()),
-            times => writeln!(self.text, "{}, {times} times", self.line.as_str()),
+            1 => self.text.push_str("\n"),
+            times => writeln!(self.text, ", {times} times"),
         }
     }
 
-    /// The text.
-    pub fn into_text(mut self) -> Result<String, AllocError> {
-        self.end_line()?;
-        let Lines { text, .. } = self;
-        Ok(text)
+    /// The lines that were told.
+    pub fn text(&self) -> &str {
+        self.text.as_str()
     }
 }

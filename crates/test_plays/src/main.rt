@@ -30,6 +30,7 @@ mod steps;
 mod telling;
 
 use item_world::Side;
+use lines::Lines;
 use std::alloc::{AllocError, Global};
 
 fn main(rt: HostRuntime) -> Result<(), anyhow::Error> {
@@ -41,26 +42,32 @@ fn main(rt: HostRuntime) -> Result<(), anyhow::Error> {
 
 /// Prints what comes of a line.
 fn tell(rt: &HostRuntime, line: &str) -> Result<(), anyhow::Error> {
-    match answer(rt.alloc(), line) {
-        Ok(text) => print!(rt; "{}", text.as_str())?,
+    let mut lines = Lines::new(rt.alloc());
+    match answer(rt.alloc(), &mut lines, line) {
+        Ok(()) => print!(rt; "{}", lines.text())?,
         Err(AllocError) => println!(rt; "no memory")?,
     }
     Ok(())
 }
 
-/// What comes of a line, as whole lines.
-fn answer(alloc: Global, line: &str) -> Result<String, AllocError> {
+/// Tells what comes of a line.
+fn answer(alloc: Global, lines: &mut Lines, line: &str) -> Result<(), AllocError> {
+    put_answer(alloc, lines, line)?;
+    lines.tell_last()
+}
+
+fn put_answer(alloc: Global, lines: &mut Lines, line: &str) -> Result<(), AllocError> {
     let (head, steps) = line.split_once(", ").unwrap_or((line, ""));
     let Some((kind, setup)) = setting::read_head(head) else {
-        return format!(in alloc; "{line}\n");
+        return lines.put(line);
     };
     match kind {
-        "items" => items::play(alloc, &setup, steps),
-        "calls" => calls::play(alloc, &setup, steps),
-        "serve" => serving::play(alloc, &setup, steps),
-        "random" => random::play(alloc, &setup, steps),
-        "responder" => receiving::play(alloc, setup, Side::B, steps),
-        "initiator" => receiving::play(alloc, receiving::turned(setup), Side::A, steps),
-        _ => format!(in alloc; "{line}\n"),
+        "items" => items::play(alloc, lines, &setup, steps),
+        "calls" => calls::play(alloc, lines, &setup, steps),
+        "serve" => serving::play(alloc, lines, &setup, steps),
+        "random" => random::play(alloc, lines, &setup, steps),
+        "responder" => receiving::play(alloc, lines, setup, Side::B, steps),
+        "initiator" => receiving::play(alloc, lines, receiving::turned(setup), Side::A, steps),
+        _ => lines.put(line),
     }
 }

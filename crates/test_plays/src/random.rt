@@ -1,13 +1,16 @@
 //! Packets from a generator that are given to a server of the tally.
 use crate::damage::damaged;
-use crate::digest::Digest;
+use crate::digest::digest_of;
 use crate::draft::{ACKNOWLEDGE, ALLOCATION, SEQUENCE, packet_of, put_number};
 use crate::generator::Generator;
+use crate::lines::Lines;
 use crate::serving::serve;
-use crate::telling::Fault;
+use crate::setting::read_numbers;
+use crate::telling::push_fault;
 use courier_calls::Tally;
 use item_world::Setup;
 use std::alloc::{AllocError, Global};
+use std::fmt::Write;
 use xns_idp::{MOST_PACKET, decode};
 use xns_spp::{Bytes, Header, read_header};
 use xns_world::ServeTrace;
@@ -120,26 +123,26 @@ fn push_block(
     Ok(())
 }
 
-fn trace_text(
-    alloc: Global,
+fn put_trace(
+    lines: &mut Lines,
     trace: &ServeTrace<Tally>,
     packets: usize,
-) -> Result<String, AllocError> {
+) -> Result<(), AllocError> {
     let handed = trace.handed.as_slice().len();
     let carried = trace.carried.len();
-    let fault = Fault(&trace.fault);
+    write!(
+        lines.next,
+        "packets {packets} handed {handed} carried {carried} "
+    )?;
+    push_fault(&mut lines.next, &trace.fault)?;
     let replies = trace.replies.len();
-    let digest = Digest::of_all(&trace.replies);
+    let digest = digest_of(&trace.replies);
     let total = trace.service.total();
-    format!(in alloc;
-        "packets {packets} handed {handed} carried {carried} fault {fault} replies {replies} digest {digest} total {total}\n"
-    )
-}
-
-/// The seed and how many blocks.
-fn read_numbers(steps: &str) -> Option<(u16, u16)> {
-    let (seed, blocks) = steps.split_once(" ")?;
-    Some((seed.parse::<u16>().ok()?, blocks.parse::<u16>().ok()?))
+    write!(
+        lines.next,
+        " replies {replies} digest {digest:08x} total {total}"
+    )?;
+    lines.end()
 }
 
 /// What a server makes of the packets; `None` where there are no such ends, and where the trace is out of bounds.
@@ -187,16 +190,33 @@ fn blocks_of(
 
 /// Gives a server one block of packets after another, each made of what it answered to those before, and looks after each whether its
 /// trace is within its bounds.
-pub fn play(alloc: Global, setup: &Setup, steps: &str) -> Result<String, AllocError> {
+pub fn play(
+    alloc: Global,
+    lines: &mut Lines,
+    setup: &Setup,
+    steps: &str,
+) -> Result<(), AllocError> {
     let Some((seed, blocks)) = read_numbers(steps) else {
-        return String::from_str(alloc, "no seed\n");
+        return lines.put("no seed");
     };
     let packets = blocks_of(alloc, setup, seed, blocks)?;
-    match serve_within(alloc, setup, &packets)? {
-        Some(trace) => trace_text(alloc, &trace, packets.len()),
-        None => format!(in alloc;
-            "no such ends, or out of bounds after {} packets\n",
-            packets.len()
-        ),
+    put_served(alloc, lines, setup, &packets)
+}
+
+/// Tells what a server makes of the packets.
+fn put_served(
+    alloc: Global,
+    lines: &mut Lines,
+    setup: &Setup,
+    packets: &[Bytes],
+) -> Result<(), AllocError> {
+    let count = packets.len();
+    if let Some(trace) = serve_within(alloc, setup, packets)? {
+        return put_trace(lines, &trace, count);
     }
+    write!(
+        lines.next,
+        "no such ends, or out of bounds after {count} packets"
+    )?;
+    lines.end()
 }

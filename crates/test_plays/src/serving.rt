@@ -1,11 +1,11 @@
 //! Packets that are given to a server of the tally.
-use crate::calls::{put_carried, total_text};
-use crate::digest::Digest;
-use crate::draft::{SEQUENCE, number_at, packet_of, put_number, read_body, read_hex};
+use crate::calls::put_carried;
+use crate::digest::digest_of;
+use crate::draft::{SEQUENCE, has_header, number_at, packet_of, put_number, read_body, read_hex};
 use crate::items::put_items;
 use crate::lines::Lines;
 use crate::steps::counted;
-use crate::telling::{Fault, packet_text};
+use crate::telling::{push_fault, put_count, put_packet, put_total};
 use courier_calls::{Tally, tally_table};
 use item_world::{Setup, Side};
 use std::alloc::{AllocError, Global};
@@ -15,17 +15,27 @@ use xns_world::{ServeTrace, serve_bytes};
 /// Of more replies only the digest and the last two are told.
 const MOST_REPLIES: usize = 44;
 
-/// Adds the packets of a group, each with the next sequence number.
+/// Adds the packets of a group.
 fn push_group(alloc: Global, packets: &mut Vec<Bytes>, group: &str) -> Result<(), AllocError> {
-    if let Some(digits) = group.strip_prefix("whole ") {
-        packets.push(Bytes::new(read_hex(alloc, digits)?))?;
-        return Ok(());
+    match group.strip_prefix("whole ") {
+        Some(digits) => push(packets, Bytes::new(read_hex(alloc, digits)?)),
+        None => push_drafts(alloc, packets, group),
     }
+}
+
+fn push(packets: &mut Vec<Bytes>, packet: Bytes) -> Result<(), AllocError> {
+    packets.push(packet)?;
+    Ok(())
+}
+
+/// Adds the packets that a group has of one body, where that is not too short.
+fn push_drafts(alloc: Global, packets: &mut Vec<Bytes>, group: &str) -> Result<(), AllocError> {
     let (count, words) = counted(group);
-    let Some(mut body) = read_body(alloc, words)? else {
-        return Ok(());
-    };
-    push_numbered(alloc, packets, &mut body, count)
+    let mut body = read_body(alloc, words)?;
+    if has_header(&body) {
+        push_numbered(alloc, packets, &mut body, count)?;
+    }
+    Ok(())
 }
 
 /// Adds so many packets with this body, each with the next sequence number.
@@ -43,55 +53,28 @@ fn push_numbered(
     Ok(())
 }
 
-/// How many packets the server sent, with the digest of many.
-fn reply_count(alloc: Global, replies: &[Bytes]) -> Result<String, AllocError> {
+/// How many packets the server sent, with the digest of many, and the packets: all, or the last two of many.
+fn put_replies(lines: &mut Lines, replies: &[Bytes]) -> Result<(), AllocError> {
     let count = replies.len();
-    if count > MOST_REPLIES {
-        let digest = Digest::of_all(replies);
-        return format!(in alloc; "replies {count} digest {digest}");
-    }
-    format!(in alloc; "replies {count}")
-}
-
-/// The packets that are told: all, or the last two of many.
-fn told(replies: &[Bytes]) -> &[Bytes] {
-    if replies.len() > MOST_REPLIES {
-        &replies[replies.len() - 2..]
+    let (told, digest) = if count > MOST_REPLIES {
+        (&replies[count - 2..], Some(digest_of(replies)))
     } else {
-        replies
-    }
-}
-
-/// How many packets the server sent, with the digest of many, and the packets that are told.
-fn put_replies(alloc: Global, lines: &mut Lines, replies: &[Bytes]) -> Result<(), AllocError> {
-    lines.put(reply_count(alloc, replies)?)?;
-    for reply in told(replies) {
-        lines.put(packet_text(alloc, "reply", Side::B, reply.as_slice())?)?;
+        (replies, None)
+    };
+    put_count(lines, "replies", count, digest)?;
+    for reply in told {
+        put_packet(lines, "reply", Side::B, reply.as_slice())?;
     }
     Ok(())
 }
 
-/// Why the server's session stopped.
-fn fault_text(alloc: Global, trace: &ServeTrace<Tally>) -> Result<String, AllocError> {
-    format!(in alloc; "fault {}", Fault(&trace.fault))
-}
-
-fn put_trace(
-    alloc: Global,
-    lines: &mut Lines,
-    trace: &ServeTrace<Tally>,
-) -> Result<(), AllocError> {
-    put_items(alloc, lines, "handed", &trace.handed)?;
-    put_carried(alloc, lines, trace.carried.as_slice())?;
-    lines.put(fault_text(alloc, trace)?)?;
-    put_replies(alloc, lines, trace.replies.as_slice())?;
-    lines.put(total_text(alloc, &trace.service)?)
-}
-
-fn trace_text(alloc: Global, trace: &ServeTrace<Tally>) -> Result<String, AllocError> {
-    let mut lines = Lines::new(alloc);
-    put_trace(alloc, &mut lines, trace)?;
-    lines.into_text()
+fn put_trace(lines: &mut Lines, trace: &ServeTrace<Tally>) -> Result<(), AllocError> {
+    put_items(lines, "handed", &trace.handed)?;
+    put_carried(lines, trace.carried.as_slice())?;
+    push_fault(&mut lines.next, &trace.fault)?;
+    lines.end()?;
+    put_replies(lines, trace.replies.as_slice())?;
+    put_total(lines, &trace.service)
 }
 
 /// What a new server of the tally makes of the packets; `None` where there are no such ends.
@@ -116,12 +99,17 @@ fn read_packets(alloc: Global, steps: &str) -> Result<Vec<Bytes>, AllocError> {
     Ok(packets)
 }
 
-/// What a server makes of the packets: the items handed up, the calls that it decided, its session's fault, the packets that it sent, and
-/// the total.
-pub fn play(alloc: Global, setup: &Setup, steps: &str) -> Result<String, AllocError> {
+/// Tells what a server makes of the packets: the items handed up, the calls that it decided, its session's fault, the packets that it sent,
+/// and the total.
+pub fn play(
+    alloc: Global,
+    lines: &mut Lines,
+    setup: &Setup,
+    steps: &str,
+) -> Result<(), AllocError> {
     let packets = read_packets(alloc, steps)?;
     match serve(alloc, setup, &packets)? {
-        Some(trace) => trace_text(alloc, &trace),
-        None => String::from_str(alloc, "no such ends\n"),
+        Some(trace) => put_trace(lines, &trace),
+        None => lines.put("no such ends"),
     }
 }

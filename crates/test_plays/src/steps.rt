@@ -5,14 +5,18 @@ use std::alloc::{AllocError, Global};
 pub fn unfold<'a>(alloc: Global, steps: &'a str) -> Result<Vec<&'a str>, AllocError> {
     let mut all = Vec::new(alloc);
     for group in steps.split(", ") {
-        let (count, steps) = counted(group);
-        for _ in 0..count {
-            for step in steps.split("; ") {
-                all.push(step)?;
-            }
-        }
+        push_group(&mut all, group)?;
     }
     Ok(all)
+}
+
+/// Adds the steps of a group as often as it comes.
+fn push_group<'a>(all: &mut Vec<&'a str>, group: &'a str) -> Result<(), AllocError> {
+    let (count, steps) = counted(group);
+    for _ in 0..count {
+        all.extend(steps.split("; "))?;
+    }
+    Ok(())
 }
 
 /// How often a group of steps comes, and the group.
