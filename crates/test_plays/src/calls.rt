@@ -6,7 +6,6 @@ use crate::telling::{put_call, put_seen, put_total};
 use courier_calls::{Call, Tally, tally_table};
 use item_world::Setup;
 use std::alloc::{AllocError, Global};
-use std::fmt::Write;
 use xns_script::Script;
 use xns_world::{CallTrace, play_calls};
 
@@ -57,6 +56,12 @@ fn put_played(
     put_trace(lines, &trace)
 }
 
+fn read_script(alloc: Global, steps: &str) -> Result<Script, AllocError> {
+    let mut script = Script::new(alloc);
+    read_steps(&mut script, unfold(alloc, steps)?.as_slice())?;
+    Ok(script)
+}
+
 /// Tells what comes of the steps: the calls that the server decided, the outcomes that the caller saw, the total and the packets.
 pub fn play(
     alloc: Global,
@@ -64,11 +69,15 @@ pub fn play(
     setup: &Setup,
     steps: &str,
 ) -> Result<(), AllocError> {
-    let mut script = Script::new(alloc);
-    read_steps(&mut script, unfold(alloc, steps)?.as_slice())?;
-    if let Some(number) = script.refused() {
-        write!(lines.next, "step {number} refused")?;
-        return lines.end();
+    let script = read_script(alloc, steps)?;
+    match script.refused() {
+        Some(number) => put_refused(lines, number),
+        None => put_played(alloc, lines, setup, &script),
     }
-    put_played(alloc, lines, setup, &script)
+}
+
+/// Tells which step is refused.
+fn put_refused(lines: &mut Lines, number: usize) -> Result<(), AllocError> {
+    lines.add_number("step ", number)?;
+    lines.put(" refused")
 }

@@ -3,7 +3,7 @@ use crate::digest::with_bytes;
 use crate::draft::read_hex;
 use crate::lines::Lines;
 use crate::steps::unfold;
-use crate::telling::{put_count, put_item, put_packet};
+use crate::telling::{add_digest, put_item, put_packet};
 use item_world::{Bag, Event, ItemTrace, Items, Setup, Side, play_items};
 use std::alloc::{AllocError, Global};
 use xns_script::{Command, read_command};
@@ -118,13 +118,22 @@ fn digest_of(packets: &[(Side, Bytes)]) -> u32 {
 /// How many packets were sent, and the packets, or the digest of them with their senders' names.
 pub fn put_bag(lines: &mut Lines, bag: &Bag) -> Result<(), AllocError> {
     let packets = bag.as_slice();
-    let count = packets.len();
-    if count > MOST_PACKETS {
-        return put_count(lines, "packets", count, Some(digest_of(packets)));
+    lines.add_number("packets ", packets.len())?;
+    if packets.len() > MOST_PACKETS {
+        add_digest(lines, digest_of(packets))?;
+        return lines.end();
     }
-    put_count(lines, "packets", count, None)?;
+    lines.end()?;
+    put_packets(lines, packets)
+}
+
+fn put_packets(lines: &mut Lines, packets: &[(Side, Bytes)]) -> Result<(), AllocError> {
     for (side, bytes) in packets {
-        put_packet(lines, name(*side), *side, bytes.as_slice())?;
+        let who = match side {
+            Side::A => "a ",
+            Side::B => "b ",
+        };
+        put_packet(lines, who, *side, bytes.as_slice())?;
     }
     Ok(())
 }
@@ -147,7 +156,6 @@ pub fn play(
     if !setup.is_good() {
         return lines.put("no such ends");
     }
-    let events = read_events(alloc, steps)?;
-    let trace = play_items(alloc, setup, &events)?;
+    let trace = play_items(alloc, setup, read_events(alloc, steps)?.as_slice())?;
     put_trace(lines, &trace)
 }

@@ -23,6 +23,17 @@ impl Lines {
         }
     }
 
+    /// Adds words to the line that is being written.
+    pub fn add(&mut self, words: &str) -> Result<(), AllocError> {
+        self.next.push_str(words)
+    }
+
+    /// Adds words and a number to the line that is being written.
+    pub fn add_number(&mut self, words: &str, number: usize) -> Result<(), AllocError> {
+        self.next.push_str(words)?;
+        write!(self.next, "{number}")
+    }
+
     /// Ends the line that is being written with these words.
     pub fn put(&mut self, words: &str) -> Result<(), AllocError> {
         self.next.push_str(words)?;

@@ -43,10 +43,11 @@ fn main(rt: HostRuntime) -> Result<(), anyhow::Error> {
 /// Prints what comes of a line.
 fn tell(rt: &HostRuntime, line: &str) -> Result<(), anyhow::Error> {
     let mut lines = Lines::new(rt.alloc());
-    match answer(rt.alloc(), &mut lines, line) {
-        Ok(()) => print!(rt; "{}", lines.text())?,
-        Err(AllocError) => println!(rt; "no memory")?,
-    }
+    let text = match answer(rt.alloc(), &mut lines, line) {
+        Ok(()) => lines.text(),
+        Err(AllocError) => "no memory\n",
+    };
+    print!(rt; "{text}")?;
     Ok(())
 }
 

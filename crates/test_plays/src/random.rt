@@ -6,11 +6,10 @@ use crate::generator::Generator;
 use crate::lines::Lines;
 use crate::serving::serve;
 use crate::setting::read_numbers;
-use crate::telling::push_fault;
+use crate::telling::{add_digest, add_fault, put_total};
 use courier_calls::Tally;
 use item_world::Setup;
 use std::alloc::{AllocError, Global};
-use std::fmt::Write;
 use xns_idp::{MOST_PACKET, decode};
 use xns_spp::{Bytes, Header, read_header};
 use xns_world::ServeTrace;
@@ -128,21 +127,15 @@ fn put_trace(
     trace: &ServeTrace<Tally>,
     packets: usize,
 ) -> Result<(), AllocError> {
-    let handed = trace.handed.as_slice().len();
-    let carried = trace.carried.len();
-    write!(
-        lines.next,
-        "packets {packets} handed {handed} carried {carried} "
-    )?;
-    push_fault(&mut lines.next, &trace.fault)?;
-    let replies = trace.replies.len();
-    let digest = digest_of(&trace.replies);
-    let total = trace.service.total();
-    write!(
-        lines.next,
-        " replies {replies} digest {digest:08x} total {total}"
-    )?;
-    lines.end()
+    lines.add_number("packets ", packets)?;
+    lines.add_number(" handed ", trace.handed.as_slice().len())?;
+    lines.add_number(" carried ", trace.carried.len())?;
+    lines.add(" fault ")?;
+    add_fault(lines, &trace.fault)?;
+    lines.add_number(" replies ", trace.replies.len())?;
+    add_digest(lines, digest_of(&trace.replies))?;
+    lines.add(" ")?;
+    put_total(lines, &trace.service)
 }
 
 /// What a server makes of the packets; `None` where there are no such ends, and where the trace is out of bounds.
@@ -210,13 +203,13 @@ fn put_served(
     setup: &Setup,
     packets: &[Bytes],
 ) -> Result<(), AllocError> {
-    let count = packets.len();
-    if let Some(trace) = serve_within(alloc, setup, packets)? {
-        return put_trace(lines, &trace, count);
+    match serve_within(alloc, setup, packets)? {
+        Some(trace) => put_trace(lines, &trace, packets.len()),
+        None => put_untraced(lines, packets.len()),
     }
-    write!(
-        lines.next,
-        "no such ends, or out of bounds after {count} packets"
-    )?;
-    lines.end()
+}
+
+fn put_untraced(lines: &mut Lines, packets: usize) -> Result<(), AllocError> {
+    lines.add_number("no such ends, or out of bounds after ", packets)?;
+    lines.put(" packets")
 }

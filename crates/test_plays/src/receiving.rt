@@ -5,23 +5,22 @@ use crate::draft::{
 };
 use crate::items::item;
 use crate::lines::Lines;
-use crate::telling::{dropped_text, push_packet};
+use crate::telling::{add_hex, add_packet, dropped_text};
 use item_world::{Setup, Side};
 use std::alloc::{AllocError, Global};
-use std::fmt::Write;
-use xns_spp::{Bytes, Endpoint};
+use xns_spp::{Bytes, Endpoint, Received};
 
 /// The numbers that each field is given.
 const NUMBERS: [u16; 5] = [0, 1, 32_767, 32_768, 65_535];
 
-/// The fields other than the control byte.
+/// The fields other than the control byte, and the words before their numbers.
 const FIELDS: [(usize, &str); 6] = [
-    (STREAM, "stream"),
-    (SOURCE, "source"),
-    (TARGET, "target"),
-    (SEQUENCE, "sequence"),
-    (ACKNOWLEDGE, "acknowledge"),
-    (ALLOCATION, "allocation"),
+    (STREAM, "stream "),
+    (SOURCE, "source "),
+    (TARGET, "target "),
+    (SEQUENCE, "sequence "),
+    (ACKNOWLEDGE, "acknowledge "),
+    (ALLOCATION, "allocation "),
 ];
 
 /// Changes the field in this place of a header. One of one byte is the number modulo 256.
@@ -40,13 +39,13 @@ struct Trial<'a> {
     setup: Setup,
     side: Side,
     steps: &'a str,
-    body: &'a [u8],
+    body: Vec<u8>,
 }
 
 impl Trial<'_> {
     /// The packet with this number in the field in this place.
     fn packet(&self, alloc: Global, place: usize, number: u16) -> Result<Bytes, AllocError> {
-        let mut body = self.body.to_vec(alloc)?;
+        let mut body = self.body.as_slice().to_vec(alloc)?;
         change(&mut body, place, number);
         packet_of(alloc, &body)
     }
@@ -63,30 +62,28 @@ impl Trial<'_> {
             return lines.put("no such end");
         }
         let mut end = self.setup.end(alloc, self.side)?;
-        take_steps(alloc, &mut end, self.steps)?;
-        self.push_answer(alloc, &mut lines.next, &mut end, place, number)?;
-        lines.end()
+        self.put_answer_of(alloc, lines, &mut end, place, number)
     }
 
-    /// Adds what the end makes of the packet with this number in the field in this place, and what it then sends as time passes.
-    fn push_answer(
+    /// Ends a line with what this new end makes of the packet.
+    fn put_answer_of(
         &self,
         alloc: Global,
-        text: &mut String,
+        lines: &mut Lines,
         end: &mut Endpoint,
         place: usize,
         number: u16,
     ) -> Result<(), AllocError> {
-        let packet = self.packet(alloc, place, number)?;
-        push_received(alloc, text, end, packet.as_slice())?;
-        push_sent(text, end.tick(alloc)?.as_slice())
+        take_steps(alloc, end, self.steps)?;
+        add_received(alloc, lines, end, self.packet(alloc, place, number)?)?;
+        add_sent(lines, end.tick(alloc)?)?;
+        lines.end()
     }
 
     /// What an end makes of the packet with each control byte, of which the upper half counts.
     fn put_controls(&self, alloc: Global, lines: &mut Lines) -> Result<(), AllocError> {
         for control in 0..=255_u8 {
-            let (low, high) = (control & 0xf0, control | 15);
-            write!(lines.next, "control {low:02x} to {high:02x}: ")?;
+            add_control(lines, control)?;
             self.put_answer(alloc, lines, CONTROL, u16::from(control))?;
         }
         Ok(())
@@ -101,7 +98,8 @@ impl Trial<'_> {
         name: &str,
     ) -> Result<(), AllocError> {
         for number in &NUMBERS {
-            write!(lines.next, "{name} {number}: ")?;
+            lines.add_number(name, usize::from(*number))?;
+            lines.add(": ")?;
             self.put_answer(alloc, lines, place, *number)?;
         }
         Ok(())
@@ -109,6 +107,9 @@ impl Trial<'_> {
 
     /// What an end makes of the packet with each control byte, and with each other field changed.
     fn put_all(&self, alloc: Global, lines: &mut Lines) -> Result<(), AllocError> {
+        if !has_header(&self.body) {
+            return lines.put("no such packet");
+        }
         self.put_controls(alloc, lines)?;
         for (place, name) in &FIELDS {
             self.put_field(alloc, lines, *place, name)?;
@@ -117,11 +118,25 @@ impl Trial<'_> {
     }
 }
 
+/// Adds the control bytes with this upper half.
+fn add_control(lines: &mut Lines, control: u8) -> Result<(), AllocError> {
+    lines.add("control ")?;
+    add_hex(lines, &[control & 0xf0])?;
+    lines.add(" to ")?;
+    add_hex(lines, &[control | 15])?;
+    lines.add(": ")
+}
+
 /// Accepts an item and sends what may go out.
 fn send(alloc: Global, end: &mut Endpoint, digits: &str) -> Result<(), AllocError> {
     let item = item(alloc, digits)?;
     let _ = end.send(item);
-    end.flush(alloc)?;
+    forget(end.flush(alloc))
+}
+
+/// Lets packets go that were sent.
+fn forget(packets: Result<Vec<Bytes>, AllocError>) -> Result<(), AllocError> {
+    packets?;
     Ok(())
 }
 
@@ -148,10 +163,7 @@ fn take_step(alloc: Global, end: &mut Endpoint, step: &str) -> Result<(), AllocE
             let _ = end.take();
             Ok(())
         }
-        ("tick", _) => {
-            end.tick(alloc)?;
-            Ok(())
-        }
+        ("tick", _) => forget(end.tick(alloc)),
         _ => Ok(()),
     }
 }
@@ -164,33 +176,38 @@ fn take_steps(alloc: Global, end: &mut Endpoint, steps: &str) -> Result<(), Allo
 }
 
 /// Adds what the end makes of a packet: how many items were taken, why the packet's was dropped, how many wait, and the reply.
-fn push_received(
+fn add_received(
     alloc: Global,
-    text: &mut String,
+    lines: &mut Lines,
     end: &mut Endpoint,
-    packet: &[u8],
+    packet: Bytes,
 ) -> Result<(), AllocError> {
-    let received = end.receive(alloc, packet)?;
-    let (took, dropped) = (received.took, dropped_text(&received.dropped));
-    let waiting = end.waiting();
-    write!(text, "took {took} dropped {dropped} waiting {waiting}")?;
+    let received = end.receive(alloc, packet.as_slice())?;
+    add_outcome(lines, &received, end.waiting())
+}
+
+fn add_outcome(lines: &mut Lines, received: &Received, waiting: usize) -> Result<(), AllocError> {
+    lines.add_number("took ", received.took)?;
+    lines.add(" dropped ")?;
+    lines.add(dropped_text(&received.dropped))?;
+    lines.add_number(" waiting ", waiting)?;
     match &received.reply {
-        Some(reply) => push_named(text, "reply", reply),
+        Some(reply) => add_named(lines, "; reply ", reply),
         None => Ok(()),
     }
 }
 
 /// Adds what the end then sends as time passes.
-fn push_sent(text: &mut String, packets: &[Bytes]) -> Result<(), AllocError> {
-    for packet in packets {
-        push_named(text, "then", packet)?;
+fn add_sent(lines: &mut Lines, packets: Vec<Bytes>) -> Result<(), AllocError> {
+    for packet in packets.as_slice() {
+        add_named(lines, "; then ", packet)?;
     }
     Ok(())
 }
 
-fn push_named(text: &mut String, what: &str, packet: &Bytes) -> Result<(), AllocError> {
-    write!(text, "; {what} ")?;
-    push_packet(text, Side::B, packet.as_slice())
+fn add_named(lines: &mut Lines, what: &str, packet: &Bytes) -> Result<(), AllocError> {
+    lines.add(what)?;
+    add_packet(lines, Side::B, packet.as_slice())
 }
 
 /// The ends with one in the other's place: an initiator then stands at the responder's address.
@@ -214,15 +231,11 @@ pub fn play(
     steps: &str,
 ) -> Result<(), AllocError> {
     let (packet, steps) = steps.split_once(", ").unwrap_or((steps, ""));
-    let body = read_body(alloc, packet)?;
-    if !has_header(&body) {
-        return lines.put("no such packet");
-    }
     let trial = Trial {
         setup,
         side,
         steps,
-        body: &body,
+        body: read_body(alloc, packet)?,
     };
     trial.put_all(alloc, lines)
 }

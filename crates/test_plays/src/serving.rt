@@ -5,7 +5,7 @@ use crate::draft::{SEQUENCE, has_header, number_at, packet_of, put_number, read_
 use crate::items::put_items;
 use crate::lines::Lines;
 use crate::steps::counted;
-use crate::telling::{push_fault, put_count, put_packet, put_total};
+use crate::telling::{add_digest, add_fault, put_packet, put_total};
 use courier_calls::{Tally, tally_table};
 use item_world::{Setup, Side};
 use std::alloc::{AllocError, Global};
@@ -55,15 +55,19 @@ fn push_numbered(
 
 /// How many packets the server sent, with the digest of many, and the packets: all, or the last two of many.
 fn put_replies(lines: &mut Lines, replies: &[Bytes]) -> Result<(), AllocError> {
-    let count = replies.len();
-    let (told, digest) = if count > MOST_REPLIES {
-        (&replies[count - 2..], Some(digest_of(replies)))
-    } else {
-        (replies, None)
-    };
-    put_count(lines, "replies", count, digest)?;
-    for reply in told {
-        put_packet(lines, "reply", Side::B, reply.as_slice())?;
+    lines.add_number("replies ", replies.len())?;
+    if replies.len() > MOST_REPLIES {
+        add_digest(lines, digest_of(replies))?;
+        lines.end()?;
+        return put_told(lines, &replies[replies.len() - 2..]);
+    }
+    lines.end()?;
+    put_told(lines, replies)
+}
+
+fn put_told(lines: &mut Lines, replies: &[Bytes]) -> Result<(), AllocError> {
+    for reply in replies {
+        put_packet(lines, "reply ", Side::B, reply.as_slice())?;
     }
     Ok(())
 }
@@ -71,7 +75,8 @@ fn put_replies(lines: &mut Lines, replies: &[Bytes]) -> Result<(), AllocError> {
 fn put_trace(lines: &mut Lines, trace: &ServeTrace<Tally>) -> Result<(), AllocError> {
     put_items(lines, "handed", &trace.handed)?;
     put_carried(lines, trace.carried.as_slice())?;
-    push_fault(&mut lines.next, &trace.fault)?;
+    lines.add("fault ")?;
+    add_fault(lines, &trace.fault)?;
     lines.end()?;
     put_replies(lines, trace.replies.as_slice())?;
     put_total(lines, &trace.service)

@@ -14,102 +14,100 @@ use xns_spp::{Dropped, Header, Item, read_header};
 const MOST_SHOWN: usize = 40;
 
 /// Adds bytes in hex, `-` for none, and many by their number.
-fn push_bytes(text: &mut String, bytes: &[u8]) -> Result<(), AllocError> {
+fn add_bytes(lines: &mut Lines, bytes: &[u8]) -> Result<(), AllocError> {
     match bytes.len() {
-        0 => text.push_str("-"),
-        1..=MOST_SHOWN => push_hex(text, bytes),
-        count => write!(text, "={count}"),
+        0 => lines.add("-"),
+        1..=MOST_SHOWN => add_hex(lines, bytes),
+        count => lines.add_number("=", count),
     }
 }
 
-fn push_hex(text: &mut String, bytes: &[u8]) -> Result<(), AllocError> {
+pub fn add_hex(lines: &mut Lines, bytes: &[u8]) -> Result<(), AllocError> {
     for byte in bytes {
-        write!(text, "{byte:02x}")?;
+        write!(lines.next, "{byte:02x}")?;
     }
     Ok(())
 }
 
 /// Adds words in hex, parted by spaces; `-` for none, and many by their number.
-fn push_words(text: &mut String, words: &[u16]) -> Result<(), AllocError> {
+fn add_words(lines: &mut Lines, words: &[u16]) -> Result<(), AllocError> {
     match words.len() {
-        0 => text.push_str("-"),
-        1..=MOST_SHOWN => push_parted(text, words),
-        count => write!(text, "={count}"),
+        0 => lines.add("-"),
+        1..=MOST_SHOWN => add_parted(lines, words),
+        count => lines.add_number("=", count),
     }
 }
 
-fn push_parted(text: &mut String, words: &[u16]) -> Result<(), AllocError> {
+fn add_parted(lines: &mut Lines, words: &[u16]) -> Result<(), AllocError> {
     let mut space = "";
     for word in words {
-        write!(text, "{space}{word:04x}")?;
+        lines.add(space)?;
+        add_hex(lines, &word.to_be_bytes())?;
         space = " ";
     }
     Ok(())
 }
 
-/// How many there are of what, with the digest of many.
-pub fn put_count(
-    lines: &mut Lines,
-    what: &str,
-    count: usize,
-    digest: Option<u32>,
-) -> Result<(), AllocError> {
-    write!(lines.next, "{what} {count}")?;
-    if let Some(digest) = digest {
-        write!(lines.next, " digest {digest:08x}")?;
-    }
-    lines.end()
+/// Adds the digest of packets.
+pub fn add_digest(lines: &mut Lines, digest: u32) -> Result<(), AllocError> {
+    lines.add(" digest ")?;
+    add_hex(lines, &digest.to_be_bytes())
 }
 
 /// An item: its body, with what is special of it.
 pub fn put_item(lines: &mut Lines, who: &str, item: &Item) -> Result<(), AllocError> {
-    let attention = if item.attention { " attention" } else { "" };
-    let last = if item.last { " last" } else { "" };
-    write!(lines.next, "{who} {}{attention}{last} ", item.stream)?;
-    push_bytes(&mut lines.next, item.body.as_slice())?;
+    let marks = match (item.attention, item.last) {
+        (true, true) => " attention last ",
+        (true, false) => " attention ",
+        (false, true) => " last ",
+        (false, false) => " ",
+    };
+    lines.add(who)?;
+    lines.add_number(" ", usize::from(item.stream))?;
+    lines.add(marks)?;
+    add_bytes(lines, item.body.as_slice())?;
     lines.end()
 }
 
 /// A call, whose arguments are words.
 pub fn put_call(lines: &mut Lines, call: &Call) -> Result<(), AllocError> {
-    let Call {
-        program,
-        version,
-        procedure,
-        arguments,
-    } = call;
-    write!(lines.next, "carried {program} {version} {procedure} ")?;
-    match arguments {
-        Arguments::Raw(words) => push_words(&mut lines.next, words.as_slice())?,
-        Arguments::Typed(_) => lines.next.push_str("typed")?,
+    lines.add_number("carried ", call.program as usize)?;
+    lines.add_number(" ", usize::from(call.version))?;
+    lines.add_number(" ", usize::from(call.procedure))?;
+    lines.add(" ")?;
+    match &call.arguments {
+        Arguments::Raw(words) => add_words(lines, words.as_slice())?,
+        Arguments::Typed(_) => lines.add("typed")?,
     }
     lines.end()
 }
 
 /// The number that a value of the tally's outcomes is.
-fn number_of(value: &Value) -> u32 {
+fn number_of(value: &Value) -> usize {
     match value {
-        Value::LongCardinal(number) => *number,
-        _ => u32::MAX,
+        Value::LongCardinal(number) => *number as usize,
+        _ => usize::MAX,
     }
 }
 
 pub fn put_seen(lines: &mut Lines, seen: &Seen) -> Result<(), AllocError> {
     match seen {
-        Seen::Returned(value) => write!(lines.next, "returned {}", number_of(value))?,
+        Seen::Returned(value) => lines.add_number("returned ", number_of(value))?,
         Seen::Aborted(error, value) => {
-            write!(lines.next, "aborted {error} {}", number_of(value))?;
+            lines.add_number("aborted ", usize::from(*error))?;
+            lines.add_number(" ", number_of(value))?;
         }
         Seen::Rejected(reason, words) => {
-            write!(lines.next, "rejected {reason} ")?;
-            push_words(&mut lines.next, words.as_slice())?;
+            lines.add_number("rejected ", usize::from(*reason))?;
+            lines.add(" ")?;
+            add_words(lines, words.as_slice())?;
         }
     }
     lines.end()
 }
 
 pub fn put_total(lines: &mut Lines, tally: &Tally) -> Result<(), AllocError> {
-    write!(lines.next, "total {}", tally.total())?;
+    lines.add_number("total ", tally.total() as usize)?;
     lines.end()
 }
 
@@ -125,10 +123,10 @@ fn header_words(header: &Header) -> [u16; 6] {
     ]
 }
 
-fn push_header(text: &mut String, header: &Header, data: &[u8]) -> Result<(), AllocError> {
-    push_words(text, &header_words(header))?;
-    text.push_str(" ")?;
-    push_bytes(text, data)
+fn add_header(lines: &mut Lines, header: &Header, data: &[u8]) -> Result<(), AllocError> {
+    add_words(lines, &header_words(header))?;
+    lines.add(" ")?;
+    add_bytes(lines, data)
 }
 
 /// The header and data of a packet of the connection, where it is whole, has a sum and goes from this address to that.
@@ -148,16 +146,16 @@ fn read_between<'a>(
 }
 
 /// Adds a packet that a side sent: its header and data, or its bytes where it is none of the connection.
-pub fn push_packet(text: &mut String, side: Side, bytes: &[u8]) -> Result<(), AllocError> {
+pub fn add_packet(lines: &mut Lines, side: Side, bytes: &[u8]) -> Result<(), AllocError> {
     let read = match side {
         Side::A => read_between(bytes, &CALLER, &SERVER),
         Side::B => read_between(bytes, &SERVER, &CALLER),
     };
     match read {
-        Some((header, data)) => push_header(text, &header, data),
+        Some((header, data)) => add_header(lines, &header, data),
         None => {
-            text.push_str("another packet ")?;
-            push_bytes(text, bytes)
+            lines.add("another packet ")?;
+            add_bytes(lines, bytes)
         }
     }
 }
@@ -169,44 +167,45 @@ pub fn put_packet(
     side: Side,
     bytes: &[u8],
 ) -> Result<(), AllocError> {
-    write!(lines.next, "{who} ")?;
-    push_packet(&mut lines.next, side, bytes)?;
+    lines.add(who)?;
+    add_packet(lines, side, bytes)?;
     lines.end()
 }
 
 /// Why bytes are no message; of an unknown kind, which.
-fn message_fault(fault: &MessageFault) -> (&'static str, Option<u16>) {
+fn message_fault(fault: &MessageFault) -> (&'static str, Option<usize>) {
     match fault {
         MessageFault::OddLength => ("OddLength", None),
         MessageFault::ShortMessage => ("ShortMessage", None),
-        MessageFault::UnknownKind { found } => ("UnknownKind", Some(*found)),
+        MessageFault::UnknownKind { found } => ("UnknownKind", Some(usize::from(*found))),
         MessageFault::TooLong => ("TooLong", None),
     }
 }
 
 /// Why a session stopped; of an item of another datastream, which.
-fn session_fault(fault: &SessionFault) -> (&'static str, Option<u16>) {
+fn session_fault(fault: &SessionFault) -> (&'static str, Option<usize>) {
     match fault {
         SessionFault::NoCommonVersion => ("NoCommonVersion", None),
         SessionFault::BadVersions => ("BadVersions", None),
         SessionFault::BadMessage(fault) => message_fault(fault),
         SessionFault::WrongTransaction => ("WrongTransaction", None),
         SessionFault::BadReply => ("BadReply", None),
-        SessionFault::Stream { kind } => ("Stream", Some(u16::from(*kind))),
+        SessionFault::Stream { kind } => ("Stream", Some(usize::from(*kind))),
         SessionFault::NoMemory => ("NoMemory", None),
         SessionFault::Failed => ("Failed", None),
     }
 }
 
 /// Adds why a session stopped.
-pub fn push_fault(text: &mut String, fault: &Option<SessionFault>) -> Result<(), AllocError> {
+pub fn add_fault(lines: &mut Lines, fault: &Option<SessionFault>) -> Result<(), AllocError> {
     let (name, number) = match fault {
         Some(fault) => session_fault(fault),
         None => ("none", None),
     };
+    lines.add(name)?;
     match number {
-        Some(number) => write!(text, "fault {name} {number}"),
-        None => write!(text, "fault {name}"),
+        Some(number) => lines.add_number(" ", number),
+        None => Ok(()),
     }
 }
 
