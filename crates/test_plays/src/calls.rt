@@ -12,20 +12,19 @@ use xns_world::{CallTrace, play_calls};
 /// A step has at most so many bytes.
 const MOST_BYTES: usize = 4_096;
 
-pub fn put_carried(lines: &mut Lines, carried: &[Call]) -> Result<(), AllocError> {
+pub fn put_carried(lines: &mut Lines, carried: &[Call]) {
     for call in carried {
-        put_call(lines, call)?;
+        put_call(lines, call);
     }
-    Ok(())
 }
 
-fn put_trace(lines: &mut Lines, trace: &CallTrace<Tally>) -> Result<(), AllocError> {
-    put_carried(lines, trace.carried.as_slice())?;
+fn put_trace(lines: &mut Lines, trace: &CallTrace<Tally>) {
+    put_carried(lines, trace.carried.as_slice());
     for seen in trace.seen.as_slice() {
-        put_seen(lines, seen)?;
+        put_seen(lines, seen);
     }
-    put_total(lines, &trace.service)?;
-    put_bag(lines, &trace.bag)
+    put_total(lines, &trace.service);
+    put_bag(lines, &trace.bag);
 }
 
 /// Reads the steps that are not too long.
@@ -48,12 +47,14 @@ fn put_played(
     script: &Script,
 ) -> Result<(), AllocError> {
     if !setup.is_good() {
-        return lines.put("no such ends");
+        lines.put("no such ends");
+        return Ok(());
     }
     let table = tally_table(alloc)?;
     let (calls, events) = (script.calls(), script.events());
     let trace = play_calls(alloc, setup, &table, Tally::new(), calls, events)?;
-    put_trace(lines, &trace)
+    put_trace(lines, &trace);
+    Ok(())
 }
 
 fn read_script(alloc: Global, steps: &str) -> Result<Script, AllocError> {
@@ -70,14 +71,10 @@ pub fn play(
     steps: &str,
 ) -> Result<(), AllocError> {
     let script = read_script(alloc, steps)?;
-    match script.refused() {
-        Some(number) => put_refused(lines, number),
-        None => put_played(alloc, lines, setup, &script),
+    if let Some(number) = script.refused() {
+        lines.add_number("step ", number);
+        lines.put(" refused");
+        return Ok(());
     }
-}
-
-/// Tells which step is refused.
-fn put_refused(lines: &mut Lines, number: usize) -> Result<(), AllocError> {
-    lines.add_number("step ", number)?;
-    lines.put(" refused")
+    put_played(alloc, lines, setup, &script)
 }

@@ -91,11 +91,10 @@ fn read_events(alloc: Global, steps: &str) -> Result<Vec<Event>, AllocError> {
     Ok(events)
 }
 
-pub fn put_items(lines: &mut Lines, who: &str, items: &Items) -> Result<(), AllocError> {
+pub fn put_items(lines: &mut Lines, who: &str, items: &Items) {
     for item in items.as_slice() {
-        put_item(lines, who, item)?;
+        put_item(lines, who, item);
     }
-    Ok(())
 }
 
 fn name(side: Side) -> &'static str {
@@ -116,34 +115,30 @@ fn digest_of(packets: &[(Side, Bytes)]) -> u32 {
 }
 
 /// How many packets were sent, and the packets, or the digest of them with their senders' names.
-pub fn put_bag(lines: &mut Lines, bag: &Bag) -> Result<(), AllocError> {
+pub fn put_bag(lines: &mut Lines, bag: &Bag) {
     let packets = bag.as_slice();
-    lines.add_number("packets ", packets.len())?;
+    lines.add_number("packets ", packets.len());
     if packets.len() > MOST_PACKETS {
-        add_digest(lines, digest_of(packets))?;
-        return lines.end();
+        add_digest(lines, digest_of(packets));
+        lines.end();
+    } else {
+        lines.end();
+        put_packets(lines, packets);
     }
-    lines.end()?;
-    put_packets(lines, packets)
 }
 
-fn put_packets(lines: &mut Lines, packets: &[(Side, Bytes)]) -> Result<(), AllocError> {
+fn put_packets(lines: &mut Lines, packets: &[(Side, Bytes)]) {
     for (side, bytes) in packets {
-        let who = match side {
-            Side::A => "a ",
-            Side::B => "b ",
-        };
-        put_packet(lines, who, *side, bytes.as_slice())?;
+        put_packet(lines, name(*side), *side, bytes.as_slice());
     }
-    Ok(())
 }
 
-fn put_trace(lines: &mut Lines, trace: &ItemTrace) -> Result<(), AllocError> {
-    put_items(lines, "a sent", &trace.a_sent)?;
-    put_items(lines, "b sent", &trace.b_sent)?;
-    put_items(lines, "a handed", &trace.a_handed)?;
-    put_items(lines, "b handed", &trace.b_handed)?;
-    put_bag(lines, &trace.bag)
+fn put_trace(lines: &mut Lines, trace: &ItemTrace) {
+    put_items(lines, "a sent", &trace.a_sent);
+    put_items(lines, "b sent", &trace.b_sent);
+    put_items(lines, "a handed", &trace.a_handed);
+    put_items(lines, "b handed", &trace.b_handed);
+    put_bag(lines, &trace.bag);
 }
 
 /// Tells what comes of the steps: the items that were accepted and handed up, and the packets.
@@ -154,8 +149,10 @@ pub fn play(
     steps: &str,
 ) -> Result<(), AllocError> {
     if !setup.is_good() {
-        return lines.put("no such ends");
+        lines.put("no such ends");
+        return Ok(());
     }
     let trace = play_items(alloc, setup, read_events(alloc, steps)?.as_slice())?;
-    put_trace(lines, &trace)
+    put_trace(lines, &trace);
+    Ok(())
 }

@@ -43,24 +43,22 @@ fn main(rt: HostRuntime) -> Result<(), anyhow::Error> {
 /// Prints what comes of a line.
 fn tell(rt: &HostRuntime, line: &str) -> Result<(), anyhow::Error> {
     let mut lines = Lines::new(rt.alloc());
-    let text = match answer(rt.alloc(), &mut lines, line) {
-        Ok(()) => lines.text(),
-        Err(AllocError) => "no memory\n",
-    };
+    let text = answer(rt.alloc(), &mut lines, line).unwrap_or("no memory\n");
     print!(rt; "{text}")?;
     Ok(())
 }
 
-/// Tells what comes of a line.
-fn answer(alloc: Global, lines: &mut Lines, line: &str) -> Result<(), AllocError> {
+/// What comes of a line, as whole lines.
+fn answer<'a>(alloc: Global, lines: &'a mut Lines, line: &str) -> Result<&'a str, AllocError> {
     put_answer(alloc, lines, line)?;
-    lines.tell_last()
+    lines.text()
 }
 
 fn put_answer(alloc: Global, lines: &mut Lines, line: &str) -> Result<(), AllocError> {
     let (head, steps) = line.split_once(", ").unwrap_or((line, ""));
     let Some((kind, setup)) = setting::read_head(head) else {
-        return lines.put(line);
+        lines.put(line);
+        return Ok(());
     };
     match kind {
         "items" => items::play(alloc, lines, &setup, steps),
@@ -69,6 +67,9 @@ fn put_answer(alloc: Global, lines: &mut Lines, line: &str) -> Result<(), AllocE
         "random" => random::play(alloc, lines, &setup, steps),
         "responder" => receiving::play(alloc, lines, setup, Side::B, steps),
         "initiator" => receiving::play(alloc, lines, receiving::turned(setup), Side::A, steps),
-        _ => lines.put(line),
+        _ => {
+            lines.put(line);
+            Ok(())
+        }
     }
 }

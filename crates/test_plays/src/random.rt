@@ -122,20 +122,16 @@ fn push_block(
     Ok(())
 }
 
-fn put_trace(
-    lines: &mut Lines,
-    trace: &ServeTrace<Tally>,
-    packets: usize,
-) -> Result<(), AllocError> {
-    lines.add_number("packets ", packets)?;
-    lines.add_number(" handed ", trace.handed.as_slice().len())?;
-    lines.add_number(" carried ", trace.carried.len())?;
-    lines.add(" fault ")?;
-    add_fault(lines, &trace.fault)?;
-    lines.add_number(" replies ", trace.replies.len())?;
-    add_digest(lines, digest_of(&trace.replies))?;
-    lines.add(" ")?;
-    put_total(lines, &trace.service)
+fn put_trace(lines: &mut Lines, trace: &ServeTrace<Tally>, packets: usize) {
+    lines.add_number("packets ", packets);
+    lines.add_number(" handed ", trace.handed.as_slice().len());
+    lines.add_number(" carried ", trace.carried.len());
+    lines.add(" fault ");
+    add_fault(lines, &trace.fault);
+    lines.add_number(" replies ", trace.replies.len());
+    add_digest(lines, digest_of(&trace.replies));
+    lines.add(" ");
+    put_total(lines, &trace.service);
 }
 
 /// What a server makes of the packets; `None` where there are no such ends, and where the trace is out of bounds.
@@ -190,7 +186,8 @@ pub fn play(
     steps: &str,
 ) -> Result<(), AllocError> {
     let Some((seed, blocks)) = read_numbers(steps) else {
-        return lines.put("no seed");
+        lines.put("no seed");
+        return Ok(());
     };
     let packets = blocks_of(alloc, setup, seed, blocks)?;
     put_served(alloc, lines, setup, &packets)
@@ -205,11 +202,10 @@ fn put_served(
 ) -> Result<(), AllocError> {
     match serve_within(alloc, setup, packets)? {
         Some(trace) => put_trace(lines, &trace, packets.len()),
-        None => put_untraced(lines, packets.len()),
+        None => {
+            lines.add_number("no such ends, or out of bounds after ", packets.len());
+            lines.put(" packets");
+        }
     }
-}
-
-fn put_untraced(lines: &mut Lines, packets: usize) -> Result<(), AllocError> {
-    lines.add_number("no such ends, or out of bounds after ", packets)?;
-    lines.put(" packets")
+    Ok(())
 }

@@ -5,7 +5,7 @@ use crate::draft::{
 };
 use crate::items::item;
 use crate::lines::Lines;
-use crate::telling::{add_hex, add_packet, dropped_text};
+use crate::telling::{add_packet, dropped_text};
 use item_world::{Setup, Side};
 use std::alloc::{AllocError, Global};
 use xns_spp::{Bytes, Endpoint, Received};
@@ -13,14 +13,14 @@ use xns_spp::{Bytes, Endpoint, Received};
 /// The numbers that each field is given.
 const NUMBERS: [u16; 5] = [0, 1, 32_767, 32_768, 65_535];
 
-/// The fields other than the control byte, and the words before their numbers.
+/// The fields other than the control byte.
 const FIELDS: [(usize, &str); 6] = [
-    (STREAM, "stream "),
-    (SOURCE, "source "),
-    (TARGET, "target "),
-    (SEQUENCE, "sequence "),
-    (ACKNOWLEDGE, "acknowledge "),
-    (ALLOCATION, "allocation "),
+    (STREAM, "stream"),
+    (SOURCE, "source"),
+    (TARGET, "target"),
+    (SEQUENCE, "sequence"),
+    (ACKNOWLEDGE, "acknowledge"),
+    (ALLOCATION, "allocation"),
 ];
 
 /// Changes the field in this place of a header. One of one byte is the number modulo 256.
@@ -59,7 +59,8 @@ impl Trial<'_> {
         number: u16,
     ) -> Result<(), AllocError> {
         if !self.setup.is_good() {
-            return lines.put("no such end");
+            lines.put("no such end");
+            return Ok(());
         }
         let mut end = self.setup.end(alloc, self.side)?;
         self.put_answer_of(alloc, lines, &mut end, place, number)
@@ -76,14 +77,15 @@ impl Trial<'_> {
     ) -> Result<(), AllocError> {
         take_steps(alloc, end, self.steps)?;
         add_received(alloc, lines, end, self.packet(alloc, place, number)?)?;
-        add_sent(lines, end.tick(alloc)?)?;
-        lines.end()
+        add_sent(lines, end.tick(alloc)?);
+        lines.end();
+        Ok(())
     }
 
     /// What an end makes of the packet with each control byte, of which the upper half counts.
     fn put_controls(&self, alloc: Global, lines: &mut Lines) -> Result<(), AllocError> {
         for control in 0..=255_u8 {
-            add_control(lines, control)?;
+            add_control(lines, control);
             self.put_answer(alloc, lines, CONTROL, u16::from(control))?;
         }
         Ok(())
@@ -98,8 +100,9 @@ impl Trial<'_> {
         name: &str,
     ) -> Result<(), AllocError> {
         for number in &NUMBERS {
-            lines.add_number(name, usize::from(*number))?;
-            lines.add(": ")?;
+            lines.add(name);
+            lines.add_number(" ", usize::from(*number));
+            lines.add(": ");
             self.put_answer(alloc, lines, place, *number)?;
         }
         Ok(())
@@ -108,7 +111,8 @@ impl Trial<'_> {
     /// What an end makes of the packet with each control byte, and with each other field changed.
     fn put_all(&self, alloc: Global, lines: &mut Lines) -> Result<(), AllocError> {
         if !has_header(&self.body) {
-            return lines.put("no such packet");
+            lines.put("no such packet");
+            return Ok(());
         }
         self.put_controls(alloc, lines)?;
         for (place, name) in &FIELDS {
@@ -119,12 +123,12 @@ impl Trial<'_> {
 }
 
 /// Adds the control bytes with this upper half.
-fn add_control(lines: &mut Lines, control: u8) -> Result<(), AllocError> {
-    lines.add("control ")?;
-    add_hex(lines, &[control & 0xf0])?;
-    lines.add(" to ")?;
-    add_hex(lines, &[control | 15])?;
-    lines.add(": ")
+fn add_control(lines: &mut Lines, control: u8) {
+    lines.add("control ");
+    lines.add_hex(&[control & 0xf0]);
+    lines.add(" to ");
+    lines.add_hex(&[control | 15]);
+    lines.add(": ");
 }
 
 /// Accepts an item and sends what may go out.
@@ -183,31 +187,30 @@ fn add_received(
     packet: Bytes,
 ) -> Result<(), AllocError> {
     let received = end.receive(alloc, packet.as_slice())?;
-    add_outcome(lines, &received, end.waiting())
+    add_outcome(lines, &received, end.waiting());
+    Ok(())
 }
 
-fn add_outcome(lines: &mut Lines, received: &Received, waiting: usize) -> Result<(), AllocError> {
-    lines.add_number("took ", received.took)?;
-    lines.add(" dropped ")?;
-    lines.add(dropped_text(&received.dropped))?;
-    lines.add_number(" waiting ", waiting)?;
-    match &received.reply {
-        Some(reply) => add_named(lines, "; reply ", reply),
-        None => Ok(()),
+fn add_outcome(lines: &mut Lines, received: &Received, waiting: usize) {
+    lines.add_number("took ", received.took);
+    lines.add(" dropped ");
+    lines.add(dropped_text(&received.dropped));
+    lines.add_number(" waiting ", waiting);
+    if let Some(reply) = &received.reply {
+        add_named(lines, "; reply ", reply);
     }
 }
 
 /// Adds what the end then sends as time passes.
-fn add_sent(lines: &mut Lines, packets: Vec<Bytes>) -> Result<(), AllocError> {
+fn add_sent(lines: &mut Lines, packets: Vec<Bytes>) {
     for packet in packets.as_slice() {
-        add_named(lines, "; then ", packet)?;
+        add_named(lines, "; then ", packet);
     }
-    Ok(())
 }
 
-fn add_named(lines: &mut Lines, what: &str, packet: &Bytes) -> Result<(), AllocError> {
-    lines.add(what)?;
-    add_packet(lines, Side::B, packet.as_slice())
+fn add_named(lines: &mut Lines, what: &str, packet: &Bytes) {
+    lines.add(what);
+    add_packet(lines, Side::B, packet.as_slice());
 }
 
 /// The ends with one in the other's place: an initiator then stands at the responder's address.

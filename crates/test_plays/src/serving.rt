@@ -54,32 +54,32 @@ fn push_numbered(
 }
 
 /// How many packets the server sent, with the digest of many, and the packets: all, or the last two of many.
-fn put_replies(lines: &mut Lines, replies: &[Bytes]) -> Result<(), AllocError> {
-    lines.add_number("replies ", replies.len())?;
+fn put_replies(lines: &mut Lines, replies: &[Bytes]) {
+    lines.add_number("replies ", replies.len());
     if replies.len() > MOST_REPLIES {
-        add_digest(lines, digest_of(replies))?;
-        lines.end()?;
-        return put_told(lines, &replies[replies.len() - 2..]);
+        add_digest(lines, digest_of(replies));
+        lines.end();
+        put_told(lines, &replies[replies.len() - 2..]);
+        return;
     }
-    lines.end()?;
-    put_told(lines, replies)
+    lines.end();
+    put_told(lines, replies);
 }
 
-fn put_told(lines: &mut Lines, replies: &[Bytes]) -> Result<(), AllocError> {
+fn put_told(lines: &mut Lines, replies: &[Bytes]) {
     for reply in replies {
-        put_packet(lines, "reply ", Side::B, reply.as_slice())?;
+        put_packet(lines, "reply", Side::B, reply.as_slice());
     }
-    Ok(())
 }
 
-fn put_trace(lines: &mut Lines, trace: &ServeTrace<Tally>) -> Result<(), AllocError> {
-    put_items(lines, "handed", &trace.handed)?;
-    put_carried(lines, trace.carried.as_slice())?;
-    lines.add("fault ")?;
-    add_fault(lines, &trace.fault)?;
-    lines.end()?;
-    put_replies(lines, trace.replies.as_slice())?;
-    put_total(lines, &trace.service)
+fn put_trace(lines: &mut Lines, trace: &ServeTrace<Tally>) {
+    put_items(lines, "handed", &trace.handed);
+    put_carried(lines, trace.carried.as_slice());
+    lines.add("fault ");
+    add_fault(lines, &trace.fault);
+    lines.end();
+    put_replies(lines, trace.replies.as_slice());
+    put_total(lines, &trace.service);
 }
 
 /// What a new server of the tally makes of the packets; `None` where there are no such ends.
@@ -117,4 +117,5 @@ pub fn play(
         Some(trace) => put_trace(lines, &trace),
         None => lines.put("no such ends"),
     }
+    Ok(())
 }
