@@ -26,7 +26,7 @@ fn read_stream(number: &str) -> u8 {
 }
 
 /// An item of the words: its bytes, and what is special of it. It ends a message and is of datastream 0 where they say no other.
-pub fn item(alloc: Global, words: &str) -> Result<Item, AllocError> {
+fn item(alloc: Global, words: &str) -> Result<Item, AllocError> {
     let mut item = Item {
         stream: 0,
         attention: false,

@@ -1,13 +1,13 @@
 //! What an end makes of a packet, field by field.
 use crate::draft::{
     ACKNOWLEDGE, ALLOCATION, CONTROL, SEQUENCE, SOURCE, STREAM, TARGET, has_header, packet_of,
-    put_byte, put_number, read_body,
+    put_byte, put_number, read_body, read_hex,
 };
-use crate::items::item;
 use crate::lines::Lines;
 use crate::telling::{add_packet, dropped_text};
 use item_world::{Setup, Side};
 use std::alloc::{AllocError, Global};
+use test_setting::item;
 use xns_spp::{Bytes, Endpoint, Received};
 
 /// The numbers that each field is given.
@@ -133,7 +133,7 @@ fn add_control(lines: &mut Lines, control: u8) {
 
 /// Accepts an item and sends what may go out.
 fn send(alloc: Global, end: &mut Endpoint, digits: &str) -> Result<(), AllocError> {
-    let item = item(alloc, digits)?;
+    let item = item(alloc, &read_hex(alloc, digits)?)?;
     let _ = end.send(item);
     forget(end.flush(alloc))
 }
