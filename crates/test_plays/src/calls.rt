@@ -1,6 +1,6 @@
 //! Plays of calls to a tally.
 use crate::items::put_bag;
-use crate::lines::Lines;
+use crate::lines::{Lines, Told};
 use crate::steps::unfold;
 use crate::telling::{put_call, put_seen, put_total};
 use courier_calls::{Call, Tally, tally_table};
@@ -40,12 +40,7 @@ fn read_steps(script: &mut Script, steps: &[&str]) -> Result<(), AllocError> {
 }
 
 /// Tells what comes of the script.
-fn put_played(
-    alloc: Global,
-    lines: &mut Lines,
-    setup: &Setup,
-    script: &Script,
-) -> Result<(), AllocError> {
+fn put_played(alloc: Global, lines: &mut Lines, setup: &Setup, script: &Script) -> Told {
     if !setup.is_good() {
         lines.put("no such ends");
         return Ok(());
@@ -64,12 +59,7 @@ fn read_script(alloc: Global, steps: &str) -> Result<Script, AllocError> {
 }
 
 /// Tells what comes of the steps: the calls that the server decided, the outcomes that the caller saw, the total and the packets.
-pub fn play(
-    alloc: Global,
-    lines: &mut Lines,
-    setup: &Setup,
-    steps: &str,
-) -> Result<(), AllocError> {
+pub fn play(alloc: Global, lines: &mut Lines, setup: &Setup, steps: &str) -> Told {
     let script = read_script(alloc, steps)?;
     if let Some(number) = script.refused() {
         lines.add_number("step ", number);

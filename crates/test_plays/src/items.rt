@@ -1,7 +1,7 @@
 //! Plays of items.
 use crate::digest::with_bytes;
 use crate::draft::read_hex;
-use crate::lines::Lines;
+use crate::lines::{Lines, Told};
 use crate::steps::unfold;
 use crate::telling::{add_digest, put_item, put_packet};
 use item_world::{Bag, Event, ItemTrace, Items, Setup, Side, play_items};
@@ -142,12 +142,7 @@ fn put_trace(lines: &mut Lines, trace: &ItemTrace) {
 }
 
 /// Tells what comes of the steps: the items that were accepted and handed up, and the packets.
-pub fn play(
-    alloc: Global,
-    lines: &mut Lines,
-    setup: &Setup,
-    steps: &str,
-) -> Result<(), AllocError> {
+pub fn play(alloc: Global, lines: &mut Lines, setup: &Setup, steps: &str) -> Told {
     if !setup.is_good() {
         lines.put("no such ends");
         return Ok(());

@@ -3,7 +3,7 @@ use crate::damage::damaged;
 use crate::digest::digest_of;
 use crate::draft::{ACKNOWLEDGE, ALLOCATION, SEQUENCE, packet_of, put_number};
 use crate::generator::Generator;
-use crate::lines::Lines;
+use crate::lines::{Lines, Told};
 use crate::serving::serve;
 use crate::setting::read_numbers;
 use crate::telling::{add_digest, add_fault, put_total};
@@ -179,12 +179,7 @@ fn blocks_of(
 
 /// Gives a server one block of packets after another, each made of what it answered to those before, and looks after each whether its
 /// trace is within its bounds.
-pub fn play(
-    alloc: Global,
-    lines: &mut Lines,
-    setup: &Setup,
-    steps: &str,
-) -> Result<(), AllocError> {
+pub fn play(alloc: Global, lines: &mut Lines, setup: &Setup, steps: &str) -> Told {
     let Some((seed, blocks)) = read_numbers(steps) else {
         lines.put("no seed");
         return Ok(());
@@ -194,12 +189,7 @@ pub fn play(
 }
 
 /// Tells what a server makes of the packets.
-fn put_served(
-    alloc: Global,
-    lines: &mut Lines,
-    setup: &Setup,
-    packets: &[Bytes],
-) -> Result<(), AllocError> {
+fn put_served(alloc: Global, lines: &mut Lines, setup: &Setup, packets: &[Bytes]) -> Told {
     match serve_within(alloc, setup, packets)? {
         Some(trace) => put_trace(lines, &trace, packets.len()),
         None => {

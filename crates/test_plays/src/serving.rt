@@ -3,7 +3,7 @@ use crate::calls::put_carried;
 use crate::digest::digest_of;
 use crate::draft::{SEQUENCE, has_header, number_at, packet_of, put_number, read_body, read_hex};
 use crate::items::put_items;
-use crate::lines::Lines;
+use crate::lines::{Lines, Told};
 use crate::steps::counted;
 use crate::telling::{add_digest, add_fault, put_packet, put_total};
 use courier_calls::{Tally, tally_table};
@@ -106,12 +106,7 @@ fn read_packets(alloc: Global, steps: &str) -> Result<Vec<Bytes>, AllocError> {
 
 /// Tells what a server makes of the packets: the items handed up, the calls that it decided, its session's fault, the packets that it sent,
 /// and the total.
-pub fn play(
-    alloc: Global,
-    lines: &mut Lines,
-    setup: &Setup,
-    steps: &str,
-) -> Result<(), AllocError> {
+pub fn play(alloc: Global, lines: &mut Lines, setup: &Setup, steps: &str) -> Told {
     let packets = read_packets(alloc, steps)?;
     match serve(alloc, setup, &packets)? {
         Some(trace) => put_trace(lines, &trace),
