@@ -4,7 +4,7 @@ ghost use Rattle.courier_calls.specs.Calls.{call_model, CallFits};
 ghost use Rattle.item_world.specs.declared.side.Side.{Side};
 ghost use Rattle.item_world.specs.declared.side.Side.TheVariants.{A, B};
 ghost use Rattle.item_world.specs.declared.event.Event.TheVariants.{Deliver, Rest, Tick, Foreign, Send, Take};
-ghost use Rattle.xns_world.specs.CallPlay.{IsCallPlaying, CallStepsBy, IsCallTrace, IsOnceInOrder, parties};
+ghost use Rattle.xns_world.specs.CallPlay.{IsCallPlaying, IsReady, CallStepsBy, IsCallTrace, IsOnceInOrder, parties};
 ghost use Rattle.xns_world.specs.CallWorld.{Parties, CallWorld, call_happens, call_start, run_calls, delivers, settles};
 ghost use Rattle.item_world.specs.Setup.{IsGood};
 
@@ -122,12 +122,20 @@ impl<'a, S: Service> CallPlay<'a, S> {
         self.happen_all(alloc, calls, events)
     }
 
-    /// What the play has come to.
-    fn into_trace(self, alloc: Global) -> Result<CallTrace<S>, AllocError>
-        ensures { IfOk result (λ t. (p : Parties S) (w : CallWorld) → p.serving ≡ S.serving → IsCallPlaying p self.entry w → IsCallTrace p t w) }
+    /// What the play comes to as both ends settle and all these events happen in turn.
+    fn played(
+        mut self,
+        alloc: Global,
+        calls: &[Call],
+        events: &[Event],
+    ) -> Result<CallTrace<S>, AllocError>
+        ensures { IfOk result (λ t. (p : Parties S) (w : CallWorld) → IsReady S.serving calls.now p w → IsCallPlaying p self.entry w →
+            IsCallTrace p t (fold (call_happens p) (settles p B (settles p A w)) events.now)) }
     {
+        let ran = self.run(alloc, calls, events);
         let CallPlay { ends, network } = self;
         let (carried, seen, service) = ends.into_parts();
+        ran?;
         let bag = network.into_bag(alloc)?;
         Ok(CallTrace {
             carried,
@@ -162,7 +170,6 @@ pub fn play_calls<S: Service>(
     setup.known();
     known_calls(table, calls);
     laws_are_given::<S>();
-    let mut play = CallPlay::new(alloc, setup, table, service)?;
-    play.run(alloc, calls, events)?;
-    play.into_trace(alloc)
+    let play = CallPlay::new(alloc, setup, table, service)?;
+    play.played(alloc, calls, events)
 }

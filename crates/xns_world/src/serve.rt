@@ -167,6 +167,8 @@ pub fn serve_bytes<S: Service>(
     served_ends_stay_within_bounds::<S>();
     server_laws_are_given::<S>();
     let mut play = ServePlay::new(alloc, setup, table, service)?;
-    play.run(alloc, packets)?;
-    Ok(play.into_trace())
+    let ran = play.run(alloc, packets);
+    let trace = play.into_trace();
+    ran?;
+    Ok(trace)
 }

@@ -16,8 +16,7 @@ trace g c =
     let setup = c.args.setup.now in
     let given : Given p = c.laws_are_given.ensures p (record { serving_is = refl; state = c.requires.state; calls = c.known_calls.ensures }) in
     let ready : IsReady serving cs p (call_start setup) = record { given = given; between = start_between p setup given c.known.ensures c.requires.good; serving_is = refl; calls_are = refl } in
-    let ran = c.in_ok-run.ensures p (call_start setup) ready (c.in_ok-play.ensures p refl refl) in
-    IfOk-weaker c.into_trace.result _ _ (λ t is. is p (run_calls p setup c.args.events.now) refl ran) c.into_trace.ensures
+    IfOk-weaker c.played.result _ _ (λ t is. is p (call_start setup) ready (c.in_ok-play.ensures p refl refl)) c.played.ensures
 
 pub returns-clause-trace : goal.returns-clause-trace
 returns-clause-trace g c = trace g c
@@ -28,4 +27,4 @@ returns-clause-once g c =
     let w = run_calls p c.args.setup.now c.args.events.now in
     let given : Given p = c.laws_are_given.ensures p (record { serving_is = refl; state = c.requires.state; calls = c.known_calls.ensures }) in
     let once = once_in_order p w given (always_between p c.args.setup.now c.args.events.now given c.known.ensures c.requires.good).holds in
-    IfOk-weaker c.into_trace.result _ _ (λ t is. once_along g.S.Service.serving c.args.service c.args.calls.now t w is once) (trace g c)
+    IfOk-weaker c.played.result _ _ (λ t is. once_along g.S.Service.serving c.args.service c.args.calls.now t w is once) (trace g c)

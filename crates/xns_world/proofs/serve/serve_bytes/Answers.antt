@@ -1,3 +1,4 @@
+use Rattle.std.proofs.lemmas.Result.{MatchResult-at_ok}
 use Rattle.xns_world.proofs.ServeBounds.{begun_bytes}
 use Rattle.xns_world.proofs.Serves.{heard_along, within}
 use Rattle.xns_world.specs.Serve.{serve, serve_start}
@@ -9,7 +10,7 @@ trace g c =
     let s = c.args.service in
     let answering = c.server_laws_are_given.ensures s c.requires.state in
     let w = serve_start c.args.setup.now in
-    c.into_trace.ensures s _ (c.in_ok-run.ensures s w answering c.in_ok-play.ensures)
+    c.into_trace-trace.ensures s _ (MatchResult-at_ok _ _ _ c.in_ok-ran.was c.run-ran.ensures s w answering c.in_ok-play.ensures)
 
 pub returns-clause-trace : goal.returns-clause-trace
 returns-clause-trace g c = trace g c
