@@ -4,3 +4,6 @@ use Rattle.courier_calls.proofs.table_check.check_procedures.Goals as goal
 
 pub loop-procedure-preserved : goal.loop-procedure-preserved
 loop-procedure-preserved c = grind (arith, common_steps)
+
+pub returns : goal.returns
+returns c = grind (arith, common_steps)

@@ -1,9 +1,9 @@
-use Rattle.std.proofs.Common.{◌≡◌, ◌∙◌, ap, rules, List, length}
+use Rattle.std.proofs.Common.{arith, ◌≡◌, ◌∙◌, ap, rules, List, length}
 use Rattle.xns_spp.specs.declared.item.Item.{Item}
 use Rattle.courier_types.specs.Source.{bytes_of}
 use Rattle.courier_messages.specs.Bounds.{bytes_in}
 use Rattle.courier_messages.specs.Cutting.{cut_bytes}
-use Rattle.courier_messages.proofs.Cuts.{next_cut, last_item, cut_length}
+use Rattle.courier_messages.proofs.Cuts.{one_more_item, next_cut, last_item, cut_length}
 use Rattle.courier_messages.proofs.cutting.cut.Goals as goal
 
 pub loop-rest-preserved : goal.loop-rest-preserved
@@ -14,3 +14,6 @@ pub returns-clause-size : goal.returns-clause-size
 returns-clause-size c =
     let all : c.push_back-2.new.self.items ≡ cut_bytes (bytes_of c.args.words.now) = search (rules, last_item) in
     ap (λ (xs : List Item). length (bytes_in xs)) all ∙ cut_length c.args.words.now
+
+pub returns-clause-items : goal.returns-clause-items
+returns-clause-items c = grind (arith, last_item, one_more_item)

@@ -21,3 +21,6 @@ returns-then-words-gt-WORDS_AN_ITEM-clause-ok c = search rules
 
 pub returns-then-words-gt-WORDS_AN_ITEM-clause-size : goal.returns-then-words-gt-WORDS_AN_ITEM-clause-size
 returns-then-words-gt-WORDS_AN_ITEM-clause-size c = grind (arith, common_steps)
+
+pub returns-clause-ok : goal.returns-clause-ok
+returns-clause-ok c = grind (arith, last_item)

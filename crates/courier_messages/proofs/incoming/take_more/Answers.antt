@@ -11,3 +11,6 @@ returns-clause-runs c = grind (arith, more_bytes, too_many_bytes)
 
 pub returns-clause-held : goal.returns-clause-held
 returns-clause-held c = grind (arith, common_steps)
+
+pub returns-then-len-skipped-clause-stops : goal.returns-then-len-skipped-clause-stops
+returns-then-len-skipped-clause-stops c = grind (arith, more_bytes, too_many_bytes)

@@ -1,3 +1,4 @@
+use Rattle.std.proofs.lemmas.Grind.{common_steps}
 use Rattle.std.proofs.Common.{arith}
 use Rattle.courier_types.specs.Shape.{shape_models, member_models}
 use Rattle.courier_types.specs.Check.{faults_of_parts, faults_of_members}
@@ -20,3 +21,9 @@ check_members-loop-member-preserved t c =
     let m = c.member-item.result in
     let here = item_here members i m (omega arith) c.member-item.is in
     member_is_faultless members i m (faults_of_members (member_models members)) here c.in_ok-check_parts_first.ensures c.loop-member.invariant
+
+pub check_members-returns : goal.check_members-returns
+check_members-returns t c = grind (arith, common_steps)
+
+pub check_parts-returns : goal.check_parts-returns
+check_parts-returns t c = grind (arith, common_steps)

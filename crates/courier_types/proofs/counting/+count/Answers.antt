@@ -1,3 +1,4 @@
+use Rattle.std.proofs.lemmas.Grind.{common_steps}
 use Rattle.std.proofs.Common.{arith}
 use Rattle.courier_types.proofs.Loops.{item_here}
 use Rattle.courier_types.proofs.Writes.{one_counted}
@@ -18,3 +19,6 @@ room_behind_values-returns-in_err-left-clause-none t c =
     let v = c.value-item.result in
     let counted = one_counted values i v (item_here values i v (omega arith) c.value-item.is) in
     rw c.from_residual.ensures (omega (arith, counted, c.in_err-left.ensures.none, c.loop-value.invariant))
+
+pub room_behind_values-returns-clause-some : goal.room_behind_values-returns-clause-some
+room_behind_values-returns-clause-some t c = grind (arith, common_steps)

@@ -1,3 +1,4 @@
+use Rattle.std.proofs.lemmas.Grind.{elements}
 use Rattle.std.proofs.Common.{rules, refl, sym, ◌∙◌, ap, ◌+◌, ◌-◌, ◌%◌, ◌≡◌, ◌≤◌, ℕ, List, length, replicate, take, drop, subst, arith, Fits, w8, w16}
 use Rattle.std.proofs.lemmas.List.{length-take}
 use borrow.Rule.Slice.PartMut.{put_mid}
@@ -63,3 +64,6 @@ returns-clause-sum c =
     ∙ add_block 0 front lanes (omega arith) so_far.lanes
     ∙ sym (none_left _ at bytes (omega (arith, c.loop-at-test.false, so_far.whole, so_far.within)))
     ∙ so_far.same
+
+pub overflow_cast-front : goal.overflow_cast-front
+overflow_cast-front c = grind (arith, elements)

@@ -1,3 +1,4 @@
+use Rattle.std.proofs.lemmas.Grind.{common_steps}
 use Rattle.std.proofs.Common.{◌≡◌, ◌+◌, ◌%◌, ◌<◌, ◌++◌, List, ℕ, [], ◌∷◌, get_or, length, replicate, refl, sym, ap, ◌∙◌, arith, length-append, rules}
 use Rattle.std.specs.Int.{w16, to_be_bytes}
 use Rattle.xns_idp.specs.Packet.{packet_model, with_data_behind}
@@ -26,3 +27,15 @@ returns-in_err-extend_from_slice-5-clause-err c = search rules
 
 pub pad-requires : goal.pad-requires
 pad-requires c = search rules
+
+pub slice_bounds-put_checksum-count : goal.slice_bounds-put_checksum-count
+slice_bounds-put_checksum-count c = grind (arith, common_steps)
+
+pub slice_bounds-put_checksum-start : goal.slice_bounds-put_checksum-start
+slice_bounds-put_checksum-start c = grind (arith, common_steps)
+
+pub put_checksum-requires-clause-even : goal.put_checksum-requires-clause-even
+put_checksum-requires-clause-even c = grind (arith, common_steps)
+
+pub put_checksum-requires-clause-field : goal.put_checksum-requires-clause-field
+put_checksum-requires-clause-field c = grind (arith, common_steps)

@@ -1,4 +1,5 @@
-use Rattle.std.proofs.Common.{rules, ◌≡◌, ap, take, ◌++◌, ℕ, [], List, Option, sym, subst}
+use Rattle.std.proofs.lemmas.Grind.{common_steps}
+use Rattle.std.proofs.Common.{arith, rules, ◌≡◌, ap, take, ◌++◌, ℕ, [], List, Option, sym, subst}
 use Rattle.std.proofs.lemmas.Result.{err_from_is_err_and}
 use Rattle.xns_lines.specs.Lines.{closed_lines}
 use Rattle.xns_lines.proofs.Cuts.{closed-nothing}
@@ -67,3 +68,6 @@ returns-clause-err g c =
     taker_stopped g.T.LineTaker.stands g.T.LineTaker.fails g.W.Write.contents c.args.taker.now c.finish.new.taker c.args.writer.now c.finish.new.writer _ _ fault so_far.0
     (consumes_none _ _ _ so_far.0 _ none so_far.1 c.in-Ok.ensures.bytes.0)
     (λ before said. err so_far.0 before (so_far.2, so_far.3 before said)))
+
+pub finish-requires : goal.finish-requires
+finish-requires g c = grind (arith, common_steps)

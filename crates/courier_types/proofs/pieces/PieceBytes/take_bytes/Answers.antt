@@ -30,3 +30,9 @@ loop-self-preserved c =
 
 pub returns-clause-items : goal.returns-clause-items
 returns-clause-items c = grind (arith, common_steps)
+
+pub split_at-requires : goal.split_at-requires
+split_at-requires c = grind (arith, common_steps)
+
+pub returns-clause-left : goal.returns-clause-left
+returns-clause-left c = grind (arith, common_steps)

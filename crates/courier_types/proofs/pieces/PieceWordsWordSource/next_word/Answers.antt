@@ -16,3 +16,6 @@ invariant_of-self-2 c = search rules
 
 pub returns : goal.returns
 returns c = search rules
+
+pub invariant_of-self : goal.invariant_of-self
+invariant_of-self c = grind (arith, common_steps)

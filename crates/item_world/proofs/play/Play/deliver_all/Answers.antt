@@ -1,3 +1,4 @@
+use Rattle.std.proofs.lemmas.Grind.{common_steps}
 use Rattle.std.proofs.Common.{ℕ, List, [], ◌∷◌, take, fold, get_or, sym, ◌∙◌, ap, subst, arith}
 use Rattle.std.proofs.lemmas.List.{take_more}
 use Rattle.std.proofs.lemmas.List.Sums.{fold-append}
@@ -14,3 +15,6 @@ loop-number-preserved c laws w h =
     let there = c.in_ok-deliver.ensures laws (fold delivers w before) (c.loop-number.invariant laws w h) in
     subst (λ (v : World). IsPlaying c.deliver.new.self v)
     (sym (ap (λ (l : List ℕ). fold delivers w l) (take_more ns k 0 (omega arith)) ∙ fold-append delivers w before (get_or ns k 0 ∷ []))) there
+
+pub returns : goal.returns
+returns c = grind (arith, common_steps)

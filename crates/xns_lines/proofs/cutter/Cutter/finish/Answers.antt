@@ -1,3 +1,4 @@
+use Rattle.std.proofs.lemmas.Grind.{common_steps}
 use Rattle.std.proofs.Common.{arith, ap, ◌+◌, ◌<◌, length, rules}
 use Rattle.std.proofs.lemmas.Bool.Decides.{nat_tests}
 use Rattle.xns_lines.specs.Lines.{closed_lines}
@@ -27,3 +28,6 @@ returns-clause-ok g c =
 
 pub returns-then-is_empty-clause-ok : goal.returns-then-is_empty-clause-ok
 returns-then-is_empty-clause-ok g c = search rules
+
+pub returns-clause-limits : goal.returns-clause-limits
+returns-clause-limits g c = grind (arith, common_steps)

@@ -1,3 +1,4 @@
+use Rattle.std.proofs.lemmas.Grind.{common_steps}
 use Rattle.std.proofs.Common.{◌≡◌, arith, ap, refl, length, ◌∙◌, ◌+◌, ◌++◌, ◌∷◌, []}
 use Rattle.std.proofs.lemmas.Bool.Decides.{nat_tests}
 use Rattle.std.proofs.lemmas.Result.{err_from_is_err_and}
@@ -30,3 +31,9 @@ returns-clause-ok g c =
     let none : length c.args.self.now.line.items ≡ 0 = grind (arith, nat_tests, c.is_empty.ensures, c.if-not-is_empty.false) in
     λ taken before h. takes_whole c.args.self.now _ (g.T.LineTaker.stands c.take_line.new.self before (g.W.Write.contents c.take_line.new.writer)) taken c.args.run.now c.requires (omega (arith, c.in_ok-number.ensures.ok)) none (omega arith) refl c.in_ok-number.ensures.ok.0 h.0
     (c.in_ok-take_line.ensures.ok before (closed_lines taken) (c.in_ok-number.ensures.ok.0 ∙ ap (λ n. n + 1) h.0.count) h.1)
+
+pub returns-in_err-take_run-clause-err : goal.returns-in_err-take_run-clause-err
+returns-in_err-take_run-clause-err g c = grind (arith, common_steps)
+
+pub returns-in_err-number-clause-err : goal.returns-in_err-number-clause-err
+returns-in_err-number-clause-err g c = grind (arith, common_steps)

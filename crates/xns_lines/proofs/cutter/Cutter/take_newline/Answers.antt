@@ -1,3 +1,4 @@
+use Rattle.std.proofs.lemmas.Grind.{common_steps}
 use Rattle.std.proofs.Common.{arith, ap, ◌∙◌, ◌+◌}
 use Rattle.std.proofs.lemmas.Result.{err_from_is_err_and}
 use Rattle.xns_lines.specs.Lines.{closed_lines}
@@ -18,3 +19,6 @@ returns-clause-ok g c = λ taken before h.
 
 pub returns-clause-cut : goal.returns-clause-cut
 returns-clause-cut g c = λ taken h. cut_newline c.args.self.now _ taken (omega (arith, c.in_ok-number.ensures.ok)) c.clear.ensures.items c.in_ok-number.ensures.ok.0 h
+
+pub returns-in_err-number-clause-err : goal.returns-in_err-number-clause-err
+returns-in_err-number-clause-err g c = grind (arith, common_steps)

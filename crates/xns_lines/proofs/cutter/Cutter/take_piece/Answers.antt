@@ -1,3 +1,4 @@
+use Rattle.std.proofs.lemmas.Grind.{common_steps}
 use Rattle.std.proofs.Common.{arith, ◌∙◌, ◌++◌, ◌+◌, take, drop, [], ◌∷◌, length-append}
 use Rattle.std.proofs.lemmas.List.{take_rest, length-take, append-nil}
 use Rattle.std.proofs.lemmas.Result.{err_from_is_err_and}
@@ -64,3 +65,12 @@ returns-clause-err g c =
     short_later ((taken ++ so_far.0) ++ c.loop-end.rest.now) [] _ _ _
     (append-nil ((taken ++ so_far.0) ++ c.loop-end.rest.now) ∙ whole_split taken so_far.0 c.loop-end.rest.now c.args.piece.now so_far.1)
     (short_own fault (stands before contents) (fails before contents) (taken ++ so_far.0) _ t.1 (err (taken ++ so_far.0) t.0)))
+
+pub loop-end-init : goal.loop-end-init
+loop-end-init g c = grind (arith, common_steps)
+
+pub take_end-requires : goal.take_end-requires
+take_end-requires g c = grind (arith, common_steps)
+
+pub returns-clause-room : goal.returns-clause-room
+returns-clause-room g c = grind (arith, common_steps)

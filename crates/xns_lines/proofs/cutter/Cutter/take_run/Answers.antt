@@ -1,3 +1,4 @@
+use Rattle.std.proofs.lemmas.Grind.{common_steps}
 use Rattle.std.proofs.Common.{arith, refl}
 use Rattle.xns_lines.proofs.Cutting.{cut_run, run_cut, short_long}
 use Rattle.xns_lines.proofs.cutter.Cutter.take_run.Goals as goal
@@ -9,3 +10,9 @@ returns-then-len-run-gt-MOST_LINE_BYTES-clause-err c = λ taken h.
 pub returns-in-Ok-clause-ok : goal.returns-in-Ok-clause-ok
 returns-in-Ok-clause-ok c = λ taken h.
     run_cut _ taken c.args.run.now c.requires (cut_run c.args.self.now _ taken c.args.run.now c.requires (omega (arith, c.in_ok-next_number.ensures.ok)) (omega (arith, c.args.self.now.line.ok.0)) c.in-Ok.ensures.items refl h)
+
+pub returns-then-is_empty-clause-ok : goal.returns-then-is_empty-clause-ok
+returns-then-is_empty-clause-ok c = grind (arith, common_steps)
+
+pub returns-in_err-next_number-clause-err : goal.returns-in_err-next_number-clause-err
+returns-in_err-next_number-clause-err c = grind (arith, common_steps)
