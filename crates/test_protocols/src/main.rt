@@ -1,5 +1,5 @@
-//! What `xns_idp`, `xns_small` and `xns_spp` make of worked examples, which are lines of the input. The packets are by hand from the standard,
-//! and their sums were checked by a separate program.
+//! What `xns_idp`, `xns_small` and `xns_spp` make of worked examples, and `item_world` of items, as the lines of the input say. The packets
+//! are by hand from the standard, and their sums were checked by a separate program.
 //!
 //! A line is `NAME = STEPS`, and comes back as its name and what the last step answers. Without a name it is done in silence. Steps are parted by
 //! `;`, and `3 times STEPS` does them three times. `#` begins a comment.
@@ -18,12 +18,15 @@
 //!   `tick`, `flush`, `send BYTES`, `send attention BYTES`, `receive BYTES` and `take`; `full`, `open`, `waiting` and `owns BYTES` ask.
 //! - `controls BYTES` gives new servers a packet with each control from its own on, while they come to the same.
 //!
-//! The line `faults` prints what the faults of each kind say.
+//! The line `faults` prints what the faults of each kind say. Three more lines play items between two ends: `plays` prints what comes of
+//! worked plays and of plays of steps that look random, `timeouts` how many timeouts and packets 640 items take, and `long play` a play of
+//! 140,000 items each way.
 #![tactic(auto)]
 
 mod ends;
 mod faults;
 mod hexed;
+mod items;
 mod reading;
 mod sent;
 mod small;
@@ -31,6 +34,7 @@ mod text;
 mod writing;
 
 use crate::ends::Ends;
+use crate::items::{long_play, plays, timeouts};
 use std::alloc::{AllocError, Global};
 use test_setting::SERVER_ID;
 
@@ -51,6 +55,9 @@ fn show(rt: &HostRuntime, ends: &mut Ends, line: &str) -> Result<(), anyhow::Err
     match line.as_bytes() {
         [] | [b'#', ..] => return Ok(()),
         b"faults" => return faults::show(rt),
+        b"plays" => return plays::show(rt),
+        b"timeouts" => return timeouts::show(rt),
+        b"long play" => return long_play::show(rt),
         _ => {}
     }
     let (name, steps) = match line.split_once(" = ") {
