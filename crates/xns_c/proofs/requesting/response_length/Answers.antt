@@ -4,4 +4,4 @@ use Rattle.xns_c.proofs.requesting.response_length.Goals as goal
 
 pub returns : goal.returns
 unfolding exchange_of
-returns c = search rules
+returns c = search rules steps 1000000
