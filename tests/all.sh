@@ -3,6 +3,6 @@
 set -eu
 cd "$(dirname "$0")/.."
 rt ci
-for script in program conversations plays refusals c install captures; do
+for script in pages program conversations plays refusals c install captures; do
     sh "tests/$script.sh"
 done

@@ -1,0 +1,222 @@
+"""Compares what the pages in docs/ quote of the code with the code, line by line.
+
+    python3 tests/pages.py            says what differs; status 1 where something does
+    python3 tests/pages.py --write    makes the quoted contracts anew, and then compares
+
+A block of a page is compared where its first line says where it is from:
+
+    ```rust quote CRATE ITEM ITEM ..  of each item the first paragraph of its doc comment, and what stands before its body;
+                                      of a type, a trait or a constant all of it, but for attributes before it. An item is
+                                      a name that the crate exports, TYPE::METHOD, or MODULE::FUNCTION
+    ```rust part FILE                 lines of the file: those between two blank lines stand there together
+
+Each page in docs/crates has a quoted contract, and there no block of Rust may be without one of these two.
+Another root than this repository is named last.
+"""
+import pathlib
+import re
+import sys
+
+CONTAINER = re.compile(r"(?:impl(?:<.*?>)? (?:[\w:]+(?:<.*>)? for )?|(?:pub )?trait )(\w+)")
+FUNCTION = re.compile(r"( *)(pub )?(?:const |unsafe )*fn (\w+)")
+OTHER = re.compile(r"()(pub )(?:struct|enum|trait|const|type) (\w+)")
+EXPORT = re.compile(r"^pub use [^;]*;", re.MULTILINE)
+
+
+class NotFound(Exception):
+    """There is no such item, or more than one."""
+
+
+def doc_start(lines, at):
+    """The first line of the doc comment and the attributes above a line."""
+    while at > 0 and lines[at - 1].lstrip().startswith(("///", "#[")):
+        at -= 1
+    return at
+
+
+def first_paragraph(lines):
+    """The doc comment up to its first empty line, without attributes."""
+    paragraph = []
+    for line in lines:
+        if line.strip() == "///":
+            break
+        if not line.lstrip().startswith("#["):
+            paragraph.append(line)
+    return paragraph
+
+
+def function_head(lines, at, indent):
+    """A function's lines before its body, without the brace that opens it."""
+    head, depth = [], 0
+    for line in lines[at:]:
+        if line in (indent + "{", indent + "{}"):
+            return head
+        if line.endswith(" {") and not line.startswith(indent + " "):
+            return head + [line[:-2]]
+        head.append(line)
+        depth += sum(line.count(opened) for opened in "({[") - sum(line.count(closed) for closed in ")}]")
+        if line.endswith(";") and depth == 0:
+            return head
+    raise NotFound("a function has no end")
+
+
+def whole(lines, at, indent):
+    """All lines of a type, a trait or a constant."""
+    for end in range(at, len(lines)):
+        line = lines[end]
+        if line.startswith(indent + "}") or (end == at and line.endswith((";", "}"))):
+            return lines[at:end + 1]
+    raise NotFound("an item has no end")
+
+
+class Crate:
+    """The items of a crate by their names: where each stands, and what its text is there."""
+
+    def __init__(self, root, name):
+        self.name = name
+        self.folder = root / "crates" / name / "src"
+        if not (self.folder / "lib.rt").is_file():
+            raise NotFound("there is no crate %s" % name)
+        self.lib = (self.folder / "lib.rt").read_text()
+        self.exported = set(re.findall(r"\w+", " ".join(EXPORT.findall(self.lib))))
+        self.items = {}
+        for path in sorted(self.folder.rglob("*.rt")):
+            self.read(path)
+
+    def read(self, path):
+        lines = path.read_text().split("\n")
+        holder, in_trait = None, False
+        module = path.relative_to(self.folder).with_suffix("").as_posix().replace("/", "::")
+        for at, line in enumerate(lines):
+            opened = CONTAINER.match(line)
+            if opened and line.endswith("{"):
+                holder, in_trait = opened[1], not line.startswith("impl")
+            elif line.startswith("}"):
+                holder = None
+            function = FUNCTION.match(line)
+            found = function or OTHER.match(line)
+            if not found or not (found[2] or (holder and in_trait)):
+                continue
+            indent, name = found[1], found[3]
+            names = ["%s::%s" % (holder, name)] if indent else [name, "%s::%s" % (module, name)]
+            for known in names:
+                self.items.setdefault(known, []).append((lines, at, indent, function_head if function else whole))
+
+    def is_public(self, name):
+        front, _, _ = name.partition("::")
+        return front in self.exported or re.search(r"^pub mod %s;" % front, self.lib, re.MULTILINE)
+
+    def quote(self, name):
+        found = self.items.get(name, [])
+        if len(found) != 1 or not self.is_public(name):
+            raise NotFound("%s has %s public item %s" % (self.name, "no" if len(found) < 2 else "more than one", name))
+        lines, at, indent, text = found[0]
+        doc = first_paragraph(lines[doc_start(lines, at):at])
+        return [line[len(indent):] for line in doc + text(lines, at, indent)]
+
+
+def quoted(root, words):
+    """The lines of a block of contracts."""
+    if len(words) < 2:
+        raise NotFound("a quote names a crate and its items")
+    crate = Crate(root, words[0])
+    lines = []
+    for name in words[1:]:
+        lines += ([""] if lines else []) + crate.quote(name)
+    return lines
+
+
+def strange_part(root, words, block):
+    """The first line of the first part that does not stand in the file."""
+    path = root / " ".join(words)
+    if not path.is_file():
+        raise NotFound("there is no file %s" % " ".join(words))
+    text = "\n" + path.read_text() + "\n"
+    for part in "\n".join(block).split("\n\n"):
+        if "\n" + part.strip("\n") + "\n" not in text:
+            return part.strip("\n").split("\n")[0]
+    return None
+
+
+class Page:
+    """A page, the faults of its blocks, and its lines with the quotes made anew."""
+
+    def __init__(self, root, path):
+        self.root = root
+        self.path = path
+        self.shown = path.relative_to(root)
+        self.old = path.read_text().split("\n")
+        self.new = []
+        self.faults = []
+        self.quotes = 0
+        self.parts = 0
+        self.read()
+
+    def read(self):
+        at = 0
+        while at < len(self.old):
+            line = self.old[at]
+            self.new.append(line)
+            at += 1
+            if not line.startswith("```"):
+                continue
+            block = []
+            while at < len(self.old) and self.old[at] != "```":
+                block.append(self.old[at])
+                at += 1
+            if at == len(self.old):
+                self.faults.append("%s: a block has no end" % self.shown)
+            self.new += self.compare(line[3:].split(), block)
+            self.new += self.old[at:at + 1]
+            at += 1
+        if self.is_of_crate() and self.quotes == 0:
+            self.faults.append("%s: no contract is quoted" % self.shown)
+
+    def is_of_crate(self):
+        return self.path.parent.name == "crates" and self.path.name != "README.md"
+
+    def compare(self, words, block):
+        try:
+            if words[1:2] == ["quote"]:
+                self.quotes += 1
+                right = quoted(self.root, words[2:])
+                if right != block:
+                    differs = [pair for pair in zip(block + [""], right + [""]) if pair[0] != pair[1]]
+                    self.faults.append("%s: the quote of %s differs at\n    %s\nwhere the code has\n    %s"
+                                       % ((self.shown, " ".join(words[2:])) + (differs or [("", "")])[0]))
+                return right
+            if words[1:2] == ["part"]:
+                self.parts += 1
+                strange = strange_part(self.root, words[2:], block)
+                if strange is not None:
+                    self.faults.append("%s: %s has no lines\n    %s" % (self.shown, " ".join(words[2:]), strange))
+            elif words[:1] == ["rust"] and self.is_of_crate():
+                self.faults.append("%s: a block of Rust does not say where it is from" % self.shown)
+        except NotFound as fault:
+            self.faults.append("%s: %s" % (self.shown, fault))
+        return block
+
+
+def main(words):
+    write = words[:1] == ["--write"]
+    root = pathlib.Path(words[-1] if words[int(write):] else pathlib.Path(__file__).parent.parent).resolve()
+    paths = sorted((root / "docs").rglob("*.md"))
+    pages = [Page(root, path) for path in paths]
+    if write:
+        for page in pages:
+            if page.new != page.old:
+                page.path.write_text("\n".join(page.new))
+        pages = [Page(root, path) for path in paths]
+    faults = [fault for page in pages for fault in page.faults]
+    for fault in faults:
+        print(fault)
+    quotes, parts = sum(page.quotes for page in pages), sum(page.parts for page in pages)
+    if quotes == 0:
+        print("no page quotes a contract")
+        return 1
+    print("%d quotes of contracts and %d of files, %d differ" % (quotes, parts, len(faults)))
+    return 1 if faults else 0
+
+
+if __name__ == "__main__":
+    sys.exit(main(sys.argv[1:]))

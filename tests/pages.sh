@@ -1,0 +1,88 @@
+#!/bin/sh
+# Compares what the pages in docs/ quote of the code with the code, by tests/pages.py; and tries on copies that each way in which a
+# page can differ is found. Its last line is 'N passed, M failed', and it ends with 1 where one failed. It builds nothing.
+set -u
+cd "$(dirname "$0")/.."
+root=$PWD
+work=$(mktemp -d)
+trap 'rm -rf "$work"' EXIT
+passed=0
+failed=0
+
+pass() {
+    passed=$((passed + 1))
+}
+
+fail() {
+    failed=$((failed + 1))
+    echo "FAILED $1"
+}
+
+if python3 tests/pages.py > "$work/said"; then
+    pass
+else
+    fail 'the pages:'
+    cat "$work/said"
+fi
+tail -1 "$work/said"
+
+# A copy of the pages and the code, in a folder of this name.
+copy() {
+    mkdir -p "$work/$1/crates"
+    cp -r docs "$work/$1/docs"
+    for crate in crates/*/; do
+        mkdir "$work/$1/$crate"
+        cp -r "${crate}src" "$work/$1/$crate"
+    done
+    python3 tests/pages.py --write "$work/$1" > /dev/null
+}
+
+# Copies the pages, changes one file there by one edit of sed, and wants it to be said by these words.
+found() {
+    name=$1
+    file=$2
+    edit=$3
+    said=$4
+    copy "$name"
+    cp "$work/$name/$file" "$work/before"
+    sed -i "$edit" "$work/$name/$file"
+    if cmp -s "$work/before" "$work/$name/$file"; then
+        fail "$name: the edit changes nothing"
+    elif python3 tests/pages.py "$work/$name" > "$work/said"; then
+        fail "$name: not found"
+    elif ! grep -q -F "$said" "$work/said"; then
+        fail "$name: said is"
+        cat "$work/said"
+    else
+        pass
+    fi
+}
+
+page=docs/crates/xns_idp.md
+code=crates/xns_idp/src/decoding.rt
+found a_clause_of_the_page $page 's/^    ensures exact { decode_model result/    ensures exact { decode_model  result/' 'the quote of xns_idp decode differs'
+found a_clause_that_the_page_lacks $page '/^    ensures fault {/d' 'the quote of xns_idp decode differs'
+found a_clause_of_the_code $code 's/^    ensures fault { IfErr result (λ f. /    ensures fault { IfErr result (λ e. /' 'the quote of xns_idp decode differs'
+found a_doc_comment $code 's/^\/\/\/ Reads the packet at the front/\/\/\/ Reads a packet at the front/' 'the quote of xns_idp decode differs'
+found an_item_that_is_gone $code 's/^pub fn decode(/pub fn read(/' 'xns_idp has no public item decode'
+found an_item_that_is_not_public $code 's/^pub fn decode(/pub(crate) fn decode(/' 'xns_idp has no public item decode'
+found an_item_that_is_not_exported crates/xns_idp/src/lib.rt '/^pub use decoding::decode;/d' 'xns_idp has no public item decode'
+found a_method_that_is_gone crates/xns_spp/src/endpoint.rt 's/pub fn send_fault(/pub fn send_refusal(/' 'xns_spp has no public item Endpoint::send_fault'
+found an_item_that_never_was $page 's/^```rust quote xns_idp decode$/```rust quote xns_idp decode decode_all/' 'xns_idp has no public item decode_all'
+found a_crate_that_never_was $page 's/^```rust quote xns_idp decode$/```rust quote xns_ipd decode/' 'there is no crate xns_ipd'
+found a_page_without_a_quote docs/crates/xns_sim.md 's/^```rust quote .*/```text/' 'docs/crates/xns_sim.md: no contract is quoted'
+found a_block_from_nowhere $page 's/^```rust part .*/```rust/' 'does not say where it is from'
+found a_caller_that_changed crates/examples/src/packet.rt 's/body: &packet.body/body: \&packet.data/' 'crates/examples/src/packet.rt has no lines'
+found a_block_without_an_end docs/crates/xns_sim.md '$d' 'docs/crates/xns_sim.md: a block has no end'
+
+# What was changed in the code is quoted anew.
+copy anew
+sed -i 's/^    ensures fault { IfErr result (λ f. /    ensures fault { IfErr result (λ e. /' "$work/anew/$code"
+if python3 tests/pages.py --write "$work/anew" > /dev/null && grep -q 'ensures fault { IfErr result (λ e. ' "$work/anew/$page"; then
+    pass
+else
+    fail 'a quote is not made anew'
+fi
+cd "$root" || exit 1
+echo "$passed passed, $failed failed"
+[ "$failed" = 0 ]
