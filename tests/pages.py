@@ -1,4 +1,4 @@
-"""Compares what the pages in docs/ quote of the code with the code, line by line.
+"""Compares what the pages in docs/ quote of the code with the code, line by line, and looks for the files that they name.
 
     python3 tests/pages.py            says what differs; status 1 where something does
     python3 tests/pages.py --write    makes the quoted contracts anew, and then compares
@@ -11,6 +11,8 @@ A block of a page is compared where its first line says where it is from:
     ```rust part FILE                 lines of the file: those between two blank lines stand there together
 
 Each page in docs/crates has a quoted contract, and there no block of Rust may be without one of these two.
+A file or folder that a page or README.md names from the root, as `crates/xns_idp/src/places.rt`, is to be there. In an entry of
+docs/MAP.md a name without its folder, as `places.rt`, stands for one in the crate that was named before it.
 Another root than this repository is named last.
 """
 import pathlib
@@ -20,6 +22,11 @@ import sys
 CONTAINER = re.compile(r"(?:impl(?:<.*?>)? (?:[\w:]+(?:<.*>)? for )?|(?:pub )?trait )(\w+)")
 FUNCTION = re.compile(r"( *)(pub )?(?:const |unsafe )*fn (\w+)")
 OTHER = re.compile(r"()(pub )(?:struct|enum|trait|const|type) (\w+)")
+NAMED = re.compile(r"`([^`\s]+)`")
+FROM_ROOT = re.compile(r"(?:crates|tests|docs|examples|python|bench|include)/[\w./+-]+")
+PARTS = ("src", "specs", "proofs", "must-fail")
+IN_CRATE = re.compile(r"(?:[\w+-]+/)*[\w+-]+\.(?:rt|antt)")
+MADE = re.compile(r"crates/mine\b|.*/out(?:/|$)")
 EXPORT = re.compile(r"^pub use [^;]*;", re.MULTILINE)
 
 
@@ -197,6 +204,35 @@ class Page:
         return block
 
 
+def names(text):
+    """The names in a text, without those in blocks."""
+    return NAMED.findall(re.sub(r"^```.*?^```$", "", text, flags=re.MULTILINE | re.DOTALL))
+
+
+def missing_files(root, path):
+    """The files and folders that a page names and that are not there."""
+    text = path.read_text()
+    missing = [name for name in names(text)
+               if FROM_ROOT.fullmatch(name) and not MADE.match(name) and not (root / name).exists()]
+    if path.name == "MAP.md":
+        for entry in text.split("\n- "):
+            missing += missing_in_crate(root, entry)
+    return missing
+
+
+def missing_in_crate(root, entry):
+    """The files without their folder that an entry of the map names."""
+    crate, missing = None, []
+    for name in names(entry):
+        if name.startswith("crates/"):
+            crate = root / "crates" / name.split("/")[1]
+        elif crate and IN_CRATE.fullmatch(name):
+            folders = [crate / "src", crate / "specs"] if name.split("/")[0] not in PARTS else [crate]
+            if not any(folder.joinpath(name).exists() or any(folder.rglob(name)) for folder in folders):
+                missing.append("%s of %s" % (name, crate.name))
+    return missing
+
+
 def main(words):
     write = words[:1] == ["--write"]
     root = pathlib.Path(words[-1] if words[int(write):] else pathlib.Path(__file__).parent.parent).resolve()
@@ -208,6 +244,8 @@ def main(words):
                 page.path.write_text("\n".join(page.new))
         pages = [Page(root, path) for path in paths]
     faults = [fault for page in pages for fault in page.faults]
+    for path in paths + [root / "README.md"]:
+        faults += ["%s: there is no %s" % (path.relative_to(root), name) for name in missing_files(root, path)]
     for fault in faults:
         print(fault)
     quotes, parts = sum(page.quotes for page in pages), sum(page.parts for page in pages)

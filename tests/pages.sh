@@ -3,7 +3,6 @@
 # page can differ is found. Its last line is 'N passed, M failed', and it ends with 1 where one failed. It builds nothing.
 set -u
 cd "$(dirname "$0")/.."
-root=$PWD
 work=$(mktemp -d)
 trap 'rm -rf "$work"' EXIT
 passed=0
@@ -26,32 +25,40 @@ else
 fi
 tail -1 "$work/said"
 
-# A copy of the pages and the code, in a folder of this name.
-copy() {
-    mkdir -p "$work/$1/crates"
-    cp -r docs "$work/$1/docs"
-    for crate in crates/*/; do
-        mkdir "$work/$1/$crate"
-        cp -r "${crate}src" "$work/$1/$crate"
-    done
-    python3 tests/pages.py --write "$work/$1" > /dev/null
-}
+# A copy of the repository, whose quotes are made anew. Each change is made there, and taken back.
+right=$work/right
+mkdir "$right"
+tar c --exclude=out --exclude=.git . | tar x -C "$right"
+python3 tests/pages.py --write "$right" > /dev/null
 
-# Copies the pages, changes one file there by one edit of sed, and wants it to be said by these words.
+# Changes one file by one edit of sed, and wants it to be said by these words.
 found() {
     name=$1
     file=$2
     edit=$3
     said=$4
-    copy "$name"
-    cp "$work/$name/$file" "$work/before"
-    sed -i "$edit" "$work/$name/$file"
-    if cmp -s "$work/before" "$work/$name/$file"; then
+    cp "$right/$file" "$work/before"
+    sed -i "$edit" "$right/$file"
+    if cmp -s "$work/before" "$right/$file"; then
         fail "$name: the edit changes nothing"
-    elif python3 tests/pages.py "$work/$name" > "$work/said"; then
-        fail "$name: not found"
-    elif ! grep -q -F "$said" "$work/said"; then
-        fail "$name: said is"
+    else
+        wanted "$name" "$said"
+    fi
+    cp "$work/before" "$right/$file"
+}
+
+# Takes a file away, and wants it to be said by these words.
+gone() {
+    mv "$right/$1" "$work/before"
+    wanted "$1 is gone" "there is no $2"
+    mv "$work/before" "$right/$1"
+}
+
+wanted() {
+    if python3 tests/pages.py "$right" > "$work/said"; then
+        fail "$1: not found"
+    elif ! grep -q -F "$2" "$work/said"; then
+        fail "$1: said is"
         cat "$work/said"
     else
         pass
@@ -75,14 +82,17 @@ found a_block_from_nowhere $page 's/^```rust part .*/```rust/' 'does not say whe
 found a_caller_that_changed crates/examples/src/packet.rt 's/body: &packet.body/body: \&packet.data/' 'crates/examples/src/packet.rt has no lines'
 found a_block_without_an_end docs/crates/xns_sim.md '$d' 'docs/crates/xns_sim.md: a block has no end'
 
+gone tests/plays.sh tests/plays.sh
+gone crates/xns_idp/src/places.rt crates/xns_idp/src/places.rt
+gone crates/xns_spp/specs/Acceptance.antt 'specs/Acceptance.antt of xns_spp'
+gone crates/xns_spp/specs/Early.antt 'Early.antt of xns_spp'
+
 # What was changed in the code is quoted anew.
-copy anew
-sed -i 's/^    ensures fault { IfErr result (λ f. /    ensures fault { IfErr result (λ e. /' "$work/anew/$code"
-if python3 tests/pages.py --write "$work/anew" > /dev/null && grep -q 'ensures fault { IfErr result (λ e. ' "$work/anew/$page"; then
+sed -i 's/^    ensures fault { IfErr result (λ f. /    ensures fault { IfErr result (λ e. /' "$right/$code"
+if python3 tests/pages.py --write "$right" > /dev/null && grep -q 'ensures fault { IfErr result (λ e. ' "$right/$page"; then
     pass
 else
     fail 'a quote is not made anew'
 fi
-cd "$root" || exit 1
 echo "$passed passed, $failed failed"
 [ "$failed" = 0 ]
