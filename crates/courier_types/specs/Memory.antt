@@ -44,4 +44,5 @@ abbrev mutual
   -- the designator is listed, and its value wants memory, or is read and then held
   pub MemberWants : MemberModels → ℕ → List ℕ → Type 0
   MemberWants no_members _ _ = ⊥
-  MemberWants (member_and designator shape members) chosen ws = ((chosen ≡ designator) × (WantsMemory shape ws ⊎ IsOk (reading shape ws))) ⊎ ((chosen ≢ designator) × MemberWants members chosen ws)
+  MemberWants (member_and designator shape members) chosen ws =
+      ((chosen ≡ designator) × (WantsMemory shape ws ⊎ IsOk (reading shape ws))) ⊎ ((chosen ≢ designator) × MemberWants members chosen ws)
