@@ -1,5 +1,6 @@
 #!/bin/sh
-# Installs the program and the library for C under a fresh folder by install.sh, uses what stands there, and takes it away again.
+# Tries install.sh: first with a kit that builds nothing, in seconds, and then with the real one, under a fresh folder. What stands there
+# is used, and taken away again.
 # What it leaves out because a tool is missing it says. Its last line is 'N passed, M failed', and it ends with 1 where one failed.
 set -u
 cd "$(dirname "$0")/.."
@@ -46,17 +47,183 @@ if [ -z "$compiler" ] || ! has ar; then
     finish
 fi
 
-# ---- what is installed, and nothing else
+# ---- the script itself, in a copy of the repository, with a kit that proves nothing and builds little
+
+# Runs the words: they must end with the status, and the last line on standard error is the one that is given.
+ends() {
+    name=$1 status=$2 line=$3
+    shift 3
+    "$@" > "$work/out" 2> "$work/err"
+    ended=$?
+    if [ $ended -eq "$status" ] && [ "$(tail -n 1 "$work/err")" = "$line" ]; then passed=$((passed + 1)); else fail "$name: $ended and not $status"; fi
+}
+
+# Under a folder stand the folders, files and links that are given, and nothing else.
+holds() {
+    name=$1 folder=$2
+    shift 2
+    printf '%s\n' "$@" | sort > "$work/expected"
+    (cd "$folder" && find . ! -name . | sed 's|^\./||' | sort) > "$work/there" 2> "$work/err"
+    if diff "$work/expected" "$work/there" > "$work/err"; then passed=$((passed + 1)); else fail "$name"; fi
+}
+
+version=$(cat VERSION)
+pages='C CAPTURES ENDPOINT FORMATS GLOSSARY PROMISES WORLD'
+folders='bin include lib lib/pkgconfig share share/doc share/doc/xns share/doc/xns/examples share/man share/man/man1 share/xns share/xns/python'
+files="bin/xns include/xns.h lib/libxns.a lib/libxns.so lib/libxns.so.0 lib/libxns.so.$version lib/pkgconfig/xns.pc share/man/man1/xns.1"
+for page in $pages; do files="$files share/doc/xns/$page.md"; done
+files="$files share/doc/xns/examples/six-calls.hex share/xns/installed share/xns/python/xns.py"
+
+mkdir -p "$work/kit/bin" "$work/kit/c" "$work/copy/crates/xns" "$work/copy/crates/xns_c"
+cp -r install.sh release.sh VERSION docs include python examples "$work/copy/"
+echo 'int xns_there(void) { return 1; }' > "$work/kit/there.c"
+"$compiler" -fPIC -c "$work/kit/there.c" -o "$work/kit/there.o"
+for archive in libxns_c.a c/liblibc_c.a; do (cd "$work/kit" && ar qcs $archive there.o); done
+cat > "$work/kit/bin/rt" << 'END'
+#!/bin/sh
+kit=$(dirname "$0")/..
+case $1 in
+doc)
+    echo "$kit/START-HERE.md"
+    exit
+    ;;
+run)
+    [ ! -e "$kit/refuses" ] || exit 1
+    mkdir -p out
+    echo '#!/bin/sh' > out/xns
+    ;;
+lib)
+    mkdir -p out
+    cp "$kit/libxns_c.a" out/libxns_c.a
+    ;;
+esac
+echo "$*" >> "$kit/commands"
+END
+chmod +x "$work/kit/bin/rt"
+plain_path=$PATH
+script=$work/copy/install.sh
+notice='The program and the library are proved and built: half an hour or more the first time, then seconds. What follows is the log of the proofs.'
+
+without=
+for folder in $(echo "$plain_path" | tr : ' '); do
+    if [ ! -x "$folder/rt" ]; then without=$without${without:+:}$folder; fi
+done
+PATH=$without
+ends 'without the kit' 1 'install.sh: there is no rt: the Rattle kit is needed to build' sh "$script" "$work/none/deep"
+[ ! -e "$work/none" ] || fail 'without the kit a folder is left'
+
+PATH=$work/kit/bin:$plain_path
+for words in '' --uninstall 'one two' '--uninstall one two'; do
+    # shellcheck disable=SC2086
+    ends "the words '$words'" 2 "install.sh: one folder is wanted; try 'sh install.sh --help'" sh "$script" $words
+done
+ends 'another option' 2 "install.sh: there is no option --prefix=x; try 'sh install.sh --help'" sh "$script" --prefix=x
+ends 'no name' 2 "install.sh: one folder is wanted; try 'sh install.sh --help'" sh "$script" ''
+for folder in "$work/a blank" "$work/a\$sign" "$work/ü" "$work/a;sign" "$work/a:b"; do
+    ends 'a folder that pkg-config does not take' 2 "install.sh: pkg-config does not take the folder $folder; try 'sh install.sh --help'" sh "$script" "$folder"
+    [ ! -e "$folder" ] || fail 'it is left'
+done
+ends 'a folder that pkg-config does not take, from where one stands' 2 "install.sh: pkg-config does not take the folder $work/a b/c; try 'sh install.sh --help'" \
+    sh -c "mkdir '$work/a b' && cd '$work/a b' && sh '$script' c"
+ends 'DESTDIR with a folder from where one stands' 2 "install.sh: with DESTDIR the folder has to begin with /; try 'sh install.sh --help'" env DESTDIR="$work/stage" sh "$script" usr
+for option in --help -h; do
+    expect "$option" sh "$script" $option
+    expect 'tells how it is called' grep -qx 'usage: sh install.sh PREFIX' "$work/out"
+done
+
+# What can't be written is seen before anything is proved, and nothing is left.
+mkdir "$work/way"
+touch "$work/way/share"
+ends 'a file in the place of a folder' 1 "install.sh: $work/way/share cannot be made" sh "$script" "$work/way"
+holds 'and nothing else is left' "$work/way" share
+rm "$work/way/share"
+mkdir -p "$work/way/lib/libxns.a"
+ends 'a folder in the place of a file' 1 "install.sh: $work/way/lib/libxns.a is a folder" sh "$script" "$work/way"
+holds 'and nothing else is left there' "$work/way" lib lib/libxns.a
+if [ "$(id -u)" -ne 0 ]; then
+    mkdir "$work/closed"
+    chmod 555 "$work/closed"
+    ends 'a folder that is closed' 1 "install.sh: $work/closed/bin cannot be made" sh "$script" "$work/closed"
+    mkdir "$work/way/bin"
+    chmod 555 "$work/way/bin"
+    ends 'a closed folder in it' 1 "install.sh: $work/way/bin cannot be written in" sh "$script" "$work/way"
+    chmod 755 "$work/closed" "$work/way/bin"
+else left_out 'another user than root' 'folders that are closed'; fi
+ends 'and the folder of all processes' 1 'install.sh: /proc/xns cannot be made' sh "$script" /proc/xns
+[ ! -e "$work/kit/commands" ] || fail 'something was built before'
+touch "$work/kit/refuses"
+ends 'a proof that fails' 1 "$notice" sh "$script" "$work/none/deep"
+[ ! -e "$work/none" ] || fail 'after a proof that fails a folder is left'
+rm "$work/kit/refuses"
+
+# What is put there, and taken away with the folders that were made.
+ends 'installing' 0 "$notice" sh "$script" "$work/made/deep"
+# shellcheck disable=SC2086
+holds 'what is there' "$work/made/deep" $folders $files
+ends 'and again' 0 "$notice" sh "$script" "$work/made/deep"
+expect 'taking it away' sh "$script" --uninstall "$work/made/deep"
+[ ! -e "$work/made" ] || fail 'a folder that was made is left'
+mkdir -p "$work/kept/lib" "$work/kept/share/doc"
+ends 'installing in a folder that is there' 0 "$notice" sh -c "cd '$work' && sh '$script' kept/"
+expect 'its folder for pkg-config' grep -qx "prefix=$work/kept" "$work/kept/lib/pkgconfig/xns.pc"
+touch "$work/kept/bin/another"
+mkdir "$work/kept/share/xns/python/__pycache__"
+touch "$work/kept/share/xns/python/__pycache__/xns.cpython-311.pyc"
+expect 'taking it away there' sh "$script" --uninstall "$work/kept"
+holds 'leaves what was there, and what another put there' "$work/kept" bin bin/another lib share share/doc
+ends 'taking it away twice' 1 "install.sh: nothing was installed under $work/kept" sh "$script" --uninstall "$work/kept"
+
+echo 0.0.9 > "$work/copy/VERSION"
+ends 'an older version' 0 "$notice" sh "$script" "$work/versions"
+cp VERSION "$work/copy/VERSION"
+ends 'a newer one over it' 0 "$notice" sh "$script" "$work/versions"
+# shellcheck disable=SC2086
+holds 'leaves nothing of the older' "$work/versions" $folders $files
+
+# Under another folder, whose name may have a blank.
+ends 'installing under DESTDIR' 0 "$notice" env DESTDIR="$work/a stage" sh "$script" /opt/xns/
+# shellcheck disable=SC2046,SC2086
+holds 'what is there under DESTDIR' "$work/a stage" opt opt/xns $(printf 'opt/xns/%s\n' $folders $files)
+expect 'PREFIX for pkg-config' grep -qx 'prefix=/opt/xns' "$work/a stage/opt/xns/lib/pkgconfig/xns.pc"
+expect 'taking it away from DESTDIR' env DESTDIR="$work/a stage" sh "$script" --uninstall /opt/xns
+[ ! -e "$work/a stage" ] || fail 'a folder under DESTDIR is left'
+
+# The archive: the same bytes each time, whatever rights new files get, and nothing else than what is installed.
+for place in one two; do mkdir "$work/$place"; done
+ends 'an archive' 0 "$notice" sh "$work/copy/release.sh" "$work/one"
+printf '%s\n' "$work/one/xns-$version-x86_64-linux.tar.gz" "$work/one/xns-$version-x86_64-linux.tar.gz.sha256" > "$work/names"
+expect 'its name, and that of its sum' cmp "$work/names" "$work/out"
+sleep 1
+ends 'an archive for where one stands' 0 "$notice" sh -c "umask 077 && cd '$work/two' && sh '$work/copy/release.sh'"
+expect 'has the same bytes' cmp "$work/one/xns-$version-x86_64-linux.tar.gz" "$work/two/xns-$version-x86_64-linux.tar.gz"
+expect 'and sum' cmp "$work/one/xns-$version-x86_64-linux.tar.gz.sha256" "$work/two/xns-$version-x86_64-linux.tar.gz.sha256"
+ends 'an archive with an option' 2 'usage: sh release.sh [FOLDER]' sh "$work/copy/release.sh" --all
+
+PATH=$plain_path
+
+# ---- what is installed by the real kit, and nothing else
 
 if ! sh install.sh "$prefix" > "$work/said" 2> "$work/err"; then
     fail 'install.sh'
     finish
 fi
-(cd "$prefix" && find . -type f | sed 's|^\./||' | sort) > "$work/there"
-printf '%s\n' bin/xns include/xns.h lib/libxns.a lib/libxns.so lib/pkgconfig/xns.pc share/man/man1/xns.1 > "$work/expected"
-expect 'the files' cmp "$work/expected" "$work/there"
+# shellcheck disable=SC2086
+holds 'the files' "$prefix" $folders $files
+# shellcheck disable=SC2086
+printf '%s\n' $files | sort > "$work/expected"
 sed "s|^$prefix/||" "$work/said" | sort > "$work/names"
 expect 'their names are printed' cmp "$work/expected" "$work/names"
+{
+    for words in --help 'dump --help' 'calls --help' 'sim --help'; do
+        # shellcheck disable=SC2086
+        "$prefix/bin/xns" $words
+    done
+    cat "$prefix/share/man/man1/xns.1" "$prefix/include/xns.h" "$prefix/share/xns/python/xns.py" "$prefix"/share/doc/xns/C*.md
+} | grep -o '[A-Z]*\.md' | sort -u > "$work/pages"
+[ -s "$work/pages" ] || fail 'no page is named'
+while read -r page; do
+    expect "the page $page, which is named" test -s "$prefix/share/doc/xns/$page"
+done < "$work/pages"
 
 echo 532300220002000000010000aa0001020002000000010000aa000304040000014869 > "$work/request"
 expect 'the program' sh -c "'$prefix/bin/xns' dump < '$work/request'"
@@ -133,18 +300,39 @@ if has man && man --version 2> /dev/null | grep -q '^man [0-9]'; then
     expect 'has the commands' sh -c "grep -q 'xns dump' '$work/page' && grep -q 'xns calls' '$work/page' && grep -q 'xns sim' '$work/page'"
 else left_out man 'the manual page'; fi
 
-# ---- a wrong command line, and taking it away
+# ---- the archive for those who have no kit
 
-sh install.sh > "$work/out" 2> "$work/err"
-echo $? > "$work/status"
-sh install.sh --uninstall >> "$work/out" 2> "$work/err"
-echo $? >> "$work/status"
-printf '2\n2\n' > "$work/two"
-expect 'without a folder install.sh ends with 2' cmp "$work/two" "$work/status"
+name=xns-$version-x86_64-linux
+if sh release.sh "$work/one" > "$work/said" 2> "$work/err"; then
+    expect 'its sum' sh -c "cd '$work/one' && sha256sum -c '$name.tar.gz.sha256'"
+    expect 'another' sh -c "sh release.sh '$work/two' 2> '$work/log'"
+    expect 'is the same' cmp "$work/one/$name.tar.gz" "$work/two/$name.tar.gz"
+    expect 'unpacking' tar -xzf "$work/one/$name.tar.gz" -C "$work"
+    unpacked=$work/$name
+    # shellcheck disable=SC2046,SC2086
+    holds 'what is in it' "$unpacked" README $folders $(echo $files | sed 's|share/xns/installed||')
+    for file in bin/xns include/xns.h lib/libxns.a lib/libxns.so; do expect "$file" cmp "$prefix/$file" "$unpacked/$file"; done
+    if has pkg-config; then
+        from=$(PKG_CONFIG_PATH=$unpacked/lib/pkgconfig pkg-config --cflags --libs xns)
+        # shellcheck disable=SC2086
+        expect 'a program in C' "$compiler" $flags -std=c99 examples/c/courier.c $from -o "$work/courier"
+        expect 'runs with it' env LD_LIBRARY_PATH="$unpacked/lib" "$work/courier"
+        expect 'and is answered by it' grep -qx 42 "$work/out"
+    fi
+    # shellcheck disable=SC2086
+    expect 'a program in C against its archive' "$compiler" $flags -std=c99 -I"$unpacked/include" examples/c/courier.c "$unpacked/lib/libxns.a" -o "$work/courier"
+    expect 'runs' env -u LD_LIBRARY_PATH "$work/courier"
+    expect 'and is answered' grep -qx 42 "$work/out"
+    if has python3; then
+        expect 'an example in Python' env XNS_LIBRARY="$unpacked/lib/libxns.so" PYTHONPATH="$unpacked/share/xns/python" python3 -B examples/python/endpoint.py
+        expect 'has its item' grep -qx world "$work/out"
+    else left_out python3 'the module for Python'; fi
+else fail 'release.sh'; fi
+
+# ---- taking it away
+
 touch "$prefix/lib/another"
 expect 'taking it away' sh install.sh --uninstall "$prefix"
-(cd "$prefix" && find . -type f) > "$work/there"
-echo ./lib/another > "$work/left"
-expect 'leaves nothing of it, and all else' cmp "$work/left" "$work/there"
+holds 'leaves nothing of it, and all else' "$prefix" lib lib/another
 
 finish
