@@ -108,6 +108,18 @@ grep -E '^[0-9]+ 2[ab] ' calls_expected > second_expected
 xns_hex -r calls.pcap 2> /dev/null | xns calls | grep -E '^[0-9]+ 2[ab] ' > from_second
 same 'one conversation' second_expected from_second
 
+# ---- identifiers that are used again: the second time prints nothing, and all where the capture is cut at its opening
+
+cat "$root/examples/six-calls.hex" "$root/examples/six-calls.hex" > again.hex
+xns calls < "$root/examples/six-calls.hex" > once
+xns calls < again.hex > from_again
+same 'a connection that comes again' once from_again
+at=$(xns dump < again.hex | grep ' spp .* target 0000 ' | tail -1 | cut -d ' ' -f 1)
+{ head -n $((at - 1)) again.hex | xns calls; tail -n "+$at" again.hex | xns calls; } > from_cut
+cat once once > twice
+[ -s once ] || echo nothing > from_cut
+same 'the same cut at its second opening' twice from_cut
+
 # ---- live, from a pipe in the place of an interface
 
 xns_hex -l -i - < ethernet.pcap 2> /dev/null | xns dump > from_live
@@ -134,9 +146,17 @@ same 'large frames left out' text from_without_large
 # With a frame of another type in front, so that frame numbers and line numbers differ.
 { echo "0000aa0001020000aa000304080045"; cat ethernet.hex; } > behind.hex
 text2pcap -q -r '^(?<data>[0-9a-f]+)$' behind.hex behind.pcap 2> /dev/null
-xns_framed behind.pcap 2> /dev/null > numbered
+xns_framed dump behind.pcap 2> /dev/null > numbered
 awk '{$1=$1+1}1' text > later
 same 'frame numbers kept' later numbered
+
+# The worked calls behind two such frames: each number of a line is two more, that of an answer's call too.
+{ head -1 behind.hex; head -1 behind.hex; sed 's/^/0000aa0001020000aa0003040600/' calls.hex; } > calls_behind.hex
+text2pcap -q -r '^(?<data>[0-9a-f]+)$' calls_behind.hex calls_behind.pcap 2> /dev/null
+xns_framed calls calls_behind.pcap 2> /dev/null > calls_numbered
+sed -E 's/ of ([0-9]+) / of @\1 /' calls_expected | awk '{$1=$1+2} $6~/^@/{$6=substr($6,2)+2} 1' > calls_later
+grep -q ' of [0-9]' calls_later || : > calls_numbered
+same 'frame numbers of calls and of what they answer' calls_later calls_numbered
 
 if command -v tcpdump > /dev/null; then
     tcpdump -xtr ethernet.pcap ether proto 0x600 2> /dev/null | awk '/^\t/{$1="";printf "%s",$0;next} NR>1{print ""} END{if(NR)print ""}' | xns dump > from_tcpdump
