@@ -1,9 +1,11 @@
 -- Packets, and the bytes that spell them (XSIS 028112, Internet Datagram Protocol, Packet Format).
-use Rattle.std.specs.Prelude.{◌≡◌, ℕ, ◌+◌, ◌%◌, ◌<◌, ◌≤◌, ◌^◌, All, Bool, if◌then◌else◌, List, [], ◌∷◌, ◌++◌, length, take, replicate}
+use Rattle.std.specs.Prelude.{◌≡◌, ℕ, ◌+◌, ◌%◌, ◌<◌, ◌≤◌, ◌^◌, All, Bool, ◌&&◌, ◌==◌, if◌then◌else◌, List, [], ◌∷◌, ◌++◌, length, take, replicate}
 use Rattle.std.specs.Int.{w16, w32, to_be_bytes}
+use Rattle.std.specs.Str.{bytes_eq}
 use Rattle.xns_idp.specs.Checksum.{words, cycle_checksum}
 use Rattle.xns_idp.specs.declared.address.Address.{Address}
 use Rattle.xns_idp.specs.declared.packet.Packet.{Packet}
+use Rattle.xns_idp.specs.declared.packet.TheConstants.{MOST_DATA, MOST_PACKET}
 
 -- a packet without where its body lies in memory
 pub record PacketModel : Type 0 where
@@ -43,15 +45,19 @@ pub record IsPacket (p : PacketModel) : Type 0 where
 abbrev pub broadcast : List ℕ
 broadcast = replicate 6 255
 
+-- one host and one socket, whatever the networks
+abbrev pub same_place : Address → Address → Bool
+same_place a b = bytes_eq a.host b.host && a.socket == b.socket
+
 -- ---- the bytes of a packet
 
--- a packet has at most so many bytes of data (the limit is this project's, to bound memory)
+-- a packet has at most so many bytes of data (the limit is this project's, to bound memory; its number stands in the code)
 abbrev pub most_data : ℕ
-most_data = 546
+most_data = MOST_DATA
 
 -- a packet has at most so many bytes, those of its header and its data without the garbage byte (the limit is this project's)
 abbrev pub most_packet : ℕ
-most_packet = 576
+most_packet = MOST_PACKET
 
 -- network, host, socket (Network Addresses)
 abbrev pub address_bytes : Address → List ℕ

@@ -17,13 +17,20 @@ pub struct Address {
 }
 
 impl Address {
-    ghost use Rattle.xns_idp.specs.Packet.{IsAddress, address_bytes, broadcast};
+    ghost use Rattle.xns_idp.specs.Packet.{IsAddress, address_bytes, broadcast, same_place};
 
     /// Whether its host is the broadcast host.
     pub fn is_broadcast(&self) -> bool
         ensures { IsTrue result ↔ (self.now.host ≡ broadcast) }
     {
         self.host == BROADCAST
+    }
+
+    /// Whether both addresses name one host and one socket. Networks are not compared.
+    pub fn is_same_place(&self, other: &Address) -> bool
+        ensures { result ≡ same_place self.now other.now }
+    {
+        self.host == other.host && self.socket == other.socket
     }
 
     /// Does nothing; says to a proof that the numbers of an address are within their types' bounds.

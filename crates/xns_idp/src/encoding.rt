@@ -21,6 +21,8 @@ pub fn encode(alloc: Global, packet: &Packet<'_>, out: &mut Vec<u8>) -> Result<(
     ensures err { OnErr result (out.new.items ≡ out.old.items) }
     // It is refused memory only where `out` has no room for the packet's bytes.
     ensures memory { OnErr result (vec_capacity out.old < vec_len out.old + made_even (30 + length packet.now.body.now)) }
+    // No room is given back.
+    ensures room { vec_capacity out.old ≤ vec_capacity out.new }
 {
     encode_parts(alloc, packet, &[], out)
 }
@@ -40,6 +42,8 @@ pub fn encode_parts(
     ensures err { OnErr result (out.new.items ≡ out.old.items) }
     // It is refused memory only where `out` has no room for the packet's bytes.
     ensures memory { OnErr result (vec_capacity out.old < vec_len out.old + made_even (30 + (length packet.now.body.now + length rest.now))) }
+    // No room is given back.
+    ensures room { vec_capacity out.old ≤ vec_capacity out.new }
 {
     let (target, source) = (packet.target.to_bytes(), packet.source.to_bytes());
     let size = packet.body.len() + rest.len();
@@ -61,6 +65,7 @@ fn pad(size: usize, out: &mut Vec<u8>) -> Result<(), AllocError>
     requires { vec_len out.old + size % 2 ≤ vec_capacity out.old }
     ensures ok { IsOk result }
     ensures items { out.new.items ≡ out.old.items ++ replicate (size % 2) 0 }
+    ensures room { vec_capacity out.old ≤ vec_capacity out.new }
 {
     if size % 2 == 1 {
         out.push(GARBAGE)?;

@@ -14,7 +14,7 @@ pub const MOST_DATA: usize = 546;
 
 /// A packet has at most so many bytes, those of its header and its data without the garbage byte (XSIS 028112, Internet Datagram
 /// Protocol; the limit is this project's, to bound memory).
-pub const MOST_PACKET: usize = 576;
+pub const MOST_PACKET: usize = HEADER_BYTES + MOST_DATA;
 
 /// The checksum field of a packet without a checksum.
 pub(crate) const NO_SUM: u16 = 65535;
