@@ -31,9 +31,13 @@ pub record IsErrorReport (v : ErrorReportModel) : Type 0 where
   pub number : v.number < 2 ^ 16
   pub parameter : v.parameter < 2 ^ 16
 
--- the same report with no more quoted than the first 42 bytes: a header and twelve bytes
+-- so many bytes of the offending packet are quoted: a header and twelve bytes
+abbrev pub most_quoted : ℕ
+most_quoted = 42
+
+-- the same report with no more quoted than that
 abbrev pub with_front_quoted : ErrorReportModel → ErrorReportModel
-with_front_quoted v = record v { quoted = take 42 v.quoted }
+with_front_quoted v = record v { quoted = take most_quoted v.quoted }
 
 -- what the bytes are by the places of their fields, or their first fault
 unfoldable pub error_of : List ℕ → Result ErrorReportModel SmallFault
@@ -47,7 +51,7 @@ pub record MayBeComplainedOf (offending : List ℕ) : Type 0 where
   pub kind : slice_index offending 5 ≢ 3
   pub target : (address_at offending 6).host ≢ broadcast
 
--- an Error packet to the offending packet's source, by its place in the header, quoting its first 42 bytes
+-- an Error packet to the offending packet's source, by its place in the header, quoting its front
 unfoldable pub complaint : Address → ℕ → ℕ → List ℕ → List ℕ
 complaint own number parameter offending =
-    sent_packet 3 own (address_at offending 18) (error_spelling (record { number = number; parameter = parameter; quoted = take 42 offending }))
+    sent_packet 3 own (address_at offending 18) (error_spelling (record { number = number; parameter = parameter; quoted = take most_quoted offending }))

@@ -10,6 +10,7 @@ pub(crate) fn append(out: &mut Vec<u8>, head: &[u8], body: &[u8]) -> Result<(), 
     ensures ok { OnOk result (out.new.items ≡ out.old.items ++ (head.now ++ body.now)) }
     ensures err { OnErr result (out.new.items ≡ out.old.items) }
     ensures memory { OnErr result (vec_capacity out.old < vec_len out.old + (length head.now + length body.now)) }
+    ensures room { vec_capacity out.old ≤ vec_capacity out.new }
 {
     out.reserve(head.len() + body.len())?;
     out.extend_from_slice(head)?;

@@ -65,6 +65,8 @@ pub fn write_echo(_alloc: Global, echo: &Echo<'_>, out: &mut Vec<u8>) -> Result<
     ensures err { OnErr result (out.new.items ≡ out.old.items) }
     // It is refused memory only where `out` has no room for the bytes.
     ensures memory { OnErr result (vec_capacity out.old < vec_len out.old + (2 + length echo.now.body.now)) }
+    // No room is given back.
+    ensures room { vec_capacity out.old ≤ vec_capacity out.new }
 {
     let operation = if echo.reply { REPLY } else { REQUEST };
     append(out, &operation.to_be_bytes(), echo.body)

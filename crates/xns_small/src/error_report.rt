@@ -1,5 +1,5 @@
 ghost use Rattle.std.specs.Prelude.{◌≡◌, ◌+◌, ◌<◌, ◌≤◌, ◌++◌, length, take, IfOk, OnOk, OnErr, Ok, vec_len, vec_capacity};
-ghost use Rattle.xns_small.specs.ErrorReport.{ErrorReportModel, IsErrorReport, SpellsError, error_report_model, error_of, error_spelling, with_front_quoted};
+ghost use Rattle.xns_small.specs.ErrorReport.{ErrorReportModel, IsErrorReport, SpellsError, error_report_model, error_of, error_spelling, most_quoted, with_front_quoted};
 ghost use Rattle.xns_small.specs.Reading.{answer_model};
 
 use crate::appending::append;
@@ -67,7 +67,9 @@ pub fn write_error(
     ensures ok { OnOk result (out.new.items ≡ out.old.items ++ error_spelling (with_front_quoted (error_report_model report.now))) }
     ensures err { OnErr result (out.new.items ≡ out.old.items) }
     // It is refused memory only where `out` has no room for the bytes.
-    ensures memory { OnErr result (vec_capacity out.old < vec_len out.old + (4 + length (take 42 report.now.quoted.now))) }
+    ensures memory { OnErr result (vec_capacity out.old < vec_len out.old + (4 + length (take most_quoted report.now.quoted.now))) }
+    // No room is given back.
+    ensures room { vec_capacity out.old ≤ vec_capacity out.new }
 {
     let [n0, n1] = report.number.to_be_bytes();
     let [p0, p1] = report.parameter.to_be_bytes();
@@ -76,8 +78,8 @@ pub fn write_error(
 
 /// The first 42 bytes, or all if there are fewer.
 fn front_of(quoted: &[u8]) -> &[u8]
-    ensures front { result.now ≡ take 42 quoted.now }
-    ensures short { length result.now ≤ 42 }
+    ensures front { result.now ≡ take most_quoted quoted.now }
+    ensures short { length result.now ≤ most_quoted }
 {
     if quoted.len() <= QUOTED {
         return quoted;

@@ -65,6 +65,8 @@ pub fn write_exchange(
     ensures err { OnErr result (out.new.items ≡ out.old.items) }
     // It is refused memory only where `out` has no room for the bytes.
     ensures memory { OnErr result (vec_capacity out.old < vec_len out.old + (6 + length exchange.now.body.now)) }
+    // No room is given back.
+    ensures room { vec_capacity out.old ≤ vec_capacity out.new }
 {
     let [i0, i1, i2, i3] = exchange.id.to_be_bytes();
     let [c0, c1] = exchange.client.to_be_bytes();

@@ -1,6 +1,6 @@
 //! What the definitions imply, each as the contract of a function that does nothing.
 
-ghost use Rattle.xns_small.specs.Laws.{WrittenEchoIsReadAgain, WrittenErrorIsReadAgain, WrittenExchangeIsReadAgain, AnAnsweredEchoCarriesTheRequest};
+ghost use Rattle.xns_small.specs.Laws.{WrittenEchoIsReadAgain, WrittenErrorIsReadAgain, WrittenExchangeIsReadAgain, AnAnsweredEchoCarriesTheRequest, ErrorNumbersAreTheStandards};
 
 use xns_idp::laws::written_packet_is_read_again;
 
@@ -26,3 +26,8 @@ pub fn an_answered_echo_carries_the_request()
 {
     written_packet_is_read_again();
 }
+
+/// The numbers of [`crate::error_number`] are those of the standard.
+pub fn error_numbers_are_the_standards()
+    ensures { ErrorNumbersAreTheStandards }
+{}
