@@ -2,6 +2,7 @@
 """Times a proved program beside a plain Rust peer, five runs of each in turn, or fifteen of `exchange` and `calls`, which scatter, and
 prints the medians and their ratio.
 
+    python3 bench/compare.py all          all of those below, and then the table of their ratios, with the peer of each, the processor and the compilers
     python3 bench/compare.py checksum     the cycle checksum of a million packets of 576 bytes
     python3 bench/compare.py values       Courier values read, read over pieces, and written; the least time of many
     python3 bench/compare.py c            a million packets of 576 bytes written and read by the library for C, beside plain C and
@@ -26,7 +27,7 @@ The proved program is built by `rt run` in its crate, the peer by `rustc -O`. Ab
 ratio is of processor time in one run. What is printed is thrown away, once it is known that both print the same; that of `xns dump` goes
 into a file too, which costs both the same time of the system's.
 """
-import os, pathlib, statistics, subprocess, sys, tempfile, time
+import functools, os, pathlib, statistics, subprocess, sys, tempfile, time
 
 BENCH = pathlib.Path(__file__).resolve().parent
 CRATES = BENCH.parent / "crates"
@@ -34,6 +35,7 @@ RUNS = 5
 MANY_RUNS = 15
 
 
+@functools.cache
 def built_program(crate):
     """The program of a crate, proved and built."""
     program = CRATES / crate / "out" / crate
@@ -44,12 +46,14 @@ def built_program(crate):
     return program
 
 
+@functools.cache
 def built_peer(name, folder, *flags):
     peer = pathlib.Path(folder) / "-".join([name, *flags[1:]])
     subprocess.run(["rustc", "-O", "--edition", "2021", *flags, "-o", peer, BENCH / f"{name}.rs"], check=True)
     return peer
 
 
+@functools.cache
 def built_c(name, folder, library):
     """The program of a C file, with the library for C behind it or not."""
     program = pathlib.Path(folder) / name
@@ -69,6 +73,10 @@ def built_c(name, folder, library):
 def output_of(words, given):
     with open(given, "rb") as lines:
         return subprocess.run(words, stdin=lines, stdout=subprocess.PIPE, check=False).stdout
+
+
+def made_by(script, *words):
+    return subprocess.run([sys.executable, BENCH / script, *words], stdout=subprocess.PIPE, check=True).stdout
 
 
 def seconds_of(words, given, to=os.devnull):
@@ -109,8 +117,13 @@ def nanoseconds_of(words):
     return counts, {line.rsplit(" ", 1)[0]: int(line.rsplit(" ", 1)[1]) for line in lines if line not in counts}
 
 
+def ratio_of(medians):
+    return medians["ours"] / medians["peer"]
+
+
 def compare_values(ours, peer):
-    """The least time of each kind of work over all runs: ours to the peer's, and reading over pieces to reading."""
+    """The least time of each kind of work over all runs: ours to the peer's, and reading over pieces to reading. Rows of those beside the peer."""
+    rows = []
     least = {"ours": {}, "peer": {}}
     for _ in range(RUNS):
         counts = {}
@@ -125,76 +138,143 @@ def compare_values(ours, peer):
         other = least[beside][work if beside == "peer" else work.replace(" pieces", " read")]
         against = "the peer" if beside == "peer" else "our reading of a slice"
         print(f"{work}: {spent} ns, {spent / other:.2f} of {against}")
+        if beside == "peer":
+            rows.append((f"Courier value: {work}", "values_peer", spent / other))
+    return rows
+
+
+def time_checksum(folder, given):
+    given.touch()
+    medians = compare([built_program("bench"), "checksum"], [built_peer("checksum_peer", folder)], given)
+    yield "the checksum of a million packets", "checksum_peer", ratio_of(medians)
+
+
+def time_values(folder, _given):
+    yield from compare_values([built_program("bench"), "values"], [built_peer("values_peer", folder)])
+
+
+def time_c(folder, given):
+    given.touch()
+    library = built_c("c_codec", folder, True)
+    medians = compare([library], [built_c("c_codec_peer", folder, False)], given)
+    yield "a million packets written and read by the library for C", "c_codec_peer.c, by gcc -O2", ratio_of(medians)
+    medians = compare([library], [built_program("bench"), "codec"], given)
+    print(f"through C each packet takes {(medians['ours'] - medians['peer']) * 1000:.0f} ns more than in Rattle, for its two calls")
+
+
+def time_exchange(folder, given):
+    given.touch()
+    ours = [built_program("bench"), "exchange"]
+    loop, lanes = built_peer("exchange_peer", folder, "--cfg", "standard"), built_peer("exchange_peer", folder)
+    for order in ("ordered", "late", "lossy"):
+        for name, peer in (("loop", loop), ("lanes", lanes)):
+            print(f"{order}, {name}:", end=" ", flush=True)
+            medians = compare([*ours, order, "5"], [peer, order, "5"], given, runs=MANY_RUNS)
+            yield f"65,535 items each way between two ends, {order}", f"exchange_peer, sums in {'a ' if name == 'loop' else ''}{name}", ratio_of(medians)
+
+
+def time_calls(folder, given):
+    given.touch()
+    ours = [built_program("bench"), "calls"]
+    plain, tuned = built_peer("calls_peer", folder, "--cfg", "plain"), built_peer("calls_peer", folder)
+    for name, what, counts in (("adds", "100,000 calls Add in memory", ["100000", "0"]), ("lists", "200 calls of 60,000 cardinals each way", ["0", "200"])):
+        for kind, peer in (("plain", plain), ("tuned", tuned)):
+            print(f"{name}, {kind}:", end=" ", flush=True)
+            medians = compare([*ours, *counts], [peer, *counts], given, runs=MANY_RUNS)
+            print(f"{name}, {kind}: ours holds {held_by([*ours, *counts], given)} KiB at most, the peer {held_by([peer, *counts], given)}")
+            yield what, f"calls_peer, {kind}", ratio_of(medians)
+    print("adds through C, beside Rattle:", end=" ", flush=True)
+    medians = compare([built_c("c_calls", folder, True), "100000"], [*ours, "100000", "0"], given, runs=MANY_RUNS)
+    yield "100,000 calls Add through the library for C", "the same in Rattle", ratio_of(medians)
+
+
+def time_sim(folder, given):
+    ours, peer = built_program("xns"), built_peer("sim_peer", folder)
+    for words in (["2500"], ["5000"], ["10000"], ["5000", "6"]):
+        given.write_bytes(made_by("script.py", *words))
+        what = f"{words[0]} calls{' with repeats' if len(words) > 1 else ''}"
+        print(f"{what}:", end=" ", flush=True)
+        yield f"`xns sim` of {what}", "sim_peer", ratio_of(compare([ours, "sim"], [peer], given))
+
+
+def time_plays(folder, given):
+    ours, peer = [built_program("bench"), "play"], built_peer("sim_peer", folder)
+    given.write_bytes(made_by("script.py", "1000", "96"))
+    print(f"{sum(not line.startswith(b'call') for line in given.read_bytes().splitlines())} events:", end=" ", flush=True)
+    yield "a play of 1,000 calls and 100,000 events", "sim_peer", ratio_of(compare([*ours, "calls"], [peer], given))
+    for count in ("1000", "10000", "65535"):
+        packets = int(output_of([*ours, count], given).split()[-1])
+        median = statistics.median(seconds_of([*ours, count], given) for _ in range(RUNS))
+        print(f"{count} items each way: {median:.3f} s for {packets} packets, {median / packets * 1e9:.0f} ns each")
+
+
+def time_dump(folder, given):
+    ours, peer = built_program("xns"), built_peer("dump_peer", folder)
+    for which in (["data"], ["echo"], ["error"], ["exchange"], ["sequenced", "1"], ["sequenced", "1000"], ["sequenced", "65536"], ["messages"]):
+        given.write_bytes(made_by("packets.py", *which))
+        what = f"`xns dump` of 65,536 packets, {which[0]}{f' in flows: {which[1]}' if len(which) > 1 else ''}"
+        print(" ".join(which) + ":", end=" ", flush=True)
+        yield f"{what}, thrown away", "dump_peer", ratio_of(compare([ours, "dump"], [peer], given))
+        print("    into a file:", end=" ", flush=True)
+        yield f"{what}, into a file", "dump_peer", ratio_of(compare([ours, "dump"], [peer], given, pathlib.Path(folder) / "output"))
+        print(f"    ours holds {held_by([ours, 'dump'], given)} KiB at most, the peer {held_by([peer], given)}")
+
+
+def time_captures(folder, given):
+    ours, peer = built_program("xns"), built_peer("captures_peer", folder)
+    for which in ("short", "reversed", "long", "flows", "endless", "endless-flows"):
+        given.write_bytes(made_by("captures.py", which))
+        print(f"{which}:", end=" ", flush=True)
+        medians = compare([ours, "calls"], [peer], given)
+        dump = statistics.median(seconds_of([ours, "dump"], given) for _ in range(RUNS))
+        print(f"    {medians['ours'] / dump:.2f} of the time of dump; ours holds {held_by([ours, 'calls'], given)} KiB at most, the peer {held_by([peer], given)}")
+        yield f"`xns calls` of 65,536 packets, {which}", "captures_peer", ratio_of(medians)
+
+
+TIMINGS = {
+    "checksum": time_checksum,
+    "values": time_values,
+    "c": time_c,
+    "exchange": time_exchange,
+    "calls": time_calls,
+    "sim": time_sim,
+    "plays": time_plays,
+    "dump": time_dump,
+    "captures": time_captures,
+}
+
+
+def first_line(*words):
+    return subprocess.run(words, stdout=subprocess.PIPE, check=True, text=True).stdout.splitlines()[0]
+
+
+def processor():
+    names = [line.partition(":")[2].strip() for line in pathlib.Path("/proc/cpuinfo").read_text().splitlines() if line.startswith("model name")]
+    return f"{len(names)} x {names[0]}" if names else f"{os.cpu_count()} processors without a name"
+
+
+def print_table(rows, before):
+    """The rows as a table in Markdown, under what they were measured on."""
+    after = os.getloadavg()[0]
+    print(f"\nProcessor {processor()}, load {before:.1f} before and {after:.1f} after. Ours by {first_line('rt', 'version')}; the peers in bench/ by {first_line('rustc', '--version')}, `rustc -O`.\n")
+    print("| What | Peer | Ratio |\n|---|---|---|")
+    for what, peer, ratio in rows:
+        print(f"| {what} | {peer} | {ratio:.2f} |")
 
 
 def main():
     which = sys.argv[1] if len(sys.argv) == 2 else ""
+    if which not in TIMINGS and which != "all":
+        sys.exit(__doc__)
+    before = os.getloadavg()[0]
+    rows = []
     with tempfile.TemporaryDirectory() as folder:
-        given = pathlib.Path(folder) / "given"
-        if which == "checksum":
-            given.touch()
-            compare([built_program("bench"), "checksum"], [built_peer("checksum_peer", folder)], given)
-        elif which == "dump":
-            ours, peer = built_program("xns"), built_peer("dump_peer", folder)
-            for which in (["data"], ["echo"], ["error"], ["exchange"], ["sequenced", "1"], ["sequenced", "1000"], ["sequenced", "65536"], ["messages"]):
-                given.write_bytes(subprocess.run([sys.executable, BENCH / "packets.py", *which], stdout=subprocess.PIPE, check=True).stdout)
-                print(" ".join(which) + ":", end=" ", flush=True)
-                compare([ours, "dump"], [peer], given)
-                print("    into a file:", end=" ", flush=True)
-                compare([ours, "dump"], [peer], given, pathlib.Path(folder) / "output")
-                print(f"    ours holds {held_by([ours, 'dump'], given)} KiB at most, the peer {held_by([peer], given)}")
-        elif which == "captures":
-            ours, peer = built_program("xns"), built_peer("captures_peer", folder)
-            for which in ("short", "reversed", "long", "flows", "endless", "endless-flows"):
-                given.write_bytes(subprocess.run([sys.executable, BENCH / "captures.py", which], stdout=subprocess.PIPE, check=True).stdout)
-                print(f"{which}:", end=" ", flush=True)
-                medians = compare([ours, "calls"], [peer], given)
-                dump = statistics.median(seconds_of([ours, "dump"], given) for _ in range(RUNS))
-                print(f"    {medians['ours'] / dump:.2f} of the time of dump; ours holds {held_by([ours, 'calls'], given)} KiB at most, the peer {held_by([peer], given)}")
-        elif which == "sim":
-            ours, peer = built_program("xns"), built_peer("sim_peer", folder)
-            for words in (["2500"], ["5000"], ["10000"], ["5000", "6"]):
-                given.write_bytes(subprocess.run([sys.executable, BENCH / "script.py", *words], stdout=subprocess.PIPE, check=True).stdout)
-                print(f"{words[0]} calls{' with repeats' if len(words) > 1 else ''}:", end=" ", flush=True)
-                compare([ours, "sim"], [peer], given)
-        elif which == "plays":
-            ours, peer = [built_program("bench"), "play"], built_peer("sim_peer", folder)
-            given.write_bytes(subprocess.run([sys.executable, BENCH / "script.py", "1000", "96"], stdout=subprocess.PIPE, check=True).stdout)
-            print(f"{sum(not line.startswith(b'call') for line in given.read_bytes().splitlines())} events:", end=" ", flush=True)
-            compare([*ours, "calls"], [peer], given)
-            for count in ("1000", "10000", "65535"):
-                packets = int(output_of([*ours, count], given).split()[-1])
-                median = statistics.median(seconds_of([*ours, count], given) for _ in range(RUNS))
-                print(f"{count} items each way: {median:.3f} s for {packets} packets, {median / packets * 1e9:.0f} ns each")
-        elif which == "values":
-            compare_values([built_program("bench"), "values"], [built_peer("values_peer", folder)])
-        elif which == "c":
-            given.touch()
-            library = built_c("c_codec", folder, True)
-            compare([library], [built_c("c_codec_peer", folder, False)], given)
-            medians = compare([library], [built_program("bench"), "codec"], given)
-            print(f"through C each packet takes {(medians['ours'] - medians['peer']) * 1000:.0f} ns more than in Rattle, for its two calls")
-        elif which == "exchange":
-            given.touch()
-            ours = [built_program("bench"), "exchange"]
-            loop, lanes = built_peer("exchange_peer", folder, "--cfg", "standard"), built_peer("exchange_peer", folder)
-            for order in ("ordered", "late", "lossy"):
-                for name, peer in (("loop", loop), ("lanes", lanes)):
-                    print(f"{order}, {name}:", end=" ", flush=True)
-                    compare([*ours, order, "5"], [peer, order, "5"], given, runs=MANY_RUNS)
-        elif which == "calls":
-            given.touch()
-            ours = [built_program("bench"), "calls"]
-            plain, tuned = built_peer("calls_peer", folder, "--cfg", "plain"), built_peer("calls_peer", folder)
-            for name, counts in (("adds", ["100000", "0"]), ("lists", ["0", "200"])):
-                for kind, peer in (("plain", plain), ("tuned", tuned)):
-                    print(f"{name}, {kind}:", end=" ", flush=True)
-                    compare([*ours, *counts], [peer, *counts], given, runs=MANY_RUNS)
-                    print(f"{name}, {kind}: ours holds {held_by([*ours, *counts], given)} KiB at most, the peer {held_by([peer, *counts], given)}")
-            print("adds through C, beside Rattle:", end=" ", flush=True)
-            compare([built_c("c_calls", folder, True), "100000"], [*ours, "100000", "0"], given, runs=MANY_RUNS)
-        else:
-            sys.exit(__doc__)
+        for name in TIMINGS if which == "all" else [which]:
+            if which == "all":
+                print(f"\n{name}", flush=True)
+            rows += TIMINGS[name](folder, pathlib.Path(folder) / f"given-{name}")
+    if which == "all":
+        print_table(rows, before)
 
 
 main()
