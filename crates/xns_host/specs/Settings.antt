@@ -1,0 +1,61 @@
+-- What a host is made with.
+use Rattle.std.specs.Prelude.{◌≡◌, ℕ, ◌≤◌, Bool, not, ◌&&◌, ◌==◌, nat_lt, nat_le, if◌then◌else◌, Option, Some, None, Result, Ok, Err}
+use Rattle.xns_spp.specs.Ends.{IsCapacity, most_pending}
+use Rattle.xns_host.specs.declared.host_fault.HostFault.{HostFault}
+use Rattle.xns_host.specs.declared.host_fault.HostFault.TheVariants.{OutOfRange}
+use Rattle.xns_host.specs.declared.pace.Pace.{Pace}
+use Rattle.xns_host.specs.declared.setting.Setting.{Setting}
+use Rattle.xns_host.specs.declared.setting.Setting.TheVariants.{Connections, Window, Backlog, FirstWait, LongestWait, Tries, Strays}
+use Rattle.xns_host.specs.declared.settings.Settings.{Settings}
+
+-- times are in milliseconds
+abbrev pub usual_settings : Settings
+usual_settings = record { connections = 64; window = 8; backlog = 16; first_wait = 250; longest_wait = 8000; idle = 10000; tries = 8; strays = 16 }
+
+-- numbers of connections have 16 bits
+abbrev pub most_connections : ℕ
+most_connections = 65535
+
+abbrev pub most_strays : ℕ
+most_strays = 1024
+
+-- each setting is in its range
+pub record IsFit (s : Settings) : Type 0 where
+  pub some_connections : 1 ≤ s.connections
+  pub connections : s.connections ≤ most_connections
+  pub window : IsCapacity s.window
+  pub backlog : IsCapacity s.backlog
+  pub first_wait : 1 ≤ s.first_wait
+  pub longest_wait : s.first_wait ≤ s.longest_wait
+  pub tries : 1 ≤ s.tries
+  pub some_strays : 1 ≤ s.strays
+  pub strays : s.strays ≤ most_strays
+
+abbrev pub is_within : ℕ → ℕ → ℕ → Bool
+is_within low n high = nat_le low n && nat_le n high
+
+-- the first one that is not
+abbrev pub wrong_setting : Settings → Option Setting
+wrong_setting s =
+    if not (is_within 1 s.connections most_connections) then Some Connections
+    else if not (is_within 1 s.window most_pending) then Some Window
+    else if not (is_within 1 s.backlog most_pending) then Some Backlog
+    else if s.first_wait == 0 then Some FirstWait
+    else if nat_lt s.longest_wait s.first_wait then Some LongestWait
+    else if s.tries == 0 then Some Tries
+    else if not (is_within 1 s.strays most_strays) then Some Strays
+    else None
+
+abbrev pub answer_unless : Option Setting → Result (Unit {0}) HostFault
+answer_unless None = Ok tt
+answer_unless (Some setting) = Err (OutOfRange setting)
+
+abbrev pub settings_answer : Settings → Result (Unit {0}) HostFault
+settings_answer s = answer_unless (wrong_setting s)
+
+-- what a connection's waits are made of
+pub record IsPaceOf (s : Settings) (p : Pace) : Type 0 where
+  pub first : p.first ≡ s.first_wait
+  pub longest : p.longest ≡ s.longest_wait
+  pub idle : p.idle ≡ s.idle
+  pub tries : p.tries ≡ s.tries

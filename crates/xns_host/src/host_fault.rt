@@ -1,0 +1,37 @@
+use crate::setting::Setting;
+use thiserror::Error;
+
+/// Why a host does not do what it is asked. Nothing is changed then.
+#[derive(Clone, Copy, Debug, PartialEq, Eq, Error)]
+pub enum HostFault {
+    /// A setting is out of its range: the first one.
+    #[error("the setting {setting:?} is out of its range")]
+    OutOfRange { setting: Setting },
+    /// No connection has this number.
+    #[error("no connection has the number {number}")]
+    NoConnection { number: usize },
+    /// As many connections are there as the settings say, and none gives way.
+    #[error("as many connections are there as the host may have")]
+    NoRoom,
+    /// Sixteen other sockets are served.
+    #[error("a host serves at most 16 sockets")]
+    TooManyServices,
+    /// A call waits for its answer, or the answer was not fetched.
+    #[error("a call waits for its answer, or the answer was not fetched")]
+    Busy,
+    /// The peer opened the connection: its side calls.
+    #[error("the peer's side calls")]
+    PeerCalls,
+    /// No call was handed that is not answered.
+    #[error("no call waits for an answer")]
+    NoCall,
+    /// The connection is closed or was asked to close: nothing more is said.
+    #[error("the connection is closed, or closes")]
+    Closing,
+    /// The message has more words than Courier carries.
+    #[error("the message is too long")]
+    TooLong,
+    /// An allocation failure.
+    #[error("an allocation failure")]
+    NoMemory,
+}

@@ -1,0 +1,11 @@
+/// A field of [`Settings`](crate::Settings).
+#[derive(Clone, Copy, Debug, PartialEq, Eq)]
+pub enum Setting {
+    Connections,
+    Window,
+    Backlog,
+    FirstWait,
+    LongestWait,
+    Tries,
+    Strays,
+}

@@ -1,0 +1,106 @@
+ghost use Rattle.std.specs.Prelude.{◌≡◌, Ok, IfOk, OnOk};
+ghost use Rattle.xns_host.specs.Settings.{usual_settings, settings_answer, wrong_setting, is_within, IsFit, IsPaceOf};
+
+use crate::host_fault::HostFault;
+use crate::pace::Pace;
+use crate::setting::Setting;
+use xns_spp::MOST_PENDING;
+
+/// What a host is made with. Each has its range, which [`Settings::check`] asks. Times are in milliseconds.
+#[derive(Clone, Copy, Debug, PartialEq, Eq)]
+pub struct Settings {
+    /// How many connections there are at most: 1 to 65,535.
+    pub connections: usize,
+    /// How many items a connection keeps until they are handed up: 1 to 64.
+    pub window: usize,
+    /// How many items a connection keeps until they are acknowledged: 1 to 64.
+    pub backlog: usize,
+    /// The first wait for an acknowledgement: from 1.
+    pub first_wait: u32,
+    /// The longest wait: from `first_wait`.
+    pub longest_wait: u32,
+    /// How long the peer may be silent before it is asked for a word, where nothing waits for it. 0: it is never asked.
+    pub idle: u32,
+    /// How many waits without a word of the peer are borne: from 1. After one more it is given up.
+    pub tries: u8,
+    /// How many packets of no connection wait to go out at most: 1 to 1,024.
+    pub strays: usize,
+}
+
+impl Default for Settings {
+    fn default() -> Settings
+        ensures { result ≡ usual_settings }
+    {
+        Settings {
+            connections: 64,
+            window: 8,
+            backlog: 16,
+            first_wait: 250,
+            longest_wait: 8_000,
+            idle: 10_000,
+            tries: 8,
+            strays: 16,
+        }
+    }
+}
+
+/// Whether a number is in a range.
+fn is_within(low: usize, number: usize, high: usize) -> bool
+    ensures { result ≡ is_within low number high }
+{
+    low <= number && number <= high
+}
+
+impl Settings {
+    /// The first setting that is out of its range.
+    fn wrong(&self) -> Option<Setting>
+        ensures { result ≡ wrong_setting self.now }
+    {
+        if !is_within(1, self.connections, 65_535) {
+            return Some(Setting::Connections);
+        }
+        if !is_within(1, self.window, MOST_PENDING) {
+            return Some(Setting::Window);
+        }
+        if !is_within(1, self.backlog, MOST_PENDING) {
+            return Some(Setting::Backlog);
+        }
+        if self.first_wait == 0 {
+            return Some(Setting::FirstWait);
+        }
+        if self.longest_wait < self.first_wait {
+            return Some(Setting::LongestWait);
+        }
+        if self.tries == 0 {
+            return Some(Setting::Tries);
+        }
+        if !is_within(1, self.strays, 1_024) {
+            return Some(Setting::Strays);
+        }
+        None
+    }
+
+    /// Whether each setting is in its range. An `Err` is [`HostFault::OutOfRange`] with the first one that is not.
+    pub fn check(&self) -> Result<(), HostFault>
+        ensures answer { result ≡ settings_answer self.now }
+        ensures fit { OnOk result (IsFit self.now) }
+    {
+        match self.wrong() {
+            Some(setting) => Err(HostFault::OutOfRange { setting }),
+            None => Ok(()),
+        }
+    }
+
+    /// How long a connection waits.
+    pub fn pace(&self) -> Pace
+        requires { IsFit self.now }
+        ensures { IsPaceOf self.now result }
+    {
+        Pace {
+            first: self.first_wait,
+            longest: self.longest_wait,
+            idle: self.idle,
+            tries: self.tries,
+        }
+    }
+}
