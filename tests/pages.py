@@ -12,7 +12,8 @@ A block of a page is compared where its first line says where it is from:
 
 Each page in docs/crates has a quoted contract, and there no block of Rust may be without one of these two.
 A file or folder that a page or README.md names from the root, as `crates/xns_idp/src/places.rt`, is to be there. In an entry of
-docs/MAP.md a name without its folder, as `places.rt`, stands for one in the crate that was named before it.
+docs/MAP.md a name without its folder, as `places.rt`, stands for one in the crate that was named before it. The map's first table has
+a row for each line of crates.txt, which names what the crate stands on, but for the parts of std.
 Another root than this repository is named last.
 """
 import pathlib
@@ -233,6 +234,31 @@ def missing_in_crate(root, entry):
     return missing
 
 
+def crate_rows(text):
+    """What each crate of the map's table stands on, without what stands in brackets."""
+    rows = {}
+    for line in text.split("\n"):
+        cells = [cell.strip() for cell in line.strip("|").split(" | ")]
+        if len(cells) > 3 and re.fullmatch(r"`\w+`", cells[0]):
+            rows[cells[0].strip("`")] = re.sub(r"\([^)]*\)", "", cells[2])
+    return rows
+
+
+def map_faults(root):
+    """Crates that the map does not know, or of which it says otherwise what they stand on."""
+    rows, faults = crate_rows((root / "docs/MAP.md").read_text()), []
+    for line in (root / "crates.txt").read_text().split("\n"):
+        front, _, behind = line.split("#")[0].partition(":")
+        if not behind:
+            continue
+        name = front.split()[0]
+        low = {crate for crate in behind.split() if crate != "core" and not crate.startswith("std_")}
+        cell = rows.pop(name, "")
+        if not cell or ("the libraries" not in cell and set(NAMED.findall(cell)) != low):
+            faults.append("docs/MAP.md: %s stands on %s" % (name, " ".join(sorted(low))))
+    return faults + ["docs/MAP.md: crates.txt has no %s" % name for name in rows]
+
+
 def main(words):
     write = words[:1] == ["--write"]
     root = pathlib.Path(words[-1] if words[int(write):] else pathlib.Path(__file__).parent.parent).resolve()
@@ -244,6 +270,7 @@ def main(words):
                 page.path.write_text("\n".join(page.new))
         pages = [Page(root, path) for path in paths]
     faults = [fault for page in pages for fault in page.faults]
+    faults += map_faults(root)
     for path in paths + [root / "README.md"]:
         faults += ["%s: there is no %s" % (path.relative_to(root), name) for name in missing_files(root, path)]
     for fault in faults:
