@@ -1,18 +1,20 @@
 //! What `xns_idp`, `xns_small` and `xns_spp` make of worked examples, and `item_world` of items, as the lines of the input say. The packets
 //! are by hand from the standard, and their sums were checked by a separate program.
 //!
-//! A line is `NAME = STEPS`, and comes back as its name and what the last step answers. Without a name it is done in silence. Steps are parted by
-//! `;`, and `3 times STEPS` does them three times. `#` begins a comment.
+//! A line is `NAME = STEPS`, and comes back as its name and what the last step answers. Without a name it is done in
+//! silence. Steps are parted by `;`, and `3 times STEPS` does them three times. `#` begins a comment.
 //!
-//! BYTES are hex digits, which spaces may part; `5a*534` is a byte 534 times, and `-` none. `packet 0` is the first packet that an end sent last,
-//! `reply` what an end last replied, and `in packet 0` and `in reply` are what such a packet carries.
+//! BYTES are hex digits, which spaces may part; `5a*534` is a byte 534 times, and `-` none. `packet 0` is the first
+//! packet that an end sent last, `reply` what an end last replied, and `in packet 0` and `in reply` are what such a
+//! packet carries.
 //!
-//! - `decode BYTES`, `read_echo BYTES` and the like tell what the function of that name makes of the bytes, and `fault BYTES` has its words too.
-//!   `sum BYTES` is their checksum, `bytes BYTES` the bytes themselves, and `nearest 65534 1` the number nearest to 65,534 with 1 as its field.
+//! - `decode BYTES`, `read_echo BYTES` and the like tell what the function of that name makes of the bytes, and `fault
+//!   BYTES` has its words too. `sum BYTES` is their checksum, `bytes BYTES` the bytes themselves, and `nearest 65534 1`
+//!   the number nearest to 65,534 with 1 as its field.
 //! - `write packet aa BYTES`, `write echo aa BYTES` and the like read the bytes, and write what was read behind aa.
 //! - `at server echo BYTES` is the reply of the Echo server there to a packet, and `at server answered BYTES` whether there is one.
-//!   `at server complain BYTES` is the complaint of a wrong checksum, and `at server refuse BYTES` that of no named reason. In place of `server`
-//!   there may be `caller`.
+//!   `at server complain BYTES` is the complaint of a wrong checksum, and `at server refuse BYTES` that of no named
+//!   reason. In place of `server` there may be `caller`.
 //! - `request` is a request of Packet Exchange, and `accept BYTES` what such a requester makes of a packet.
 //! - `ends 4` makes a caller and a server with a window of four, `ends 4 another` with another server. Then `caller` and `server` each may
 //!   `tick`, `flush`, `send BYTES`, `send attention BYTES`, `receive BYTES` and `take`; `full`, `open`, `waiting` and `owns BYTES` ask.

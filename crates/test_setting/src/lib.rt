@@ -1,5 +1,5 @@
-//! The setting of the worked examples: a caller and a server, and the packets that they begin with. The packets are by hand from the standard, and
-//! their sums were checked by a separate program.
+//! The setting of the worked examples: a caller and a server, and the packets that they begin with. The packets are by
+//! hand from the standard, and their sums were checked by a separate program.
 #![tactic(auto)]
 
 ghost use Rattle.std.specs.Prelude.{◌<◌, ◌≤◌, IfOk};
