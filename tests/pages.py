@@ -14,6 +14,7 @@ Each page in docs/crates has a quoted contract, and there no block of Rust may b
 A file or folder that a page or README.md names from the root, as `crates/xns_idp/src/places.rt`, is to be there. In an entry of
 docs/MAP.md a name without its folder, as `places.rt`, stands for one in the crate that was named before it. The map's first table has
 a row for each line of crates.txt, which names what the crate stands on, but for the parts of std.
+A name of code that a page in docs/ has, as `Endpoint::send` or `xns_decode`, is to stand somewhere in the code.
 Another root than this repository is named last.
 """
 import pathlib
@@ -27,6 +28,9 @@ NAMED = re.compile(r"`([^`\s]+)`")
 FROM_ROOT = re.compile(r"(?:crates|tests|docs|examples|python|bench|include)/[\w./+-]+")
 PARTS = ("src", "specs", "proofs", "must-fail")
 IN_CRATE = re.compile(r"(?:[\w+-]+/)*[\w+-]+\.(?:rt|antt)")
+CODE_NAME = re.compile(r"[A-Za-z]\w*(?:(?:::|\.)\w+)*(?:\(\))?")
+CODE = ("crates/*/src/**/*", "crates/*/specs/**/*", "crates/*/stdin", "crates.txt", "include/*", "python/*", "bench/*", "tests/**/*",
+        "examples/**/*")
 MADE = re.compile(r"crates/mine\b|.*/out(?:/|$)")
 EXPORT = re.compile(r"^pub use [^;]*;", re.MULTILINE)
 
@@ -234,6 +238,23 @@ def missing_in_crate(root, entry):
     return missing
 
 
+def words_of_code(root):
+    """Each word of the code, the tests and the examples, and the names of their files."""
+    words = set()
+    for pattern in CODE:
+        for path in root.glob(pattern):
+            if path.is_file() and path.name not in ("pages.py", "pages.sh"):
+                words.update(re.findall(r"\w+", path.name + " " + path.read_text(errors="replace")))
+    return words
+
+
+def unknown_names(path, words):
+    """The names of code in a page of which some word stands nowhere in the code. Beginnings of names, as `xns_caller_`, and what
+    stands for a word of the reader's, as `PREFIX`, are passed over."""
+    return [name for name in names(path.read_text()) if CODE_NAME.fullmatch(name) and not re.fullmatch("[A-Z]+", name)
+            and any(len(word) > 2 and word not in words and not word.endswith("_") for word in re.findall(r"\w+", name))]
+
+
 def crate_rows(text):
     """What each crate of the map's table stands on, without what stands in brackets."""
     rows = {}
@@ -271,6 +292,9 @@ def main(words):
         pages = [Page(root, path) for path in paths]
     faults = [fault for page in pages for fault in page.faults]
     faults += map_faults(root)
+    words_known = words_of_code(root)
+    for path in paths:
+        faults += ["%s: %s is not in the code" % (path.relative_to(root), name) for name in unknown_names(path, words_known)]
     for path in paths + [root / "README.md"]:
         faults += ["%s: there is no %s" % (path.relative_to(root), name) for name in missing_files(root, path)]
     for fault in faults:
