@@ -2,6 +2,7 @@
 use Rattle.std.proofs.Common.{◌≡◌, ℕ, zero, suc, ◌+◌, ◌*◌, get_or, ◌<◌, ◌≤◌, Bool, true, false, ◌&&◌, List, [], ◌∷◌, length, drop, None, Result, Ok, Err, is_ok, IsOk, refl, sym, ap, subst, ◌∙◌, arith, inl, inr, ◌⊎◌, eq-eqb}
 use Rattle.std.proofs.lemmas.Bool.{cases_eq}
 use denote.Param.Weighed.{most, at_most}
+use Rattle.std.specs.Option.{option_or}
 use Rattle.courier_types.specs.declared.read_fault.Reason.TheVariants.{Truncated}
 use Rattle.courier_types.specs.declared.stop.Stop.{Stop}
 use Rattle.courier_types.specs.declared.stop.Stop.TheVariants as stops
@@ -9,7 +10,7 @@ use Rattle.courier_types.specs.Source.{Fails}
 use Rattle.courier_types.specs.declared.shape.Shape.{Shape}
 use Rattle.courier_types.specs.Shape.{ShapeModel, ShapeModels, no_shapes, shape_and, MemberModels, no_members, member_and, shape_model, shape_models, member_models}
 use Rattle.courier_types.specs.Value.{ValueModel, value_and}
-use Rattle.courier_types.specs.Check.{wordless, all_wordless, element_fault, first_fault, faults_of_parts, faults_of_members, or_else}
+use Rattle.courier_types.specs.Check.{wordless, all_wordless, element_fault, first_fault, faults_of_parts, faults_of_members}
 use Rattle.courier_types.specs.Memory.{PartsWant, ChoiceWants, WantsMemory, MemberWants}
 use Rattle.courier_types.specs.Reading.{Fault, ◌>>=◌, over, front_long, front_listed, front_text, reading_times, reading_counted, reading_choice, reading, reading_fields, reading_member}
 use Rattle.courier_types.proofs.Sound.{neither}
@@ -24,10 +25,10 @@ no_words_no_fault true h = absurd cc
 no_words_no_fault false h = refl
 
 -- an element of a sound shape has words, and is sound
-pub element_has_words : (shape : ShapeModel) → or_else (element_fault (wordless shape)) (first_fault shape) ≡ None → wordless shape ≡ false
+pub element_has_words : (shape : ShapeModel) → option_or (element_fault (wordless shape)) (first_fault shape) ≡ None → wordless shape ≡ false
 element_has_words shape h = no_words_no_fault (wordless shape) (neither (element_fault (wordless shape)) (first_fault shape) h).0
 
-pub element_is_sound : (shape : ShapeModel) → or_else (element_fault (wordless shape)) (first_fault shape) ≡ None → first_fault shape ≡ None
+pub element_is_sound : (shape : ShapeModel) → option_or (element_fault (wordless shape)) (first_fault shape) ≡ None → first_fault shape ≡ None
 element_is_sound shape h = (neither (element_fault (wordless shape)) (first_fault shape) h).1
 
 parts_from : (parts : List Shape) (i : ℕ) → faults_of_parts (shape_models parts) ≡ None → faults_of_parts (shape_models (drop i parts)) ≡ None
