@@ -140,15 +140,18 @@ rm "$work/way/share"
 mkdir -p "$work/way/lib/libxns.a"
 ends 'a folder in the place of a file' 1 "install.sh: $work/way/lib/libxns.a is a folder" sh "$script" "$work/way"
 holds 'and nothing else is left there' "$work/way" lib lib/libxns.a
-if [ "$(id -u)" -ne 0 ]; then
-    mkdir "$work/closed"
-    chmod 555 "$work/closed"
-    ends 'a folder that is closed' 1 "install.sh: $work/closed/bin cannot be made" sh "$script" "$work/closed"
-    mkdir "$work/way/bin"
-    chmod 555 "$work/way/bin"
-    ends 'a closed folder in it' 1 "install.sh: $work/way/bin cannot be written in" sh "$script" "$work/way"
-    chmod 755 "$work/closed" "$work/way/bin"
-else left_out 'another user than root' 'folders that are closed'; fi
+other=
+if [ "$(id -u)" -eq 0 ]; then other='setpriv --reuid=65534 --regid=65534 --clear-groups'; fi
+if [ -z "$other" ] || has setpriv; then
+    chmod 755 "$work"
+    mkdir "$work/closed" "$work/way/bin"
+    chmod 555 "$work/closed" "$work/way" "$work/way/bin"
+    # shellcheck disable=SC2086
+    ends 'a folder that is closed' 1 "install.sh: $work/closed/bin cannot be made" $other sh "$script" "$work/closed"
+    # shellcheck disable=SC2086
+    ends 'a closed folder in it' 1 "install.sh: $work/way/bin cannot be written in" $other sh "$script" "$work/way"
+    chmod 755 "$work/closed" "$work/way" "$work/way/bin"
+else left_out setpriv 'folders that are closed'; fi
 ends 'and the folder of all processes' 1 'install.sh: /proc/xns cannot be made' sh "$script" /proc/xns
 [ ! -e "$work/kit/commands" ] || fail 'something was built before'
 touch "$work/kit/refuses"
@@ -164,7 +167,7 @@ ends 'and again' 0 "$notice" sh "$script" "$work/made/deep"
 expect 'taking it away' sh "$script" --uninstall "$work/made/deep"
 [ ! -e "$work/made" ] || fail 'a folder that was made is left'
 mkdir -p "$work/kept/lib" "$work/kept/share/doc"
-ends 'installing in a folder that is there' 0 "$notice" sh -c "cd '$work' && sh '$script' kept/"
+ends 'installing in a folder that is there' 0 "$notice" sh -c "cd '$work' && sh '$script' ./kept/"
 expect 'its folder for pkg-config' grep -qx "prefix=$work/kept" "$work/kept/lib/pkgconfig/xns.pc"
 touch "$work/kept/bin/another"
 mkdir "$work/kept/share/xns/python/__pycache__"
