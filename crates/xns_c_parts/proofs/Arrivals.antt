@@ -11,7 +11,7 @@ use Rattle.std.proofs.lemmas.Option.{none-some, same_Some, get_or_from_slice_get
 use Rattle.std.proofs.lemmas.Slice.Eq.{bytes_eq-Decides}
 use Rattle.xns_idp.specs.declared.address.Address.{Address}
 use Rattle.xns_spp.specs.Ends as ends
-use Rattle.xns_spp.specs.Ends.{same_place}
+use Rattle.xns_idp.specs.Packet.{same_place}
 use Rattle.xns_spp.specs.Packet.{SppPacketModel, spp_packet_of}
 use Rattle.xns_spp.specs.Receiving.{is_ours, is_ours_in}
 use Rattle.xns_spp.specs.State.{State, responder_state}

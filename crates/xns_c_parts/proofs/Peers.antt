@@ -19,7 +19,7 @@ use Rattle.std.proofs.lemmas.Map.Text.{is_eq-slice_cmp}
 use Rattle.std.proofs.lemmas.Option.{none-some, get_or_from_slice_get, slice_get-get_or, slice_get_within}
 use Rattle.std.proofs.lemmas.Slice.Eq.{bytes_eq-Decides}
 use Rattle.xns_idp.specs.declared.address.Address.{Address}
-use Rattle.xns_spp.specs.Ends.{same_place}
+use Rattle.xns_idp.specs.Packet.{same_place}
 use Rattle.xns_c_parts.specs.Listening.{IsSound, clashes, is_for, peer_at, slot_clashes, slot_is_for}
 use Rattle.xns_c_parts.specs.Peers.{IsKept, peer_cmp, peer_of, slot_has_peer}
 use Rattle.xns_c_parts.specs.declared.envelope.Envelope.{Envelope}

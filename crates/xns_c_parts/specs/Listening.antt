@@ -3,7 +3,7 @@ use Rattle.std.specs.Prelude.{◌≡◌, ℕ, Bool, true, false, not, ◌&&◌, 
 use Rattle.std.specs.Option.{is_none, is_some}
 use Rattle.std.specs.Result.{result_ok}
 use Rattle.xns_idp.specs.declared.address.Address.{Address}
-use Rattle.xns_spp.specs.Ends.{same_place}
+use Rattle.xns_idp.specs.Packet.{same_place}
 use Rattle.xns_spp.specs.Packet.{SppPacketModel, spp_packet_of, opener_of}
 use Rattle.xns_spp.specs.Receiving.{is_ours}
 use Rattle.xns_spp.specs.State.{State, responder_state}

@@ -1,5 +1,5 @@
 ghost use Rattle.std.specs.Prelude.{◌≡◌};
-ghost use Rattle.xns_spp.specs.Ends.{same_place};
+ghost use Rattle.xns_idp.specs.Packet.{same_place};
 
 use crate::envelope::Envelope;
 use xns_idp::Address;

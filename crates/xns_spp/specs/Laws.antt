@@ -1,5 +1,5 @@
 -- What the definitions imply: the statements of the laws, each under the name of its law.
-use Rattle.std.specs.Prelude.{◌≡◌, ◌<◌, ◌≤◌, ◌+◌, ◌%◌, ◌∷◌, ◌++◌, ◌↔◌, ◌⊎◌, All, Bool, IsTrue, List, [], ℕ, max, is_ok, is_some, length, map, nat_lt, take, true, false, slice_get, Ok, Err, Some, None}
+use Rattle.std.specs.Prelude.{◌≡◌, ◌<◌, ◌≤◌, ◌+◌, ◌-◌, ◌%◌, ◌∷◌, ◌++◌, ◌↔◌, ◌⊎◌, All, Bool, IsTrue, List, [], ℕ, max, is_ok, is_some, length, map, nat_lt, take, true, false, slice_get, Ok, Err, Some, None}
 use Rattle.xns_idp.specs.Packet.{PacketModel, AreBytes, IsAddress, IsPacketAtFront}
 use Rattle.xns_idp.specs.Reading.{made_even}
 use Rattle.xns_idp.specs.declared.address.Address.{Address}
@@ -121,6 +121,9 @@ pub record ItemsAreAcceptedOrChangeNothing : Type 0 where
   pub fits : (s : State) (x : Item) → IsShortItem x → x.attention ≡ false → is_full s ≡ false → is_ok (send_answer s x) ≡ true
   pub room : (s : State) → IsState s → is_full s ≡ false → length s.accepted < s.acknowledged + s.ends.backlog
   pub waiting : (s : State) (x : Item) → is_ok (send_answer s x) ≡ true → waiting_count (after_send s x) ≡ waiting_count s
+  -- an item that is accepted lowers the room to send by one, unless that is 0 already; before the end is open it is 0
+  pub lowers : (s : State) (x : Item) → IsState s → is_ok (send_answer s x) ≡ true → room_to_send (after_send s x) ≡ room_to_send s - 1
+  pub shut : (s : State) → IsState s → is_open s.ends ≡ false → room_to_send s ≡ 0
   -- where there is room to send, it is not full, and the peer allows one more item than were accepted
   pub room_to_send : (s : State) → 0 < room_to_send s → (is_full s ≡ false) × (length s.accepted < s.allowed)
 
