@@ -82,7 +82,7 @@ words_dropped skipped bytes n (inl e) =
 words_dropped skipped bytes n (inr h) =
     let e = h.0 in
     let k : suc (suc n) ≡ skipped / 2 + n = omega (arith, e) in
-    ap (λ (s : ℕ). drop n (words_of (drop s bytes))) e ∙ range_dropped bytes n h.1 ∙ ap (λ (i : ℕ). drop i (words_of bytes)) k
+    ap (λ (s : ℕ). drop n (words_of (drop s bytes))) e ∙ range_dropped bytes n (omega (arith, h.1)) ∙ ap (λ (i : ℕ). drop i (words_of bytes)) k
 
 length_behind : (n : ℕ) (bytes : List ℕ) → n ≤ length bytes → length (drop n bytes) + n ≡ length bytes
 length_behind zero bytes h = omega arith

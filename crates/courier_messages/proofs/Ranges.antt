@@ -1,5 +1,5 @@
 -- How bytes go into a conversation, many at a time.
-use Rattle.std.proofs.Common.{◌≡◌, ◌∙◌, ap, sym, refl, ℕ, zero, suc, ◌+◌, ◌*◌, ◌<◌, ◌≤◌, Bool, true, false, List, [], ◌∷◌, ◌++◌, length, map, drop, append_assoc, append-nil, arith, length-append, ne_eqb, Result, Ok, Err}
+use Rattle.std.proofs.Common.{◌≡◌, ◌∙◌, ap, sym, refl, inl, inr, ℕ, zero, suc, ◌+◌, ◌*◌, ◌<◌, ◌≤◌, Bool, true, false, List, [], ◌∷◌, ◌++◌, length, map, drop, append_assoc, append-nil, arith, length-append, ne_eqb, Result, Ok, Err}
 use Rattle.std.proofs.lemmas.Bool.{eqb-false}
 use Rattle.std.specs.Prelude.{if◌then◌else◌, ◌==◌, slice_get, Some, None}
 use Rattle.courier_types.specs.Pieces.{words_of}
@@ -52,6 +52,12 @@ behind_append : (n : ℕ) (bytes more : List ℕ) → n ≤ length bytes → dro
 behind_append zero bytes more h = refl
 behind_append (suc n) [] more h = absurd (omega arith)
 behind_append (suc n) (b ∷ bytes) more h = behind_append n bytes more (omega arith)
+
+-- bytes are left behind those that are skipped
+pub some_left : (skipped : ℕ) (bytes : List ℕ) → IsSkipped skipped bytes → 0 < length bytes → 0 < length (drop skipped bytes)
+some_left skipped bytes (inl e) some = let same : length (drop skipped bytes) ≡ length bytes = ap (λ (n : ℕ). length (drop n bytes)) e in omega (arith, same, some)
+some_left skipped bytes (inr h) some =
+    let n = length_behind skipped bytes (omega (arith, h.0, h.1)) in omega (arith, n, h.0, h.1)
 
 pub more_bytes : (skipped : ℕ) (bytes more new : List ℕ) → IsSkipped skipped bytes → length bytes + length more ≤ 131072 + skipped → new ≡ bytes ++ more → run (inside (drop skipped bytes)) (map byte more) ≡ Ok (inside (drop skipped new))
 more_bytes skipped bytes more new h size e =

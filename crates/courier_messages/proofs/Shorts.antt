@@ -52,7 +52,7 @@ front_short (suc n) [] = omega arith
 front_short (suc n) (b ∷ bs) = let h = front_short n bs in omega (arith, h)
 
 part_short : (last : Bool) (body : List ℕ) → AreBytes body → length body ≤ 534 → IsSendableItem (message_item last body)
-part_short last body h k = record { short = record { fits = record { stream = omega arith; body = h }; size = k }; plain = refl }
+part_short last body h k = record { short = record { fits = record { stream = omega arith; body = h }; size = k }; plain = refl; stream = refl }
 
 parts_short : (n : ℕ) (bytes : List ℕ) → AreBytes bytes → length bytes ≤ 534 * n + 534 → AllByRecursion IsSendableItem (cut_items n bytes)
 unfolding cut_items

@@ -3,6 +3,7 @@ use Rattle.std.specs.Prelude.{◌<◌, ◌≤◌, ℕ, List, length}
 use Rattle.std.specs.Coded.{le_prop, Unit-prop}
 use Rattle.std.specs.List.{flat_map}
 use Rattle.xns_spp.specs.declared.item.Item.{Item}
+use Rattle.courier_messages.specs.declared.spare.TheConstants.{FIRST_ROOM}
 use Rattle.courier_messages.specs.Message.{most_bytes}
 use Rattle.courier_messages.specs.Conversation.{range_bytes, Phase, opening, fresh, inside}
 
@@ -19,7 +20,7 @@ IsBounded-prop (inside bytes) = le_prop
 
 -- so many words a message that is made has room for at first
 abbrev pub first_room : ℕ
-first_room = 16
+first_room = FIRST_ROOM
 
 -- the bytes of items, one body behind the other
 abbrev pub bytes_in : List Item → List ℕ

@@ -18,9 +18,9 @@ phase_in Opening bytes = opening bytes
 phase_in Fresh bytes = fresh
 phase_in Inside bytes = inside bytes
 
--- nothing is skipped, or the version range
+-- nothing is skipped, or the version range, and bytes are behind it
 abbrev pub IsSkipped : ℕ → List ℕ → Type 0
-IsSkipped skipped bytes = (skipped ≡ 0) ⊎ ((skipped ≡ range_bytes) × (range_bytes ≤ length bytes))
+IsSkipped skipped bytes = (skipped ≡ 0) ⊎ ((skipped ≡ range_bytes) × (range_bytes < length bytes))
 
 abbrev pub IsHeld : Stage → ℕ → List ℕ → Type 0
 IsHeld Opening skipped bytes = (skipped ≡ 0) × (length bytes < range_bytes)

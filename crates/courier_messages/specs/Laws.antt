@@ -33,10 +33,11 @@ abbrev pub IsFaultless : Result Phase SessionFault → Type 0
 IsFaultless (Ok p) = Unit {0}
 IsFaultless (Err e) = ⊥
 
--- an item that the Sequenced Packet Protocol accepts, without attention
+-- an item that the Sequenced Packet Protocol accepts, without attention and of Courier's datastream, which is 0
 pub record IsSendableItem (x : Item) : Type 0 where
   pub short : IsShortItem x
   pub plain : x.attention ≡ false
+  pub stream : x.stream ≡ 0
 
 -- a server that goes on, with one more item
 pub record GoesOn (fed : List Item) (p : Phase) (item : Item) : Type 0 where

@@ -7,13 +7,14 @@ use Rattle.courier_messages.specs.declared.fault.MessageFault.{MessageFault}
 use Rattle.courier_messages.specs.declared.fault.MessageFault.TheVariants.{OddLength, ShortMessage, UnknownKind, TooLong}
 use Rattle.courier_messages.specs.declared.message.Message.{Message}
 use Rattle.courier_messages.specs.declared.message.Message.TheVariants.{Call, Reject, Return, Abort}
+use Rattle.courier_messages.specs.declared.reading.TheConstants.{MOST_BYTES}
 
 -- a message has at most so many words, and so many bytes
 abbrev pub most_words : ℕ
 most_words = 65536
 
 abbrev pub most_bytes : ℕ
-most_bytes = 131072
+most_bytes = MOST_BYTES
 
 -- what kind of message it is, its first word
 abbrev pub call_kind : ℕ

@@ -1,5 +1,5 @@
 -- Faults, and wants of memory in their stead.
-use Rattle.std.specs.Prelude.{◌≡◌, ◌<◌, ℕ, List, [], length, map, Option, Result, Ok, Err}
+use Rattle.std.specs.Prelude.{◌≡◌, ◌≢◌, ◌+◌, ◌<◌, ℕ, List, [], length, map, Option, Result, Ok, Err}
 use Rattle.std.specs.Option.{option_to_list}
 use Rattle.xns_spp.specs.declared.item.Item.{Item}
 use Rattle.courier_messages.specs.declared.fault.MessageFault.{MessageFault}
@@ -10,7 +10,7 @@ use Rattle.courier_messages.specs.declared.fault.SessionFault.TheVariants.{NoCom
 use Rattle.courier_messages.specs.declared.message.Message.{Message}
 use Rattle.courier_messages.specs.Head.{words_in}
 use Rattle.courier_messages.specs.Text.{byte, signs}
-use Rattle.courier_messages.specs.Conversation.{Phase}
+use Rattle.courier_messages.specs.Conversation.{range_bytes, Phase, opening, fresh, inside}
 use Rattle.courier_messages.specs.Phases.{run, said}
 
 -- what reading a message answers, unless memory ran out
@@ -59,9 +59,15 @@ Takes (Err e) q ms new = UnlessMemory e ((q ≡ Err e) × (ms ≡ []))
 abbrev pub AreRight : Phase → List ℕ → Type 0
 AreRight p bytes = (e : SessionFault) → run p (map byte bytes) ≡ Err e → ⊥
 
--- bytes for which memory may be refused: there are some, and nothing is wrong with them
+-- more bytes make a second piece: bytes are kept already, and with these they are more or fewer than the version range, of which nothing is kept
+abbrev pub MakeSecondPiece : Phase → List ℕ → Type 0
+MakeSecondPiece (opening bytes) more = (0 < length bytes) × (length bytes + length more ≢ range_bytes)
+MakeSecondPiece fresh more = ⊥
+MakeSecondPiece (inside bytes) more = 0 < length bytes
+
+-- bytes for which memory may be refused: there are some, nothing is wrong with them, and they are not the first that are kept
 abbrev pub MayBeKept : Phase → List ℕ → Type 0
-MayBeKept p bytes = (0 < length bytes) × AreRight p bytes
+MayBeKept p bytes = (0 < length bytes) × AreRight p bytes × MakeSecondPiece p bytes
 
 -- an item at which memory may be refused: it is of datastream 0, has bytes to keep or ends a message, and nothing is wrong with its bytes
 abbrev pub MayGrow : Phase → Item → Type 0

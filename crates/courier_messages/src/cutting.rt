@@ -9,10 +9,10 @@ use crate::incoming::VERSION;
 use crate::writing::put_words;
 use std::alloc::{AllocError, Global};
 use std::collections::VecDeque;
-use xns_spp::{Bytes, Item};
+use xns_spp::{Bytes, Item, MOST_BODY};
 
 /// How many words the body of an item has at most.
-const WORDS_AN_ITEM: usize = 267;
+const WORDS_AN_ITEM: usize = MOST_BODY / 2;
 
 #[tactic(auto, using(crate::proofs::Cuts::bytes_length))]
 fn make_item(alloc: Global, last: bool, words: &[u16]) -> Result<Item, AllocError>

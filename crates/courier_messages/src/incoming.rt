@@ -260,8 +260,8 @@ impl Incoming {
         }
     }
 
-    /// One more item, which may end a message. Memory is only refused to bytes that are to be kept and with which nothing is wrong: then nothing is
-    /// changed, and the item can be given again.
+    /// One more item, which may end a message. Memory is only refused to bytes that are to be kept behind others and with which nothing is wrong: then
+    /// nothing is changed, and the item can be given again. So the first piece of a message takes none.
     #[tactic(auto, using(crate::proofs::Runs::run_append, crate::proofs::Runs::said_append, crate::proofs::Runs::run_mark, crate::proofs::Runs::said_mark, crate::proofs::Runs::said_bytes))]
     pub fn take(&mut self, alloc: Global, item: Item) -> Result<Option<PiecedMessage>, SessionFault>
         ensures takes { Takes result (run self.old (signs item)) (said self.old (signs item)) self.new }

@@ -1,10 +1,11 @@
 //! A message that has come in.
-ghost use Rattle.std.specs.Prelude.{◌≡◌, ◌≤◌, ◌++◌, option_map, drop, length, IfOk, IfSome};
+ghost use Rattle.std.specs.Prelude.{◌≡◌, ◌<◌, ◌≤◌, ◌++◌, option_map, drop, length, IfOk, IfSome, OnErr};
 ghost use Rattle.courier_types.specs.Pieces.{words_of};
 ghost use Rattle.courier_types.specs.Shape.{shape_model};
 ghost use Rattle.courier_types.specs.Value.{value_model};
 ghost use Rattle.courier_types.specs.Check.{IsChecked};
 ghost use Rattle.courier_types.specs.Fits.{Fits};
+ghost use Rattle.courier_types.specs.Memory.{WantsMemory};
 ghost use Rattle.courier_messages.specs.declared.message.Message as messages;
 ghost use Rattle.courier_messages.specs.Head.{with_words, words_in};
 ghost use Rattle.courier_messages.specs.Whole.{whole};
@@ -51,7 +52,9 @@ impl PiecedMessage {
 
     /// The message's words, written out once.
     pub fn words(&self, alloc: Global) -> Result<Words, AllocError>
-        ensures { IfOk result (λ w. w ≡ words_in self.now) }
+        ensures words { IfOk result (λ w. w ≡ words_in self.now) }
+        // It is refused memory only where there are words.
+        ensures memory { OnErr result (0 < length (words_in self.now)) }
     {
         let _count = self.pieces.len();
         let mut words = PieceWords::new(self.pieces.as_slice());
@@ -84,6 +87,8 @@ impl PiecedMessage {
         requires { IsChecked (shape_model shape.now) }
         ensures whole { IfOk result (λ o. option_map value_model o ≡ whole (shape_model shape.now) (words_in self.now)) }
         ensures fits { IfOk result (λ o. IfSome o (λ v. Fits (shape_model shape.now) (value_model v))) }
+        // It is refused memory only where reading the value wants some.
+        ensures memory { OnErr result (WantsMemory (shape_model shape.now) (words_in self.now)) }
     {
         let _bytes = self.pieces.len();
         let count = self.word_count();

@@ -44,10 +44,6 @@ impl Kept {
         match self {
             Kept::Several(several) => several.push(piece)?,
             Kept::One(only) => {
-                if only.is_empty() {
-                    *only = piece;
-                    return Ok(());
-                }
                 let mut several = Vec::with_capacity(alloc, FEW)?;
                 several.push(replace(only, Vec::new(alloc)))?;
                 several.push(piece)?;
@@ -134,18 +130,23 @@ impl Pieces {
         self.count = 0;
     }
 
-    /// One more piece. The only error is want of memory, which a piece of no bytes never meets.
+    /// One more piece. The only error is want of memory, which a piece of no bytes never meets, nor the first one.
     pub fn push(&mut self, piece: Vec<u8>) -> Result<(), AllocError>
         requires { length self.old + length piece.items < 2 ^ 64 }
         ensures ok { OnOk result (self.new ≡ self.old ++ piece.items) }
         ensures err { OnErr result (self.new ≡ self.old) }
         ensures memory { OnErr result (0 < length piece.items) }
+        ensures second { OnErr result (0 < length self.old) }
     {
         let more = piece.len();
         if more == 0 {
             return Ok(());
         }
-        self.kept.push(self.alloc, piece)?;
+        if self.count == 0 {
+            self.kept = Kept::One(piece);
+        } else {
+            self.kept.push(self.alloc, piece)?;
+        }
         self.count += more;
         Ok(())
     }

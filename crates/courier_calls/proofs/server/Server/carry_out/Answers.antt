@@ -23,8 +23,8 @@ pub returns-clause-taken : goal.returns-clause-taken
 returns-clause-taken g c =
     let m = c.args.message.now in
     let message = c.head.ensures ∙ ap (λ (h : Head). with_words h (words_in m)) c.in-Call.is in
-    let call = ap (λ (ws : List ℕ). Call c.in-Call.transaction c.in-Call.program c.in-Call.version c.in-Call.procedure ws) (sym c.in_ok-words.ensures) in
+    let call = ap (λ (ws : List ℕ). Call c.in-Call.transaction c.in-Call.program c.in-Call.version c.in-Call.procedure ws) (sym c.in_ok-words.ensures.words) in
     one_call g.S.Service.serving _ _ _ _ c.in-Call.transaction (words_call c.in-Call.program c.in-Call.version c.in-Call.procedure c.in_ok-words.words)
     (ap (λ (n : Message). n ∷ []) (message ∙ call)) (ap (λ p. Ok p) (sym c.in_ok-answer.ensures.phase))
-    (rw (← c.in_ok-words.ensures) at c.in_ok-answer.ensures.state)
-    (rw (← c.in_ok-words.ensures) at c.in_ok-answer.ensures.out)
+    (rw (← c.in_ok-words.ensures.words) at c.in_ok-answer.ensures.state)
+    (rw (← c.in_ok-words.ensures.words) at c.in_ok-answer.ensures.out)
