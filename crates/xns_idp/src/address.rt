@@ -27,6 +27,7 @@ impl Address {
     }
 
     /// Whether both addresses name one host and one socket. Networks are not compared.
+    #[inline(always)]
     pub fn is_same_place(&self, other: &Address) -> bool
         ensures { result ≡ same_place self.now other.now }
     {

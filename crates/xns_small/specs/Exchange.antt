@@ -1,7 +1,7 @@
 -- The Packet Exchange protocol (XSIS 028112, Packet Exchange Protocol).
-use Rattle.std.specs.Prelude.{◌≡◌, ℕ, ◌<◌, ◌≤◌, ◌^◌, List, ◌++◌, length, drop, Result}
+use Rattle.std.specs.Prelude.{◌≡◌, ℕ, ◌<◌, ◌≤◌, ◌^◌, true, List, ◌++◌, length, drop, Result}
 use Rattle.std.specs.Int.{w16, w32, to_be_bytes}
-use Rattle.xns_idp.specs.Packet.{PacketModel}
+use Rattle.xns_idp.specs.Packet.{PacketModel, same_place}
 use Rattle.xns_idp.specs.Reading.{word_at, long_at}
 use Rattle.xns_idp.specs.declared.address.Address.{Address}
 use Rattle.xns_small.specs.Reading.{unless_short}
@@ -54,6 +54,5 @@ requester_asking own target id client body = record { asked = target; id = id; p
 pub record IsResponse (requester : RequesterModel) (p : PacketModel) : Type 0 where
   pub kind : p.kind ≡ 4
   pub size : 6 ≤ length p.body
-  pub host : p.source.host ≡ requester.asked.host
-  pub socket : p.source.socket ≡ requester.asked.socket
+  pub place : same_place p.source requester.asked ≡ true
   pub id : long_at p.body 0 ≡ requester.id

@@ -69,11 +69,7 @@ impl Requester {
         ensures { MatchOption result (IsResponse self.now (packet_model packet.now) → ⊥)
             (λ bytes. IsResponse self.now (packet_model packet.now) × (bytes.now ≡ drop 6 packet.now.body.now)) }
     {
-        let source = packet.source;
-        if packet.kind != PACKET_EXCHANGE
-            || source.host != self.asked.host
-            || source.socket != self.asked.socket
-        {
+        if packet.kind != PACKET_EXCHANGE || !packet.source.is_same_place(&self.asked) {
             return None;
         }
         let exchange = exchange_in(packet.body)?;
