@@ -2,6 +2,7 @@
 use Rattle.std.proofs.Common.{◌≡◌, ◌∙◌, ap, sym, refl, ℕ, ◌%◌, ◌+◌, ◌<◌, ◌≤◌, Bool, true, false, cond, List, [], Option, Some, None}
 use Rattle.xns_idp.specs.Packet.{PacketModel}
 use Rattle.xns_spp.specs.Header.{is_system}
+use Rattle.xns_spp.specs.Item.{item_with}
 use Rattle.xns_spp.specs.Laws.{NearestNumberIsReadBack}
 use Rattle.xns_spp.specs.Nearest.{field_round, half_round, nearest}
 use Rattle.xns_spp.specs.Numbers.{most_items}
@@ -10,7 +11,7 @@ use Rattle.xns_spp.specs.declared.item.Item.{Item}
 use Rattle.xns_calls.specs.declared.heading.Heading.{Heading}
 use Rattle.xns_calls.specs.declared.track.Track.{Track}
 use Rattle.xns_calls.specs.Events.{acknowledged_event, after_events, brought_if, captured_event, own_events}
-use Rattle.xns_calls.specs.Exchange.{Scene, acknowledged, acknowledged_track, advance_other, advance_track, advanced, after_acknowledge, after_data, after_new, after_number, after_packet, after_told, begin_track, begun, item_in, new_number, of_other, seen_from_other, take_in_track, take_number, told_of, unless_repeat, up_to}
+use Rattle.xns_calls.specs.Exchange.{Scene, acknowledged, acknowledged_track, advance_other, advance_track, advanced, after_acknowledge, after_data, after_new, after_number, after_packet, after_told, begin_track, begun, new_number, of_other, seen_from_other, take_in_track, take_number, told_of, unless_repeat, up_to}
 use Rattle.xns_calls.specs.Numbers.{near}
 use Rattle.xns_calls.specs.Queue.{last_number}
 use Rattle.xns_calls.proofs.Gaps.{item_event, lt_false}
@@ -45,7 +46,7 @@ begin_other h packet f (Some track) s = refl
 data_other : (h : Heading) (packet : PacketModel) (f : Header) (content : List ℕ) (s : Scene) → (after_data h packet f content s).other.track ≡ s.other.track
 unfolding after_data begun
 data_other h packet f content s =
-    number_other h (new_number (begun h packet f s).own.track f.sequence) (item_in f content) (begun h packet f s) ∙ begin_other h packet f s.own.track s
+    number_other h (new_number (begun h packet f s).own.track f.sequence) (item_with f content) (begun h packet f s) ∙ begin_other h packet f s.own.track s
 
 pub packet_other : (h : Heading) (packet : PacketModel) (f : Header) (content : List ℕ) (s : Scene) → (after_packet h packet f content s).other.track ≡ (after_acknowledge h f.acknowledge s).other.track
 unfolding after_packet
@@ -102,10 +103,10 @@ unfolding begun
 begun_same h packet f s track e = ap (λ o. begin_track h packet f o s) e
 
 data_event : (h : Heading) (packet : PacketModel) (f : Header) (content : List ℕ) (s : Scene) (track : Track) → s.own.track ≡ Some track
-    → after_data h packet f content s ≡ after_told (after_events (captured_event h (near track.next f.sequence) (item_in f content)) (told_of track s)) s
+    → after_data h packet f content s ≡ after_told (after_events (captured_event h (near track.next f.sequence) (item_with f content)) (told_of track s)) s
 unfolding after_data
 data_event h packet f content s track e =
-    ap (take_number h f (item_in f content)) (begun_same h packet f s track e) ∙ number_event h f (item_in f content) s track (near track.next f.sequence) e refl
+    ap (take_number h f (item_with f content)) (begun_same h packet f s track e) ∙ number_event h f (item_with f content) s track (near track.next f.sequence) e refl
 
 pub packet_events : (h : Heading) (packet : PacketModel) (f : Header) (content : List ℕ) (s : Scene) (track : Track) → s.own.track ≡ Some track
     → after_packet h packet f content s
@@ -120,7 +121,7 @@ packet_events h packet f content s track e = over (is_system f)
     there = acknowledge_own h f.acknowledge s ∙ e
 
     over : (p : Bool) → cond p known (after_data h packet f content known)
-        ≡ after_told (after_events (cond p [] (captured_event h (near track.next f.sequence) (item_in f content))) (told_of track known)) known
+        ≡ after_told (after_events (cond p [] (captured_event h (near track.next f.sequence) (item_with f content))) (told_of track known)) known
     over true = sym (put_back known track there)
     over false = data_event h packet f content known track there
 

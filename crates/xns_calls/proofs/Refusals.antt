@@ -11,6 +11,7 @@ use Rattle.xns_idp.specs.Reading.{packet_of}
 use Rattle.xns_idp.specs.declared.address.Address.{Address}
 use Rattle.xns_idp.specs.declared.fault.IdpFault.{IdpFault}
 use Rattle.xns_spp.specs.Header.{header_of, is_system}
+use Rattle.xns_spp.specs.Item.{item_with}
 use Rattle.xns_spp.specs.declared.header.Header.{Header}
 use Rattle.xns_spp.specs.declared.item.Item.{Item}
 use Rattle.xns_spp.specs.declared.spp_fault.SppFault.{SppFault}
@@ -21,7 +22,7 @@ use Rattle.xns_dump.specs.Laws.{IsLoud, IsQuiet, JoinedTextsSayRefused, OnlyRefu
 use Rattle.xns_calls.specs.Numbers.{most_early}
 use Rattle.xns_calls.specs.Calls.{after_body, after_bytes, after_digits, after_found, after_header, after_line, calls_text, has_refusal, known_from, line_taken, nothing_known, text_from}
 use Rattle.xns_calls.specs.Capture.{Known, after_at, after_in, after_places, after_sequenced, flow_behind, heading_at, place_of, scene_in, with_new}
-use Rattle.xns_calls.specs.Exchange.{Scene, acknowledged, advance_other, advance_track, advanced, after_acknowledge, after_data, after_new, after_number, after_packet, begin_track, begun, item_in, new_number, of_other, seen_from_other, take_in_track, told_of}
+use Rattle.xns_calls.specs.Exchange.{Scene, acknowledged, advance_other, advance_track, advanced, after_acknowledge, after_data, after_new, after_number, after_packet, begin_track, begun, new_number, of_other, seen_from_other, take_in_track, told_of}
 use Rattle.xns_calls.specs.Reading.{Told, after_heard, brought, brought_over, is_due, item_read, passed, past, read_next, said_item, with_kept_item}
 use Rattle.xns_calls.specs.Speech.{heard_of}
 use Rattle.xns_calls.specs.Telling.{heard_text, is_fault, message_line}
@@ -220,7 +221,7 @@ module _ (joined : JoinedTextsSayRefused) (only : OnlyRefusalsSayRefused) where
   data_says : (b : Bool) (h : Heading) (p : PacketModel) (f : Header) (content : List ℕ) (s : Scene) → SaysScene b s → SaysScene b (after_data h p f content s)
   unfolding after_data
   data_says b h p f content s k =
-      let u = begun h p f s in number_says b h (new_number u.own.track f.sequence) (item_in f content) u (begun_says b h p f s k)
+      let u = begun h p f s in number_says b h (new_number u.own.track f.sequence) (item_with f content) u (begun_says b h p f s k)
 
   packet_says : (b : Bool) (h : Heading) (p : PacketModel) (f : Header) (content : List ℕ) (s : Scene) → SaysScene b s → SaysScene b (after_packet h p f content s)
   unfolding after_packet

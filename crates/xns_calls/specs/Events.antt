@@ -1,9 +1,10 @@
 -- What happens to one flow, with numbers in the place of fields.
 use Rattle.std.specs.Prelude.{◌≡◌, ℕ, ◌+◌, ◌≤◌, ◌<◌, ◌==◌, ◌⊎◌, Bool, if◌then◌else◌, List, [], ◌∷◌, Option, Some, None}
 use Rattle.xns_spp.specs.Header.{is_system}
+use Rattle.xns_spp.specs.Item.{item_with}
 use Rattle.xns_spp.specs.declared.header.Header.{Header}
 use Rattle.xns_spp.specs.declared.item.Item.{Item}
-use Rattle.xns_calls.specs.Exchange.{Scene, is_repeat, item_in, up_to}
+use Rattle.xns_calls.specs.Exchange.{Scene, is_repeat, up_to}
 use Rattle.xns_calls.specs.Numbers.{most_early, near}
 use Rattle.xns_calls.specs.Queue.{last_number}
 use Rattle.xns_calls.specs.Reading.{Told, brought, item_taken, read_next, with_kept_item}
@@ -46,7 +47,7 @@ captured_event heading (Some number) item = captured heading number item ∷ []
 abbrev pub own_events : Heading → Header → List ℕ → Track → Scene → List Event
 own_events heading f content track s =
     meanwhile (record { own = s.own.call; asked = s.other.call }) s.text s.is_refused
-    ∷ (if is_system f then [] else captured_event heading (near track.next f.sequence) (item_in f content))
+    ∷ (if is_system f then [] else captured_event heading (near track.next f.sequence) (item_with f content))
 
 -- those of a packet of the flow behind
 abbrev pub acknowledged_event : Heading → Option ℕ → List Event

@@ -5,7 +5,8 @@ use Rattle.xns_idp.specs.Packet.{PacketModel}
 use Rattle.xns_spp.specs.declared.item.Item.{Item}
 use Rattle.xns_spp.specs.declared.header.Header.{Header}
 use Rattle.xns_spp.specs.Ends.{most_pending}
-use Rattle.xns_spp.specs.Header.{attention_bit, has_bit, is_system, message_end_bit}
+use Rattle.xns_spp.specs.Header.{is_system}
+use Rattle.xns_spp.specs.Item.{item_with}
 use Rattle.courier_messages.specs.Conversation.{opening}
 use Rattle.xns_lines.specs.declared.page.Page.{Page}
 use Rattle.xns_calls.specs.declared.heading.Heading.{Heading}
@@ -103,10 +104,6 @@ abbrev pub new_number : Option Track → ℕ → Option ℕ
 new_number None field = None
 new_number (Some track) field = unless_repeat track (near track.next field)
 
--- the item that a packet brings
-abbrev pub item_in : Header → List ℕ → Item
-item_in f content = record { stream = f.stream; attention = has_bit f.control attention_bit; last = has_bit f.control message_end_bit; body = content }
-
 abbrev pub take_in_track : Heading → ℕ → Item → Option Track → Scene → Scene
 take_in_track heading number item None s = s
 take_in_track heading number item (Some track) s = after_told (item_taken heading number item (told_of track s)) s
@@ -124,7 +121,7 @@ take_number heading f item s = after_number heading (new_number s.own.track f.se
 
 -- what the item of a data packet does
 unfoldable pub after_data : Heading → PacketModel → Header → List ℕ → Scene → Scene
-after_data heading packet f content s = take_number heading f (item_in f content) (begun heading packet f s)
+after_data heading packet f content s = take_number heading f (item_with f content) (begun heading packet f s)
 
 -- what a packet does: first what it acknowledges of the flow behind, and then its item, if it brings one
 unfoldable pub after_packet : Heading → PacketModel → Header → List ℕ → Scene → Scene

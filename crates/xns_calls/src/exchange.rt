@@ -1,7 +1,7 @@
 //! What a packet does to the flows of its connection.
 ghost use Rattle.std.specs.Prelude.{◌≡◌, ◌<◌, IfOk, IfSome, OnOk};
 ghost use Rattle.xns_idp.specs.Packet.{packet_model};
-ghost use Rattle.xns_calls.specs.Exchange.{acknowledged as acknowledged_of, advanced, after_acknowledge, after_new, after_packet, begun as begun_of, first_track, item_in as item_of, new_number as new_number_of, scene};
+ghost use Rattle.xns_calls.specs.Exchange.{acknowledged as acknowledged_of, advanced, after_acknowledge, after_new, after_packet, begun as begun_of, first_track, new_number as new_number_of, scene};
 ghost use Rattle.xns_calls.specs.Numbers.{most_numbers};
 
 use crate::bringing::{bring, read_or_keep};
@@ -18,8 +18,8 @@ use courier_messages::Incoming;
 use std::alloc::{AllocError, Global};
 use xns_idp::Packet;
 use xns_lines::Page;
-use xns_spp::control::{ATTENTION, END_OF_MESSAGE, SYSTEM};
-use xns_spp::{Bytes, Header, Item, MOST_PENDING};
+use xns_spp::control::SYSTEM;
+use xns_spp::{Header, Item, MOST_PENDING};
 
 /// Brings a flow to a number, if it has begun.
 #[tactic(auto, unfolding(crate::specs::Exchange::advanced))]
@@ -109,18 +109,6 @@ fn new_number(side: &Side, field: u16) -> Option<u64>
     Some(number)
 }
 
-/// The item that a packet brings.
-fn item_in(alloc: Global, header: &Header, content: &[u8]) -> Result<Item, AllocError>
-    ensures { IfOk result (λ item. item ≡ item_of header.now content.now) }
-{
-    Ok(Item {
-        stream: header.stream,
-        attention: header.control & ATTENTION != 0,
-        last: header.control & END_OF_MESSAGE != 0,
-        body: Bytes::new(Vec::from_slice(alloc, content)?),
-    })
-}
-
 /// Takes an item of a number that is no repeat, if its flow has begun.
 #[tactic(auto, unfolding(crate::specs::Exchange::after_new))]
 fn take_new(
@@ -191,6 +179,6 @@ pub fn take_packet(
     let Some(number) = new_number(own, header.sequence) else {
         return Ok(());
     };
-    let item = item_in(scratch.alloc, header, content)?;
+    let item = Item::carried(scratch.alloc, header, content)?;
     take_new(scratch, page, heading, own, other, number, item)
 }
