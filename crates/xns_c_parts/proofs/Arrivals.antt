@@ -1,6 +1,6 @@
 -- A listener gives a packet to the one connection that it belongs to.
 use Rattle.std.proofs.Common.{◌≡◌, ℕ, suc, zero, ◌+◌, ◌<◌, ◌≤◌, Bool, true, false, not, cond, List, [], ◌∷◌, length, get_or, Option, Some, None, Result, Ok, Err, inl, inr, refl, sym, ◌∙◌, ap, subst, arith}
-use Rattle.std.specs.Prelude.{◌⊎◌, ◌==◌, ◌&&◌, ◌||◌, if◌then◌else◌, position, slice_get, slice_set, option_map}
+use Rattle.std.specs.Prelude.{◌⊎◌, ◌==◌, ◌&&◌, ◌||◌, if◌then◌else◌, position, slice_get, slice_set}
 use Rattle.std.specs.List.{position_or_len}
 use Rattle.std.specs.Result.{result_ok}
 use Rattle.std.specs.Str.{bytes_eq}
@@ -12,14 +12,13 @@ use Rattle.std.proofs.lemmas.Slice.Eq.{bytes_eq-Decides}
 use Rattle.xns_idp.specs.declared.address.Address.{Address}
 use Rattle.xns_spp.specs.Ends as ends
 use Rattle.xns_idp.specs.Packet.{same_place}
-use Rattle.xns_spp.specs.Packet.{SppPacketModel, spp_packet_of}
+use Rattle.xns_spp.specs.Packet.{SppPacketModel, spp_packet_of, opener_of}
 use Rattle.xns_spp.specs.Receiving.{is_ours, is_ours_in}
 use Rattle.xns_spp.specs.State.{State, responder_state}
 use Rattle.xns_spp.specs.declared.ends.Ends.{Ends}
 use Rattle.xns_spp.specs.declared.dropped.Dropped.{Dropped}
-use Rattle.xns_c_parts.specs.Listening.{Listening, Answers, IsFor, OpensNew, IsSound, envelope_of, envelope_in, is_for, slot_is_for, opener_at, arrival_by, arrival_of, arrival, clashes, slot_clashes}
+use Rattle.xns_c_parts.specs.Listening.{Listening, Answers, IsFor, OpensNew, IsSound, packet_in, is_for, slot_is_for, opener_at, arrival_by, arrival_of, arrival, clashes, slot_clashes}
 use Rattle.xns_c_parts.specs.declared.arrived.Arrived.TheVariants.{For, Opens}
-use Rattle.xns_c_parts.specs.declared.envelope.Envelope.{Envelope}
 use Rattle.xns_c_parts.specs.declared.guest.Guest.{Guest}
 
 -- ---- tests
@@ -52,14 +51,14 @@ same_two a b c p q =
     and_both (bytes_eq b.host c.host) (b.socket == c.socket) ((bytes_eq-Decides b.host c.host).1 hosts) (eq-eqb b.socket c.socket sockets)
 
 -- two connections that one packet belongs to
-pub both_clash : (own : Address) (e : Envelope) (g h : Guest) → is_for own e g ≡ true → is_for own e h ≡ true → clashes g h ≡ true
+pub both_clash : (own : Address) (e : SppPacketModel) (g h : Guest) → is_for own e g ≡ true → is_for own e h ≡ true → clashes g h ≡ true
 both_clash own e g h p q =
-    let from : (x : Guest) → is_for own e x ≡ true → (same_place e.source x.peer && e.source_id == x.peer_id) ≡ true =
-    λ x t. and_right (e.target_id == x.id || e.target_id == 0) (same_place e.source x.peer && e.source_id == x.peer_id)
-    (and_right (same_place e.target own) ((e.target_id == x.id || e.target_id == 0) && (same_place e.source x.peer && e.source_id == x.peer_id)) t) in
-    let place = same_two e.source g.peer h.peer (and_left (same_place e.source g.peer) (e.source_id == g.peer_id) (from g p)) (and_left (same_place e.source h.peer) (e.source_id == h.peer_id) (from h q)) in
-    let ids : g.peer_id ≡ h.peer_id = sym (eqb-true e.source_id g.peer_id (and_right (same_place e.source g.peer) (e.source_id == g.peer_id) (from g p)))
-    ∙ eqb-true e.source_id h.peer_id (and_right (same_place e.source h.peer) (e.source_id == h.peer_id) (from h q)) in
+    let from : (x : Guest) → is_for own e x ≡ true → (same_place e.source x.peer && e.header.source_id == x.peer_id) ≡ true =
+    λ x t. and_right (e.header.target_id == x.id || e.header.target_id == 0) (same_place e.source x.peer && e.header.source_id == x.peer_id)
+    (and_right (same_place e.target own) ((e.header.target_id == x.id || e.header.target_id == 0) && (same_place e.source x.peer && e.header.source_id == x.peer_id)) t) in
+    let place = same_two e.source g.peer h.peer (and_left (same_place e.source g.peer) (e.header.source_id == g.peer_id) (from g p)) (and_left (same_place e.source h.peer) (e.header.source_id == h.peer_id) (from h q)) in
+    let ids : g.peer_id ≡ h.peer_id = sym (eqb-true e.header.source_id g.peer_id (and_right (same_place e.source g.peer) (e.header.source_id == g.peer_id) (from g p)))
+    ∙ eqb-true e.header.source_id h.peer_id (and_right (same_place e.source h.peer) (e.header.source_id == h.peer_id) (from h q)) in
     or_right (g.id == h.id) (same_place g.peer h.peer && g.peer_id == h.peer_id) (and_both (same_place g.peer h.peer) (g.peer_id == h.peer_id) place (eq-eqb g.peer_id h.peer_id ids))
 
 -- ---- the first place that passes
@@ -79,35 +78,35 @@ found p xs k d within passes =
 
 -- ---- packets
 
-record Reads (b : List ℕ) (e : Envelope) : Type 0 where
+record Reads (b : List ℕ) (e : SppPacketModel) : Type 0 where
   pub packet : SppPacketModel
   pub reads : spp_packet_of b ≡ Ok packet
-  pub is : envelope_of packet ≡ e
+  pub is : packet ≡ e
 
-reads_of : (b : List ℕ) (o : Result SppPacketModel Dropped) (e : Envelope) → spp_packet_of b ≡ o → option_map envelope_of (result_ok o) ≡ Some e → Reads b e
+reads_of : (b : List ℕ) (o : Result SppPacketModel Dropped) (e : SppPacketModel) → spp_packet_of b ≡ o → result_ok o ≡ Some e → Reads b e
 reads_of b (Ok p) e reads told = record { packet = p; reads = reads; is = cc }
 reads_of b (Err f) e reads told = absurd (cc)
 
-read : (b : List ℕ) (e : Envelope) → envelope_in b ≡ Some e → Reads b e
+read : (b : List ℕ) (e : SppPacketModel) → packet_in b ≡ Some e → Reads b e
 read b e told = reads_of b (spp_packet_of b) e refl told
 
-ours_is : (own : Address) (g : Guest) (s : State) (b : List ℕ) (p : SppPacketModel) → Answers s own g → spp_packet_of b ≡ Ok p → is_ours s b ≡ is_for own (envelope_of p) g
+ours_is : (own : Address) (g : Guest) (s : State) (b : List ℕ) (p : SppPacketModel) → Answers s own g → spp_packet_of b ≡ Ok p → is_ours s b ≡ is_for own p g
 ours_is own g s b p answers e = ap (is_ours_in s) e ∙ ap (λ (x : Ends). ends.is_ours_at x p) answers
 
 -- the end that answers a peer, when it is new
 abbrev new_end : Address → Guest → State
 new_end own g = responder_state own g.id g.peer g.peer_id 1 1
 
-record Given (own : Address) (e : Envelope) (slot : Option Guest) : Type 0 where
+record Given (own : Address) (e : SppPacketModel) (slot : Option Guest) : Type 0 where
   pub guest : Guest
   pub is : slot ≡ Some guest
   pub passes : is_for own e guest ≡ true
 
-given_slot : (own : Address) (e : Envelope) (slot : Option Guest) → slot_is_for own e slot ≡ true → Given own e slot
+given_slot : (own : Address) (e : SppPacketModel) (slot : Option Guest) → slot_is_for own e slot ≡ true → Given own e slot
 given_slot own e None h = absurd (cc)
 given_slot own e (Some g) h = record { guest = g; is = refl; passes = h }
 
-found_is_for : (l : Listening) (b : List ℕ) (e : Envelope) (k : ℕ) → envelope_in b ≡ Some e → position (slot_is_for l.own e) l.slots ≡ Some k → IsFor l b k
+found_is_for : (l : Listening) (b : List ℕ) (e : SppPacketModel) (k : ℕ) → packet_in b ≡ Some e → position (slot_is_for l.own e) l.slots ≡ Some k → IsFor l b k
 found_is_for l b e k told at =
     let r = read b e told in
     let first = position-Some (slot_is_for l.own e) l.slots k None at in
@@ -115,40 +114,40 @@ found_is_for l b e k told at =
     record {
       guest = s.guest;
       there = slice_get-get_or l.slots k None first.0 ∙ ap Some s.is;
-      ours = λ x answers. ours_is l.own s.guest x b r.packet answers r.reads ∙ ap (λ (x : Envelope). is_for l.own x s.guest) r.is ∙ s.passes;
+      ours = λ x answers. ours_is l.own s.guest x b r.packet answers r.reads ∙ ap (λ (x : SppPacketModel). is_for l.own x s.guest) r.is ∙ s.passes;
     }
 
-only_found : (l : Listening) (b : List ℕ) (e : Envelope) (k : ℕ) → IsSound l.slots → envelope_in b ≡ Some e → IsFor l b k → position (slot_is_for l.own e) l.slots ≡ Some k
+only_found : (l : Listening) (b : List ℕ) (e : SppPacketModel) (k : ℕ) → IsSound l.slots → packet_in b ≡ Some e → IsFor l b k → position (slot_is_for l.own e) l.slots ≡ Some k
 only_found l b e k sound told h =
     let r = read b e told in
     let p : Option Guest → Bool = slot_is_for l.own e in
-    let passes : is_for l.own e h.guest ≡ true = ap (λ (x : Envelope). is_for l.own x h.guest) (sym r.is) ∙ sym (ours_is l.own h.guest (new_end l.own h.guest) b r.packet refl r.reads) ∙ h.ours (new_end l.own h.guest) refl in
+    let passes : is_for l.own e h.guest ≡ true = ap (λ (x : SppPacketModel). is_for l.own x h.guest) (sym r.is) ∙ sym (ours_is l.own h.guest (new_end l.own h.guest) b r.packet refl r.reads) ∙ h.ours (new_end l.own h.guest) refl in
     let at : position p l.slots ≡ Some (position_or_len p l.slots) =
     found p l.slots k None (slice_get_within l.slots k (Some h.guest) h.there) (ap p (get_or_from_slice_get l.slots k (Some h.guest) None h.there) ∙ passes) in
     let first = found_is_for l b e (position_or_len p l.slots) told at in
-    let passes_first : is_for l.own e first.guest ≡ true = ap (λ (x : Envelope). is_for l.own x first.guest) (sym r.is) ∙ sym (ours_is l.own first.guest (new_end l.own first.guest) b r.packet refl r.reads) ∙ first.ours (new_end l.own first.guest) refl in
+    let passes_first : is_for l.own e first.guest ≡ true = ap (λ (x : SppPacketModel). is_for l.own x first.guest) (sym r.is) ∙ sym (ours_is l.own first.guest (new_end l.own first.guest) b r.packet refl r.reads) ∙ first.ours (new_end l.own first.guest) refl in
     at ∙ ap Some (sound (position_or_len p l.slots) k first.guest h.guest first.there h.there (both_clash l.own e first.guest h.guest passes_first passes))
 
 -- ---- what is said of a packet
 
-given_at : (l : Listening) (b : List ℕ) (e : Envelope) (k : ℕ) (o : Option ℕ) (x : Option (Address × ℕ)) → envelope_in b ≡ Some e → position (slot_is_for l.own e) l.slots ≡ o → arrival_by o x ≡ For k → IsFor l b k
+given_at : (l : Listening) (b : List ℕ) (e : SppPacketModel) (k : ℕ) (o : Option ℕ) (x : Option (Address × ℕ)) → packet_in b ≡ Some e → position (slot_is_for l.own e) l.slots ≡ o → arrival_by o x ≡ For k → IsFor l b k
 given_at l b e k (Some j) x told at is = found_is_for l b e k told (at ∙ (cc))
 given_at l b e k None (Some x) told at is = absurd (cc)
 given_at l b e k None None told at is = absurd (cc)
 
-given_of : (l : Listening) (b : List ℕ) (o : Option Envelope) (k : ℕ) → envelope_in b ≡ o → arrival_of l o ≡ For k → IsFor l b k
+given_of : (l : Listening) (b : List ℕ) (o : Option SppPacketModel) (k : ℕ) → packet_in b ≡ o → arrival_of l o ≡ For k → IsFor l b k
 given_of l b None k told is = absurd (cc)
 given_of l b (Some e) k told is = given_at l b e k (position (slot_is_for l.own e) l.slots) (opener_at l.own e) told refl is
 
 pub given : (l : Listening) (b : List ℕ) (k : ℕ) → arrival l b ≡ For k → IsFor l b k
-given l b k is = given_of l b (envelope_in b) k refl is
+given l b k is = given_of l b (packet_in b) k refl is
 
 record Seen (b : List ℕ) : Type 0 where
-  pub envelope : Envelope
-  pub told : envelope_in b ≡ Some envelope
+  pub packet : SppPacketModel
+  pub told : packet_in b ≡ Some packet
 
 seen_in : (l : Listening) (b : List ℕ) (k : ℕ) (o : Result SppPacketModel Dropped) → spp_packet_of b ≡ o → IsFor l b k → Seen b
-seen_in l b k (Ok p) e h = record { envelope = envelope_of p; told = ap (λ (o : Result SppPacketModel Dropped). option_map envelope_of (result_ok o)) e }
+seen_in l b k (Ok p) e h = record { packet = p; told = ap (λ (o : Result SppPacketModel Dropped). result_ok o) e }
 seen_in l b k (Err f) e h =
     let no : true ≡ false = sym (h.ours (new_end l.own h.guest) refl) ∙ ap (is_ours_in (new_end l.own h.guest)) e in
     absurd (cc)
@@ -156,38 +155,38 @@ seen_in l b k (Err f) e h =
 pub only : (l : Listening) (b : List ℕ) (k : ℕ) → IsSound l.slots → IsFor l b k → arrival l b ≡ For k
 only l b k sound h =
     let s = seen_in l b k (spp_packet_of b) refl h in
-    ap (arrival_of l) s.told ∙ ap (λ (o : Option ℕ). arrival_by o (opener_at l.own s.envelope)) (only_found l b s.envelope k sound s.told h)
+    ap (arrival_of l) s.told ∙ ap (λ (o : Option ℕ). arrival_by o (opener_at l.own s.packet)) (only_found l b s.packet k sound s.told h)
 
 -- ---- who opens a connection
 
-both_parts : (c d : Bool) (x y : Address × ℕ) → (if c && d then Some x else None) ≡ Some y → (c ≡ true) × ((if d then Some x else None) ≡ Some y)
-both_parts true d x y h = (refl, h)
-both_parts false d x y h = absurd (cc)
+both_parts : (c : Bool) (o : Option (Address × ℕ)) (y : Address × ℕ) → (if c then o else None) ≡ Some y → (c ≡ true) × (o ≡ Some y)
+both_parts true o y h = (refl, h)
+both_parts false o y h = absurd (cc)
 
-from_parts : (c d : Bool) (x y : Address × ℕ) → c ≡ true → (if d then Some x else None) ≡ Some y → (if c && d then Some x else None) ≡ Some y
-from_parts true d x y c h = h
-from_parts false d x y c h = absurd (cc)
+from_parts : (c : Bool) (o : Option (Address × ℕ)) (y : Address × ℕ) → c ≡ true → o ≡ Some y → (if c then o else None) ≡ Some y
+from_parts true o y c h = h
+from_parts false o y c h = absurd (cc)
 
-opens_at : (l : Listening) (b : List ℕ) (e : Envelope) (a : Address) (id : ℕ) (o : Option ℕ) (x : Option (Address × ℕ)) → IsSound l.slots → envelope_in b ≡ Some e
+opens_at : (l : Listening) (b : List ℕ) (e : SppPacketModel) (a : Address) (id : ℕ) (o : Option ℕ) (x : Option (Address × ℕ)) → IsSound l.slots → packet_in b ≡ Some e
     → position (slot_is_for l.own e) l.slots ≡ o → opener_at l.own e ≡ x → arrival_by o x ≡ Opens a id → OpensNew l b a id
 opens_at l b e a id (Some j) x sound told at who is = absurd (cc)
 opens_at l b e a id None None sound told at who is = absurd (cc)
 opens_at l b e a id None (Some (u, n)) sound told at who is =
     let r = read b e told in
     let same : Some (u, n) ≡ Some (a, id) = cc in
-    let opens : opener_at l.own (envelope_of r.packet) ≡ Some (a, id) = ap (opener_at l.own) r.is ∙ who ∙ same in
+    let opens : opener_at l.own r.packet ≡ Some (a, id) = ap (opener_at l.own) r.is ∙ who ∙ same in
     let p = r.packet in
-    let parts = both_parts (same_place p.target l.own) (p.header.target_id == 0 && not (p.header.source_id == 0)) (p.source, p.header.source_id) (a, id) opens in
+    let parts = both_parts (same_place p.target l.own) (opener_of p) (a, id) opens in
     record { packet = p; reads = r.reads; here = parts.0; opens = parts.1; new = λ k h. let no : None ≡ Some k = sym at ∙ only_found l b e k sound told h in cc }
 
-opens_of : (l : Listening) (b : List ℕ) (o : Option Envelope) (a : Address) (id : ℕ) → IsSound l.slots → envelope_in b ≡ o → arrival_of l o ≡ Opens a id → OpensNew l b a id
+opens_of : (l : Listening) (b : List ℕ) (o : Option SppPacketModel) (a : Address) (id : ℕ) → IsSound l.slots → packet_in b ≡ o → arrival_of l o ≡ Opens a id → OpensNew l b a id
 opens_of l b None a id sound told is = absurd (cc)
 opens_of l b (Some e) a id sound told is = opens_at l b e a id (position (slot_is_for l.own e) l.slots) (opener_at l.own e) sound told refl refl is
 
 pub opens : (l : Listening) (b : List ℕ) (a : Address) (id : ℕ) → IsSound l.slots → arrival l b ≡ Opens a id → OpensNew l b a id
-opens l b a id sound is = opens_of l b (envelope_in b) a id sound refl is
+opens l b a id sound is = opens_of l b (packet_in b) a id sound refl is
 
-opened_at : (l : Listening) (b : List ℕ) (e : Envelope) (a : Address) (id : ℕ) (o : Option ℕ) → OpensNew l b a id → envelope_in b ≡ Some e
+opened_at : (l : Listening) (b : List ℕ) (e : SppPacketModel) (a : Address) (id : ℕ) (o : Option ℕ) → OpensNew l b a id → packet_in b ≡ Some e
     → position (slot_is_for l.own e) l.slots ≡ o → opener_at l.own e ≡ Some (a, id) → arrival_by o (opener_at l.own e) ≡ Opens a id
 opened_at l b e a id (Some j) h told at who = absurd (h.new j (found_is_for l b e j told at))
 opened_at l b e a id None h told at who = ap (arrival_by None) who
@@ -195,9 +194,9 @@ opened_at l b e a id None h told at who = ap (arrival_by None) who
 pub opened : (l : Listening) (b : List ℕ) (a : Address) (id : ℕ) → OpensNew l b a id → arrival l b ≡ Opens a id
 opened l b a id h =
     let p = h.packet in
-    let e : Envelope = envelope_of p in
-    let told : envelope_in b ≡ Some e = ap (λ (o : Result SppPacketModel Dropped). option_map envelope_of (result_ok o)) h.reads in
-    let who : opener_at l.own e ≡ Some (a, id) = from_parts (same_place p.target l.own) (p.header.target_id == 0 && not (p.header.source_id == 0)) (p.source, p.header.source_id) (a, id) h.here h.opens in
+    let e : SppPacketModel = p in
+    let told : packet_in b ≡ Some e = ap (λ (o : Result SppPacketModel Dropped). result_ok o) h.reads in
+    let who : opener_at l.own e ≡ Some (a, id) = from_parts (same_place p.target l.own) (opener_of p) (a, id) h.here h.opens in
     ap (arrival_of l) told ∙ opened_at l b e a id (position (slot_is_for l.own e) l.slots) h told refl who
 
 -- ---- no two connections clash

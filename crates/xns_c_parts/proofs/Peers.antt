@@ -22,7 +22,7 @@ use Rattle.xns_idp.specs.declared.address.Address.{Address}
 use Rattle.xns_idp.specs.Packet.{same_place}
 use Rattle.xns_c_parts.specs.Listening.{IsSound, clashes, is_for, peer_at, slot_clashes, slot_is_for}
 use Rattle.xns_c_parts.specs.Peers.{IsKept, peer_cmp, peer_of, slot_has_peer}
-use Rattle.xns_c_parts.specs.declared.envelope.Envelope.{Envelope}
+use Rattle.xns_spp.specs.Packet.{SppPacketModel}
 use Rattle.xns_c_parts.specs.declared.guest.Guest.{Guest}
 use Rattle.xns_c_parts.specs.declared.peer.Peer.{Peer}
 use Rattle.xns_c_parts.proofs.Arrivals.{and_left, and_right, and_both, or_right, both_clash, emptied, found, no_clash, read_by, sound_with, sound_without}
@@ -109,16 +109,16 @@ two_clash q g h a b =
     (eq-eqb g.peer_id h.peer_id (s.ids ∙ sym t.ids)))
 
 -- the peer of a packet that belongs to a connection
-its_peer : (own : Address) (e : Envelope) (g : Guest) → is_for own e g ≡ true → is_eq (peer_cmp (peer_of g) (peer_at e.source e.source_id)) ≡ true
+its_peer : (own : Address) (e : SppPacketModel) (g : Guest) → is_for own e g ≡ true → is_eq (peer_cmp (peer_of g) (peer_at e.source e.header.source_id)) ≡ true
 its_peer own e g h =
-    let from : (same_place e.source g.peer && e.source_id == g.peer_id) ≡ true =
-    and_right (e.target_id == g.id || e.target_id == 0) (same_place e.source g.peer && e.source_id == g.peer_id)
-    (and_right (same_place e.target own) ((e.target_id == g.id || e.target_id == 0) && (same_place e.source g.peer && e.source_id == g.peer_id)) h) in
-    let at = and_left (same_place e.source g.peer) (e.source_id == g.peer_id) from in
-    tied (peer_of g) (peer_at e.source e.source_id) (record {
+    let from : (same_place e.source g.peer && e.header.source_id == g.peer_id) ≡ true =
+    and_right (e.header.target_id == g.id || e.header.target_id == 0) (same_place e.source g.peer && e.header.source_id == g.peer_id)
+    (and_right (same_place e.target own) ((e.header.target_id == g.id || e.header.target_id == 0) && (same_place e.source g.peer && e.header.source_id == g.peer_id)) h) in
+    let at = and_left (same_place e.source g.peer) (e.header.source_id == g.peer_id) from in
+    tied (peer_of g) (peer_at e.source e.header.source_id) (record {
       hosts = sym ((bytes_eq-Decides e.source.host g.peer.host).0 (and_left (bytes_eq e.source.host g.peer.host) (e.source.socket == g.peer.socket) at));
       sockets = sym (eqb-true e.source.socket g.peer.socket (and_right (bytes_eq e.source.host g.peer.host) (e.source.socket == g.peer.socket) at));
-      ids = sym (eqb-true e.source_id g.peer_id (and_right (same_place e.source g.peer) (e.source_id == g.peer_id) from));
+      ids = sym (eqb-true e.header.source_id g.peer_id (and_right (same_place e.source g.peer) (e.header.source_id == g.peer_id) from));
     })
 
 -- the slot that is found in a copy of the slots is the one in them
@@ -144,27 +144,27 @@ has q g = is_eq (peer_cmp (peer_of g) q)
 holds_peer : (q : Peer) (slots : List (Option Guest)) (k : ℕ) → k < length slots → slot_has_peer q (get_or slots k None) ≡ true → Holds (slot_has_peer q) (has q) slots k
 holds_peer q slots k within passes = holds_by (slot_has_peer q) (has q) refl (λ _. refl) slots k (get_or slots k None) (slice_get-get_or slots k None within) passes
 
-holds_for : (own : Address) (e : Envelope) (slots : List (Option Guest)) (k : ℕ) → k < length slots → slot_is_for own e (get_or slots k None) ≡ true → Holds (slot_is_for own e) (is_for own e) slots k
+holds_for : (own : Address) (e : SppPacketModel) (slots : List (Option Guest)) (k : ℕ) → k < length slots → slot_is_for own e (get_or slots k None) ≡ true → Holds (slot_is_for own e) (is_for own e) slots k
 holds_for own e slots k within passes = holds_by (slot_is_for own e) (is_for own e) refl (λ _. refl) slots k (get_or slots k None) (slice_get-get_or slots k None within) passes
 
 -- ---- what is found
 
-passes_too : (own : Address) (e : Envelope) (slots : List (Option Guest)) (k : ℕ) → k < length slots → slot_is_for own e (get_or slots k None) ≡ true → slot_has_peer (peer_at e.source e.source_id) (get_or slots k None) ≡ true
+passes_too : (own : Address) (e : SppPacketModel) (slots : List (Option Guest)) (k : ℕ) → k < length slots → slot_is_for own e (get_or slots k None) ≡ true → slot_has_peer (peer_at e.source e.header.source_id) (get_or slots k None) ≡ true
 passes_too own e slots k within passes =
     let h = holds_for own e slots k within passes in
-    ap (slot_has_peer (peer_at e.source e.source_id)) (get_or_from_slice_get slots k (Some h.guest) None h.there) ∙ its_peer own e h.guest h.passes
+    ap (slot_has_peer (peer_at e.source e.header.source_id)) (get_or_from_slice_get slots k (Some h.guest) None h.there) ∙ its_peer own e h.guest h.passes
 
 -- no peer: no connection
-pub not_found : (own : Address) (e : Envelope) (slots : List (Option Guest)) (peers : BTreeMap Peer ℕ) → IsKept slots peers → get peer_cmp peers (peer_at e.source e.source_id) ≡ None
+pub not_found : (own : Address) (e : SppPacketModel) (slots : List (Option Guest)) (peers : BTreeMap Peer ℕ) → IsKept slots peers → get peer_cmp peers (peer_at e.source e.header.source_id) ≡ None
     → position (slot_is_for own e) slots ≡ None
 not_found own e slots peers h none =
-    let q = peer_at e.source e.source_id in
+    let q = peer_at e.source e.header.source_id in
     none_by (slot_is_for own e) slots None (λ k within passes.
     let at : position (slot_has_peer q) slots ≡ Some (position_or_len (slot_has_peer q) slots) = found (slot_has_peer q) slots k None within (passes_too own e slots k within passes) in
     let no : None ≡ Some (position_or_len (slot_has_peer q) slots) = sym none ∙ h.placed q ∙ at in cc)
 
 -- a peer: its connection, or none
-pub found_at : (own : Address) (e : Envelope) (slots : List (Option Guest)) (peers : BTreeMap Peer ℕ) (n : ℕ) (slot : Option Guest) → IsKept slots peers
+pub found_at : (own : Address) (e : SppPacketModel) (slots : List (Option Guest)) (peers : BTreeMap Peer ℕ) (n : ℕ) (slot : Option Guest) → IsKept slots peers
     → slice_get slots n ≡ Some slot → slot_is_for own e slot ≡ true → position (slot_is_for own e) slots ≡ Some n
 found_at own e slots peers n slot h at passes =
     let p : Option Guest → Bool = slot_is_for own e in
@@ -175,10 +175,10 @@ found_at own e slots peers n slot h at passes =
     let a = holds_for own e slots (position_or_len p slots) first.0 first.1 in let b = holds_for own e slots n within here in
     is ∙ ap Some (h.sound (position_or_len p slots) n a.guest b.guest a.there b.there (both_clash own e a.guest b.guest a.passes b.passes))
 
-pub not_at : (own : Address) (e : Envelope) (slots : List (Option Guest)) (peers : BTreeMap Peer ℕ) (n : ℕ) (slot : Option Guest) → IsKept slots peers
-    → get peer_cmp peers (peer_at e.source e.source_id) ≡ Some n → slice_get slots n ≡ Some slot → slot_is_for own e slot ≡ false → position (slot_is_for own e) slots ≡ None
+pub not_at : (own : Address) (e : SppPacketModel) (slots : List (Option Guest)) (peers : BTreeMap Peer ℕ) (n : ℕ) (slot : Option Guest) → IsKept slots peers
+    → get peer_cmp peers (peer_at e.source e.header.source_id) ≡ Some n → slice_get slots n ≡ Some slot → slot_is_for own e slot ≡ false → position (slot_is_for own e) slots ≡ None
 not_at own e slots peers n slot h told at passes =
-    let p : Option Guest → Bool = slot_is_for own e in let q = peer_at e.source e.source_id in
+    let p : Option Guest → Bool = slot_is_for own e in let q = peer_at e.source e.header.source_id in
     let first = position-Some (slot_has_peer q) slots n None (sym (h.placed q) ∙ told) in
     let b = holds_peer q slots n first.0 first.1 in
     none_by p slots None (λ k within here.
@@ -186,10 +186,10 @@ not_at own e slots peers n slot h told at passes =
     let same_slot : k ≡ n = h.sound k n a.guest b.guest a.there b.there (two_clash q a.guest b.guest a.passes b.passes) in
     let no : false ≡ true = sym passes ∙ ap p (sym (get_or_from_slice_get slots n slot None at)) ∙ ap (λ (i : ℕ). p (get_or slots i None)) (sym same_slot) ∙ here in cc)
 
-pub not_past : (own : Address) (e : Envelope) (slots : List (Option Guest)) (peers : BTreeMap Peer ℕ) (n : ℕ) → IsKept slots peers
-    → get peer_cmp peers (peer_at e.source e.source_id) ≡ Some n → slice_get slots n ≡ None → position (slot_is_for own e) slots ≡ None
+pub not_past : (own : Address) (e : SppPacketModel) (slots : List (Option Guest)) (peers : BTreeMap Peer ℕ) (n : ℕ) → IsKept slots peers
+    → get peer_cmp peers (peer_at e.source e.header.source_id) ≡ Some n → slice_get slots n ≡ None → position (slot_is_for own e) slots ≡ None
 not_past own e slots peers n h told past =
-    let q = peer_at e.source e.source_id in
+    let q = peer_at e.source e.header.source_id in
     let first = position-Some (slot_has_peer q) slots n None (sym (h.placed q) ∙ told) in
     let no : None ≡ Some (get_or slots n None) = sym past ∙ slice_get-get_or slots n None first.0 in absurd (cc)
 

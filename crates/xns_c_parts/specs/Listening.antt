@@ -1,16 +1,16 @@
 -- The connections behind one socket (XSIS 028112, Sequenced Packet Protocol, Connection Identifiers).
-use Rattle.std.specs.Prelude.{◌≡◌, ℕ, Bool, true, false, not, ◌&&◌, ◌||◌, ◌==◌, if◌then◌else◌, List, position, replicate, slice_get, slice_set, Option, Some, None, option_map, Ok}
+use Rattle.std.specs.Prelude.{◌≡◌, ℕ, Bool, true, false, ◌&&◌, ◌||◌, ◌==◌, if◌then◌else◌, List, position, replicate, slice_get, slice_set, Option, Some, None, Ok}
 use Rattle.std.specs.Option.{is_none, is_some}
 use Rattle.std.specs.Result.{result_ok}
 use Rattle.xns_idp.specs.declared.address.Address.{Address}
 use Rattle.xns_idp.specs.Packet.{same_place}
+use Rattle.xns_spp.specs.Ends.{is_for_responder}
 use Rattle.xns_spp.specs.Packet.{SppPacketModel, spp_packet_of, opener_of}
 use Rattle.xns_spp.specs.Receiving.{is_ours}
 use Rattle.xns_spp.specs.State.{State, responder_state}
 use Rattle.xns_c_parts.specs.Results.{ok, bad_argument, in_use, no_slot}
 use Rattle.xns_c_parts.specs.declared.arrived.Arrived.{Arrived}
 use Rattle.xns_c_parts.specs.declared.arrived.Arrived.TheVariants.{For, Opens, ForNone}
-use Rattle.xns_c_parts.specs.declared.envelope.Envelope.{Envelope}
 use Rattle.xns_c_parts.specs.declared.guest.Guest.{Guest}
 use Rattle.xns_c_parts.specs.declared.peer.Peer.{Peer}
 
@@ -57,23 +57,20 @@ pub record OpensNew (l : Listening) (bytes : List ℕ) (peer : Address) (peer_id
   pub opens : opener_of packet ≡ Some (peer, peer_id)
   pub new : (k : ℕ) → IsFor l bytes k → ⊥
 
--- ---- the same by what a packet has on its outside
+-- ---- the same by the packet
 
-abbrev pub envelope_of : SppPacketModel → Envelope
-envelope_of p = record { target = p.target; source = p.source; source_id = p.header.source_id; target_id = p.header.target_id }
+abbrev pub packet_in : List ℕ → Option SppPacketModel
+packet_in bytes = result_ok (spp_packet_of bytes)
 
-abbrev pub envelope_in : List ℕ → Option Envelope
-envelope_in bytes = option_map envelope_of (result_ok (spp_packet_of bytes))
+abbrev pub is_for : Address → SppPacketModel → Guest → Bool
+is_for own p g = is_for_responder own g.id g.peer g.peer_id p
 
-abbrev pub is_for : Address → Envelope → Guest → Bool
-is_for own e g = same_place e.target own && ((e.target_id == g.id || e.target_id == 0) && (same_place e.source g.peer && e.source_id == g.peer_id))
+abbrev pub slot_is_for : Address → SppPacketModel → Option Guest → Bool
+slot_is_for own p None = false
+slot_is_for own p (Some g) = is_for own p g
 
-abbrev pub slot_is_for : Address → Envelope → Option Guest → Bool
-slot_is_for own e None = false
-slot_is_for own e (Some g) = is_for own e g
-
-abbrev pub opener_at : Address → Envelope → Option (Address × ℕ)
-opener_at own e = if same_place e.target own && (e.target_id == 0 && not (e.source_id == 0)) then Some (e.source, e.source_id) else None
+abbrev pub opener_at : Address → SppPacketModel → Option (Address × ℕ)
+opener_at own p = if same_place p.target own then opener_of p else None
 
 -- what is said, by the connection that was found and by who opens one
 abbrev pub arrival_by : Option ℕ → Option (Address × ℕ) → Arrived
@@ -81,12 +78,12 @@ arrival_by (Some k) o = For k
 arrival_by None (Some x) = Opens x.0 x.1
 arrival_by None None = ForNone
 
-abbrev pub arrival_of : Listening → Option Envelope → Arrived
+abbrev pub arrival_of : Listening → Option SppPacketModel → Arrived
 arrival_of l None = ForNone
-arrival_of l (Some e) = arrival_by (position (slot_is_for l.own e) l.slots) (opener_at l.own e)
+arrival_of l (Some p) = arrival_by (position (slot_is_for l.own p) l.slots) (opener_at l.own p)
 
 abbrev pub arrival : Listening → List ℕ → Arrived
-arrival l bytes = arrival_of l (envelope_in bytes)
+arrival l bytes = arrival_of l (packet_in bytes)
 
 -- ---- connections that must not stand side by side
 

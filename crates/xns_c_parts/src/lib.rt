@@ -10,7 +10,6 @@ mod caller_handle;
 mod caller_handling;
 mod connection;
 mod courier;
-mod envelope;
 mod flag;
 mod front;
 mod guest;

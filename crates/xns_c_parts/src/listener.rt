@@ -6,14 +6,14 @@ ghost use Rattle.xns_c_parts.specs.Listening.{slot_is_for, with_slot};
 ghost use Rattle.xns_c_parts.specs.Results.{ok, no_memory};
 
 use crate::arrived::Arrived;
-use crate::envelope::{Envelope, read_envelope};
-use crate::guest::{Guest, is_same_place};
+use crate::guest::Guest;
 use crate::peer::Peer;
 use crate::results::{BAD_ARGUMENT, IN_USE, NO_MEMORY, NO_SLOT, OK};
 use std::alloc::{AllocError, Global};
 use std::collections::BTreeMap;
 use std::marker::Model;
 use xns_idp::Address;
+use xns_spp::{SppPacket, read_packet};
 
 /// The connections behind one socket, each with a number. A packet belongs to one of them at most.
 #[derive(Drop)]
@@ -49,13 +49,13 @@ impl Listener {
     }
 
     /// The number of the connection that a packet belongs to.
-    fn find(&self, envelope: &Envelope) -> Option<usize>
-        ensures { result ≡ position (slot_is_for self.now.own envelope.now) self.now.slots }
+    fn find(&self, packet: &SppPacket) -> Option<usize>
+        ensures { result ≡ position (slot_is_for self.now.own packet.now) self.now.slots }
     {
-        let peer = Peer::at(&envelope.source, envelope.source_id);
+        let peer = Peer::at(&packet.source, packet.header.source_id);
         let number = *self.peers.get(&peer)?;
         let slot = self.slots.get(number)?;
-        if is_slot_for(slot, &self.own, envelope) {
+        if is_slot_for(slot, &self.own, packet) {
             Some(number)
         } else {
             None
@@ -68,13 +68,13 @@ impl Listener {
         ensures sound { IsSound self.now.slots }
     {
         let own = &self.own;
-        let Some(envelope) = read_envelope(bytes) else {
+        let Some(packet) = read_packet(bytes).ok() else {
             return Arrived::ForNone;
         };
-        if let Some(number) = self.find(&envelope) {
+        if let Some(number) = self.find(&packet) {
             return Arrived::For(number);
         }
-        match opener_at(own, &envelope) {
+        match opener_at(own, &packet) {
             Some((peer, peer_id)) => Arrived::Opens(peer, peer_id),
             None => Arrived::ForNone,
         }
@@ -173,22 +173,22 @@ impl Listener {
 }
 
 /// Who opens a connection at this socket by a packet, and with which identifier.
-fn opener_at(own: &Address, envelope: &Envelope) -> Option<(Address, u16)>
-    ensures { result ≡ opener_at own.now envelope.now }
+fn opener_at(own: &Address, packet: &SppPacket) -> Option<(Address, u16)>
+    ensures { result ≡ opener_at own.now packet.now }
 {
-    if is_same_place(&envelope.target, own) && envelope.target_id == 0 && envelope.source_id != 0 {
-        Some((envelope.source, envelope.source_id))
+    if packet.target.is_same_place(own) {
+        packet.opener()
     } else {
         None
     }
 }
 
 /// Whether a slot has a connection that a packet belongs to.
-fn is_slot_for(slot: &Option<Guest>, own: &Address, envelope: &Envelope) -> bool
-    ensures { result ≡ slot_is_for own.now envelope.now slot.now }
+fn is_slot_for(slot: &Option<Guest>, own: &Address, packet: &SppPacket) -> bool
+    ensures { result ≡ slot_is_for own.now packet.now slot.now }
 {
     match slot {
-        Some(guest) => guest.is_for(own, envelope),
+        Some(guest) => guest.is_for(own, packet),
         None => false,
     }
 }
