@@ -7,6 +7,7 @@ use Rattle.xns_spp.specs.Held.{Held, StandsFor}
 use Rattle.xns_spp.specs.Receiving.{receive_answer, after_receive}
 use Rattle.xns_spp.specs.Sending.{send_answer, after_send, take_answer, after_take, after_flush, after_tick}
 use Rattle.xns_spp.specs.State.{State}
+use Rattle.xns_spp.specs.Telling.{after_resend}
 use Rattle.xns_spp.specs.declared.item.Item.{Item}
 use Rattle.xns_spp.specs.declared.send_fault.SendFault.{SendFault}
 use Rattle.item_world.specs.EndLaws.{EndLaws}
@@ -15,7 +16,7 @@ use Rattle.item_world.specs.declared.participant.Participant.{Participant}
 use Rattle.item_world.proofs.Fronts.{begins_itself, begins_same}
 use Rattle.item_world.specs.Play.{IsParticipant}
 
-continues_itself : (s : State) → Continues s s
+pub continues_itself : (s : State) → Continues s s
 continues_itself s = record { accepted = refl; handed = refl; taken = begins_itself s.taken }
 
 hearing_nothing : (s t : State) → Stays s t → HearsNothing s t → Continues s t
@@ -26,6 +27,9 @@ flush_continues laws s = hearing_nothing s (after_flush s) (laws.stays.flush s) 
 
 pub tick_continues : EndLaws → (s : State) → Continues s (after_tick s)
 tick_continues laws s = hearing_nothing s (after_tick s) (laws.stays.tick s) (laws.hears.tick s)
+
+pub resend_continues : EndLaws → (s : State) → Continues s (after_resend s)
+resend_continues laws s = hearing_nothing s (after_resend s) (laws.stays.resend s) (laws.hears.resend s)
 
 pub receive_continues : EndLaws → (s : State) (b : List ℕ) → Continues s (after_receive s b)
 receive_continues laws s b =

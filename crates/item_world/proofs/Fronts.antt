@@ -46,3 +46,11 @@ pub begins_more : {X : Type 0} (xs ys : List X) (x : X) → Begins xs ys → sli
 begins_more {X} xs ys x b h =
     let more = rest_more xs b.0 x (subst (λ (l : List X). slice_get l (length xs) ≡ Some x) (sym b.1) h) in
     (more.0, more.1 ∙ b.1)
+
+-- the last element of a prefix
+pub last_of : {X : Type 0} (xs : List X) (x : X) (ys : List X) → Begins (xs ++ x ∷ []) ys → slice_get ys (length xs) ≡ Some x
+last_of {X} xs x ys b = begins_get (xs ++ x ∷ []) ys (length xs) x b (last_get xs x)
+  where
+    last_get : (zs : List X) (z : X) → slice_get (zs ++ z ∷ []) (length zs) ≡ Some z
+    last_get [] z = refl
+    last_get (y ∷ zs) z = last_get zs z

@@ -8,17 +8,19 @@ use Rattle.std.proofs.lemmas.Option.{get_or_from_slice_get}
 use Rattle.xns_spp.specs.Receiving.{receive_answer, after_receive}
 use Rattle.xns_spp.specs.Sending.{after_send, flush_answer, after_flush, tick_answer, after_tick, after_take}
 use Rattle.xns_spp.specs.State.{State}
+use Rattle.xns_spp.specs.Telling.{told_answer, resend_answer, after_resend}
 use Rattle.xns_spp.specs.declared.item.Item.{Item}
 use Rattle.item_world.proofs.Foreign.{noise_changes_nothing}
 use Rattle.item_world.proofs.Fronts.{begins_itself, begins_then, begins_same, begins_map, begins_get, begins_length}
 use Rattle.item_world.proofs.Sides.{each_end, same_marked}
 use Rattle.item_world.specs.EndLaws.{EndLaws}
-use Rattle.item_world.specs.Events.{Step, arrival, noise, sending, taking, flushing, ticking, stepped, all_stepped, steps_of, happens, run}
+use Rattle.item_world.specs.Events.{Step, arrival, noise, sending, taking, flushing, ticking, resending, telling, stepped, all_stepped, steps_of, happens, run}
 use Rattle.xns_spp.specs.Growth.{Begins, HearsNothing}
 use Rattle.item_world.specs.Landing.{answered, landed, landing, reached}
 use Rattle.item_world.specs.Going.{Later, as_sent}
 use Rattle.item_world.specs.Network.{is_settled}
 use Rattle.item_world.specs.Side.{other}
+use Rattle.item_world.specs.Telling.{resends}
 use Rattle.item_world.specs.World.{World, end_of, moment, emitted, moved, has_passed, lifetime, flushes, ticks, receives, sends, takes, marked, sender_and_bytes, packets_of}
 use Rattle.item_world.specs.declared.emitted.Emitted.{Emitted}
 use Rattle.item_world.specs.declared.event.Event.{Event}
@@ -69,6 +71,11 @@ ticks_later laws w side =
     let s : State = end_of w side in
     moved_later w side (after_tick s) (tick_answer s) (no_less s (after_tick s) (laws.hears.tick s))
 
+resends_later : EndLaws → (w : World) (side : Side) → Later w (resends w side)
+resends_later laws w side =
+    let s : State = end_of w side in
+    moved_later w side (after_resend s) (option_to_list (resend_answer s)) (no_less s (after_resend s) (laws.hears.resend s))
+
 sends_later : EndLaws → (w : World) (side : Side) (x : Item) → Later w (sends w side x)
 sends_later laws w side x =
     let s : State = end_of w side in
@@ -109,6 +116,8 @@ step_later laws w (sending side x) = sends_later laws w side x
 step_later laws w (taking side) = takes_later laws w side
 step_later laws w (flushing side) = flushes_later laws w side
 step_later laws w (ticking side) = ticks_later laws w side
+step_later laws w (resending side) = resends_later laws w side
+step_later laws w (telling side asks) = moved_later w side (end_of w side) (option_to_list (told_answer (end_of w side) asks)) (omega arith)
 
 pub all_later : EndLaws → (w : World) (ss : List Step) → Later w (all_stepped w ss)
 all_later laws w [] = later_itself w

@@ -12,4 +12,5 @@ pub mod Resting
 pub mod Continues
 pub mod Networks
 pub mod Quiet
+pub mod Channels
 pub mod Plays

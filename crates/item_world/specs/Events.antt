@@ -1,16 +1,17 @@
 -- What may happen, as a list of small steps.
-use Rattle.std.specs.Prelude.{ℕ, ◌+◌, List, [], ◌∷◌, ◌++◌, fold, Option, Some, None, if◌then◌else◌}
+use Rattle.std.specs.Prelude.{ℕ, ◌+◌, Bool, List, [], ◌∷◌, ◌++◌, fold, Option, Some, None, if◌then◌else◌}
 use Rattle.xns_spp.specs.Item.{IsItem}
-use Rattle.xns_spp.specs.Receiving.{is_ours}
 use Rattle.xns_spp.specs.declared.item.Item.{Item}
 use Rattle.item_world.specs.declared.emitted.Emitted.{Emitted}
 use Rattle.item_world.specs.declared.event.Event.{Event}
 use Rattle.item_world.specs.declared.event.Event.TheVariants.{Deliver, Rest, Tick, Foreign, Send, Take}
 use Rattle.item_world.specs.declared.side.Side.{Side}
 use Rattle.item_world.specs.Landing.{landing, reached}
-use Rattle.item_world.specs.World.{World, end_of, flushes, ticks, receives, sends, takes}
+use Rattle.item_world.specs.Telling.{resends, tells}
+use Rattle.item_world.specs.World.{World, flushes, ticks, overhears, sends, takes}
 
--- packet k comes to an end, which answers it; bytes from elsewhere come to an end; an end is given an item, hands one up, flushes, or ticks
+-- packet k comes to an end, which answers it; bytes from elsewhere come to an end; an end is given an item, hands one up, flushes, ticks,
+-- sends its first item again, or sends a system packet. No event of a play has the last two.
 pub data Step : Type 0 where
   arrival : ℕ → Step
   noise : Side → List ℕ → Step
@@ -18,15 +19,29 @@ pub data Step : Type 0 where
   taking : Side → Step
   flushing : Side → Step
   ticking : Side → Step
+  resending : Side → Step
+  telling : Side → (asks : Bool) → Step
 
--- bytes from elsewhere that would pass for a packet of the connection are passed over
 abbrev pub stepped : World → Step → World
 stepped w (arrival k) = reached w (landing w k)
-stepped w (noise side bytes) = if is_ours (end_of w side) bytes then w else receives w side bytes
+stepped w (noise side bytes) = overhears w side bytes
 stepped w (sending side x) = sends w side x
 stepped w (taking side) = takes w side
 stepped w (flushing side) = flushes w side
 stepped w (ticking side) = ticks w side
+stepped w (resending side) = resends w side
+stepped w (telling side asks) = tells w side asks
+
+-- the numbers of a step's item are within their types' bounds
+abbrev pub IsStep : Step → Type 0
+IsStep (sending side x) = IsItem x
+IsStep _ = Unit {0}
+
+-- a step by which no item is accepted or handed up
+abbrev pub IsOther : Step → Type 0
+IsOther (sending side x) = ⊥
+IsOther (taking side) = ⊥
+IsOther _ = Unit {0}
 
 abbrev pub all_stepped : World → List Step → World
 all_stepped w steps = fold stepped w steps

@@ -1,15 +1,13 @@
 -- How an end and a world go on.
-use Rattle.std.specs.Prelude.{◌≡◌, ◌≤◌, ℕ, Bool, false, [], ◌∷◌, ◌++◌, length, map, slice_get, is_some, Some, None}
+use Rattle.std.specs.Prelude.{◌≡◌, ◌≤◌, ℕ, Bool, false, length, map, slice_get, is_some, Some, None}
 use Rattle.std.specs.Option.{option_to_list}
 use Rattle.xns_spp.specs.Growth.{Begins}
 use Rattle.xns_spp.specs.Receiving.{receive_answer, after_receive}
 use Rattle.xns_spp.specs.State.{State}
-use Rattle.xns_spp.specs.declared.item.Item.{Item}
 use Rattle.item_world.specs.declared.emitted.Emitted.{Emitted}
 use Rattle.item_world.specs.declared.side.Side.{Side}
 use Rattle.item_world.specs.Landing.{landing}
-use Rattle.item_world.specs.Side.{other}
-use Rattle.item_world.specs.World.{World, end_of, moved, marked, sent_at, handed_at}
+use Rattle.item_world.specs.World.{World, end_of, moved, marked}
 
 -- s goes on as t with the same items accepted and handed up
 pub record Continues (s t : State) : Type 0 where
@@ -39,22 +37,3 @@ does_land w k = is_some (landing w k)
 -- where packet k lands nowhere, it never does again
 abbrev pub StaysAway : World → ℕ → Type 0
 StaysAway w k = landing w k ≡ None → (v : World) → Later w v → landing v k ≡ None
-
--- ---- the items accepted and handed up, as w goes on as v
-
--- no item is accepted or handed up
-pub record IsQuiet (w v : World) : Type 0 where
-  pub accepted : (side : Side) → sent_at v side ≡ sent_at w side
-  pub handed : (side : Side) → handed_at v side ≡ handed_at w side
-
--- the end at this side accepts x
-pub record Accepts (w v : World) (side : Side) (x : Item) : Type 0 where
-  pub here : sent_at v side ≡ sent_at w side ++ x ∷ []
-  pub there : sent_at v (other side) ≡ sent_at w (other side)
-  pub handed : (t : Side) → handed_at v t ≡ handed_at w t
-
--- the end at this side hands up x
-pub record HandsUp (w v : World) (side : Side) (x : Item) : Type 0 where
-  pub accepted : (t : Side) → sent_at v t ≡ sent_at w t
-  pub here : handed_at v side ≡ handed_at w side ++ x ∷ []
-  pub there : handed_at v (other side) ≡ handed_at w (other side)

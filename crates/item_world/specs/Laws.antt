@@ -12,27 +12,22 @@ use Rattle.item_world.specs.declared.setup.Setup.{Setup}
 use Rattle.item_world.specs.declared.side.Side.{Side}
 use Rattle.item_world.specs.Side.{other}
 use Rattle.item_world.specs.Setup.{IsSetup, IsGood}
-use Rattle.item_world.specs.Going.{Continues, Later, Lands, StaysAway, does_land, IsQuiet, Accepts, HandsUp}
+use Rattle.item_world.specs.Going.{Continues, Later, Lands, StaysAway, does_land}
+use Rattle.item_world.specs.Channel.{Channel, IsQuiet, Accepts, HandsUp, Move, IsHistory}
 use Rattle.item_world.specs.Network.{IsNetwork, unsettled}
 use Rattle.item_world.specs.declared.network.Network.{Network}
 use Rattle.xns_spp.specs.Receiving.{after_receive}
 use Rattle.xns_spp.specs.Sending.{send_answer, take_answer, after_flush, after_tick}
 use Rattle.xns_spp.specs.State.{State}
-use Rattle.item_world.specs.Events.{IsEvent, steps_of, all_stepped, delivers, undelivered, happens, run}
+use Rattle.item_world.specs.Events.{Step, IsStep, IsOther, IsEvent, stepped, steps_of, all_stepped, delivers, undelivered, happens, run}
 use Rattle.item_world.specs.Landing.{landing, flushed, end_reached}
-use Rattle.item_world.specs.Telling.{resends, tells}
-use Rattle.item_world.specs.World.{World, start, end_of, moved, has_passed, flushes, ticks, sends, takes, packets_of, sent_at, handed_at}
+use Rattle.item_world.specs.World.{World, start, end_of, moved, has_passed, flushes, sends, takes, channel_of, packets_of, sent_at, handed_at}
 use Rattle.xns_spp.specs.Growth.{Begins}
 use Rattle.item_world.specs.Invariant.{Holds, IsSoundSpelling}
 
 pub record EachStepKeepsTheOrder : Type 0 where
   pub start : (setup : Setup) → IsSetup setup → IsGood setup → Holds (start setup)
-  pub flush : (w : World) (side : Side) → Holds w → Holds (flushes w side)
-  pub tick : (w : World) (side : Side) → Holds w → Holds (ticks w side)
-  pub resend : (w : World) (side : Side) → Holds w → Holds (resends w side)
-  pub tell : (w : World) (side : Side) (asks : Bool) → Holds w → Holds (tells w side asks)
-  pub send : (w : World) (side : Side) (x : Item) → IsItem x → Holds w → Holds (sends w side x)
-  pub take : (w : World) (side : Side) → Holds w → Holds (takes w side)
+  pub each : (w : World) (s : Step) → IsStep s → Holds w → Holds (stepped w s)
   pub land : (w : World) (k : ℕ) (l : Side × World) → Holds w → landing w k ≡ Some l → Holds l.1
   pub order : (w : World) (side : Side) → Holds w → Begins (handed_at w side) (sent_at w (other side))
   pub read : (w : World) (x : Emitted) → Holds w → has_passed w x ≡ false → (i : IsSoundSpelling (end_of w x.side) (end_of w (other x.side)) x) →
@@ -82,13 +77,18 @@ pub record ARestLeavesOutWhatIsSettled : Type 0 where
   pub left_out : (w : World) → unsettled w 0 w.bag ≡ filter (does_land w) (undelivered 0 w.bag)
   pub away : (w : World) → All (StaysAway w) (undelivered 0 w.bag)
 
--- only an end that is given an item accepts one, and only an end that hands an item up does so
-pub record OtherStepsMoveNoItem : Type 0 where
-  pub flush : (w : World) (side : Side) → Holds w → IsQuiet w (flushes w side)
-  pub tick : (w : World) (side : Side) → Holds w → IsQuiet w (ticks w side)
-  pub land : (w : World) (k : ℕ) (l : Side × World) → Holds w → landing w k ≡ Some l → IsQuiet w l.1
-  pub send : (w : World) (side : Side) (x : Item) → is_ok (send_answer (end_of w side) x) ≡ true → Accepts w (sends w side x) side x
-  pub take : (w : World) (side : Side) (x : Item) → take_answer (end_of w side) ≡ Some x → HandsUp w (takes w side) side x
+-- each small step is a move of the channel; only an end that is given an item accepts one, and only an end that hands an item up does so
+pub record EachStepIsAMove : Type 0 where
+  pub each : (w : World) (s : Step) → Holds w → Move (channel_of w) (channel_of (stepped w s))
+  pub history : (setup : Setup) (steps : List Step) → IsSetup setup → IsGood setup → All IsStep steps → IsHistory (λ n. channel_of (all_stepped (start setup) (take n steps)))
+  pub quiet : (w : World) (s : Step) → IsOther s → Holds w → IsQuiet (channel_of w) (channel_of (stepped w s))
+  pub land : (w : World) (k : ℕ) (l : Side × World) → Holds w → landing w k ≡ Some l → IsQuiet (channel_of w) (channel_of l.1)
+  pub send : (w : World) (side : Side) (x : Item) → is_ok (send_answer (end_of w side) x) ≡ true → Accepts (channel_of w) (channel_of (sends w side x)) side x
+  pub take : (w : World) (side : Side) (x : Item) → Holds w → take_answer (end_of w side) ≡ Some x → HandsUp (channel_of w) (channel_of (takes w side)) side x
+
+-- whatever the moves, what either side has handed up begins what the other accepted
+abbrev pub MovesKeepTheOrder : Type 0
+MovesKeepTheOrder = (c : ℕ → Channel) → IsHistory c → (n : ℕ) (side : Side) → Begins ((c n).handed side) ((c n).accepted (other side))
 
 -- the end that moves goes on as it is told, and the other one stays
 pub record AMoveIsOfOneEnd : Type 0 where
@@ -108,6 +108,6 @@ pub record NetworkLaws : Type 0 where
   pub quiet : AQuietEndLeavesTheNetwork
   pub lands : APacketThatLandsIsReceived
   pub rest : ARestLeavesOutWhatIsSettled
-  pub items : OtherStepsMoveNoItem
+  pub items : EachStepIsAMove
   pub moves : AMoveIsOfOneEnd
   pub reached : ALandingHasAnEnd

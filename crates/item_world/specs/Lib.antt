@@ -3,6 +3,7 @@ pub mod EndLaws
 pub mod Setup
 pub mod World
 pub mod Landing
+pub mod Channel
 pub mod Going
 pub mod Events
 pub mod Trace

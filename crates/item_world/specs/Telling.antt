@@ -1,4 +1,4 @@
--- What an end says when its user wants it, as small steps of a world. No event of a play has them.
+-- What an end says when its user wants it.
 use Rattle.std.specs.Prelude.{Bool}
 use Rattle.std.specs.Option.{option_to_list}
 use Rattle.xns_spp.specs.Telling.{told_answer, resend_answer, after_resend}

@@ -1,7 +1,7 @@
 -- Two ends of a connection, every packet ever sent between them, and the small steps that change them.
-use Rattle.std.specs.Prelude.{ℕ, ◌-◌, Bool, false, true, nat_lt, ◌||◌, length, List, [], ◌++◌, map, take, slice_set}
+use Rattle.std.specs.Prelude.{ℕ, ◌-◌, Bool, false, true, nat_lt, ◌||◌, if◌then◌else◌, length, List, [], ◌++◌, map, take, slice_set}
 use Rattle.std.specs.Option.{option_to_list}
-use Rattle.xns_spp.specs.Receiving.{receive_answer, after_receive}
+use Rattle.xns_spp.specs.Receiving.{is_ours, receive_answer, after_receive}
 use Rattle.xns_spp.specs.Sending.{after_send, flush_answer, after_flush, tick_answer, after_tick, after_take}
 use Rattle.xns_spp.specs.State.{State, initiator_state, responder_state}
 use Rattle.xns_spp.specs.declared.item.Item.{Item}
@@ -10,6 +10,7 @@ use Rattle.item_world.specs.declared.moment.Moment.{Moment}
 use Rattle.item_world.specs.declared.setup.Setup.{Setup}
 use Rattle.item_world.specs.declared.side.Side.{Side}
 use Rattle.item_world.specs.declared.side.Side.TheVariants.{A, B}
+use Rattle.item_world.specs.Channel.{Channel}
 use Rattle.item_world.specs.Side.{other}
 
 -- both ends with all their history, and every packet ever sent
@@ -79,6 +80,10 @@ ticks w side = moved w side (after_tick (end_of w side)) (tick_answer (end_of w 
 abbrev pub receives : World → Side → List ℕ → World
 receives w side bytes = moved w side (after_receive (end_of w side) bytes) (option_to_list (receive_answer (end_of w side) bytes).reply)
 
+-- bytes from elsewhere come; those that would pass for a packet of the connection are passed over
+abbrev pub overhears : World → Side → List ℕ → World
+overhears w side bytes = if is_ours (end_of w side) bytes then w else receives w side bytes
+
 -- a refused item is dropped
 abbrev pub sends : World → Side → Item → World
 sends w side x = moved w side (after_send (end_of w side) x) []
@@ -95,6 +100,10 @@ sent_at w side = (end_of w side).accepted
 -- the items that an end handed up
 abbrev pub handed_at : World → Side → List Item
 handed_at w side = take (end_of w side).handed (end_of w side).taken
+
+-- both
+abbrev pub channel_of : World → Channel
+channel_of w = record { accepted = sent_at w; handed = handed_at w }
 
 abbrev pub sender_and_bytes : Emitted → Side × List ℕ
 sender_and_bytes x = (x.side, x.bytes)

@@ -2,7 +2,7 @@
 
 ghost use Rattle.item_world.specs.EndLaws.{EndLaws};
 ghost use Rattle.item_world.specs.Laws.{EachStepKeepsTheOrder, ItemsComeInOrder, ForeignBytesChangeNothing, ARestDeliversWhatNeverWas};
-ghost use Rattle.item_world.specs.Laws.{TheBagNeverShrinks, NetworkLaws};
+ghost use Rattle.item_world.specs.Laws.{TheBagNeverShrinks, NetworkLaws, EachStepIsAMove, MovesKeepTheOrder};
 
 use xns_spp::laws::{
     accepted_items_go_out, an_end_only_grows, bounds_hold_after_each_step,
@@ -46,6 +46,20 @@ pub fn each_step_keeps_the_order()
     end_laws_are_given();
 }
 
+/// Each small step is one move of the channel: nothing is accepted or handed up, or one end accepts one item, or hands up the next of
+/// what the other accepted. So what small steps lead to from the start, in whatever order they are taken, is a history of the channel.
+pub fn each_step_is_a_move()
+    ensures { EachStepIsAMove }
+{
+    end_laws_are_given();
+    each_step_keeps_the_order();
+}
+
+/// In every history of a channel what either side has handed up begins what the other accepted.
+pub fn moves_keep_the_order()
+    ensures { MovesKeepTheOrder }
+{}
+
 /// Over every list of deliveries, losses, repeats and reorderings, what either end has handed up begins what the other sent,
 /// where no packet is delivered once an end has taken more than 30,000 further items since it was sent.
 ///
@@ -57,7 +71,6 @@ pub fn items_come_in_order()
     ensures { ItemsComeInOrder }
 {
     each_step_keeps_the_order();
-    foreign_bytes_change_nothing();
 }
 
 /// Bytes from elsewhere change nothing: those of the connection are passed over, and all others are dropped.
@@ -89,4 +102,5 @@ pub fn network_laws_are_given()
     ensures { NetworkLaws }
 {
     end_laws_are_given();
+    each_step_is_a_move();
 }

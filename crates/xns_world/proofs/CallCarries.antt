@@ -1,9 +1,9 @@
 -- What is true of a world of calls stays true as a side takes a step.
-use Rattle.std.proofs.Common.{◌≡◌, inl, inr, ℕ, ◌<◌, ◌≤◌, true, List, [], ◌∷◌, ◌++◌, length, Some, refl, sym, ◌∙◌, ap, subst, arith}
+use Rattle.std.proofs.Common.{◌≡◌, ℕ, ◌≤◌, true, List, [], ◌∷◌, ◌++◌, length, Some, refl, sym, ◌∙◌, ap, subst, arith}
 use Rattle.std.specs.Prelude.{slice_get, All, nat_lt, ◌==◌, is_ok}
 use Rattle.std.proofs.lemmas.Bool.{ltb-true, and_parts}
 use Rattle.std.proofs.lemmas.List.Elements.{All-take, All-weaker}
-use Rattle.std.proofs.lemmas.Option.{slice_get_within, slice_get_cases, get_or_from_slice_get}
+use Rattle.std.proofs.lemmas.Option.{slice_get_within, get_or_from_slice_get}
 use Rattle.courier_messages.specs.RawCalls.{RawCall}
 use Rattle.courier_calls.specs.Calls.{SeenModel, IsFitting}
 use Rattle.courier_calls.specs.Caller.{answers}
@@ -13,13 +13,14 @@ use Rattle.courier_calls.specs.Server.{server_items}
 use Rattle.xns_spp.specs.Item.{IsItem, IsShortItem}
 use Rattle.xns_spp.specs.Sending.{send_answer, take_answer}
 use Rattle.xns_spp.specs.declared.item.Item.{Item}
-use Rattle.xns_world.proofs.Fronts.{begins_itself, begins_then, begins_length, front_of, one_more, begins_more}
+use Rattle.xns_world.proofs.Fronts.{begins_itself, begins_then, begins_length, front_of, one_more, begins_more, element_at}
 use Rattle.item_world.specs.declared.side.Side.{Side}
 use Rattle.item_world.specs.declared.side.Side.TheVariants.{A, B}
 use Rattle.xns_spp.specs.Growth.{Begins}
-use Rattle.item_world.specs.Going.{IsQuiet, Accepts, HandsUp}
+use Rattle.item_world.specs.Channel.{IsQuiet, Accepts, HandsUp}
+use Rattle.item_world.specs.Events as events
 use Rattle.item_world.specs.Invariant.{Holds}
-use Rattle.item_world.specs.World.{World, end_of, sends, takes, sent_at, handed_at}
+use Rattle.item_world.specs.World.{World, end_of, sends, takes, channel_of, sent_at, handed_at}
 use Rattle.xns_world.specs.CallLaws.{Given}
 use Rattle.xns_world.specs.CallOrder.{CallsHold}
 use Rattle.xns_world.specs.CallWorld.{Parties, CallWorld, calls_made, put_out, next_out, outcomes_read, in_world, sends_next, feeds, lists, makes, has_outcome, may_call}
@@ -51,13 +52,13 @@ grown p w v h holds same out = record {
   listed = same_listed p w v (same A) h.listed;
 }
 
-pub quiet_holds : {S : Type 0} (p : Parties S) (w : CallWorld) (v : World) → CallsHold p w → Holds v → IsQuiet w.world v → CallsHold p (in_world w v)
+pub quiet_holds : {S : Type 0} (p : Parties S) (w : CallWorld) (v : World) → CallsHold p w → Holds v → IsQuiet (channel_of w.world) (channel_of v) → CallsHold p (in_world w v)
 quiet_holds p w v h holds q = grown p w v h holds q.handed (λ t. subst (λ (l : List Item). Begins l (put_out p w t)) (sym (q.accepted t)) (h.out t))
 
 -- ---- an item that is out is sent
 
 -- of a list whose elements are short items, a prefix is of items
-begun_items : (xs ys : List Item) → Begins xs ys → All IsShortItem ys → All IsItem xs
+pub begun_items : (xs ys : List Item) → Begins xs ys → All IsShortItem ys → All IsItem xs
 begun_items xs ys b h =
     All-weaker IsShortItem IsItem (λ x i. i.fits) xs (subst (All IsShortItem) (front_of xs ys b) (All-take IsShortItem (length xs) ys h))
 
@@ -73,7 +74,7 @@ at_place xs k x is h = subst IsSendableItem (get_or_from_slice_get xs k x x is) 
 pub next_piece : {S : Type 0} (p : Parties S) (w : CallWorld) (side : Side) (x : Item) → Given p → CallsHold p w → next_out p w side ≡ Some x → IsSendableItem x
 next_piece p w side x g h is = at_place (put_out p w side) (length (sent_at w.world side)) x is (out_pieces p w side g h)
 
-sent_out : {S : Type 0} (p : Parties S) (w : CallWorld) (side : Side) (x : Item) → next_out p w side ≡ Some x → Accepts w.world (sends w.world side x) side x → CallsHold p w → (t : Side) → Begins (sent_at (sends w.world side x) t) (put_out p w t)
+sent_out : {S : Type 0} (p : Parties S) (w : CallWorld) (side : Side) (x : Item) → next_out p w side ≡ Some x → Accepts (channel_of w.world) (channel_of (sends w.world side x)) side x → CallsHold p w → (t : Side) → Begins (sent_at (sends w.world side x) t) (put_out p w t)
 sent_out p w A x is a h A = subst (λ (l : List Item). Begins l (put_out p w A)) (sym a.here) (begins_more (sent_at w.world A) (put_out p w A) x (h.out A) is)
 sent_out p w A x is a h B = subst (λ (l : List Item). Begins l (put_out p w B)) (sym a.there) (h.out B)
 sent_out p w B x is a h A = subst (λ (l : List Item). Begins l (put_out p w A)) (sym a.there) (h.out A)
@@ -83,15 +84,15 @@ pub sends_hold : {S : Type 0} (p : Parties S) (w : CallWorld) (side : Side) (x :
 sends_hold p w side x g h is ok =
     let a = g.answering.network.items.send w.world side x ok in
     let piece = next_piece p w side x g h is in
-    grown p w (sends w.world side x) h (g.world.send w.world side x piece.short.fits h.holds) a.handed (sent_out p w side x is a h)
+    grown p w (sends w.world side x) h (g.world.each w.world (events.sending side x) piece.short.fits h.holds) a.handed (sent_out p w side x is a h)
 
 -- ---- an item that waits is fed
 
-pub read_more : {S : Type 0} (p : Parties S) (w : CallWorld) (side : Side) (x : Item) → Given p → HandsUp w.world (takes w.world side) side x → Begins (outcomes_read p w) (outcomes_read p (feeds w side))
+pub read_more : {S : Type 0} (p : Parties S) (w : CallWorld) (side : Side) (x : Item) → Given p → HandsUp (channel_of w.world) (channel_of (takes w.world side)) side x → Begins (outcomes_read p w) (outcomes_read p (feeds w side))
 read_more p w A x g t = g.heard.caller p.serving.table (calls_made p w) (handed_at w.world A) (handed_at (takes w.world A) A) (x ∷ [], sym t.here)
 read_more p w B x g t = subst (λ (l : List Item). Begins (outcomes_read p w) (answers p.serving.table (calls_made p w) l)) (sym t.there) (begins_itself (outcomes_read p w))
 
-fed_out : {S : Type 0} (p : Parties S) (w : CallWorld) (side : Side) (x : Item) → Given p → HandsUp w.world (takes w.world side) side x → CallsHold p w → (t : Side) → Begins (sent_at (takes w.world side) t) (put_out p (feeds w side) t)
+fed_out : {S : Type 0} (p : Parties S) (w : CallWorld) (side : Side) (x : Item) → Given p → HandsUp (channel_of w.world) (channel_of (takes w.world side)) side x → CallsHold p w → (t : Side) → Begins (sent_at (takes w.world side) t) (put_out p (feeds w side) t)
 fed_out p w A x g u h A = subst (λ (l : List Item). Begins l (put_out p w A)) (sym (u.accepted A)) (h.out A)
 fed_out p w A x g u h B =
     subst (λ (l : List Item). Begins l (put_out p (feeds w A) B)) (sym (u.accepted B))
@@ -104,9 +105,9 @@ fed_out p w B x g u h B =
 
 pub feeds_hold : {S : Type 0} (p : Parties S) (w : CallWorld) (side : Side) (x : Item) → Given p → CallsHold p w → take_answer (end_of w.world side) ≡ Some x → CallsHold p (feeds w side)
 feeds_hold p w side x g h is =
-    let u = g.answering.network.items.take w.world side x is in
+    let u = g.answering.network.items.take w.world side x h.holds is in
     let more = begins_length (outcomes_read p w) (outcomes_read p (feeds w side)) (read_more p w side x g u) in
-    record { holds = g.world.take w.world side h.holds; out = fed_out p w side x g u h; made = h.made; listed = omega (arith, more, h.listed) }
+    record { holds = g.world.each w.world (events.taking side) tt h.holds; out = fed_out p w side x g u h; made = h.made; listed = omega (arith, more, h.listed) }
 
 -- ---- an outcome is listed, a call is made
 
@@ -120,9 +121,6 @@ lists_hold p w h is =
       listed = omega (arith, less);
     }
 
-call_at : (cs : List RawCall) (k : ℕ) → k < length cs → (c : RawCall) × (slice_get cs k ≡ Some c)
-call_at cs k less = elim (slice_get_cases cs k).1 [ inl there ↦ (there.0, there.2) | inr past ↦ absurd (omega (arith, less, past.0)) ]
-
 -- one call more, by which nothing that was read changes
 pub record Calls {S : Type 0} (p : Parties S) (w : CallWorld) : Type 0 where
   pub call : RawCall
@@ -133,7 +131,7 @@ pub record Calls {S : Type 0} (p : Parties S) (w : CallWorld) : Type 0 where
 pub calls : {S : Type 0} (p : Parties S) (w : CallWorld) → Given p → CallsHold p w → may_call p w ≡ true → Calls p w
 calls p w g h is =
     let parts = and_parts (length (outcomes_read p w) == w.made) (nat_lt w.made (length p.calls)) is in
-    let e = call_at p.calls w.made (ltb-true w.made (length p.calls) parts.1) in
+    let e = element_at p.calls w.made (ltb-true w.made (length p.calls) parts.1) in
     let more = one_more p.calls w.made e.0 e.1 in
     record {
       call = e.0;

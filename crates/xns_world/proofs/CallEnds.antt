@@ -15,7 +15,7 @@ use Rattle.xns_spp.specs.Sending.{is_full, waiting_count, after_send, take_answe
 use Rattle.xns_spp.specs.State.{State}
 use Rattle.xns_spp.specs.declared.item.Item.{Item}
 use Rattle.xns_world.proofs.CallCarries.{next_piece, calls, read_more}
-use Rattle.xns_world.proofs.Fronts.{one_more}
+use Rattle.xns_world.proofs.Fronts.{one_more, front_stays}
 use Rattle.xns_world.proofs.Sendable.{not_refused}
 use Rattle.xns_world.specs.declared.calling.CallingEnd.{CallingEnd}
 use Rattle.item_world.specs.declared.side.Side.TheVariants.{A}
@@ -100,17 +100,14 @@ pub calling_none : {S : Type 0} (p : Parties S) (e : CallingEnd) (w : CallWorld)
 calling_none p e w endpoint g h is stands =
     (sym (not_waiting g.answering.ends w.world.a is), record { stands = subst (λ (s : State). StandsFor endpoint s) (g.answering.ends.hands_up.none w.world.a (sym is)) stands; session = h.session; made = h.made; seen = h.seen })
 
-front_same : (n : ℕ) (xs ys : List SeenModel) → Begins xs ys → n ≤ length xs → take n ys ≡ take n xs
-front_same n xs ys b h = ap (take n) (sym b.1) ∙ take-append-le n xs b.0 h
-
 pub calling_feeds : {S : Type 0} (p : Parties S) (e : CallingEnd) (w : CallWorld) (x : Item) (endpoint : Held) (new : caller.CallerState) → Given p → CallsHold p w → IsCalling p e w → Some x ≡ take_answer w.world.a
     → StandsFor endpoint (after_take w.world.a)
     → caller.StandsFor p.serving.table new (caller.with_item (caller_history p w) x)
     → (true ≡ nat_lt 0 (waiting_count w.world.a)) × IsCalling p (record e { endpoint = endpoint; caller = new }) (feeds w A)
 calling_feeds p e w x endpoint new g holds h is stands session =
-    let u = g.answering.network.items.take w.world A x (sym is) in
+    let u = g.answering.network.items.take w.world A x holds.holds (sym is) in
     let v : World = takes w.world A in
-    let same : seen_at p (feeds w A) ≡ seen_at p w = front_same w.listed (outcomes_read p w) (outcomes_read p (feeds w A)) (read_more p w A x g u) holds.listed in
+    let same : seen_at p (feeds w A) ≡ seen_at p w = front_stays w.listed (outcomes_read p w) (outcomes_read p (feeds w A)) (read_more p w A x g u) holds.listed in
     let fed : caller.StandsFor p.serving.table new (record (caller_history p w) { fed = handed_at v A }) =
     subst (λ (l : List Item). caller.StandsFor p.serving.table new (record (caller_history p w) { fed = l })) (sym u.here) session in
     let put : caller.StandsFor p.serving.table new (record (caller_history p w) { fed = handed_at v A; fetched = sent_at v A }) =

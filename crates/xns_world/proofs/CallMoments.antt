@@ -6,6 +6,7 @@ use Rattle.item_world.specs.declared.event.Event.TheVariants.{Deliver, Rest, Tic
 use Rattle.item_world.specs.declared.setup.Setup.{Setup}
 use Rattle.item_world.specs.declared.side.Side.{Side}
 use Rattle.item_world.specs.declared.side.Side.TheVariants.{A, B}
+use Rattle.item_world.specs.Events as events
 use Rattle.item_world.specs.Events.{undelivered}
 use Rattle.item_world.specs.Landing.{landing, reached}
 use Rattle.item_world.specs.World.{World, flushes, ticks}
@@ -13,7 +14,7 @@ use Rattle.xns_world.proofs.CallCarries.{quiet_holds}
 use Rattle.xns_world.proofs.CallSettling.{steps_hold}
 use Rattle.xns_world.specs.CallLaws.{Given}
 use Rattle.xns_world.specs.CallOrder.{CallsHold}
-use Rattle.xns_world.specs.CallSteps.{CallStep, arrival, noise, ticking, acting, flushing, call_stepped, all_call_stepped, acting_steps, settling_steps, call_arrival_steps, call_deliveries, call_steps_of, steps_of_all, steps_of_run}
+use Rattle.xns_world.specs.CallSteps.{CallStep, arrival, noise, ticking, acting, flushing, resending, telling, call_stepped, all_call_stepped, acting_steps, settling_steps, call_arrival_steps, call_deliveries, call_steps_of, steps_of_all, steps_of_run}
 use Rattle.xns_world.specs.CallWorld.{Parties, CallWorld, in_world, step, settles, arrived, delivers, call_happens, call_start, begun, run_calls}
 use Rattle.xns_world.specs.Settling.{most_steps, onward, steps}
 
@@ -75,16 +76,18 @@ run_all p setup events =
 
 -- ---- each of them keeps what is always true
 
-reached_holds : {S : Type 0} (p : Parties S) (w : CallWorld) (k : ℕ) (o : Option (Side × World)) → landing w.world k ≡ o → Given p → CallsHold p w → CallsHold p (in_world w (reached w.world o))
-reached_holds p w k None is g h = h
-reached_holds p w k (Some l) is g h = quiet_holds p w l.1 h (g.world.land w.world k l h.holds is) (g.answering.network.items.land w.world k l h.holds is)
+-- a small step of the network alone
+other_holds : {S : Type 0} (p : Parties S) (w : CallWorld) (s : events.Step) → events.IsStep s → events.IsOther s → Given p → CallsHold p w → CallsHold p (in_world w (events.stepped w.world s))
+other_holds p w s fits other g h = quiet_holds p w (events.stepped w.world s) h (g.world.each w.world s fits h.holds) (g.answering.network.items.quiet w.world s other h.holds)
 
-step_holds : {S : Type 0} (p : Parties S) (w : CallWorld) (s : CallStep) → Given p → CallsHold p w → CallsHold p (call_stepped p w s)
-step_holds p w (arrival k) g h = reached_holds p w k (landing w.world k) refl g h
-step_holds p w (noise side bytes) g h = subst (λ (v : World). CallsHold p (in_world w v)) (sym (g.foreign w.world side bytes)) h
-step_holds p w (ticking side) g h = quiet_holds p w (ticks w.world side) h (g.world.tick w.world side h.holds) (g.answering.network.items.tick w.world side h.holds)
+pub step_holds : {S : Type 0} (p : Parties S) (w : CallWorld) (s : CallStep) → Given p → CallsHold p w → CallsHold p (call_stepped p w s)
+step_holds p w (arrival k) g h = other_holds p w (events.arrival k) tt tt g h
+step_holds p w (noise side bytes) g h = other_holds p w (events.noise side bytes) tt tt g h
+step_holds p w (ticking side) g h = other_holds p w (events.ticking side) tt tt g h
 step_holds p w (acting side) g h = steps_hold p side w (suc zero) g h
-step_holds p w (flushing side) g h = quiet_holds p w (flushes w.world side) h (g.world.flush w.world side h.holds) (g.answering.network.items.flush w.world side h.holds)
+step_holds p w (flushing side) g h = other_holds p w (events.flushing side) tt tt g h
+step_holds p w (resending side) g h = other_holds p w (events.resending side) tt tt g h
+step_holds p w (telling side asks) g h = other_holds p w (events.telling side asks) tt tt g h
 
 pub all_hold : {S : Type 0} (p : Parties S) (w : CallWorld) (ss : List CallStep) → Given p → CallsHold p w → CallsHold p (all_call_stepped p w ss)
 all_hold p w [] g h = h

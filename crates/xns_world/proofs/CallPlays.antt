@@ -27,19 +27,22 @@ use Rattle.item_world.specs.declared.side.Side.{Side}
 use Rattle.item_world.specs.declared.side.Side.TheVariants.{A, B}
 use Rattle.xns_spp.specs.Growth.{Begins}
 use Rattle.item_world.specs.Invariant.{Holds}
-use Rattle.item_world.specs.Going.{IsQuiet, Later, StaysAway, does_land}
+use Rattle.item_world.specs.Channel.{IsQuiet}
+use Rattle.item_world.specs.Going.{Later, StaysAway, does_land}
 use Rattle.item_world.specs.Landing.{landing, end_reached}
 use Rattle.item_world.specs.Laws.{NetworkLaws}
+use Rattle.item_world.specs.Events as events
 use Rattle.item_world.specs.Events.{undelivered}
 use Rattle.item_world.specs.Network.{IsNetwork, IsEnd, unsettled}
 use Rattle.item_world.specs.Side.{other}
 use Rattle.xns_world.specs.CallLaws.{Answering, Given}
-use Rattle.xns_world.specs.CallOrder.{IsBetween, AreOnceInOrder}
+use Rattle.xns_world.proofs.CallRuns.{AreOnceInOrder}
+use Rattle.xns_world.specs.CallOrder.{IsBetween}
 use Rattle.xns_world.specs.CallPlay.{endpoint_at, with_endpoint, Acts, IsCalling, caller_history, IsServing, IsAtSide, IsCallPair, IsCallPlaying, IsReady, IsCallTrace, IsOnceInOrder, parties}
 use Rattle.xns_world.specs.CallWorld.{Parties, CallWorld, or_caller, calls_made, next_out, outcomes_read, in_world, lists, makes, has_outcome, may_call, caller_step, step_with, settles, arrived, delivers, seen_at, carried_at, step}
 use Rattle.xns_world.specs.Settling.{most_steps, onward, steps, stepped_out}
 use Rattle.xns_world.specs.ServeEnd.{IsServed}
-use Rattle.item_world.specs.World.{World, end_of, moved, flushes, ticks, handed_at}
+use Rattle.item_world.specs.World.{World, end_of, moved, flushes, ticks, channel_of, handed_at}
 use Rattle.item_world.specs.EndLaws.{EndLaws}
 
 -- ---- what the steps of a side leave
@@ -120,7 +123,7 @@ other_serving p e w v same h = subst (λ (s : State). IsServed p.serving p.servi
 
 -- ---- an end that accepts and hands up nothing
 
-pub quiet_calling : {S : Type 0} (p : Parties S) (e : CallingEnd) (w : CallWorld) (u : World) (endpoint : Held) → IsQuiet w.world u → StandsFor endpoint u.a → IsCalling p e w → IsCalling p (record e { endpoint = endpoint }) (in_world w u)
+pub quiet_calling : {S : Type 0} (p : Parties S) (e : CallingEnd) (w : CallWorld) (u : World) (endpoint : Held) → IsQuiet (channel_of w.world) (channel_of u) → StandsFor endpoint u.a → IsCalling p e w → IsCalling p (record e { endpoint = endpoint }) (in_world w u)
 quiet_calling p e w u endpoint q stands h =
     let fed : caller.StandsFor p.serving.table e.caller (record (caller_history p w) { fed = handed_at u A; handed = take w.listed (answers p.serving.table (calls_made p w) (handed_at u A)) }) =
     subst (λ (l : List Item). caller.StandsFor p.serving.table e.caller (record (caller_history p w) { fed = l; handed = take w.listed (answers p.serving.table (calls_made p w) l) })) (sym (q.handed A)) h.session in
@@ -131,7 +134,7 @@ quiet_calling p e w u endpoint q stands h =
       seen = h.seen ∙ ap (λ (l : List Item). take w.listed (answers p.serving.table (calls_made p w) l)) (sym (q.handed A));
     }
 
-pub quiet_serving : {S : Type 0} (p : Parties S) (e : ServingEnd S) (w : CallWorld) (u : World) (endpoint : Held) → IsQuiet w.world u → StandsFor endpoint u.b → IsServing p e w → IsServing p (record e { endpoint = endpoint }) (in_world w u)
+pub quiet_serving : {S : Type 0} (p : Parties S) (e : ServingEnd S) (w : CallWorld) (u : World) (endpoint : Held) → IsQuiet (channel_of w.world) (channel_of u) → StandsFor endpoint u.b → IsServing p e w → IsServing p (record e { endpoint = endpoint }) (in_world w u)
 quiet_serving p e w u endpoint q stands h = served_on p.serving p.service e w.world.b u.b endpoint h stands (q.accepted B) (q.handed B)
 
 -- ---- both ends
@@ -151,7 +154,7 @@ server_stepped p e w b h i =
     pair_of p (record e { b = b }) v (other_calling p e.a w v (server_steps p w most_steps) (h A)) i
 
 -- an endpoint goes on that accepts and hands up nothing, and the other end stays
-quiet_pair : {S : Type 0} (p : Parties S) (e : CallPair S) (w : CallWorld) (u : World) (side : Side) (endpoint : Held) → IsQuiet w.world u → end_of u (other side) ≡ end_of w.world (other side) → StandsFor endpoint (end_of u side) → IsCallPair p e w → IsCallPair p (with_endpoint e side endpoint) (in_world w u)
+quiet_pair : {S : Type 0} (p : Parties S) (e : CallPair S) (w : CallWorld) (u : World) (side : Side) (endpoint : Held) → IsQuiet (channel_of w.world) (channel_of u) → end_of u (other side) ≡ end_of w.world (other side) → StandsFor endpoint (end_of u side) → IsCallPair p e w → IsCallPair p (with_endpoint e side endpoint) (in_world w u)
 quiet_pair p e w u A endpoint q same stands h = pair_of p (with_endpoint e A endpoint) (in_world w u) (quiet_calling p e.a w u endpoint q stands (h A)) (other_serving p e.b w (in_world w u) same (h B))
 quiet_pair p e w u B endpoint q same stands h = pair_of p (with_endpoint e B endpoint) (in_world w u) (other_calling p e.a w (in_world w u) (record { world = same; made = refl; listed = refl }) (h A)) (quiet_serving p e.b w u endpoint q stands (h B))
 
@@ -175,7 +178,7 @@ pub moves_at : {S : Type 0} (moves : World → Side → World) (e : CallPair S) 
 moves_at moves e side t endpoint n m is h = acts_at (λ (s : Side) (w v : World). moves w s ≡ v) e side t endpoint n m is (λ laws w v to i. subst (λ (u : World). IsEnd endpoint m u t) to (h laws w i))
 
 -- it accepts and hands up nothing
-acted : {S : Type 0} → EndLaws → (p : Parties S) (e f : CallPair S) (n m : Network) (w : CallWorld) (u : World) (side : Side) (leads : World → World → Type 0) → Acts e f n m side leads → leads w.world u → IsQuiet w.world u
+acted : {S : Type 0} → EndLaws → (p : Parties S) (e f : CallPair S) (n m : Network) (w : CallWorld) (u : World) (side : Side) (leads : World → World → Type 0) → Acts e f n m side leads → leads w.world u → IsQuiet (channel_of w.world) (channel_of u)
     → end_of u (other side) ≡ end_of w.world (other side) → IsCallPair p e w → IsNetwork n w.world → IsCallPlaying p (record { ends = f; network = m }) (in_world w u)
 acted {S} laws p e f n m w u side leads a led q same h network =
     let end = a.stands laws w.world u led (record { stands = stands_at p e w side h; network = network }) in
@@ -193,7 +196,7 @@ settled p e f n m w side g b h network a =
     let v = stepped_out (step p side) w in
     let s : State = end_of v.world side in
     let holds = (steps_hold p side w most_steps g b.holds).holds in
-    acted laws p e f n m v (flushes v.world side) side (λ v u. flushes v side ≡ u) a refl (g.answering.network.items.flush v.world side holds) (g.answering.network.moves.there v.world side (after_flush s) (flush_answer s)) h ((steps_leave p g.answering side w most_steps).network n network)
+    acted laws p e f n m v (flushes v.world side) side (λ v u. flushes v side ≡ u) a refl (g.answering.network.items.quiet v.world (events.flushing side) tt holds) (g.answering.network.moves.there v.world side (after_flush s) (flush_answer s)) h ((steps_leave p g.answering side w most_steps).network n network)
 
 -- ---- a packet is delivered
 
@@ -202,11 +205,11 @@ pub record Heard {S : Type 0} (serving : Serving S) (cs : List Call) (p : Partie
   pub ready : IsReady serving cs p w
   pub playing : IsCallPlaying p play w
 
-ready_on : {S : Type 0} (serving : Serving S) (cs : List Call) (p : Parties S) (w : CallWorld) (u : World) → IsReady serving cs p w → Holds u → IsQuiet w.world u → IsReady serving cs p (in_world w u)
+ready_on : {S : Type 0} (serving : Serving S) (cs : List Call) (p : Parties S) (w : CallWorld) (u : World) → IsReady serving cs p w → Holds u → IsQuiet (channel_of w.world) (channel_of u) → IsReady serving cs p (in_world w u)
 ready_on serving cs p w u r holds q = record { given = r.given; between = quiet_between p w u r.between holds q; serving_is = r.serving_is; calls_are = r.calls_are }
 
 heard : {S : Type 0} (serving : Serving S) (cs : List Call) (p : Parties S) (e f : CallPair S) (n m : Network) (w : CallWorld) (u : World) (side : Side) (leads : World → World → Type 0) → IsReady serving cs p w → IsCallPlaying p (record { ends = e; network = n }) w
-    → Acts e f n m side leads → leads w.world u → Holds u → IsQuiet w.world u → end_of u (other side) ≡ end_of w.world (other side) → Heard serving cs p (record { ends = f; network = m }) (in_world w u)
+    → Acts e f n m side leads → leads w.world u → Holds u → IsQuiet (channel_of w.world) (channel_of u) → end_of u (other side) ≡ end_of w.world (other side) → Heard serving cs p (record { ends = f; network = m }) (in_world w u)
 heard serving cs p e f n m w u side leads r h a led holds q same = record {
   ready = ready_on serving cs p w u r holds q;
   playing = acted r.given.answering.ends p e f n m w u side leads a led q same h.ends h.network;
@@ -234,7 +237,7 @@ pub ticked : {S : Type 0} (serving : Serving S) (cs : List Call) (p : Parties S)
 ticked serving cs p e f n m w side r h a =
     let holds = r.between.holds.holds in
     let s : State = end_of w.world side in
-    heard serving cs p e f n m w (ticks w.world side) side (λ w v. ticks w side ≡ v) r h a refl (r.given.world.tick w.world side holds) (r.given.answering.network.items.tick w.world side holds) (r.given.answering.network.moves.there w.world side (after_tick s) (tick_answer s))
+    heard serving cs p e f n m w (ticks w.world side) side (λ w v. ticks w side ≡ v) r h a refl (r.given.world.each w.world (events.ticking side) tt holds) (r.given.answering.network.items.quiet w.world (events.ticking side) tt holds) (r.given.answering.network.moves.there w.world side (after_tick s) (tick_answer s))
 
 -- ---- deliveries in turn
 

@@ -4,7 +4,7 @@ use Rattle.std.specs.Prelude.{nat_lt, if◌then◌else◌}
 use Rattle.std.proofs.lemmas.Bool.{ltb-false}
 use Rattle.std.proofs.lemmas.List.Elements.{All-nil}
 use Rattle.courier_messages.specs.RawCalls.{RawCall}
-use Rattle.courier_calls.specs.Calls.{SeenModel, Serving, decision, after_decision, outcomes, IsFitting}
+use Rattle.courier_calls.specs.Calls.{SeenModel, Serving, decision, after_decision, outcomes, last_state, IsFitting}
 use Rattle.courier_calls.specs.Caller.{answers}
 use Rattle.courier_calls.specs.Server.{decided}
 use Rattle.xns_spp.specs.Sending.{is_full, waiting_count, after_send, after_take}
@@ -21,13 +21,14 @@ use Rattle.item_world.specs.Invariant.{Holds}
 use Rattle.item_world.specs.Events.{undelivered}
 use Rattle.item_world.specs.Landing.{landing}
 use Rattle.item_world.specs.Setup.{IsSetup, IsGood}
-use Rattle.item_world.specs.World.{World, start, end_of, flushes, ticks, sent_at, handed_at}
+use Rattle.item_world.specs.World.{World, start, end_of, flushes, ticks, channel_of, sent_at, handed_at}
 use Rattle.xns_world.proofs.CallCarries.{faces, same_read, quiet_holds}
 use Rattle.xns_world.specs.CallLaws.{Given}
-use Rattle.item_world.specs.Going.{IsQuiet}
+use Rattle.item_world.specs.Channel.{IsQuiet}
+use Rattle.item_world.specs.Events as events
 use Rattle.xns_world.proofs.CallSettling.{steps_hold, settles_end}
-use Rattle.xns_world.specs.CallOrder.{CallsHold, AllListed, IsBetween, AreOnceInOrder, MeetNoFault}
-use Rattle.xns_world.specs.CallWorld.{Parties, CallWorld, or_caller, calls_made, put_out, next_out, outcomes_read, in_world, lists, makes, has_outcome, may_call, step_with, settles, arrived, delivers, call_happens, call_start, begun, run_calls, carried_at, seen_at, step}
+use Rattle.xns_world.specs.CallOrder.{CallsHold, AllListed, IsBetween, MeetNoFault}
+use Rattle.xns_world.specs.CallWorld.{Parties, CallWorld, or_caller, calls_made, put_out, next_out, outcomes_read, in_world, lists, makes, has_outcome, may_call, step_with, settles, arrived, delivers, call_happens, call_start, begun, run_calls, carried_at, seen_at, service_at, step}
 use Rattle.xns_world.specs.Settling.{most_steps, onward, steps, stepped_out}
 
 -- ---- each outcome that is there was listed
@@ -81,7 +82,7 @@ left_listed p w v l h =
     ∙ ap (λ (n : ℕ). answers p.serving.table (take n p.calls) (handed_at w.world A)) l.made in
     omega (arith, h, ap (length {A = SeenModel}) same, l.listed)
 
-quiet_listed : {S : Type 0} (p : Parties S) (w : CallWorld) (v : World) → IsQuiet w.world v → AllListed p w → AllListed p (in_world w v)
+quiet_listed : {S : Type 0} (p : Parties S) (w : CallWorld) (v : World) → IsQuiet (channel_of w.world) (channel_of v) → AllListed p w → AllListed p (in_world w v)
 quiet_listed p w v q h = subst (λ (rs : List SeenModel). length rs ≤ w.listed) (sym (same_read p w v (q.handed A))) h
 
 stepped_listed : {S : Type 0} (p : Parties S) (side : Side) (w : CallWorld) → Given p → IsBetween p w → AllListed p (stepped_out (step p side) w)
@@ -90,14 +91,14 @@ stepped_listed p B w g b = left_listed p w (stepped_out (step p B) w) (server_st
 
 -- ---- between events
 
-pub quiet_between : {S : Type 0} (p : Parties S) (w : CallWorld) (v : World) → IsBetween p w → Holds v → IsQuiet w.world v → IsBetween p (in_world w v)
+pub quiet_between : {S : Type 0} (p : Parties S) (w : CallWorld) (v : World) → IsBetween p w → Holds v → IsQuiet (channel_of w.world) (channel_of v) → IsBetween p (in_world w v)
 quiet_between p w v b holds q = record { holds = quiet_holds p w v b.holds holds q; listed = quiet_listed p w v q b.listed }
 
 pub settles_between : {S : Type 0} (p : Parties S) (side : Side) (w : CallWorld) → Given p → IsBetween p w → IsBetween p (settles p side w)
 settles_between p side w g b =
     let v = stepped_out (step p side) w in
     let h = steps_hold p side w most_steps g b.holds in
-    quiet_between p v (flushes v.world side) (record { holds = h; listed = stepped_listed p side w g b }) (g.world.flush v.world side h.holds) (g.answering.network.items.flush v.world side h.holds)
+    quiet_between p v (flushes v.world side) (record { holds = h; listed = stepped_listed p side w g b }) (g.world.each v.world (events.flushing side) tt h.holds) (g.answering.network.items.quiet v.world (events.flushing side) tt h.holds)
 
 arrived_between : {S : Type 0} (p : Parties S) (w : CallWorld) (k : ℕ) (o : Option (Side × World)) → landing w.world k ≡ o → Given p → IsBetween p w → IsBetween p (arrived p w o)
 arrived_between p w k None is g b = b
@@ -111,7 +112,7 @@ all_between p w [] g b = b
 all_between p w (k ∷ ks) g b = all_between p (delivers p w k) ks g (delivers_between p w k g b)
 
 pub tick_between : {S : Type 0} (p : Parties S) (w : CallWorld) (side : Side) → Given p → IsBetween p w → IsBetween p (in_world w (ticks w.world side))
-tick_between p w side g b = quiet_between p w (ticks w.world side) b (g.world.tick w.world side b.holds.holds) (g.answering.network.items.tick w.world side b.holds.holds)
+tick_between p w side g b = quiet_between p w (ticks w.world side) b (g.world.each w.world (events.ticking side) tt b.holds.holds) (g.answering.network.items.quiet w.world (events.ticking side) tt b.holds.holds)
 
 pub happens_between : {S : Type 0} (p : Parties S) (w : CallWorld) (e : Event) → Given p → IsBetween p w → IsBetween p (call_happens p w e)
 happens_between p w (Deliver k) g b = delivers_between p w k g b
@@ -159,8 +160,15 @@ outcomes_more serving s (c ∷ cs) more =
     let later = outcomes_more serving (after_decision serving s c) cs more in
     (later.0, ap (λ (l : List SeenModel). decision serving s c ∷ l) later.1)
 
-outcomes_begin : {S : Type 0} (serving : Serving S) (s : S) (xs ys : List RawCall) → Begins xs ys → Begins (outcomes serving s xs) (outcomes serving s ys)
+pub outcomes_begin : {S : Type 0} (serving : Serving S) (s : S) (xs ys : List RawCall) → Begins xs ys → Begins (outcomes serving s xs) (outcomes serving s ys)
 outcomes_begin serving s xs ys b = subst (λ (l : List RawCall). Begins (outcomes serving s xs) (outcomes serving s l)) b.1 (outcomes_more serving s xs b.0)
+
+-- what a trace is to say of a world
+pub record AreOnceInOrder {S : Type 0} (p : Parties S) (w : CallWorld) : Type 0 where
+  pub carried : Begins (carried_at w) p.calls
+  pub service : service_at p w ≡ last_state p.serving p.service (carried_at w)
+  pub seen : Begins (seen_at p w) (outcomes p.serving p.service p.calls)
+  pub fewer : length (seen_at p w) ≤ length (carried_at w)
 
 pub once_in_order : {S : Type 0} (p : Parties S) (w : CallWorld) → Given p → CallsHold p w → AreOnceInOrder p w
 once_in_order p w g h =

@@ -87,7 +87,7 @@ sends_go p w side x g h is full =
 fed_left : {S : Type 0} (p : Parties S) (w : CallWorld) (side : Side) (x : Item) → Given p → CallsHold p w → take_answer (end_of w.world side) ≡ Some x → caller_left p (feeds w side) side ≤ caller_left p w side + 2
 unfolding caller_left
 fed_left p w A x g h is =
-    let more = (g.answering.network.items.take w.world A x is).here in
+    let more = (g.answering.network.items.take w.world A x h.holds is).here in
     let one = g.heard.single p.serving.table (calls_made p w) (handed_at w.world A) x in
     let read : length (outcomes_read p (feeds w A)) ≤ length (outcomes_read p w) + 1 = subst (λ (l : List Item). length (answers p.serving.table (calls_made p w) l) ≤ length (outcomes_read p w) + 1) (sym more) one in
     let last = one_if_most (length (outcomes_read p (feeds w A)) == w.made) in

@@ -1,7 +1,7 @@
 -- The laws that the proofs stand on, as the layers below state them.
 use Rattle.std.specs.Prelude.{All}
 use Rattle.courier_calls.specs.Calls.{Serving, IsFitting}
-use Rattle.courier_calls.specs.Laws.{WhatIsHeardStays, BothSidesAgree, CallerItemsCanBeSent, SessionItemsCanBeSent, FirstFaultStays}
+use Rattle.courier_calls.specs.Laws.{WhatIsHeardStays, BothSidesAgree, CallerItemsCanBeSent, SessionItemsCanBeSent, FirstFaultStays, AnItemBringsAtMostOneAnswer}
 use Rattle.xns_world.specs.CallPromises.{AreParties}
 use Rattle.xns_world.specs.CallWorld.{Parties}
 use Rattle.item_world.specs.EndLaws.{EndLaws}
@@ -20,6 +20,7 @@ pub record Given {S : Type 0} (p : Parties S) : Type 0 where
   pub foreign : ForeignBytesChangeNothing
   pub heard : WhatIsHeardStays p.serving
   pub agree : BothSidesAgree p.serving p.service
+  pub brings : AnItemBringsAtMostOneAnswer p.serving p.service
   pub pieces : CallerItemsCanBeSent
   pub answering : Answering p.serving p.service
   pub fitting : All IsFitting p.calls

@@ -1,23 +1,32 @@
--- The headline for calls.
+-- What calls come to, and what is true of a world of calls at every moment.
 use Rattle.std.specs.Prelude.{◌≡◌, ◌≤◌, length, None}
-use Rattle.courier_calls.specs.Calls.{last_state, outcomes}
+use Rattle.courier_calls.specs.Calls.{SeenModel, Serving, decision, after_decision, outcomes}
 use Rattle.courier_calls.specs.Caller.{caller_ending}
 use Rattle.courier_messages.specs.Laws.{IsFaultless}
 use Rattle.courier_messages.specs.Called.{server_ending}
+use Rattle.courier_messages.specs.RawCalls.{RawCall}
 use Rattle.item_world.specs.declared.side.Side.{Side}
 use Rattle.item_world.specs.declared.side.Side.TheVariants.{A, B}
 use Rattle.xns_spp.specs.Growth.{Begins}
 use Rattle.item_world.specs.Invariant.{Holds}
 use Rattle.item_world.specs.World.{sent_at, handed_at}
 use Rattle.xns_world.specs.CallWorld.{Parties, CallWorld, calls_made, put_out, outcomes_read, carried_at, seen_at, service_at, step}
+use Rattle.xns_world.specs.Ledger.{Ledger}
 use Rattle.xns_world.specs.Settling.{stepped_out}
 
--- each call is carried out at most once and in order, and the k-th outcome that the caller sees is the server's to its k-th call
-pub record AreOnceInOrder {S : Type 0} (p : Parties S) (w : CallWorld) : Type 0 where
-  pub carried : Begins (carried_at w) p.calls
-  pub service : service_at p w ≡ last_state p.serving p.service (carried_at w)
-  pub seen : Begins (seen_at p w) (outcomes p.serving p.service p.calls)
-  pub fewer : length (seen_at p w) ≤ length (carried_at w)
+-- what the server makes of a call
+abbrev pub decides : {S : Type 0} → Serving S → S → RawCall → S × SeenModel
+decides serving s c = (after_decision serving s c, decision serving s c)
+
+-- what the calls of a world come to
+abbrev pub ledger_of : {S : Type 0} → Parties S → CallWorld → Ledger S RawCall SeenModel
+ledger_of p w = record {
+  made = calls_made p w;
+  carried = carried_at w;
+  answered = outcomes p.serving p.service (carried_at w);
+  seen = seen_at p w;
+  state = service_at p w;
+}
 
 -- neither session meets a fault
 pub record MeetNoFault {S : Type 0} (p : Parties S) (w : CallWorld) : Type 0 where

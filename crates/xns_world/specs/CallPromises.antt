@@ -7,9 +7,10 @@ use Rattle.item_world.specs.declared.side.Side.{Side}
 use Rattle.item_world.specs.Setup.{IsSetup, IsGood}
 use Rattle.item_world.specs.Landing.{landing}
 use Rattle.item_world.specs.World.{World, ticks}
-use Rattle.xns_world.specs.CallSteps.{all_call_stepped, steps_of_run}
-use Rattle.xns_world.specs.CallWorld.{Parties, CallWorld, call_start, in_world, run_calls}
-use Rattle.xns_world.specs.CallOrder.{AreOnceInOrder, MeetNoFault, IsBetween, Settles}
+use Rattle.xns_world.specs.CallSteps.{CallStep, call_stepped, all_call_stepped, steps_of_run}
+use Rattle.xns_world.specs.CallWorld.{Parties, CallWorld, call_start, in_world, settles, run_calls}
+use Rattle.xns_world.specs.CallOrder.{decides, ledger_of, CallsHold, MeetNoFault, IsBetween, Settles}
+use Rattle.xns_world.specs.Ledger.{Ledger, Entry, IsHistory, IsInOrder}
 
 -- the service is this one, in a state that it can be in, and each call can be made
 pub record AreParties {S : Type 0} (serving : Serving S) (IsServiceState : S → Type 0) (p : Parties S) : Type 0 where
@@ -17,21 +18,34 @@ pub record AreParties {S : Type 0} (serving : Serving S) (IsServiceState : S →
   pub state : IsServiceState p.service
   pub calls : All IsFitting p.calls
 
+-- whatever entries are made, in each history of a ledger all is in order
+abbrev pub EntriesKeepTheOrder : (S C O : Type 0) → Type 0
+EntriesKeepTheOrder S C O = (decide : S → C → S × O) (s : S) (l : ℕ → Ledger S C O) → IsHistory decide s l → (n : ℕ) → IsInOrder decide s (l n)
+
+-- what small steps lead to from the start, in whatever order they are taken, is a history of the ledger
+abbrev pub EachStepIsAnEntry : {S : Type 0} → Serving S → (S → Type 0) → Type 0
+EachStepIsAnEntry {S} serving IsServiceState = (p : Parties S) (setup : Setup) (steps : List CallStep) →
+    AreParties serving IsServiceState p → IsSetup setup → IsGood setup →
+    IsHistory (decides p.serving) p.service (λ n. ledger_of p (all_call_stepped p (call_start setup) (take n steps)))
+
 -- each call is carried out at most once and in order, at every moment
 pub record CallsComeInOrder {S : Type 0} (serving : Serving S) (IsServiceState : S → Type 0) : Type 0 where
-  -- after any events
-  pub once : (p : Parties S) (setup : Setup) (events : List Event) → AreParties serving IsServiceState p → IsSetup setup → IsGood setup → AreOnceInOrder p (run_calls p setup events)
-  pub well : (p : Parties S) (setup : Setup) (events : List Event) → AreParties serving IsServiceState p → IsSetup setup → IsGood setup → MeetNoFault p (run_calls p setup events)
-  pub between : (p : Parties S) (setup : Setup) (events : List Event) → AreParties serving IsServiceState p → IsSetup setup → IsGood setup → IsBetween p (run_calls p setup events)
-  -- at every moment: after so many of the small steps of a run, which together are the run
-  pub within : (p : Parties S) (setup : Setup) (events : List Event) (n : ℕ) → AreParties serving IsServiceState p → IsSetup setup → IsGood setup →
-      AreOnceInOrder p (all_call_stepped p (call_start setup) (take n (steps_of_run p setup events)))
-  pub well_within : (p : Parties S) (setup : Setup) (events : List Event) (n : ℕ) → AreParties serving IsServiceState p → IsSetup setup → IsGood setup →
-      MeetNoFault p (all_call_stepped p (call_start setup) (take n (steps_of_run p setup events)))
+  -- what is always true gives the order
+  pub order : (p : Parties S) (w : CallWorld) → AreParties serving IsServiceState p → CallsHold p w →
+      IsInOrder (decides p.serving) p.service (ledger_of p w)
+  pub well : (p : Parties S) (w : CallWorld) → AreParties serving IsServiceState p → CallsHold p w → MeetNoFault p w
+  -- it is so at the start, and is kept by each small step, in whatever order they are taken; it is one entry of the ledger
+  pub starts : (p : Parties S) (setup : Setup) → AreParties serving IsServiceState p → IsSetup setup → IsGood setup → IsBetween p (call_start setup)
+  pub entry : (p : Parties S) (w : CallWorld) (step : CallStep) → AreParties serving IsServiceState p → CallsHold p w →
+      Entry (decides p.serving) (ledger_of p w) (ledger_of p (call_stepped p w step))
+  pub keeps : (p : Parties S) (w : CallWorld) (steps : List CallStep) → AreParties serving IsServiceState p → CallsHold p w →
+      CallsHold p (all_call_stepped p w steps)
+  -- a run is the small steps of its events
   pub whole : (p : Parties S) (setup : Setup) (events : List Event) → all_call_stepped p (call_start setup) (steps_of_run p setup events) ≡ run_calls p setup events
+  pub between : (p : Parties S) (setup : Setup) (events : List Event) → AreParties serving IsServiceState p → IsSetup setup → IsGood setup → IsBetween p (run_calls p setup events)
   -- a side settles wherever it is let
   pub ends : (p : Parties S) (side : Side) (w : CallWorld) → AreParties serving IsServiceState p → IsBetween p w → Settles p side w
-  -- where sides settle in a run: at the start, behind a packet that came, and behind a tick
-  pub starts : (p : Parties S) (setup : Setup) → AreParties serving IsServiceState p → IsSetup setup → IsGood setup → IsBetween p (call_start setup)
+  -- where sides settle in a run: at the start, behind the other side, behind a packet that came, and behind a tick
+  pub settled : (p : Parties S) (side : Side) (w : CallWorld) → AreParties serving IsServiceState p → IsBetween p w → IsBetween p (settles p side w)
   pub lands : (p : Parties S) (w : CallWorld) (k : ℕ) (l : Side × World) → AreParties serving IsServiceState p → IsBetween p w → landing w.world k ≡ Some l → IsBetween p (in_world w l.1)
   pub tick : (p : Parties S) (w : CallWorld) (side : Side) → AreParties serving IsServiceState p → IsBetween p w → IsBetween p (in_world w (ticks w.world side))

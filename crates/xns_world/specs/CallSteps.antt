@@ -1,31 +1,37 @@
 -- The small steps of a world of calls, as events happen.
-use Rattle.std.specs.Prelude.{ℕ, zero, suc, List, [], ◌∷◌, ◌++◌, fold, Option, Some, None}
+use Rattle.std.specs.Prelude.{ℕ, zero, suc, Bool, List, [], ◌∷◌, ◌++◌, fold, Option, Some, None}
 use Rattle.item_world.specs.declared.event.Event.{Event}
 use Rattle.item_world.specs.declared.event.Event.TheVariants.{Deliver, Rest, Tick, Foreign, Send, Take}
 use Rattle.item_world.specs.declared.setup.Setup.{Setup}
 use Rattle.item_world.specs.declared.side.Side.{Side}
 use Rattle.item_world.specs.declared.side.Side.TheVariants.{A, B}
-use Rattle.item_world.specs.Events.{happens, undelivered}
+use Rattle.item_world.specs.Events.{undelivered}
 use Rattle.item_world.specs.Landing.{landing, reached}
-use Rattle.item_world.specs.World.{World, flushes, ticks}
+use Rattle.item_world.specs.Telling.{resends, tells}
+use Rattle.item_world.specs.World.{World, flushes, ticks, overhears}
 use Rattle.xns_world.specs.CallWorld.{Parties, CallWorld, in_world, step, delivers, call_happens, begun}
 use Rattle.xns_world.specs.Settling.{most_steps, onward}
 
 -- packet k comes to an end, which answers it; bytes from elsewhere come to an end; an end ticks; a side takes the first of its
--- steps that applies, where one does; an end flushes
+-- steps that applies, where one does; an end flushes, sends its first item again, or sends a system packet. No event of a play has the
+-- last two.
 pub data CallStep : Type 0 where
   arrival : ℕ → CallStep
   noise : Side → List ℕ → CallStep
   ticking : Side → CallStep
   acting : Side → CallStep
   flushing : Side → CallStep
+  resending : Side → CallStep
+  telling : Side → (asks : Bool) → CallStep
 
 abbrev pub call_stepped : {S : Type 0} → Parties S → CallWorld → CallStep → CallWorld
 call_stepped p w (arrival k) = in_world w (reached w.world (landing w.world k))
-call_stepped p w (noise side bytes) = in_world w (happens w.world (Foreign side bytes))
+call_stepped p w (noise side bytes) = in_world w (overhears w.world side bytes)
 call_stepped p w (ticking side) = in_world w (ticks w.world side)
 call_stepped p w (acting side) = onward w (step p side w)
 call_stepped p w (flushing side) = in_world w (flushes w.world side)
+call_stepped p w (resending side) = in_world w (resends w.world side)
+call_stepped p w (telling side asks) = in_world w (tells w.world side asks)
 
 abbrev pub all_call_stepped : {S : Type 0} → Parties S → CallWorld → List CallStep → CallWorld
 all_call_stepped p w steps = fold (call_stepped p) w steps

@@ -1,16 +1,33 @@
 //! The headline for calls, as the contract of a function that does nothing.
 
 ghost use Rattle.xns_world.specs.CallLaws.{LawsAreGiven, ServerLawsAreGiven};
-ghost use Rattle.xns_world.specs.CallPromises.{CallsComeInOrder};
+ghost use Rattle.courier_calls.specs.Calls.{SeenModel};
+ghost use Rattle.courier_messages.specs.RawCalls.{RawCall};
+ghost use Rattle.xns_world.specs.CallPromises.{CallsComeInOrder, EachStepIsAnEntry, EntriesKeepTheOrder};
 
 use courier_calls::Service;
 use courier_calls::laws::{
-    both_sides_agree, first_fault_stays, session_items_can_be_sent, what_is_heard_stays,
+    an_item_brings_at_most_one_answer, both_sides_agree, first_fault_stays,
+    session_items_can_be_sent, what_is_heard_stays,
 };
 use item_world::laws::{
     each_step_keeps_the_order, end_laws_are_given, foreign_bytes_change_nothing,
     network_laws_are_given,
 };
+
+/// In every history of a ledger the calls carried out begin those made, the state and the outcomes are theirs, one after another, and the
+/// outcomes seen begin those answered.
+pub fn entries_keep_the_order<S: Service>()
+    ensures { EntriesKeepTheOrder S RawCall SeenModel }
+{}
+
+/// Whatever small steps are taken, in whatever order, each is one entry of the ledger: nothing, a call that is made, the next call that is
+/// carried out, or the next outcome that is seen.
+pub fn each_step_is_an_entry<S: Service>()
+    ensures { EachStepIsAnEntry S.serving S.IsServiceState }
+{
+    laws_are_given::<S>();
+}
 
 /// Over every list of deliveries, losses, repeats and reorderings each call is carried out at most once and in order, and the k-th outcome
 /// that the caller sees is the server's to its k-th call; neither session ever meets a fault; and a side that settles always comes to
@@ -29,6 +46,7 @@ pub(crate) fn laws_are_given<S: Service>()
     foreign_bytes_change_nothing();
     what_is_heard_stays::<S>();
     both_sides_agree::<S>();
+    an_item_brings_at_most_one_answer::<S>();
     session_items_can_be_sent::<S>();
     server_laws_are_given::<S>();
 }

@@ -2,7 +2,7 @@ use Rattle.item_world.proofs.Continues.{flush_continues, tick_continues, receive
 use Rattle.item_world.proofs.Later.{later_itself, later_then, moved_later, flushes_later, landing_later}
 use Rattle.item_world.proofs.Networks.{quiet, lands_as}
 use Rattle.item_world.proofs.Plays.{some_landing, no_landing}
-use Rattle.item_world.proofs.Quiet.{flush_quiet, tick_quiet, land_quiet, land_there, send_accepts, take_hands_up}
+use Rattle.item_world.proofs.Quiet.{land_there}
 use Rattle.item_world.proofs.Resting.{left_out, stay_away}
 use Rattle.item_world.proofs.Sides.{same_end, same_other}
 use Rattle.item_world.proofs.laws.network_laws_are_given.Goals as goal
@@ -17,7 +17,7 @@ returns c =
       quiet = quiet;
       lands = lands_as;
       rest = record { left_out = left_out; away = stay_away };
-      items = record { flush = flush_quiet laws; tick = tick_quiet laws; land = land_quiet laws; send = send_accepts laws; take = take_hands_up laws };
+      items = c.each_step_is_a_move.ensures;
       moves = record { here = same_end; there = same_other; land = land_there };
       reached = record { some = λ w k. some_landing (landing w k); none = λ w k. no_landing (landing w k) };
     }

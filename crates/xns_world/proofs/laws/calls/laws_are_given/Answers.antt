@@ -7,6 +7,7 @@ returns g c p are =
     let laws : SessionLaws serving g.S.Service.IsServiceState = record {
       heard = c.what_is_heard_stays.ensures serving;
       agree = c.both_sides_agree.ensures;
+      brings = c.an_item_brings_at_most_one_answer.ensures;
       pieces = c.session_items_can_be_sent.ensures.caller;
       answering = c.server_laws_are_given.ensures;
     } in

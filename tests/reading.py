@@ -1,0 +1,274 @@
+#!/usr/bin/env python3
+"""What has to be read to know what a clause says: each definition that it needs, once, in reading order, with its file.
+
+usage: reading.py CRATE FILE FUNCTION [CLAUSE] [--stop]   a function, a method (Type::name) or a law: all its clauses, or one with what
+                                                          the function requires
+       reading.py --table                                 the table of docs/PROOF.md
+       reading.py --check                                 whether docs/PROOF.md has this table, and the two machines
+
+A definition is one of specs/, or a struct, an enum or a trait of src/. Its lines are those of its text without comments and blank lines.
+The names of the standard library and of the kit's crates are not followed. With --stop neither are the names of STEPS: what the ends and the
+sessions of the program do, which the law takes as they are."""
+import pathlib
+import re
+import sys
+
+ROOT = pathlib.Path(__file__).resolve().parent.parent
+CRATES = ROOT / "crates"
+PAGE = ROOT / "docs" / "PROOF.md"
+
+# what docs/PROOF.md gives figures for: its name, crate, file, function, clause (None: all) and whether STEPS are left out
+SUBJECTS = [
+    ("`entries_keep_the_order`, the ledger alone", "xns_world", "laws/calls.rt", "entries_keep_the_order", None, True),
+    ("`each_step_is_an_entry`, the headline for calls, with the network", "xns_world", "laws/calls.rt", "each_step_is_an_entry", None, True),
+    ("the same, with what ends and sessions do", "xns_world", "laws/calls.rt", "each_step_is_an_entry", None, False),
+    ("`moves_keep_the_order`, the channel alone", "item_world", "laws.rt", "moves_keep_the_order", None, False),
+    ("`each_step_is_a_move`, the headline for items, with the network", "item_world", "laws.rt", "each_step_is_a_move", None, True),
+    ("the same, with what ends do", "item_world", "laws.rt", "each_step_is_a_move", None, False),
+    ("`play_calls`: `once`", "xns_world", "call_play.rt", "play_calls", "once", False),
+    ("`decode`", "xns_idp", "decoding.rt", "decode", None, False),
+    ("`Endpoint::receive`", "xns_spp", "endpoint.rt", "Endpoint::receive", None, False),
+    ("`dump`", "xns_dump", "dumping.rt", "dump", None, False),
+    ("`calls`", "xns_calls", "calling.rt", "calls", None, False),
+]
+
+# the definitions that docs/PROOF.md shows whole
+MACHINES = ["item_world/specs/Channel.antt", "xns_world/specs/Ledger.antt"]
+
+# what the program's ends and sessions do, and what its sessions make of items: the contracts of `Endpoint`, `Caller` and `Server` cite them
+STEPS = set("""initiator_state responder_state after_send send_answer after_take take_answer after_receive receive_answer after_flush
+    flush_answer after_tick tick_answer after_resend resend_answer told_answer is_full waiting_count is_ours State IsItem Holds
+    caller_items server_items server_state answers decided decision after_decision Serving Service IsFitting""".split())
+
+WORD = re.compile(r"[^\s(){}\[\],;]+")
+HEAD = re.compile(r"^(?:(?:abbrev|unfoldable|mutual|pub|data|record|ruleset)\s+)*([^\s(){}:]+)(?=[\s(){:]|$)")
+KIND = re.compile(r"^(?:abbrev |unfoldable )?(?:mutual |pub )*(data|record)\b")
+
+
+class Text:
+    """A file of definitions or of code: what it imports, and what it defines."""
+
+    def __init__(self, path):
+        self.path = path
+        self.names = {}    # name -> (module, name)
+        self.modules = {}  # alias -> module
+        self.chunks = {}   # name -> Chunk
+        text = path.read_text()
+        for path_, names, alias in re.findall(r"(?:^|\n)\s*(?:ghost )?use ([\w.\-]+?)(?:\.\{([^}]*)\}| as ([\w]+))?;?(?=\n)", text):
+            if names:
+                for name in names.split(","):
+                    name, _, other = name.strip().partition(" as ")
+                    self.names[other or name] = (path_, name)
+            elif alias:
+                self.modules[alias] = path_
+        if path.suffix == ".antt":
+            self.read_definitions(text)
+
+    def read_definitions(self, text):
+        for block in re.split(r"\n\s*\n", text):
+            lines = [line for line in block.split("\n") if line.strip()]
+            while lines and lines[0].lstrip().startswith("--"):
+                lines.pop(0)
+            lines = [line for line in lines if not re.match(r"\s*--", line)]
+            if not lines or lines[0].startswith(("use ", "pub mod", "mod ", "pub use")):
+                continue
+            chunk = Chunk(self, lines)
+            for name in chunk.defines():
+                self.chunks.setdefault(name, chunk)
+
+
+class Chunk:
+    """A definition."""
+
+    def __init__(self, file, lines):
+        self.file, self.lines = file, lines
+
+    def defines(self):
+        kind = KIND.match(self.lines[0])
+        names = []
+        mutual = re.match(r"^(?:abbrev |unfoldable )?mutual", self.lines[0])
+        for line in self.lines:
+            if not line.startswith(" ") or mutual:
+                head = HEAD.match(line.strip())
+                if head and head.group(1) not in ("mutual", "unfolding", "where"):
+                    names.append(head.group(1))
+            elif kind and kind.group(1) == "data":
+                names.append(line.split()[0])
+        return dict.fromkeys(names)
+
+    def words(self):
+        text = "\n".join(re.sub(r"--.*", "", line) for line in self.lines)
+        text = re.sub(r"^\s+pub ([\w\-]+) :", " ", text, flags=re.M)          # a field
+        bound = set()
+        for names in re.findall(r"[({]([^(){}:=;]+) :", text):
+            bound |= set(names.split())
+        for names in re.findall(r"λ ([^.]+)\.", text):
+            bound |= set(WORD.findall(names))
+        text = re.sub(r"([{;]\s*)[\w\-]+ =", r"\1", text)                      # a field that is given
+        words = WORD.findall(text) if self.file.path.suffix == ".antt" else re.findall(r"[\w.«»]+", text)
+        return [word for word in words if word.split(".")[0] not in bound]
+
+
+TEXTS = {}
+
+
+def text_of(path):
+    if path not in TEXTS:
+        TEXTS[path] = Text(path)
+    return TEXTS[path]
+
+
+def braced(text, start):
+    """From start to the end of the braces that open first."""
+    depth, place = 0, text.index("{", start)
+    for end in range(place, len(text)):
+        depth += {"{": 1, "}": -1}.get(text[end], 0)
+        if depth == 0:
+            return text[start:end + 1]
+    raise SystemExit("reading.py: braces")
+
+
+def code(crate):
+    return sorted((CRATES / crate / "src").rglob("*.rt"))
+
+
+def bare(text):
+    """Code without comments, attributes and blank lines."""
+    return [line for line in text.split("\n") if line.strip() and not re.match(r"\s*(//|#\[)", line)]
+
+
+def declared(crate, name):
+    """The struct, enum, alias or trait of this name, and what contracts see of it."""
+    key = (crate, name)
+    if key not in TEXTS:
+        TEXTS[key] = None
+        for path in code(crate):
+            text = path.read_text()
+            found = re.search(r"^(?:pub(?:\([^)]*\))? )?(struct|enum|type|trait) %s\b" % re.escape(name), text, re.M)
+            if found:
+                start = found.start()
+                end = re.compile("[;{]").search(text, start).start()
+                part = braced(text, start) if text[end] == "{" else text[start:end + 1]
+                model = re.search(r"^impl(?:<[^\n]*>)? Model for %s\b" % re.escape(name), text, re.M)
+                lines = bare(part) + (bare(braced(text, model.start())) if model else [])
+                lines = [line for line in lines if not re.match(r"\s*ghost use", line)]
+                TEXTS[key] = Chunk(text_of(path), lines)
+                break
+    return TEXTS[key]
+
+
+def in_module(module, name):
+    parts = module.split(".")
+    if parts[0] != "Rattle" or not (CRATES / parts[1]).is_dir():
+        return None
+    crate, rest = parts[1], parts[3:]
+    if rest and rest[0] in ("declared", "contracts"):
+        if rest[-1] in ("TheVariants", "TheImpl"):
+            rest = rest[:-1]
+        return declared(crate, rest[-1])
+    path = CRATES / crate / "specs" / ("/".join(rest) + ".antt")
+    if not path.exists():
+        return None
+    return text_of(path).chunks.get(name)
+
+
+def resolve(file, word):
+    """The definition that a word of a file names, or None."""
+    head, _, rest = word.partition(".")
+    if head in file.modules and rest:
+        return in_module(file.modules[head], rest.split(".")[0])
+    if head in file.chunks:
+        return file.chunks[head]
+    if head in file.names:
+        module, name = file.names[head]
+        return in_module(module, name)
+    if file.path.suffix == ".rt" and head.isidentifier() and head[0].isupper():
+        crate = file.path.relative_to(CRATES).parts[0]
+        text = file.path.read_text()
+        found = re.search(r"\buse (\w+)(?:::\w+)*::(?:\{[^}]*\b%s\b[^}]*\}|%s\b)" % (head, head), text)
+        source = found.group(1) if found else "crate"
+        source = crate if source in ("crate", "super", "self") else source
+        if (CRATES / source).is_dir():
+            return declared(source, head) or (declared("item_world", head) if source == "xns_world" else None)
+    return None
+
+
+def clauses(crate, path, function, clause):
+    """The contract of a function, as a definition."""
+    file = CRATES / crate / "src" / path
+    text = file.read_text()
+    owner, _, name = function.rpartition("::")
+    start = 0
+    if owner:
+        start = re.search(r"^impl(?:<[^\n]*?>)? %s\b" % owner, text, re.M).start()
+    found = re.compile(r"^\s*pub fn %s\b" % name, re.M).search(text, start)
+    end = re.compile(r"^\s*\{(\}|)$", re.M).search(text, found.start()).start()
+    lines, wanted, depth = [], True, 0
+    for line in bare(text[found.start():end]):
+        mark = re.match(r"\s*(requires|ensures)\*? *(\w*)", line)
+        if mark and depth == 0:
+            wanted = mark.group(1) == "requires" or clause in (None, mark.group(2))
+        if wanted:
+            lines.append(line)
+        depth += line.count("{") - line.count("}")
+    return Chunk(text_of(file), lines)
+
+
+def needed(first, stop):
+    """Each definition that a contract needs, the lower ones first."""
+    order, seen = [], {id(first)}
+
+    def visit(chunk):
+        for word in chunk.words():
+            if stop and word.split(".")[-1] in STEPS:
+                continue
+            # a trait's own names, as S.serving
+            found = resolve(chunk.file, word)
+            if found is not None and id(found) not in seen:
+                seen.add(id(found))
+                visit(found)
+                order.append(found)
+
+    sys.setrecursionlimit(10000)
+    visit(first)
+    return order
+
+
+def figures(crate, path, function, clause, stop):
+    order = needed(clauses(crate, path, function, clause), stop)
+    return len(order), sum(len(chunk.lines) for chunk in order)
+
+
+def table():
+    rows = ["| What is read | Definitions | Lines |", "|---|---|---|"]
+    for name, *subject in SUBJECTS:
+        many, lines = figures(*subject)
+        rows.append(f"| {name} | {many} | {lines} |")
+    return "\n".join(rows)
+
+
+def main(words):
+    if words == ["--table"]:
+        print(table())
+        return 0
+    if words == ["--check"]:
+        page = PAGE.read_text()
+        parts = [table()] + [path.read_text()[path.read_text().index("\npub record"):] for path in map(CRATES.joinpath, MACHINES)]
+        missing = [part for part in parts if part not in page]
+        print("\n".join(f"docs/PROOF.md lacks this:\n{part}" for part in missing), end="\n" if missing else "")
+        return 1 if missing else 0
+    stop = "--stop" in words
+    words = [word for word in words if word != "--stop"]
+    if len(words) not in (3, 4):
+        print(__doc__)
+        return 2
+    order = needed(clauses(*words[:3], words[3] if len(words) == 4 else None), stop)
+    for chunk in order:
+        print(f"-- {chunk.file.path.relative_to(ROOT)}")
+        print("\n".join(chunk.lines) + "\n")
+    print(f"-- {len(order)} definitions, {sum(len(chunk.lines) for chunk in order)} lines")
+    return 0
+
+
+if __name__ == "__main__":
+    sys.exit(main(sys.argv[1:]))
