@@ -25,8 +25,7 @@ use Rattle.xns_world.proofs.Fronts.{begins_then, front_begins, one_more, last_of
 use Rattle.xns_world.proofs.Sendable.{not_refused}
 use Rattle.xns_world.specs.CallLaws.{Given}
 use Rattle.xns_world.specs.CallOrder.{decides, ledger_of, CallsHold}
-use Rattle.xns_world.specs.CallSteps.{CallStep, arrival, noise, ticking, acting, flushing, resending, telling, call_stepped, all_call_stepped}
-use Rattle.xns_world.specs.CallWorld.{Parties, CallWorld, or_caller, calls_made, next_out, outcomes_read, in_world, feeds, lists, makes, has_outcome, may_call, caller_step, call_start, carried_at, seen_at, step_with, step}
+use Rattle.xns_world.specs.CallWorld.{Parties, CallWorld, or_caller, calls_made, next_out, outcomes_read, in_world, feeds, lists, makes, has_outcome, may_call, caller_step, call_start, carried_at, seen_at, step_with, step, CallStep, arrival, noise, ticking, acting, flushing, resending, telling, call_stepped, all_call_stepped}
 use Rattle.xns_world.specs.Ledger as ledger
 use Rattle.xns_world.specs.Ledger.{Ledger, Entry, IsHistory, carried_out, decided_then, IsInOrder}
 use Rattle.xns_world.specs.Settling.{onward}

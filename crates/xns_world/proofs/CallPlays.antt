@@ -14,6 +14,7 @@ use Rattle.xns_spp.specs.Held.{Held, StandsFor}
 use Rattle.xns_spp.specs.Sending.{is_full, waiting_count, after_send, after_take, flush_answer, after_flush, tick_answer, after_tick}
 use Rattle.xns_spp.specs.State.{State}
 use Rattle.xns_spp.specs.declared.item.Item.{Item}
+use Rattle.xns_world.proofs.CallMoments.{settles_is, arrived, arrived_nowhere, deliveries_all}
 use Rattle.xns_world.proofs.CallRuns.{LeavesCaller, server_steps, quiet_between}
 use Rattle.xns_world.proofs.CallSettling.{steps_hold}
 use Rattle.xns_world.proofs.ServeEnds.{served_on}
@@ -31,6 +32,7 @@ use Rattle.item_world.specs.Channel.{IsQuiet}
 use Rattle.item_world.specs.Going.{Later, StaysAway, does_land}
 use Rattle.item_world.specs.Landing.{landing, end_reached}
 use Rattle.item_world.specs.Laws.{NetworkLaws}
+use Rattle.item_world.specs.declared.event.Event.TheVariants.{Rest}
 use Rattle.item_world.specs.Events as events
 use Rattle.item_world.specs.Events.{undelivered}
 use Rattle.item_world.specs.Network.{IsNetwork, IsEnd, unsettled}
@@ -39,7 +41,7 @@ use Rattle.xns_world.specs.CallLaws.{Answering, Given}
 use Rattle.xns_world.proofs.CallRuns.{AreOnceInOrder}
 use Rattle.xns_world.specs.CallOrder.{IsBetween}
 use Rattle.xns_world.specs.CallPlay.{endpoint_at, with_endpoint, Acts, IsCalling, caller_history, IsServing, IsAtSide, IsCallPair, IsCallPlaying, IsReady, IsCallTrace, IsOnceInOrder, parties}
-use Rattle.xns_world.specs.CallWorld.{Parties, CallWorld, or_caller, calls_made, next_out, outcomes_read, in_world, lists, makes, has_outcome, may_call, caller_step, step_with, settles, arrived, delivers, seen_at, carried_at, step}
+use Rattle.xns_world.specs.CallWorld.{Parties, CallWorld, or_caller, calls_made, next_out, outcomes_read, in_world, lists, makes, has_outcome, may_call, caller_step, step_with, seen_at, carried_at, step, settles, delivers, call_happens}
 use Rattle.xns_world.specs.Settling.{most_steps, onward, steps, stepped_out}
 use Rattle.xns_world.specs.ServeEnd.{IsServed}
 use Rattle.item_world.specs.World.{World, end_of, moved, flushes, ticks, channel_of, handed_at}
@@ -196,7 +198,8 @@ settled p e f n m w side g b h network a =
     let v = stepped_out (step p side) w in
     let s : State = end_of v.world side in
     let holds = (steps_hold p side w most_steps g b.holds).holds in
-    acted laws p e f n m v (flushes v.world side) side (λ v u. flushes v side ≡ u) a refl (g.answering.network.items.quiet v.world (events.flushing side) tt holds) (g.answering.network.moves.there v.world side (after_flush s) (flush_answer s)) h ((steps_leave p g.answering side w most_steps).network n network)
+    subst (λ (u : CallWorld). IsCallPlaying p (record { ends = f; network = m }) u) (sym (settles_is p side w))
+    (acted laws p e f n m v (flushes v.world side) side (λ v u. flushes v side ≡ u) a refl (g.answering.network.items.quiet v.world (events.flushing side) tt holds) (g.answering.network.moves.there v.world side (after_flush s) (flush_answer s)) h ((steps_leave p g.answering side w most_steps).network n network))
 
 -- ---- a packet is delivered
 
@@ -222,13 +225,10 @@ landed serving cs p e f n m w k u side r h came a =
     heard serving cs p e f n m w u side (λ w v. landing w k ≡ Some (side, v)) r h a came (r.given.world.land w.world k (side, u) holds came) (r.given.answering.network.items.land w.world k (side, u) holds came) (r.given.answering.network.moves.land w.world k (side, u) came)
 
 pub delivers_to : {S : Type 0} (p : Parties S) (w : CallWorld) (k : ℕ) (side : Side) (u : World) → landing w.world k ≡ Some (side, u) → settles p side (in_world w u) ≡ delivers p w k
-delivers_to p w k side u lands = sym (ap (λ (o : Option (Side × World)). arrived p w o) lands)
-
-pub delivers_none : {S : Type 0} (p : Parties S) (w : CallWorld) (k : ℕ) → landing w.world k ≡ None → delivers p w k ≡ w
-delivers_none p w k none = ap (λ (o : Option (Side × World)). arrived p w o) none
+delivers_to p w k side u lands = sym (arrived p w k (side, u) lands)
 
 pub delivers_nowhere : {S : Type 0} → NetworkLaws → (p : Parties S) (w : CallWorld) (k : ℕ) → None ≡ end_reached (landing w.world k) → w ≡ delivers p w k
-delivers_nowhere laws p w k none = sym (delivers_none p w k (laws.reached.none w.world k none))
+delivers_nowhere laws p w k none = sym (arrived_nowhere p w k (laws.reached.none w.world k none))
 
 -- ---- time passes
 
@@ -244,30 +244,34 @@ ticked serving cs p e f n m w side r h a =
 settles_later : {S : Type 0} (p : Parties S) → Answering p.serving p.service → (side : Side) (w : CallWorld) → Later w.world (settles p side w).world
 settles_later p laws side w =
     let v = stepped_out (step p side) w in
-    laws.network.goes_on.further w.world v.world (flushes v.world side) (steps_leave p laws side w most_steps).later (laws.network.goes_on.flush v.world side)
+    subst (λ (u : CallWorld). Later w.world u.world) (sym (settles_is p side w))
+    (laws.network.goes_on.further w.world v.world (flushes v.world side) (steps_leave p laws side w most_steps).later (laws.network.goes_on.flush v.world side))
 
-arrived_later : {S : Type 0} (p : Parties S) → Answering p.serving p.service → (w : CallWorld) (k : ℕ) (o : Option (Side × World)) → landing w.world k ≡ o → Later w.world (arrived p w o).world
-arrived_later p laws w k None e = laws.network.goes_on.itself w.world
-arrived_later p laws w k (Some l) e = laws.network.goes_on.further w.world l.1 (arrived p w (Some l)).world (laws.network.goes_on.land w.world k l e) (settles_later p laws l.0 (in_world w l.1))
+delivers_later : {S : Type 0} (p : Parties S) → Answering p.serving p.service → (w : CallWorld) (k : ℕ) (o : Option (Side × World)) → landing w.world k ≡ o → Later w.world (delivers p w k).world
+delivers_later p laws w k None is = subst (λ (u : CallWorld). Later w.world u.world) (sym (arrived_nowhere p w k is)) (laws.network.goes_on.itself w.world)
+delivers_later p laws w k (Some l) is =
+    let v = settles p l.0 (in_world w l.1) in
+    subst (λ (u : CallWorld). Later w.world u.world) (sym (arrived p w k l is))
+    (laws.network.goes_on.further w.world l.1 v.world (laws.network.goes_on.land w.world k l is) (settles_later p laws l.0 (in_world w l.1)))
 
--- the number k comes first, which lands or stays away
 one_passed : {S : Type 0} (p : Parties S) (w : World) (v : CallWorld) (k : ℕ) (ks : List ℕ) (o : Option (Side × World)) → landing w k ≡ o → StaysAway w k → Later w v.world
     → fold (delivers p) (delivers p v k) ks ≡ fold (delivers p) (delivers p v k) (filter (does_land w) ks) → fold (delivers p) v ks ≡ fold (delivers p) v (filter (does_land w) ks)
     → fold (delivers p) (delivers p v k) ks ≡ fold (delivers p) v (if is_some o then k ∷ filter (does_land w) ks else filter (does_land w) ks)
 one_passed p w v k ks (Some l) is away later next same = next
-one_passed p w v k ks None is away later next same = ap (λ (u : CallWorld). fold (delivers p) u ks) (delivers_none p v k (away is v.world later)) ∙ same
+one_passed p w v k ks None is away later next same = ap (λ (u : CallWorld). fold (delivers p) u ks) (arrived_nowhere p v k (away is v.world later)) ∙ same
 
 -- what lands nowhere as they begin is passed over
 pass_over : {S : Type 0} (p : Parties S) → Answering p.serving p.service → (w : World) (v : CallWorld) (ks : List ℕ) → All (StaysAway w) ks → Later w v.world → fold (delivers p) v ks ≡ fold (delivers p) v (filter (does_land w) ks)
 pass_over p laws w v [] stay later = refl
 pass_over p laws w v (k ∷ ks) stay later =
     let rest = All-tail (StaysAway w) k ks stay in
-    let on = laws.network.goes_on.further w v.world (delivers p v k).world later (arrived_later p laws v k (landing v.world k) refl) in
+    let on = laws.network.goes_on.further w v.world (delivers p v k).world later (delivers_later p laws v k (landing v.world k) refl) in
     one_passed p w v k ks (landing w k) refl (All-head (StaysAway w) k ks stay) later (pass_over p laws w (delivers p v k) ks rest on) (pass_over p laws w v ks rest later)
 
-pub unsettled_is_enough : {S : Type 0} (p : Parties S) → Answering p.serving p.service → (w : CallWorld) → fold (delivers p) w (undelivered 0 w.world.bag) ≡ fold (delivers p) w (unsettled w.world 0 w.world.bag)
+pub unsettled_is_enough : {S : Type 0} (p : Parties S) → Answering p.serving p.service → (w : CallWorld) → call_happens p w Rest ≡ fold (delivers p) w (unsettled w.world 0 w.world.bag)
 unsettled_is_enough p laws w =
-    pass_over p laws w.world w (undelivered 0 w.world.bag) (laws.network.rest.away w.world) (laws.network.goes_on.itself w.world)
+    deliveries_all p w (undelivered 0 w.world.bag)
+    ∙ pass_over p laws w.world w (undelivered 0 w.world.bag) (laws.network.rest.away w.world) (laws.network.goes_on.itself w.world)
     ∙ ap (fold (delivers p) w) (sym (laws.network.rest.left_out w.world))
 
 -- ---- the headline, of what the play hands over

@@ -26,9 +26,10 @@ use Rattle.xns_world.proofs.CallCarries.{faces, same_read, quiet_holds}
 use Rattle.xns_world.specs.CallLaws.{Given}
 use Rattle.item_world.specs.Channel.{IsQuiet}
 use Rattle.item_world.specs.Events as events
+use Rattle.xns_world.proofs.CallMoments.{settles_is, arrived, arrived_nowhere, deliveries_all}
 use Rattle.xns_world.proofs.CallSettling.{steps_hold, settles_end}
 use Rattle.xns_world.specs.CallOrder.{CallsHold, AllListed, IsBetween, MeetNoFault}
-use Rattle.xns_world.specs.CallWorld.{Parties, CallWorld, or_caller, calls_made, put_out, next_out, outcomes_read, in_world, lists, makes, has_outcome, may_call, step_with, settles, arrived, delivers, call_happens, call_start, begun, run_calls, carried_at, seen_at, service_at, step}
+use Rattle.xns_world.specs.CallWorld.{Parties, CallWorld, or_caller, calls_made, put_out, next_out, outcomes_read, in_world, lists, makes, has_outcome, may_call, step_with, call_start, carried_at, seen_at, service_at, step, settles, delivers, call_happens, begun, run_calls}
 use Rattle.xns_world.specs.Settling.{most_steps, onward, steps, stepped_out}
 
 -- ---- each outcome that is there was listed
@@ -98,14 +99,17 @@ pub settles_between : {S : Type 0} (p : Parties S) (side : Side) (w : CallWorld)
 settles_between p side w g b =
     let v = stepped_out (step p side) w in
     let h = steps_hold p side w most_steps g b.holds in
-    quiet_between p v (flushes v.world side) (record { holds = h; listed = stepped_listed p side w g b }) (g.world.each v.world (events.flushing side) tt h.holds) (g.answering.network.items.quiet v.world (events.flushing side) tt h.holds)
+    let flushed = quiet_between p v (flushes v.world side) (record { holds = h; listed = stepped_listed p side w g b }) (g.world.each v.world (events.flushing side) tt h.holds) (g.answering.network.items.quiet v.world (events.flushing side) tt h.holds) in
+    subst (IsBetween p) (sym (settles_is p side w)) flushed
 
-arrived_between : {S : Type 0} (p : Parties S) (w : CallWorld) (k : ℕ) (o : Option (Side × World)) → landing w.world k ≡ o → Given p → IsBetween p w → IsBetween p (arrived p w o)
-arrived_between p w k None is g b = b
-arrived_between p w k (Some l) is g b = settles_between p l.0 (in_world w l.1) g (quiet_between p w l.1 b (g.world.land w.world k l b.holds.holds is) (g.answering.network.items.land w.world k l b.holds.holds is))
+delivered_between : {S : Type 0} (p : Parties S) (w : CallWorld) (k : ℕ) (o : Option (Side × World)) → landing w.world k ≡ o → Given p → IsBetween p w → IsBetween p (delivers p w k)
+delivered_between p w k None is g b = subst (IsBetween p) (sym (arrived_nowhere p w k is)) b
+delivered_between p w k (Some l) is g b =
+    let landed = quiet_between p w l.1 b (g.world.land w.world k l b.holds.holds is) (g.answering.network.items.land w.world k l b.holds.holds is) in
+    subst (IsBetween p) (sym (arrived p w k l is)) (settles_between p l.0 (in_world w l.1) g landed)
 
 pub delivers_between : {S : Type 0} (p : Parties S) (w : CallWorld) (k : ℕ) → Given p → IsBetween p w → IsBetween p (delivers p w k)
-delivers_between p w k g b = arrived_between p w k (landing w.world k) refl g b
+delivers_between p w k g b = delivered_between p w k (landing w.world k) refl g b
 
 pub all_between : {S : Type 0} (p : Parties S) (w : CallWorld) (ks : List ℕ) → Given p → IsBetween p w → IsBetween p (fold (delivers p) w ks)
 all_between p w [] g b = b
@@ -116,7 +120,7 @@ tick_between p w side g b = quiet_between p w (ticks w.world side) b (g.world.ea
 
 pub happens_between : {S : Type 0} (p : Parties S) (w : CallWorld) (e : Event) → Given p → IsBetween p w → IsBetween p (call_happens p w e)
 happens_between p w (Deliver k) g b = delivers_between p w k g b
-happens_between p w Rest g b = all_between p w (undelivered 0 w.world.bag) g b
+happens_between p w Rest g b = subst (IsBetween p) (sym (deliveries_all p w (undelivered 0 w.world.bag))) (all_between p w (undelivered 0 w.world.bag) g b)
 happens_between p w (Tick side) g b = settles_between p side (in_world w (ticks w.world side)) g (tick_between p w side g b)
 happens_between p w (Foreign side bytes) g b = subst (λ (v : World). IsBetween p (in_world w v)) (sym (g.foreign w.world side bytes)) b
 happens_between p w (Send side x) g b = b

@@ -7,8 +7,7 @@ use Rattle.item_world.specs.declared.side.Side.{Side}
 use Rattle.item_world.specs.Setup.{IsSetup, IsGood}
 use Rattle.item_world.specs.Landing.{landing}
 use Rattle.item_world.specs.World.{World, ticks}
-use Rattle.xns_world.specs.CallSteps.{CallStep, call_stepped, all_call_stepped, steps_of_run}
-use Rattle.xns_world.specs.CallWorld.{Parties, CallWorld, call_start, in_world, settles, run_calls}
+use Rattle.xns_world.specs.CallWorld.{Parties, CallWorld, call_start, in_world, CallStep, call_stepped, all_call_stepped, settles, run_calls}
 use Rattle.xns_world.specs.CallOrder.{decides, ledger_of, CallsHold, MeetNoFault, IsBetween, Settles}
 use Rattle.xns_world.specs.Ledger.{Ledger, Entry, IsHistory, IsInOrder}
 
@@ -40,8 +39,7 @@ pub record CallsComeInOrder {S : Type 0} (serving : Serving S) (IsServiceState :
       Entry (decides p.serving) (ledger_of p w) (ledger_of p (call_stepped p w step))
   pub keeps : (p : Parties S) (w : CallWorld) (steps : List CallStep) → AreParties serving IsServiceState p → CallsHold p w →
       CallsHold p (all_call_stepped p w steps)
-  -- a run is the small steps of its events
-  pub whole : (p : Parties S) (setup : Setup) (events : List Event) → all_call_stepped p (call_start setup) (steps_of_run p setup events) ≡ run_calls p setup events
+  -- after any events
   pub between : (p : Parties S) (setup : Setup) (events : List Event) → AreParties serving IsServiceState p → IsSetup setup → IsGood setup → IsBetween p (run_calls p setup events)
   -- a side settles wherever it is let
   pub ends : (p : Parties S) (side : Side) (w : CallWorld) → AreParties serving IsServiceState p → IsBetween p w → Settles p side w

@@ -1,5 +1,5 @@
 -- A connection whose two ends carry calls: the caller at A, the server at B.
-use Rattle.std.specs.Prelude.{ℕ, ◌+◌, Bool, ◌==◌, ◌&&◌, nat_lt, if◌then◌else◌, List, [], length, take, fold, slice_get, Option, Some, None}
+use Rattle.std.specs.Prelude.{ℕ, zero, suc, ◌+◌, Bool, ◌==◌, ◌&&◌, nat_lt, if◌then◌else◌, List, [], ◌∷◌, ◌++◌, length, take, fold, slice_get, Option, Some, None}
 use Rattle.courier_messages.specs.RawCalls.{RawCall}
 use Rattle.courier_calls.specs.Calls.{SeenModel, Serving}
 use Rattle.courier_messages.specs.RawCalls.{caller_items}
@@ -12,10 +12,11 @@ use Rattle.item_world.specs.declared.event.Event.TheVariants.{Deliver, Rest, Tic
 use Rattle.item_world.specs.declared.setup.Setup.{Setup}
 use Rattle.item_world.specs.declared.side.Side.{Side}
 use Rattle.item_world.specs.declared.side.Side.TheVariants.{A, B}
-use Rattle.item_world.specs.Events.{happens, undelivered}
-use Rattle.item_world.specs.Landing.{landing}
-use Rattle.xns_world.specs.Settling.{end_step_with, stepped_out}
-use Rattle.item_world.specs.World.{World, start, end_of, moved, flushes, ticks, sends, takes, sent_at, handed_at}
+use Rattle.item_world.specs.Events.{undelivered}
+use Rattle.item_world.specs.Landing.{landing, reached}
+use Rattle.item_world.specs.Telling.{resends, tells}
+use Rattle.xns_world.specs.Settling.{end_step_with, most_steps, onward}
+use Rattle.item_world.specs.World.{World, start, end_of, moved, flushes, ticks, overhears, sends, takes, sent_at, handed_at}
 
 -- the service with its table, the state that it begins in, and the calls that are to be made
 pub record Parties (S : Type 0) : Type 0 where
@@ -93,28 +94,69 @@ step_with p w side o = or_caller p w side (end_step_with (end_of w.world side) o
 abbrev pub step : {S : Type 0} → Parties S → Side → CallWorld → Option CallWorld
 step p side w = step_with p w side (next_out p w side)
 
--- a side takes these steps until none applies, and then flushes
+-- ---- small steps
+
+-- packet k comes to an end, which answers it; bytes from elsewhere come to an end; an end ticks; a side takes the first of its
+-- steps that applies, where one does; an end flushes, sends its first item again, or sends a system packet. No event of a play has the
+-- last two.
+pub data CallStep : Type 0 where
+  arrival : ℕ → CallStep
+  noise : Side → List ℕ → CallStep
+  ticking : Side → CallStep
+  acting : Side → CallStep
+  flushing : Side → CallStep
+  resending : Side → CallStep
+  telling : Side → (asks : Bool) → CallStep
+
+abbrev pub call_stepped : {S : Type 0} → Parties S → CallWorld → CallStep → CallWorld
+call_stepped p w (arrival k) = in_world w (reached w.world (landing w.world k))
+call_stepped p w (noise side bytes) = in_world w (overhears w.world side bytes)
+call_stepped p w (ticking side) = in_world w (ticks w.world side)
+call_stepped p w (acting side) = onward w (step p side w)
+call_stepped p w (flushing side) = in_world w (flushes w.world side)
+call_stepped p w (resending side) = in_world w (resends w.world side)
+call_stepped p w (telling side asks) = in_world w (tells w.world side asks)
+
+abbrev pub all_call_stepped : {S : Type 0} → Parties S → CallWorld → List CallStep → CallWorld
+all_call_stepped p w steps = fold (call_stepped p) w steps
+
+-- ---- the steps of an event
+
+abbrev pub acting_steps : Side → ℕ → List CallStep
+acting_steps side zero = []
+acting_steps side (suc n) = acting side ∷ acting_steps side n
+
+-- a side settles: as many steps as it can take, and then it flushes
+abbrev pub settling_steps : Side → List CallStep
+settling_steps side = acting_steps side most_steps ++ flushing side ∷ []
+
 abbrev pub settles : {S : Type 0} → Parties S → Side → CallWorld → CallWorld
-settles p side w = in_world (stepped_out (step p side) w) (flushes (stepped_out (step p side) w).world side)
+settles p side w = all_call_stepped p w (settling_steps side)
 
--- ---- what happens
-
--- packet k came to an end, which answered it and then settles
-abbrev pub arrived : {S : Type 0} → Parties S → CallWorld → Option (Side × World) → CallWorld
-arrived p w None = w
-arrived p w (Some l) = settles p l.0 (in_world w l.1)
+-- packet k is answered, and then the side that it came to settles; nothing happens where it comes to none
+abbrev pub call_arrival_steps : ℕ → Option (Side × World) → List CallStep
+call_arrival_steps k None = []
+call_arrival_steps k (Some l) = arrival k ∷ settling_steps l.0
 
 abbrev pub delivers : {S : Type 0} → Parties S → CallWorld → ℕ → CallWorld
-delivers p w k = arrived p w (landing w.world k)
+delivers p w k = all_call_stepped p w (call_arrival_steps k (landing w.world k))
+
+-- these packets are delivered in turn
+abbrev pub call_deliveries : {S : Type 0} → Parties S → CallWorld → List ℕ → List CallStep
+call_deliveries p w [] = []
+call_deliveries p w (k ∷ ks) = call_arrival_steps k (landing w.world k) ++ call_deliveries p (delivers p w k) ks
 
 -- items are sent and taken by the sessions alone
+abbrev pub call_steps_of : {S : Type 0} → Parties S → CallWorld → Event → List CallStep
+call_steps_of p w (Deliver k) = call_arrival_steps k (landing w.world k)
+call_steps_of p w Rest = call_deliveries p w (undelivered 0 w.world.bag)
+call_steps_of p w (Tick side) = ticking side ∷ settling_steps side
+call_steps_of p w (Foreign side bytes) = noise side bytes ∷ []
+call_steps_of p w (Send side x) = []
+call_steps_of p w (Take side) = []
+
 abbrev pub call_happens : {S : Type 0} → Parties S → CallWorld → Event → CallWorld
-call_happens p w (Deliver k) = delivers p w k
-call_happens p w Rest = fold (delivers p) w (undelivered 0 w.world.bag)
-call_happens p w (Tick side) = settles p side (in_world w (ticks w.world side))
-call_happens p w (Foreign side bytes) = in_world w (happens w.world (Foreign side bytes))
-call_happens p w (Send side x) = w
-call_happens p w (Take side) = w
+call_happens p w e = all_call_stepped p w (call_steps_of p w e)
 
 abbrev pub call_start : Setup → CallWorld
 call_start setup = record { world = start setup; made = 0; listed = 0 }

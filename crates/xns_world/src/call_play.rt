@@ -5,7 +5,7 @@ ghost use Rattle.item_world.specs.declared.side.Side.{Side};
 ghost use Rattle.item_world.specs.declared.side.Side.TheVariants.{A, B};
 ghost use Rattle.item_world.specs.declared.event.Event.TheVariants.{Deliver, Rest, Tick, Foreign, Send, Take};
 ghost use Rattle.xns_world.specs.CallPlay.{IsCallPlaying, IsReady, CallStepsBy, IsCallTrace, IsOnceInOrder, parties};
-ghost use Rattle.xns_world.specs.CallWorld.{Parties, CallWorld, call_happens, call_start, run_calls, delivers, settles};
+ghost use Rattle.xns_world.specs.CallWorld.{Parties, CallWorld, call_start, call_happens, run_calls, delivers, settles};
 ghost use Rattle.item_world.specs.Setup.{IsGood};
 
 use crate::call_pair::CallPair;

@@ -2,7 +2,7 @@ use Rattle.courier_calls.specs.Calls.{Serving}
 use Rattle.xns_world.specs.CallLaws.{LawsAreGiven}
 use Rattle.xns_world.specs.CallPromises.{CallsComeInOrder}
 use Rattle.xns_world.proofs.CallEntries.{in_order, step_entry}
-use Rattle.xns_world.proofs.CallMoments.{run_all, all_hold}
+use Rattle.xns_world.proofs.CallMoments.{all_hold}
 use Rattle.xns_world.proofs.CallRuns.{always_between, start_between, quiet_between, settles_between, tick_between, meet_no_fault}
 use Rattle.xns_world.proofs.CallSettling.{settles_end}
 use Rattle.xns_world.proofs.laws.calls.calls_come_in_order.Goals as goal
@@ -14,7 +14,6 @@ come_in_order serving IsServiceState given = record {
   starts = λ p setup are fits good. start_between p setup (given p are) fits good;
   entry = λ p w s are h. step_entry p w s (given p are) h;
   keeps = λ p w ss are h. all_hold p w ss (given p are) h;
-  whole = run_all;
   between = λ p setup events are fits good. always_between p setup events (given p are) fits good;
   ends = λ p side w are b. settles_end p side w (given p are) b;
   settled = λ p side w are b. settles_between p side w (given p are) b;
