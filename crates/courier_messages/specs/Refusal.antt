@@ -69,6 +69,6 @@ MakeSecondPiece (inside bytes) more = 0 < length bytes
 abbrev pub MayBeKept : Phase → List ℕ → Type 0
 MayBeKept p bytes = (0 < length bytes) × AreRight p bytes × MakeSecondPiece p bytes
 
--- an item at which memory may be refused: it is of datastream 0, has bytes to keep or ends a message, and nothing is wrong with its bytes
+-- an item at which memory may be refused: it is of datastream 0, has bytes to keep behind others or ends a message, and nothing is wrong with its bytes
 abbrev pub MayGrow : Phase → Item → Type 0
-MayGrow p x = (x.stream ≡ 0) × (said p (signs x) ≡ [] → 0 < length x.body) × AreRight p x.body
+MayGrow p x = (x.stream ≡ 0) × (said p (signs x) ≡ [] → (0 < length x.body) × MakeSecondPiece p x.body) × AreRight p x.body
