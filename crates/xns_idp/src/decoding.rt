@@ -13,6 +13,7 @@ use crate::places::{read_address, read_word};
 ///
 /// An `Err` is the first fault in the order of [`IdpFault`]. A checksum field of 65535 means that there is no checksum,
 /// and is never a [`IdpFault::BadSum`].
+#[inline(always)]
 pub fn decode(bytes: &[u8]) -> Result<(Packet<'_>, usize), IdpFault>
     // The packet of the bytes by the places of its fields, or their first fault.
     ensures exact { decode_model result ≡ packet_of bytes.now }
@@ -28,6 +29,7 @@ pub fn decode(bytes: &[u8]) -> Result<(Packet<'_>, usize), IdpFault>
 }
 
 #[tactic(auto, unfolding(crate::specs::Reading::packet_of, crate::specs::Reading::packet_fault, crate::specs::Reading::packet_fields))]
+#[inline(always)]
 fn read_packet(bytes: &[u8]) -> Result<(Packet<'_>, usize), IdpFault>
     ensures { decode_model result ≡ packet_of bytes.now }
 {

@@ -31,6 +31,7 @@ pub fn encode(alloc: Global, packet: &Packet<'_>, out: &mut Vec<u8>) -> Result<(
 /// joined: for a caller who puts a header of its own before bytes that lie elsewhere.
 ///
 /// The only error is want of memory, after which `out` is as it was.
+#[inline(always)]
 pub fn encode_parts(
     _alloc: Global,
     packet: &Packet<'_>,
@@ -61,6 +62,7 @@ pub fn encode_parts(
 }
 
 /// Appends a garbage byte where the size is odd.
+#[inline(always)]
 fn pad(size: usize, out: &mut Vec<u8>) -> Result<(), AllocError>
     requires { vec_len out.old + size % 2 ≤ vec_capacity out.old }
     ensures ok { IsOk result }
@@ -75,6 +77,7 @@ fn pad(size: usize, out: &mut Vec<u8>) -> Result<(), AllocError>
 
 /// Puts the checksum field into a packet, in the place of its first two bytes: the checksum of the words after them, or 65535
 /// where the packet isn't summed.
+#[inline(always)]
 pub(crate) fn put_checksum(packet: &mut [u8], summed: bool)
     requires even { length packet.now % 2 ≡ 0 }
     requires field { 2 ≤ length packet.now }

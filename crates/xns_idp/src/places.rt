@@ -6,6 +6,7 @@ ghost use Rattle.xns_idp.specs.Reading.{word_at, long_at, address_at};
 use crate::address::Address;
 
 /// The number of the two bytes at a place.
+#[inline(always)]
 pub fn read_word(bytes: &[u8], at: usize) -> u16
     requires { at + 2 ≤ length bytes.now }
     ensures { result ≡ word_at bytes.now at }
@@ -14,6 +15,7 @@ pub fn read_word(bytes: &[u8], at: usize) -> u16
 }
 
 /// The number of the four bytes at a place.
+#[inline(always)]
 pub fn read_long(bytes: &[u8], at: usize) -> u32
     requires { at + 4 ≤ length bytes.now }
     ensures { result ≡ long_at bytes.now at }
@@ -22,6 +24,7 @@ pub fn read_long(bytes: &[u8], at: usize) -> u32
 }
 
 /// The host of the six bytes at a place.
+#[inline(always)]
 pub fn read_host(bytes: &[u8], at: usize) -> [u8; 6]
     requires { at + 6 ≤ length bytes.now }
     ensures { result ≡ slice_range bytes.now at (at + 6) }
@@ -33,6 +36,7 @@ pub fn read_host(bytes: &[u8], at: usize) -> [u8; 6]
 
 /// The address of the twelve bytes at a place.
 #[tactic(auto, unfolding(crate::specs::Reading::address_at))]
+#[inline(always)]
 pub fn read_address(bytes: &[u8], at: usize) -> Address
     requires { at + 12 ≤ length bytes.now }
     ensures { result ≡ address_at bytes.now at }
