@@ -4,7 +4,7 @@ ghost use Rattle.xns_lines.specs.Lines.{lines_of};
 
 use std::alloc::Global;
 use std::io::Write;
-use xns_lines::{LineTaker, RunFault, take_lines};
+use xns_lines::{LineTaker, MOST_LINES, RunFault, take_lines};
 
 /// How many lines were taken.
 #[derive(Drop)]
@@ -14,6 +14,9 @@ struct LineCounter {
 
 impl LineTaker for LineCounter {
     ghost use Rattle.std.specs.Prelude.{◌≡◌, length};
+    ghost use Rattle.xns_lines.specs.Lines.{most_lines};
+
+    ghost limit = { most_lines };
 
     ghost stands = { λ taker before after lines. taker.count ≡ length lines };
 
@@ -41,7 +44,13 @@ fn count_lines(alloc: Global, bytes: &[u8]) -> Result<usize, RunFault>
     let mut reader = bytes;
     let mut nothing_written = Vec::new(alloc);
     let mut counter = LineCounter { count: 0 };
-    take_lines(alloc, &mut reader, &mut counter, &mut nothing_written)?;
+    take_lines(
+        alloc,
+        MOST_LINES,
+        &mut reader,
+        &mut counter,
+        &mut nothing_written,
+    )?;
     Ok(counter.count)
 }
 

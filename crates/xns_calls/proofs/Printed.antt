@@ -1,31 +1,54 @@
--- A line more is printed.
-use Rattle.std.proofs.Common.{◌≡◌, ◌∙◌, ap, sym, ℕ, ◌+◌, Bool, List, [], ◌∷◌, ◌++◌, length, Result, Ok, Err}
-use Rattle.std.specs.Prelude.{OnOk}
-use Rattle.xns_lines.specs.Printing.{IsBegun, IsPrinted}
+-- A line more, or a part of the end, is printed.
+use Rattle.std.proofs.Common.{◌≡◌, ◌∙◌, ap, sym, arith, subst, ℕ, suc, ◌+◌, Bool, List, [], ◌∷◌, ◌++◌, length, length-append}
+use Rattle.xns_lines.specs.Printing.{IsBegun, IsEndPrinted, IsPrinted}
 use Rattle.xns_lines.specs.declared.page.Page.{Page}
-use Rattle.xns_calls.specs.Calls.{after_line, known_of, line_taken, text_of}
-use Rattle.xns_calls.specs.Capture.{IsPlaced, Keeps, Known, known}
+use Rattle.xns_calls.specs.Calls.{HasPrinted, after_line, has_refused, known_of, known_with_end, line_taken, text_of, text_with_end}
+use Rattle.xns_calls.specs.Capture.{IsPlaced, Keeps, Known, after_end, known}
 use Rattle.xns_calls.specs.declared.capture.Capture.{Capture}
+use Rattle.xns_calls.specs.declared.printer.CallsPrinter.{CallsPrinter}
 use Rattle.xns_calls.proofs.Behind.{known-last, text-last}
 
-abbrev has_refused : List (List ℕ) → Bool
-has_refused lines = (known_of lines).is_refused
+abbrev known_by : Capture → Page → Known
+known_by capture page = known capture.connections.items capture.flows.items page
 
 -- what is known as a line begins
-begun_known : (capture : Capture) (page : Page) (lines : List (List ℕ)) → IsBegun has_refused page lines → Keeps capture (known_of lines) → known capture.connections.items page ≡ record (known_of lines) { text = [] }
-begun_known capture page lines begun h =
-    ap (λ cs. known cs page) h.connections
-    ∙ ap (λ t. record { connections = (known_of lines).connections; text = t; is_refused = page.is_refused }) begun.text
-    ∙ ap (λ b. record { connections = (known_of lines).connections; text = []; is_refused = b }) begun.refused
+begun_known : (capture : Capture) (page : Page) (lines : List (List ℕ)) (part : ℕ) → IsBegun (λ xs. has_refused xs part) page lines → Keeps capture (known_with_end lines part)
+    → known_by capture page ≡ record (known_with_end lines part) { text = [] }
+begun_known capture page lines part begun h =
+    let k = known_with_end lines part in
+    ap (λ cs. known cs capture.flows.items page) h.connections
+    ∙ ap (λ fs. known k.connections fs page) h.flows
+    ∙ ap (λ t. record { connections = k.connections; flows = k.flows; text = t; is_refused = page.is_refused }) begun.text
+    ∙ ap (λ b. record { connections = k.connections; flows = k.flows; text = []; is_refused = b }) begun.refused
 
-pub printed : {T E : Type 0} (r : Result T E) (capture capture' : Capture) (page page' : Page) (line : List ℕ) (n : ℕ)
-    → OnOk r (IsPlaced capture → known capture'.connections.items page' ≡ after_line n line (known capture.connections.items page)) → OnOk r (IsPlaced capture → IsPlaced capture')
-    → OnOk r ((lines : List (List ℕ)) → n ≡ length lines + 1 → IsBegun has_refused page lines → Keeps capture (known_of lines) → IsPrinted (λ xs. Keeps capture' (known_of xs)) text_of has_refused page' lines line)
-printed (Ok x) capture capture' page page' line n taken places = λ lines number begun h.
-    let after : known capture'.connections.items page' ≡ known_of (lines ++ line ∷ []) =
-    taken h.places ∙ ap (after_line n line) (begun_known capture page lines begun h) ∙ ap (λ m. line_taken m line (known_of lines)) number ∙ sym (known-last lines line) in record {
-      printed = record { connections = ap (λ (k : Known). k.connections) after; places = places h.places };
+pub printed : (capture : Capture) (count : ℕ) (printer' : CallsPrinter) (page page' : Page) (line : List ℕ) (n : ℕ) (lines : List (List ℕ))
+    → (IsPlaced capture → known_by printer'.capture page' ≡ after_line n line (known_by capture page)) → (IsPlaced capture → IsPlaced printer'.capture) → printer'.count ≡ n
+    → n ≡ length lines + 1 → IsBegun (λ xs. has_refused xs 0) page lines → Keeps capture (known_of lines)
+    → IsPrinted (λ xs. HasPrinted printer' xs 0) (λ xs. text_with_end xs 0) (λ xs. has_refused xs 0) page' lines line
+printed capture count printer' page page' line n lines taken places counted number begun h =
+    let after : known_by printer'.capture page' ≡ known_of (lines ++ line ∷ []) =
+    taken h.places ∙ ap (after_line n line) (begun_known capture page lines 0 begun h) ∙ ap (λ m. line_taken m line (known_of lines)) number ∙ sym (known-last lines line) in record {
+      printed = record {
+        keeps = record { connections = ap (λ (k : Known). k.connections) after; flows = ap (λ (k : Known). k.flows) after; places = places h.places };
+        count = counted ∙ number ∙ sym (length-append lines (line ∷ []));
+      };
       text = text-last lines line ∙ ap (λ (k : Known). text_of lines ++ k.text) (sym (known-last lines line) ∙ sym after);
       refused = ap (λ (k : Known). k.is_refused) after;
     }
-printed (Err x) capture capture' page page' line n taken places = tt
+
+pub end_printed : (printer printer' : CallsPrinter) (page page' : Page) (lines : List (List ℕ)) (part : ℕ)
+    → known_by printer'.capture page' ≡ after_end printer.count part (known_by printer.capture page) → (IsPlaced printer.capture → IsPlaced printer'.capture) → printer'.count ≡ printer.count
+    → IsBegun (λ xs. has_refused xs part) page lines → HasPrinted printer lines part
+    → IsEndPrinted (HasPrinted printer' lines) (text_with_end lines) (has_refused lines) page' part
+end_printed printer printer' page page' lines part taken places counted begun h =
+    let e : suc part ≡ part + 1 = omega arith in
+    let after : known_by printer'.capture page' ≡ known_with_end lines (suc part) =
+    taken ∙ ap (λ n. after_end n part (known_by printer.capture page)) h.count ∙ ap (after_end (length lines) part) (begun_known printer.capture page lines part begun h.keeps) in
+    let printed : HasPrinted printer' lines (suc part) = record {
+      keeps = record { connections = ap (λ (k : Known). k.connections) after; flows = ap (λ (k : Known). k.flows) after; places = places h.keeps.places };
+      count = counted ∙ h.count;
+    } in record {
+      printed = subst (HasPrinted printer' lines) e printed;
+      text = ap (text_with_end lines) (sym e) ∙ ap (λ (k : Known). text_with_end lines part ++ k.text) (sym after);
+      refused = ap (λ (k : Known). k.is_refused) after ∙ ap (has_refused lines) e;
+    }

@@ -1,5 +1,5 @@
 -- The flag is set exactly where the text has the word `refused`.
-use Rattle.std.proofs.Common.{◌≡◌, ◌∙◌, ap, sym, refl, ℕ, ◌+◌, ◌-◌, ◌==◌, ◌||◌, Bool, true, false, cond, List, [], ◌∷◌, ◌++◌, codes, Option, Some, None, Result, Ok, Err}
+use Rattle.std.proofs.Common.{◌≡◌, ◌∙◌, ap, sym, refl, ℕ, zero, suc, length, ◌+◌, ◌-◌, ◌==◌, ◌||◌, Bool, true, false, cond, List, [], ◌∷◌, ◌++◌, codes, Option, Some, None, Result, Ok, Err}
 use Rattle.std.specs.Prelude.{nat_lt, slice_get}
 use Rattle.hex.specs.Hex.{decode_of}
 use Rattle.hex.specs.declared.error.FromHexError.{FromHexError}
@@ -20,9 +20,9 @@ use Rattle.xns_dump.specs.Dump.Line.{digits_of}
 use Rattle.xns_dump.specs.Flows.{flow_of}
 use Rattle.xns_dump.specs.Laws.{IsLoud, IsQuiet, JoinedTextsSayRefused, OnlyRefusalsSayRefused, says_refused}
 use Rattle.xns_calls.specs.Numbers.{most_early}
-use Rattle.xns_calls.specs.Calls.{after_body, after_bytes, after_digits, after_found, after_header, after_line, calls_text, has_refusal, known_from, line_taken, nothing_known, text_from}
-use Rattle.xns_calls.specs.Capture.{Known, after_at, after_in, after_places, after_sequenced, flow_behind, heading_at, place_of, scene_in, with_new}
-use Rattle.xns_calls.specs.Exchange.{Scene, acknowledged, advance_other, advance_track, advanced, after_acknowledge, after_data, after_new, after_number, after_packet, begin_track, begun, new_number, of_other, seen_from_other, take_in_track, told_of}
+use Rattle.xns_calls.specs.Calls.{after_body, after_bytes, after_digits, after_found, after_header, after_line, calls_text, end_count, has_refusal, has_refused, known_from, known_with_end, line_taken, nothing_known, text_from, text_with_end}
+use Rattle.xns_calls.specs.Capture.{Known, after_at, after_end, after_in, after_places, after_sequenced, ended_at, ended_flow, ended_in, flow_behind, heading_at, place_of, scene_in, with_new}
+use Rattle.xns_calls.specs.Exchange.{Scene, acknowledged, advance_other, advance_own, behind_last, ended, advance_track, advanced, after_acknowledge, after_data, after_new, after_number, after_packet, begin_track, begun, new_number, of_other, seen_from_other, take_in_track, told_of}
 use Rattle.xns_calls.specs.Reading.{Told, after_heard, brought, brought_over, is_due, item_read, passed, past, read_next, said_item, with_kept_item}
 use Rattle.xns_calls.specs.Speech.{heard_of}
 use Rattle.xns_calls.specs.Telling.{heard_text, is_fault, message_line}
@@ -30,6 +30,7 @@ use Rattle.xns_calls.specs.Texts.{answer_text, call_text, end_text, flow_line, h
 use Rattle.xns_calls.specs.declared.unanswered.Calls.{Calls}
 use Rattle.xns_calls.specs.declared.connection.Connection.{Connection}
 use Rattle.xns_calls.specs.declared.early.Early.{Early}
+use Rattle.xns_calls.specs.declared.flow_place.FlowPlace.{FlowPlace}
 use Rattle.xns_calls.specs.declared.heading.Heading.{Heading}
 use Rattle.xns_calls.specs.declared.heard.Heard.{Heard}
 use Rattle.xns_calls.specs.declared.heard.Heard.TheVariants as heard
@@ -277,6 +278,30 @@ module _ (joined : JoinedTextsSayRefused) (only : OnlyRefusalsSayRefused) where
   unfolding after_line
   line_says b n line k s = digits_say b n (decode_of (digits_of line)) k s
 
+  -- ---- the end
+
+  own_says : (b : Bool) (h : Heading) (o : Option ℕ) (s : Scene) → SaysScene b s → SaysScene b (advance_own h o s)
+  own_says b h None s k = k
+  own_says b h (Some n) s k = advanced_says b h n s k
+
+  ended_says : (b : Bool) (h : Heading) (s : Scene) → SaysScene b s → SaysScene b (ended h s)
+  unfolding ended
+  ended_says b h s k = own_says b h (behind_last s.own.track) s k
+
+  end_in_says : (b : Bool) (n i : ℕ) (q : Bool) (o : Option Connection) (k : Known) → SaysKnown b k → SaysKnown b (ended_in n (record { place = i; is_behind = q }) o k)
+  end_in_says b n i q None k s = s
+  end_in_says b n i true (Some c) k s = ended_says b (heading_at n i true) (scene_in true c k) s
+  end_in_says b n i false (Some c) k s = ended_says b (heading_at n i false) (scene_in false c k) s
+
+  flow_says : (b : Bool) (n : ℕ) (o : Option FlowPlace) (k : Known) → SaysKnown b k → SaysKnown b (ended_flow n o k)
+  unfolding ended_at
+  flow_says b n None k s = s
+  flow_says b n (Some flow) k s = end_in_says b n flow.place flow.is_behind (slice_get k.connections flow.place) k s
+
+  end_says : (b : Bool) (n part : ℕ) (k : Known) → SaysKnown b k → SaysKnown b (after_end n part k)
+  unfolding after_end
+  end_says b n part k s = flow_says b n (slice_get k.flows part) k s
+
   -- ---- the whole
 
   none_said : (b : Bool) → Says b [] b
@@ -294,6 +319,17 @@ module _ (joined : JoinedTextsSayRefused) (only : OnlyRefusalsSayRefused) where
         tells = tells_both first.new rest.new k1.text (text_from (n + 1) k1 lines) first.tells rest.tells;
       }
 
+  ends_say : (lines : List (List ℕ)) (part : ℕ) → Says false (text_with_end lines part) (has_refused lines part)
+  ends_say lines zero = lines_say 1 nothing_known lines
+  ends_say lines (suc part) =
+      let k = known_with_end lines part in
+      let first = ends_say lines part in
+      let last = end_says k.is_refused (length lines) part (record k { text = [] }) (none_said k.is_refused) in record {
+        new = first.new || last.new;
+        flag_is = last.flag_is ∙ ap (λ f. f || last.new) first.flag_is ∙ or_assoc false first.new last.new;
+        tells = tells_both first.new last.new (text_with_end lines part) (known_with_end lines (suc part)).text first.tells last.tells;
+      }
+
   tells_is : (c : Bool) (xs : List ℕ) → Tells c xs → says_refused xs ≡ c
   unfolding Tells
   tells_is true xs h = joined.said xs h
@@ -301,4 +337,4 @@ module _ (joined : JoinedTextsSayRefused) (only : OnlyRefusalsSayRefused) where
 
   pub text_says : (input : List ℕ) → says_refused (calls_text input) ≡ has_refusal input
   text_says input =
-      let s = lines_say 1 nothing_known (lines_of input) in tells_is s.new (calls_text input) s.tells ∙ sym s.flag_is
+      let s = ends_say (lines_of input) (end_count (lines_of input)) in tells_is s.new (calls_text input) s.tells ∙ sym s.flag_is

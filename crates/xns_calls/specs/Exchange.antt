@@ -1,5 +1,5 @@
 -- What a packet does to the two flows of its connection.
-use Rattle.std.specs.Prelude.{ℕ, ◌+◌, min, ◌==◌, ◌||◌, nat_lt, not, Bool, if◌then◌else◌, List, [], ◌++◌, Option, Some, None}
+use Rattle.std.specs.Prelude.{ℕ, ◌+◌, min, ◌==◌, ◌||◌, nat_lt, not, Bool, if◌then◌else◌, List, [], ◌++◌, Option, Some, None, option_map}
 use Rattle.std.specs.List.{list_any}
 use Rattle.xns_idp.specs.Packet.{PacketModel}
 use Rattle.xns_spp.specs.declared.item.Item.{Item}
@@ -128,3 +128,18 @@ unfoldable pub after_packet : Heading → PacketModel → Header → List ℕ �
 after_packet heading packet f content s =
     let known = after_acknowledge heading f.acknowledge s in
     if is_system f then known else after_data heading packet f content known
+
+-- ---- the end of the input
+
+-- the number behind the last item that is kept
+abbrev pub behind_last : Option Track → Option ℕ
+behind_last None = None
+behind_last (Some track) = option_map (λ number. number + 1) (last_number track.early)
+
+abbrev pub advance_own : Heading → Option ℕ → Scene → Scene
+advance_own heading None s = s
+advance_own heading (Some number) s = advanced heading number s
+
+-- the flow is brought behind the last item that it keeps, as by an acknowledgement of all of them
+unfoldable pub ended : Heading → Scene → Scene
+ended heading s = advance_own heading (behind_last s.own.track) s

@@ -1,5 +1,5 @@
 -- What the laws say: of what is heard, and of items that the capture lacks.
-use Rattle.std.specs.Prelude.{◌≡◌, ℕ, ◌+◌, ◌%◌, ◌≤◌, ◌<◌, ◌⊎◌, List, [], ◌++◌, IfOk, codes, Some}
+use Rattle.std.specs.Prelude.{◌≡◌, ℕ, ◌+◌, ◌%◌, ◌≤◌, ◌<◌, ◌⊎◌, List, [], ◌++◌, map, IfOk, codes, Some}
 use Rattle.xns_idp.specs.Packet.{PacketModel}
 use Rattle.xns_spp.specs.Nearest.{field_round, half_round}
 use Rattle.xns_spp.specs.Numbers.{most_items}
@@ -11,10 +11,11 @@ use Rattle.xns_dump.specs.Dump.Line.{has_word}
 use Rattle.xns_calls.specs.Calls.{calls_text, has_refusal}
 use Rattle.xns_calls.specs.Events.{AreWithinReach, Event, IsAmong, acknowledged_event, after_event, after_events, after_whole_event, after_whole_events, captured, captured_in, own_events, with_captured}
 use Rattle.xns_calls.specs.Exchange.{Scene, after_acknowledge, after_packet, after_told, of_other, seen_from_other, take_number, told_of}
-use Rattle.xns_calls.specs.Listening.{messages_heard}
+use Rattle.xns_calls.specs.Listening.{AreFaultless, heard_at_lines, message_lines, messages_heard, said_items}
 use Rattle.xns_calls.specs.Numbers.{near}
 use Rattle.xns_calls.specs.Reading.{Told}
 use Rattle.xns_calls.specs.declared.heading.Heading.{Heading}
+use Rattle.xns_calls.specs.declared.speech.Speech.{Speech}
 use Rattle.xns_calls.specs.declared.speech.Speech.TheVariants.{Hearing}
 use Rattle.xns_calls.specs.declared.track.Track.{Track}
 
@@ -22,6 +23,11 @@ use Rattle.xns_calls.specs.declared.track.Track.{Track}
 pub record WhatIsHeardIsTheConversation : Type 0 where
   pub begins : (fed : List Item) → (rest : List Message) × (conversation fed ++ rest ≡ messages_heard (Hearing (opening [])) fed)
   pub whole : (fed : List Item) → IfOk (ending fed) (λ phase. conversation fed ≡ messages_heard (Hearing (opening [])) fed)
+
+-- what is printed of items without a fault are the lines of the messages that are heard, in order, and nothing else
+pub record HeardMessagesArePrinted : Type 0 where
+  pub text : (items : List (Heading × Item)) (t : Told) → AreFaultless t.track.speech items → (said_items items t).text ≡ t.text ++ message_lines t.calls (heard_at_lines t.track.speech items)
+  pub messages : (items : List (Heading × Item)) (speech : Speech) → map (λ x. x.1) (heard_at_lines speech items) ≡ messages_heard speech (map (λ x. x.1) items)
 
 -- the answer of `calls` is true exactly where its text has the word `refused`
 abbrev pub TheAnswerSaysRefused : Type 0

@@ -4,6 +4,7 @@ use Rattle.xns_spp.specs.declared.item.Item.{Item}
 use Rattle.courier_messages.specs.Text.{signs}
 use Rattle.courier_messages.specs.Conversation.{Phase, inside}
 use Rattle.courier_messages.specs.Phases.{run, said}
+use Rattle.courier_messages.specs.Refusal.{MayBeKept}
 use Rattle.courier_messages.specs.declared.fault.SessionFault.{SessionFault}
 use Rattle.courier_messages.specs.declared.message.Message.{Message}
 use Rattle.xns_calls.specs.declared.heard.Heard.{Heard}
@@ -39,3 +40,8 @@ heard_at messages (Err fault) = heard.Fault fault
 abbrev pub heard_of : Speech → Item → Heard
 heard_of Waiting item = heard.Nothing
 heard_of (Hearing phase) item = heard_at (said phase (signs item)) (run phase (signs item))
+
+-- an item for which memory may be refused: its bytes are to be kept, and nothing is wrong with them
+abbrev pub MayRefuse : Speech → Item → Type 0
+MayRefuse Waiting item = ⊥
+MayRefuse (Hearing phase) item = MayBeKept phase item.body

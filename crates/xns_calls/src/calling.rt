@@ -2,17 +2,20 @@
 ghost use Rattle.std.specs.Prelude.{◌≡◌, IfErr, IfOk, IfSome, OnOk};
 ghost use Rattle.std.specs.Io.KnownBytes.{Appends};
 ghost use Rattle.xns_lines.specs.Lines.{IsWithinLimits};
-ghost use Rattle.xns_calls.specs.Calls.{StopsIn, calls_text, has_refusal};
+ghost use Rattle.xns_calls.specs.Calls.{StopsIn, calls_text, has_refusal, most_numbered_lines};
 
 use crate::printer::CallsPrinter;
 use std::alloc::Global;
 use std::io::{Read, Write};
 use xns_lines::{RunFault, print_lines};
 
+/// Line numbers have 64 bits; there is no other limit on the number of lines.
+const MOST_LINES: usize = 18_446_744_073_709_551_615;
+
 /// Reads lines of hex, each an internet packet, and prints the Courier calls that they carry, and what came back. The
 /// answer is whether something was refused: whether the output has the word `refused`.
 ///
-/// Lines and limits are those of `xns_dump::dump`. A flow is the data packets with equal hosts, sockets and identifiers of
+/// Lines and limits are those of `xns_dump::dump`, but that the number of lines is not limited. A flow is the data packets with equal hosts, sockets and identifiers of
 /// source and target, of which the target's identifier is not 0. Its items are read in the order of their numbers
 /// (XSIS 028112, Sequenced Packet Protocol): those that come early, with numbers up to 63 above the next, are kept until
 /// those before them come, and repeats are passed over. What the items of datastream 0 say is read as the messages of a
@@ -24,8 +27,8 @@ use xns_lines::{RunFault, print_lines};
 ///
 /// # Errors
 /// `Read` where a read fails, for whatever reason; `Write` where a write fails or takes no byte; `LineTooLong` where a
-/// line has over 4,096 bytes, its byte 13 among them and its byte 10 not; `TooManyLines` where there are over 65,536
-/// lines; `NoMemory` where a growth is refused. Of the limits' faults the one that comes first in the input is
+/// line has over 4,096 bytes, its byte 13 among them and its byte 10 not; `TooManyLines` where there are 2^64 lines;
+/// `NoMemory` where a growth is refused. Of the limits' faults the one that comes first in the input is
 /// answered. The text of all lines before the fault is written first, but for a write that fails.
 ///
 /// It holds what `dump` holds, the words of the longest message, and of each flow a record of some 500 bytes, at most 63
@@ -40,11 +43,11 @@ pub fn calls<R: Read, W: Write>(
     ensures text { IfOk result (λ refused. IfSome (R.remaining reader.old) (λ input.
         Appends (W.contents writer.old) (W.contents writer.new) (calls_text input))) }
     ensures refused { IfOk result (λ refused. IfSome (R.remaining reader.old) (λ input. refused ≡ has_refusal input)) }
-    ensures limits { OnOk result (IfSome (R.remaining reader.old) IsWithinLimits) }
+    ensures limits { OnOk result (IfSome (R.remaining reader.old) (IsWithinLimits most_numbered_lines)) }
 
     // After a fault the text of the lines before it is written, and what was read shows a limit that was passed.
     ensures fault { IfErr result (λ fault. IfSome (R.remaining reader.old) (λ input.
         StopsIn input (R.remaining reader.new) (W.contents writer.old) (W.contents writer.new) fault)) }
 {
-    print_lines(alloc, reader, writer, CallsPrinter::new(alloc))
+    print_lines(alloc, MOST_LINES, reader, writer, CallsPrinter::new(alloc))
 }

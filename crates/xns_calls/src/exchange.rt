@@ -1,7 +1,7 @@
 //! What a packet does to the flows of its connection.
 ghost use Rattle.std.specs.Prelude.{◌≡◌, ◌<◌, IfOk, IfSome, OnOk};
 ghost use Rattle.xns_idp.specs.Packet.{packet_model};
-ghost use Rattle.xns_calls.specs.Exchange.{acknowledged as acknowledged_of, advanced, after_acknowledge, after_new, after_packet, begun as begun_of, first_track, new_number as new_number_of, scene};
+ghost use Rattle.xns_calls.specs.Exchange.{acknowledged as acknowledged_of, advanced, after_acknowledge, after_new, after_packet, behind_last as behind_last_of, begun as begun_of, ended, first_track, new_number as new_number_of, scene};
 ghost use Rattle.xns_calls.specs.Numbers.{most_numbers};
 
 use crate::bringing::{bring, read_or_keep};
@@ -181,4 +181,31 @@ pub fn take_packet(
     };
     let item = Item::carried(scratch.alloc, header, content)?;
     take_new(scratch, page, heading, own, other, number, item)
+}
+
+/// The number behind the last item that the flow keeps.
+fn behind_last(side: &Side) -> Option<u64>
+    ensures { result ≡ behind_last_of side.now.track }
+{
+    let track = side.track.as_ref()?;
+    let last = track.early.last_number()?;
+    Some(last + 1)
+}
+
+/// Brings a flow behind the last item that it keeps, if it keeps one.
+#[tactic(auto, unfolding(crate::specs::Exchange::ended))]
+pub fn end_flow(
+    scratch: &mut Scratch,
+    page: &mut Page,
+    heading: Heading,
+    own: &mut Side,
+    other: &mut Side,
+) -> Result<(), AllocError>
+    ensures front { page.new.text.front ≡ page.old.text.front }
+    ensures scene { OnOk result (scene own.new other.new page.new ≡ ended heading (scene own.old other.old page.old)) }
+{
+    let Some(number) = behind_last(own) else {
+        return Ok(());
+    };
+    advance(scratch, page, heading, own, other, number)
 }

@@ -1,5 +1,5 @@
 //! Laws of the definitions, as functions that do nothing.
-ghost use Rattle.xns_calls.specs.Laws.{AnItemIsAnEvent, MissingItemsAreBeforeCapturedOnes, NothingIsMissing, NumbersAreReadBack, PacketsAreEvents, RepeatsSayNothing, TheAnswerSaysRefused, WhatIsHeardIsTheConversation};
+ghost use Rattle.xns_calls.specs.Laws.{AnItemIsAnEvent, HeardMessagesArePrinted, MissingItemsAreBeforeCapturedOnes, NothingIsMissing, NumbersAreReadBack, PacketsAreEvents, RepeatsSayNothing, TheAnswerSaysRefused, WhatIsHeardIsTheConversation};
 
 use courier_messages::laws::{conversation_is_read_sign_by_sign, one_item_more, signs_run_on};
 use xns_dump::laws::{joined_texts_say_refused, only_refusals_say_refused};
@@ -13,6 +13,12 @@ pub fn what_is_heard_is_the_conversation()
     signs_run_on();
     one_item_more();
 }
+
+/// What is printed of items of datastream 0, said in order, are the lines of the messages that are heard of them, as long
+/// as no fault is heard.
+pub fn heard_messages_are_printed()
+    ensures { HeardMessagesArePrinted }
+{}
 
 /// The answer of `calls` is true exactly where its text has the word `refused`.
 pub fn the_answer_says_refused()

@@ -9,6 +9,7 @@ mod early;
 mod end_key;
 mod exchange;
 mod flow_key;
+mod flow_place;
 mod heading;
 mod heard;
 mod item_number;

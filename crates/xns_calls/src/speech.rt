@@ -1,6 +1,6 @@
 //! What a flow says.
-ghost use Rattle.std.specs.Prelude.{◌≡◌, IfOk};
-ghost use Rattle.xns_calls.specs.Speech.{after_item, behind as behind_of, heard_of};
+ghost use Rattle.std.specs.Prelude.{◌≡◌, IfOk, OnErr};
+ghost use Rattle.xns_calls.specs.Speech.{MayRefuse, after_item, behind as behind_of, heard_of};
 
 use crate::heard::Heard;
 use courier_messages::{Incoming, SessionFault};
@@ -28,10 +28,13 @@ impl Speech {
         }
     }
 
-    /// Hears one more item of datastream 0.
+    /// Hears one more item of datastream 0. The only error is want of memory, for bytes that are to be kept and with which
+    /// nothing is wrong; it is then as it was.
     pub fn hear(&mut self, alloc: Global, item: Item) -> Result<Heard, AllocError>
         ensures speech { IfOk result (λ heard. self.new ≡ after_item self.old item) }
         ensures heard { IfOk result (λ heard. heard ≡ heard_of self.old item) }
+        ensures memory { OnErr result (MayRefuse self.old item) }
+        ensures same { OnErr result (self.new ≡ self.old) }
     {
         let is_last = item.last;
         match self {

@@ -6,7 +6,7 @@ use Rattle.std.specs.List.{flat_map, list_any}
 use Rattle.std.specs.Option.{option_to_list}
 use Rattle.xns_dump.specs.Dump.Line.{is_refused, item_of_line, text_of_line}
 use Rattle.xns_dump.specs.Flows.{DataPacket, item_number}
-use Rattle.xns_lines.specs.Lines.{lines_of}
+use Rattle.xns_lines.specs.Lines.{lines_of, most_lines}
 use Rattle.xns_lines.specs.Printing as printing
 use Rattle.xns_lines.specs.declared.fault.RunFault.{RunFault}
 
@@ -33,6 +33,13 @@ dump_text input = text_of (lines_of input)
 abbrev pub has_refused_line : List ℕ → Bool
 has_refused_line input = list_any is_refused (lines_of input)
 
+-- nothing more is printed at the end of the input
+abbrev pub text_with_end : List (List ℕ) → ℕ → List ℕ
+text_with_end lines part = text_of lines
+
+abbrev pub end_count : List (List ℕ) → ℕ
+end_count lines = 0
+
 -- after a fault the text of the lines before it is written
 abbrev pub StopsIn : List ℕ → Option (List ℕ) → Option (List ℕ) → Option (List ℕ) → RunFault → Type 0
-StopsIn = printing.StopsIn text_of
+StopsIn = printing.StopsIn most_lines text_with_end end_count

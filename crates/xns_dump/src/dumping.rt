@@ -2,12 +2,12 @@
 ghost use Rattle.std.specs.Prelude.{◌≡◌, IfErr, IfOk, IfSome, OnOk};
 ghost use Rattle.std.specs.Io.KnownBytes.{Appends};
 ghost use Rattle.xns_dump.specs.Dump.{StopsIn, dump_text, has_refused_line};
-ghost use Rattle.xns_lines.specs.Lines.{IsWithinLimits};
+ghost use Rattle.xns_lines.specs.Lines.{IsWithinLimits, most_lines};
 
 use crate::printer::DumpPrinter;
 use std::alloc::Global;
 use std::io::{Read, Write};
-use xns_lines::{RunFault, print_lines};
+use xns_lines::{MOST_LINES, RunFault, print_lines};
 
 /// Reads lines of hex and prints what each says. The answer is whether a line was refused.
 ///
@@ -39,11 +39,11 @@ pub fn dump<R: Read, W: Write>(
     ensures text { IfOk result (λ refused. IfSome (R.remaining reader.old) (λ input.
         Appends (W.contents writer.old) (W.contents writer.new) (dump_text input))) }
     ensures refused { IfOk result (λ refused. IfSome (R.remaining reader.old) (λ input. refused ≡ has_refused_line input)) }
-    ensures limits { OnOk result (IfSome (R.remaining reader.old) IsWithinLimits) }
+    ensures limits { OnOk result (IfSome (R.remaining reader.old) (IsWithinLimits most_lines)) }
 
     // After a fault the text of the lines before it is written, and what was read shows a limit that was passed.
     ensures fault { IfErr result (λ fault. IfSome (R.remaining reader.old) (λ input.
         StopsIn input (R.remaining reader.new) (W.contents writer.old) (W.contents writer.new) fault)) }
 {
-    print_lines(alloc, reader, writer, DumpPrinter::new(alloc))
+    print_lines(alloc, MOST_LINES, reader, writer, DumpPrinter::new(alloc))
 }

@@ -1,9 +1,10 @@
 //! What `dump` makes of the lines of its input.
 ghost use Rattle.std.specs.Prelude.{[]};
 ghost use Rattle.std.specs.List.{list_any};
-ghost use Rattle.xns_dump.specs.Dump.{items_in, text_of as text_of_lines};
+ghost use Rattle.xns_dump.specs.Dump.{end_count as no_ends, items_in, text_with_end};
 ghost use Rattle.xns_dump.specs.Dump.Line.{is_refused};
 ghost use Rattle.xns_dump.specs.Flows.Numbers.{StandsFor};
+ghost use Rattle.xns_lines.specs.Lines.{most_lines};
 
 use crate::flows::numbers::FlowNumbers;
 use crate::reporter::LineAppender;
@@ -32,11 +33,15 @@ impl DumpPrinter {
 }
 
 impl LinePrinter for DumpPrinter {
-    ghost has_printed = { λ printer lines. StandsFor printer.numbers.last (items_in lines) };
+    ghost limit = { most_lines };
 
-    ghost text_of = { text_of_lines };
+    ghost end_count = { no_ends };
 
-    ghost has_refused = { list_any is_refused };
+    ghost has_printed = { λ printer lines part. StandsFor printer.numbers.last (items_in lines) };
+
+    ghost text_of = { text_with_end };
+
+    ghost has_refused = { λ lines part. list_any is_refused lines };
 
     fn print_line(
         &mut self,
@@ -49,6 +54,14 @@ impl LinePrinter for DumpPrinter {
             .report_line(&mut page.text, number, line, &self.numbers)?;
         self.numbers.note_item(outcome.item)?;
         page.is_refused |= outcome.is_refused;
+        Ok(())
+    }
+
+    fn count_ends(&self) -> usize {
+        0
+    }
+
+    fn print_end(&mut self, _page: &mut Page, _part: usize) -> Result<(), AllocError> {
         Ok(())
     }
 

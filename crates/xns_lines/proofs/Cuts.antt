@@ -9,7 +9,7 @@ use Rattle.std.proofs.lemmas.List.{take-append-drop, length-take, get_or-take}
 use Rattle.std.proofs.lemmas.List.Folds.{list_any-append}
 use Rattle.memchr.specs.Find.{Passes, is_byte}
 use Rattle.xns_lines.specs.Lines.Cutter.{HasNoNewline}
-use Rattle.xns_lines.specs.Lines.{AreWithinLimits, BeginsLong, closed_lines, split_at_newlines, is_long, line_if_any, lines_of, open_line, with_first, with_first_plain, most_line_bytes, most_lines}
+use Rattle.xns_lines.specs.Lines.{AreWithinLimits, BeginsLong, closed_lines, split_at_newlines, is_long, line_if_any, lines_of, open_line, with_first, with_first_plain, most_line_bytes}
 
 abbrev Parts : Type 0
 Parts = List (List ℕ) × List ℕ
@@ -73,11 +73,11 @@ count_if_any-run (y ∷ rest) run lt = refl
 pub line_count-parts : (xs : List ℕ) → length (lines_of xs) ≡ length (closed_lines xs) + length (line_if_any (open_line xs))
 line_count-parts xs = length-append (closed_lines xs) (line_if_any (open_line xs))
 
-pub few_closed : (xs : List ℕ) → length (lines_of xs) ≤ most_lines → length (closed_lines xs) ≤ most_lines
-few_closed xs few = omega (arith, few, line_count-parts xs)
+pub few_closed : (most : ℕ) (xs : List ℕ) → length (lines_of xs) ≤ most → length (closed_lines xs) ≤ most
+few_closed most xs few = omega (arith, few, line_count-parts xs)
 
-pub few_more : (xs ys : List ℕ) → length (closed_lines xs) < most_lines → closed_lines ys ≡ closed_lines xs → length (lines_of ys) ≤ most_lines
-few_more xs ys lt same = omega (arith, lt, line_count-parts ys, ap length same, count_if_any (open_line ys))
+pub few_more : (most : ℕ) (xs ys : List ℕ) → length (closed_lines xs) < most → closed_lines ys ≡ closed_lines xs → length (lines_of ys) ≤ most
+few_more most xs ys lt same = omega (arith, lt, line_count-parts ys, ap length same, count_if_any (open_line ys))
 
 pub one_line : (rest : List ℕ) → 0 < length rest → line_if_any rest ≡ rest ∷ []
 one_line [] lt = absurd (omega arith)
@@ -95,8 +95,8 @@ or_false true = refl
 or_false false = refl
 
 -- lines over and a line that is not, none of which is too long
-pub all_within : (xs : List ℕ) → list_any is_long (closed_lines xs) ≡ false → length (open_line xs) ≤ most_line_bytes → length (lines_of xs) ≤ most_lines → AreWithinLimits (lines_of xs)
-all_within xs closed rest few = record {
+pub all_within : (most : ℕ) (xs : List ℕ) → list_any is_long (closed_lines xs) ≡ false → length (open_line xs) ≤ most_line_bytes → length (lines_of xs) ≤ most → AreWithinLimits most (lines_of xs)
+all_within most xs closed rest few = record {
   short = list_any-append is_long (closed_lines xs) (line_if_any (open_line xs)) ∙ ap (λ b. b || list_any is_long (line_if_any (open_line xs))) closed
       ∙ long_if_any (open_line xs) ∙ not_long (length (open_line xs)) rest;
   few = few;

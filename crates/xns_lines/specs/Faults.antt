@@ -1,7 +1,7 @@
 -- What stands after a fault: what was written, and what justifies the fault.
 use Rattle.std.specs.Prelude.{◌≡◌, ℕ, ◌<◌, List, ◌++◌, length, Option}
 use Rattle.std.specs.Io.KnownBytes.{Appends}
-use Rattle.xns_lines.specs.Lines.{BeginsLong, closed_lines, most_lines}
+use Rattle.xns_lines.specs.Lines.{BeginsLong, closed_lines}
 use Rattle.xns_lines.specs.declared.fault.RunFault.{RunFault}
 use Rattle.xns_lines.specs.declared.fault.RunFault.TheVariants as fault
 
@@ -20,13 +20,13 @@ AppendsFront before after text = (front : List ℕ) × Appends before after fron
 abbrev pub AppendsPart : Option (List ℕ) → Option (List ℕ) → List ℕ → Type 0
 AppendsPart before after text = (front : List ℕ) × Appends before after front × GoesOn front text
 
--- what justifies the fault: of the lines of what was read these are good, and those come next
-abbrev pub IsJustified : RunFault → List ℕ → List (List ℕ) → List (List ℕ) → Type 0
-IsJustified fault.Read read good next = good ≡ closed_lines read
-IsJustified fault.Write read good next = Unit {0}
-IsJustified fault.LineTooLong read good next = (length good < most_lines) × BeginsLong next
-IsJustified fault.TooManyLines read good next = (length good ≡ most_lines) × (0 < length next)
-IsJustified fault.NoMemory read good next = Unit {0}
+-- what justifies the fault of an input of at most so many lines: of the lines of what was read these are good, and those come next
+abbrev pub IsJustified : ℕ → RunFault → List ℕ → List (List ℕ) → List (List ℕ) → Type 0
+IsJustified most fault.Read read good next = good ≡ closed_lines read
+IsJustified most fault.Write read good next = Unit {0}
+IsJustified most fault.LineTooLong read good next = (length good < most) × BeginsLong next
+IsJustified most fault.TooManyLines read good next = (length good ≡ most) × (0 < length next)
+IsJustified most fault.NoMemory read good next = Unit {0}
 
 -- the text is written, and after a failed write a prefix of it and not all
 abbrev pub HasWritten : RunFault → Option (List ℕ) → Option (List ℕ) → List ℕ → Type 0

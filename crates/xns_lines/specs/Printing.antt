@@ -1,16 +1,29 @@
--- What is printed of the lines of an input, between two lines and after a fault.
-use Rattle.std.specs.Prelude.{◌≡◌, ℕ, ◌++◌, Bool, false, List, [], ◌∷◌, Option, Some}
+-- What is printed of the lines of an input and of its end, between two lines and after a fault.
+use Rattle.std.specs.Prelude.{◌≡◌, ℕ, ◌+◌, ◌≤◌, ◌⊎◌, ◌++◌, Bool, false, List, [], ◌∷◌, Option, Some}
 use Rattle.std.specs.Io.KnownBytes.{Appends, Consumes}
 use Rattle.xns_lines.specs.Faults.{AppendsFront, AppendsPart, HasWritten, IsJustified}
-use Rattle.xns_lines.specs.Lines.{AreWithinLimits, lines_of}
-use Rattle.xns_lines.specs.Lines.Cutter.{Says}
+use Rattle.xns_lines.specs.Lines.{AreWithinLimits, IsWithinLimits, lines_of}
+use Rattle.xns_lines.specs.Lines.Cutter.{Says, StandsAfter}
 use Rattle.xns_lines.specs.Report.{whole}
 use Rattle.xns_lines.specs.declared.fault.RunFault.{RunFault}
+use Rattle.xns_lines.specs.declared.fault.RunFault.TheVariants as fault
 use Rattle.xns_lines.specs.declared.page.Page.{Page}
 
 -- what lines say
 abbrev pub TextOf : Type 0
 TextOf = List (List ℕ) → List ℕ
+
+-- what lines say, and so many parts of the end of the input behind them
+abbrev pub TextWithEnd : Type 0
+TextWithEnd = List (List ℕ) → ℕ → List ℕ
+
+-- how many parts the end of the input has behind lines
+abbrev pub EndCount : Type 0
+EndCount = List (List ℕ) → ℕ
+
+-- what lines say, and all parts of the end of the input behind them
+abbrev pub text_to_end : TextWithEnd → EndCount → List (List ℕ) → List ℕ
+text_to_end text_of end_count lines = text_of lines (end_count lines)
 
 -- whether one of some lines is refused
 abbrev pub HasRefused : Type 0
@@ -28,6 +41,12 @@ pub record IsPrinted (has_printed : Says) (text_of : TextOf) (has_refused : HasR
   pub printed : has_printed (lines ++ line ∷ [])
   pub text : text_of (lines ++ line ∷ []) ≡ text_of lines ++ page.text.line
   pub refused : page.is_refused ≡ has_refused (lines ++ line ∷ [])
+
+-- the next part of the end is printed, behind so many: its text is what one part more says
+pub record IsEndPrinted (has_printed : ℕ → Type 0) (text_of : ℕ → List ℕ) (has_refused : ℕ → Bool) (page : Page) (part : ℕ) : Type 0 where
+  pub printed : has_printed (part + 1)
+  pub text : text_of (part + 1) ≡ text_of part ++ page.text.line
+  pub refused : page.is_refused ≡ has_refused (part + 1)
 
 -- ---- between two lines
 
@@ -47,18 +66,55 @@ HasFailed text_of page before after lines = (whole page.text ≡ []) × AppendsP
 
 -- ---- after a fault
 
--- a prefix of the text of what was read is written, and that is the text of all lines before the one at which it stopped
-pub record Stops (text_of : TextOf) (before after : Option (List ℕ)) (read : List ℕ) (f : RunFault) : Type 0 where
-  pub front : AppendsFront before after (text_of (lines_of read))
+-- memory was refused behind so many parts of the end, or a write failed of their text
+abbrev pub StandsInEnd : RunFault → (ℕ → List (List ℕ) → Type 0) → (ℕ → List (List ℕ) → Type 0) → ℕ → List (List ℕ) → Type 0
+StandsInEnd fault.NoMemory stands fails part lines = stands part lines
+StandsInEnd fault.Write stands fails part lines = fails part lines
+StandsInEnd _ stands fails part lines = ⊥
+
+-- so it is behind some part of the end, and at most behind so many
+abbrev pub StopsInEnd : RunFault → (List (List ℕ) → ℕ → Type 0) → TextWithEnd → (List (List ℕ) → ℕ → Bool) → Page → Bool → Option (List ℕ) → Option (List ℕ) → List (List ℕ) → ℕ → Type 0
+StopsInEnd f has_printed text_of has_refused page is_lost before after lines most = (part : ℕ) × (part ≤ most)
+    × StandsInEnd f (λ k xs. StandsFor (λ ys. has_printed ys k) (λ ys. text_of ys k) (λ ys. has_refused ys k) page is_lost before after xs)
+    (λ k xs. HasFailed (λ ys. text_of ys k) page before after xs) part lines
+
+-- at the end of the input, which was read whole and has good lines alone, memory or a write was refused
+abbrev pub IsAtEnd : RunFault → List ℕ → List ℕ → List (List ℕ) → Type 0
+IsAtEnd fault.Write input read next = (read ≡ input) × (next ≡ [])
+IsAtEnd fault.NoMemory input read next = (read ≡ input) × (next ≡ [])
+IsAtEnd _ input read next = ⊥
+
+-- of the lines of what was read these are good, of which with so many parts of the end this is so, and those come next; none of the end but where all was read
+pub record StopsAt (most : ℕ) (end_count : EndCount) (f : RunFault) (input read : List ℕ) (left : ℕ → Says) : Type 0 where
   pub good : List (List ℕ)
   pub next : List (List ℕ)
+  pub part : ℕ
   pub lines : lines_of read ≡ good ++ next
-  pub within : AreWithinLimits good
-  pub shown : IsJustified f read good next
-  pub written : HasWritten f before after (text_of good)
+  pub within : AreWithinLimits most good
+  pub shown : IsJustified most f read good next
+  pub few : part ≤ end_count good
+  pub place : (part ≡ 0) ⊎ IsAtEnd f input read next
+  pub is_left : left part good
 
--- what was read is the prefix of the input that is no longer left
-pub record StopsIn (text_of : TextOf) (input : List ℕ) (left before after : Option (List ℕ)) (f : RunFault) : Type 0 where
+-- a prefix of the text of what was read is written, and that is the text of all lines before the one at which it stopped; what was read is the prefix of the
+-- input that is no longer left
+pub record StopsIn (most : ℕ) (text_of : TextWithEnd) (end_count : EndCount) (input : List ℕ) (left before after : Option (List ℕ)) (f : RunFault) : Type 0 where
   pub read : List ℕ
   pub consumed : Consumes (Some input) left read
-  pub stops : Stops text_of before after read f
+  pub front : AppendsFront before after (text_to_end text_of end_count (lines_of read))
+  pub stops : StopsAt most end_count f input read (λ part good. HasWritten f before after (text_of good part))
+
+-- ---- what was taken of an input, of which this holds at first
+
+-- the lines were taken to the end, and its end
+abbrev pub TakesAll : ℕ → (List (List ℕ) → ℕ → Type 0) → TextWithEnd → (List (List ℕ) → ℕ → Bool) → EndCount → Page → Bool → (Option (List ℕ) → Type 0) → Option (List ℕ) → Option (List ℕ) → List ℕ → Type 0
+TakesAll most has_printed text_of has_refused end_count page is_lost begun left after input = Consumes (Some input) left input × IsWithinLimits most input
+    × ((before : Option (List ℕ)) → begun before
+    → StandsFor (λ xs. has_printed xs (end_count (lines_of input))) (λ xs. text_of xs (end_count (lines_of input))) (λ xs. has_refused xs (end_count (lines_of input))) page is_lost before after (lines_of input))
+
+-- or up to a fault
+abbrev pub TakesSome : ℕ → (List (List ℕ) → ℕ → Type 0) → TextWithEnd → (List (List ℕ) → ℕ → Bool) → EndCount → Page → Bool → (Option (List ℕ) → Type 0) → Option (List ℕ) → Option (List ℕ) → RunFault → List ℕ → Type 0
+TakesSome most has_printed text_of has_refused end_count page is_lost begun left after f input = (read : List ℕ) × Consumes (Some input) left read
+    × ((before : Option (List ℕ)) → begun before
+    → StopsAt most end_count f input read (λ part.
+    StandsAfter f (StandsFor (λ xs. has_printed xs part) (λ xs. text_of xs part) (λ xs. has_refused xs part) page is_lost before after) (HasFailed (λ xs. text_of xs part) page before after)))

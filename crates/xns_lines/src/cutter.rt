@@ -1,9 +1,9 @@
 //! Cuts an input into lines, and finds the faults of limits.
 ghost use Rattle.std.specs.Prelude.{◌≡◌, ◌<◌, ◌≤◌, ◌+◌, ◌++◌, ℕ, List, [], ◌∷◌, Option, IfErr, IfOk, OnOk, length};
-ghost use Rattle.xns_lines.specs.Lines.{IsWithinLimits, closed_lines, lines_of, most_line_bytes, most_lines};
+ghost use Rattle.xns_lines.specs.Lines.{IsWithinLimits, closed_lines, lines_of, most_line_bytes};
 
 use crate::fault::RunFault;
-use crate::limits::{MOST_LINE_BYTES, MOST_LINES};
+use crate::limits::MOST_LINE_BYTES;
 use crate::taker::LineTaker;
 use memchr::memchr;
 use std::alloc::Global;
@@ -16,6 +16,8 @@ pub(crate) struct Cutter {
     line: Vec<u8>,
     /// How many lines are over.
     count: usize,
+    /// How many lines are taken at most.
+    most: usize,
     ghost short: { length line.items ≤ most_line_bytes },
 }
 
@@ -23,12 +25,17 @@ impl Cutter {
     ghost use Rattle.xns_lines.specs.Lines.Cutter.{HasCut, HasNoNewline, HasTaken, IsCutShort, StandsAfter, IsOwn, StopsShort, room_of};
 
     /// A cutter that has cut nothing.
-    pub(crate) fn new(alloc: Global) -> Result<Self, RunFault>
-        ensures ok { IfOk result (λ cutter. HasCut cutter []) }
+    pub(crate) fn new(alloc: Global, most: usize) -> Result<Self, RunFault>
+        ensures limit { IfOk result (λ cutter. cutter.most ≡ most) }
+        ensures ok { IfOk result (λ cutter. HasCut most cutter []) }
         ensures err { IfErr result (λ fault. fault ≡ RunFault.NoMemory) }
     {
         match Vec::with_capacity(alloc, MOST_LINE_BYTES) {
-            Ok(line) => Ok(Cutter { line, count: 0 }),
+            Ok(line) => Ok(Cutter {
+                line,
+                count: 0,
+                most,
+            }),
             Err(_) => Err(RunFault::NoMemory),
         }
     }
@@ -40,11 +47,13 @@ impl Cutter {
         taker: &mut T,
         writer: &mut W,
     ) -> Result<(), RunFault>
-        ensures cut { OnOk result ((taken : List ℕ) → HasCut self.old taken → HasCut self.new (taken ++ piece.now)) }
-        ensures ok { OnOk result ((taken : List ℕ) (before : Option (List ℕ)) → HasTaken self.old (T.stands taker.old before (W.contents writer.old)) taken
-            → HasTaken self.new (T.stands taker.new before (W.contents writer.new)) (taken ++ piece.now)) }
-        ensures err { IfErr result (λ fault. (taken : List ℕ) (before : Option (List ℕ)) → HasTaken self.old (T.stands taker.old before (W.contents writer.old)) taken
-            → IsCutShort fault (taken ++ piece.now) (StandsAfter fault (T.stands taker.new before (W.contents writer.new)) (T.fails taker.new before (W.contents writer.new)))) }
+        requires few { self.old.most ≤ T.limit }
+        ensures limit { self.new.most ≡ self.old.most }
+        ensures cut { OnOk result ((most : ℕ) (taken : List ℕ) → HasCut most self.old taken → HasCut most self.new (taken ++ piece.now)) }
+        ensures ok { OnOk result ((most : ℕ) (taken : List ℕ) (before : Option (List ℕ)) → HasTaken most self.old (T.stands taker.old before (W.contents writer.old)) taken
+            → HasTaken most self.new (T.stands taker.new before (W.contents writer.new)) (taken ++ piece.now)) }
+        ensures err { IfErr result (λ fault. (most : ℕ) (taken : List ℕ) (before : Option (List ℕ)) → HasTaken most self.old (T.stands taker.old before (W.contents writer.old)) taken
+            → IsCutShort most fault (taken ++ piece.now) (StandsAfter fault (T.stands taker.new before (W.contents writer.new)) (T.fails taker.new before (W.contents writer.new)))) }
         ensures room { OnOk result (room_of self.new + length piece.now ≤ room_of self.old) }
     {
         let mut rest = piece;
@@ -63,12 +72,14 @@ impl Cutter {
         taker: &mut T,
         writer: &mut W,
     ) -> Result<(), RunFault>
-        requires { HasNoNewline run.now }
-        ensures cut { OnOk result ((taken : List ℕ) → HasCut self.old taken → HasCut self.new ((taken ++ run.now) ++ 10 ∷ [])) }
-        ensures ok { OnOk result ((taken : List ℕ) (before : Option (List ℕ)) → HasTaken self.old (T.stands taker.old before (W.contents writer.old)) taken
-            → HasTaken self.new (T.stands taker.new before (W.contents writer.new)) ((taken ++ run.now) ++ 10 ∷ [])) }
-        ensures err { IfErr result (λ fault. (taken : List ℕ) (before : Option (List ℕ)) → HasTaken self.old (T.stands taker.old before (W.contents writer.old)) taken
-            → IsCutShort fault ((taken ++ run.now) ++ 10 ∷ []) (StandsAfter fault (T.stands taker.new before (W.contents writer.new)) (T.fails taker.new before (W.contents writer.new)))) }
+        requires plain { HasNoNewline run.now }
+        requires few { self.old.most ≤ T.limit }
+        ensures limit { self.new.most ≡ self.old.most }
+        ensures cut { OnOk result ((most : ℕ) (taken : List ℕ) → HasCut most self.old taken → HasCut most self.new ((taken ++ run.now) ++ 10 ∷ [])) }
+        ensures ok { OnOk result ((most : ℕ) (taken : List ℕ) (before : Option (List ℕ)) → HasTaken most self.old (T.stands taker.old before (W.contents writer.old)) taken
+            → HasTaken most self.new (T.stands taker.new before (W.contents writer.new)) ((taken ++ run.now) ++ 10 ∷ [])) }
+        ensures err { IfErr result (λ fault. (most : ℕ) (taken : List ℕ) (before : Option (List ℕ)) → HasTaken most self.old (T.stands taker.old before (W.contents writer.old)) taken
+            → IsCutShort most fault ((taken ++ run.now) ++ 10 ∷ []) (StandsAfter fault (T.stands taker.new before (W.contents writer.new)) (T.fails taker.new before (W.contents writer.new)))) }
         ensures room { OnOk result (room_of self.new + length run.now < room_of self.old) }
     {
         if !self.line.is_empty() {
@@ -87,9 +98,10 @@ impl Cutter {
     /// Takes bytes among which is no byte 10.
     fn take_run(&mut self, run: &[u8]) -> Result<(), RunFault>
         requires { HasNoNewline run.now }
-        ensures ok { OnOk result ((taken : List ℕ) → HasCut self.old taken → HasCut self.new (taken ++ run.now) × (closed_lines (taken ++ run.now) ≡ closed_lines taken)) }
-        ensures err { IfErr result (λ fault. (taken : List ℕ) → HasCut self.old taken
-            → IsCutShort fault (taken ++ run.now) (λ lines. IsOwn fault × (lines ≡ closed_lines taken))) }
+        ensures limit { self.new.most ≡ self.old.most }
+        ensures ok { OnOk result ((most : ℕ) (taken : List ℕ) → HasCut most self.old taken → HasCut most self.new (taken ++ run.now) × (closed_lines (taken ++ run.now) ≡ closed_lines taken)) }
+        ensures err { IfErr result (λ fault. (most : ℕ) (taken : List ℕ) → HasCut most self.old taken
+            → IsCutShort most fault (taken ++ run.now) (λ lines. IsOwn fault × (lines ≡ closed_lines taken))) }
         ensures room { OnOk result (room_of self.new + length run.now ≤ room_of self.old) }
     {
         if run.is_empty() {
@@ -111,11 +123,13 @@ impl Cutter {
         taker: &mut T,
         writer: &mut W,
     ) -> Result<(), RunFault>
-        ensures cut { OnOk result ((taken : List ℕ) → HasCut self.old taken → HasCut self.new (taken ++ 10 ∷ [])) }
-        ensures ok { OnOk result ((taken : List ℕ) (before : Option (List ℕ)) → HasTaken self.old (T.stands taker.old before (W.contents writer.old)) taken
-            → HasTaken self.new (T.stands taker.new before (W.contents writer.new)) (taken ++ 10 ∷ [])) }
-        ensures err { IfErr result (λ fault. (taken : List ℕ) (before : Option (List ℕ)) → HasTaken self.old (T.stands taker.old before (W.contents writer.old)) taken
-            → IsCutShort fault (taken ++ 10 ∷ []) (StandsAfter fault (T.stands taker.new before (W.contents writer.new)) (T.fails taker.new before (W.contents writer.new)))) }
+        requires few { self.old.most ≤ T.limit }
+        ensures limit { self.new.most ≡ self.old.most }
+        ensures cut { OnOk result ((most : ℕ) (taken : List ℕ) → HasCut most self.old taken → HasCut most self.new (taken ++ 10 ∷ [])) }
+        ensures ok { OnOk result ((most : ℕ) (taken : List ℕ) (before : Option (List ℕ)) → HasTaken most self.old (T.stands taker.old before (W.contents writer.old)) taken
+            → HasTaken most self.new (T.stands taker.new before (W.contents writer.new)) (taken ++ 10 ∷ [])) }
+        ensures err { IfErr result (λ fault. (most : ℕ) (taken : List ℕ) (before : Option (List ℕ)) → HasTaken most self.old (T.stands taker.old before (W.contents writer.old)) taken
+            → IsCutShort most fault (taken ++ 10 ∷ []) (StandsAfter fault (T.stands taker.new before (W.contents writer.new)) (T.fails taker.new before (W.contents writer.new)))) }
         ensures room { OnOk result (room_of self.new < room_of self.old) }
     {
         let number = self.next_number()?;
@@ -127,10 +141,10 @@ impl Cutter {
 
     /// The number of the line that is not over, or of the next one where there is none.
     fn next_number(&self) -> Result<usize, RunFault>
-        ensures ok { IfOk result (λ number. (number ≡ self.now.count + 1) × (self.now.count < most_lines)) }
-        ensures err { IfErr result (λ fault. (fault ≡ RunFault.TooManyLines) × (most_lines ≤ self.now.count)) }
+        ensures ok { IfOk result (λ number. (number ≡ self.now.count + 1) × (self.now.count < self.now.most)) }
+        ensures err { IfErr result (λ fault. (fault ≡ RunFault.TooManyLines) × (self.now.most ≤ self.now.count)) }
     {
-        if self.count >= MOST_LINES {
+        if self.count >= self.most {
             return Err(RunFault::TooManyLines);
         }
         Ok(self.count + 1)
@@ -142,12 +156,13 @@ impl Cutter {
         taker: &mut T,
         writer: &mut W,
     ) -> Result<(), RunFault>
-        requires few { 0 < length self.line.items → self.count < most_lines }
-        ensures limits { OnOk result ((taken : List ℕ) → HasCut self taken → IsWithinLimits taken) }
-        ensures ok { OnOk result ((taken : List ℕ) (before : Option (List ℕ)) → HasTaken self (T.stands taker.old before (W.contents writer.old)) taken
+        requires room { 0 < length self.line.items → self.count < self.most }
+        requires few { self.most ≤ T.limit }
+        ensures limits { OnOk result ((most : ℕ) (taken : List ℕ) → HasCut most self taken → IsWithinLimits most taken) }
+        ensures ok { OnOk result ((most : ℕ) (taken : List ℕ) (before : Option (List ℕ)) → HasTaken most self (T.stands taker.old before (W.contents writer.old)) taken
             → T.stands taker.new before (W.contents writer.new) (lines_of taken)) }
-        ensures err { IfErr result (λ fault. (taken : List ℕ) (before : Option (List ℕ)) → HasTaken self (T.stands taker.old before (W.contents writer.old)) taken
-            → StopsShort fault taken (StandsAfter fault (T.stands taker.new before (W.contents writer.new)) (T.fails taker.new before (W.contents writer.new)))) }
+        ensures err { IfErr result (λ fault. (most : ℕ) (taken : List ℕ) (before : Option (List ℕ)) → HasTaken most self (T.stands taker.old before (W.contents writer.old)) taken
+            → StopsShort most fault taken (StandsAfter fault (T.stands taker.new before (W.contents writer.new)) (T.fails taker.new before (W.contents writer.new)))) }
     {
         if self.line.is_empty() {
             return Ok(());

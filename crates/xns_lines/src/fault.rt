@@ -13,7 +13,7 @@ pub enum RunFault {
     /// A line has over 4,096 bytes, without its byte 10 and with its byte 13.
     #[error("line too long")]
     LineTooLong,
-    /// There are over 65,536 lines.
+    /// There are more lines than are taken.
     #[error("too many lines")]
     TooManyLines,
     /// A growth was refused.

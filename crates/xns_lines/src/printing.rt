@@ -1,8 +1,8 @@
 //! Prints what the lines of an input say.
-ghost use Rattle.std.specs.Prelude.{◌≡◌, [], IfErr, IfOk, IfSome, OnOk};
+ghost use Rattle.std.specs.Prelude.{◌≡◌, ◌≤◌, ℕ, List, [], Option, IfErr, IfOk, IfSome, OnOk};
 ghost use Rattle.std.specs.Io.KnownBytes.{Appends};
 ghost use Rattle.xns_lines.specs.Lines.{IsWithinLimits, lines_of};
-ghost use Rattle.xns_lines.specs.Printing.{StopsIn};
+ghost use Rattle.xns_lines.specs.Printing.{StandsFor, StopsIn, TakesAll, TakesSome, text_to_end};
 
 use crate::fault::RunFault;
 use crate::line_printer::LinePrinter;
@@ -12,31 +12,35 @@ use crate::taking::take_lines;
 use std::alloc::Global;
 use std::io::{Read, Write};
 
-/// Reads an input to its end, and prints what its lines say, in order. The answer is whether a line was refused.
+/// Reads an input of at most so many lines to its end, and prints what its lines say, in order, and what is said at its
+/// end. The answer is whether a line, or something at the end, was refused.
 ///
 /// Lines, their limits and faults are those of `take_lines`. Text is written before more of the input is awaited, and
-/// once there are 65,536 bytes of it: so less than that is held, and the text of one line.
+/// once there are 65,536 bytes of it: so less than that is held, and the text of one line or of one part of the end.
 ///
 /// # Errors
 /// Those of `take_lines`; `Write` where a write fails or takes no byte; `NoMemory` where a growth is refused. The text of
-/// all lines before the fault is written first, but for a write that fails.
+/// all lines before the fault is written first, but for a write that fails. Nothing is said at the end after a fault of
+/// reading, of size, or of memory at a line; where memory is refused at the end, all parts before that are written.
 pub fn print_lines<R: Read, W: Write, P: LinePrinter + Drop>(
     alloc: Global,
+    most: usize,
     reader: &mut R,
     writer: &mut W,
     printer: P,
 ) -> Result<bool, RunFault>
-    requires begun { P.has_printed printer [] }
+    requires begun { P.has_printed printer [] 0 }
+    requires few { most ≤ P.limit }
 
     // Without a fault the text of the whole input is written, which is within the limits.
     ensures text { IfOk result (λ refused. IfSome (R.remaining reader.old) (λ input.
-        Appends (W.contents writer.old) (W.contents writer.new) (P.text_of (lines_of input)))) }
-    ensures refused { IfOk result (λ refused. IfSome (R.remaining reader.old) (λ input. refused ≡ P.has_refused (lines_of input))) }
-    ensures limits { OnOk result (IfSome (R.remaining reader.old) IsWithinLimits) }
+        Appends (W.contents writer.old) (W.contents writer.new) (text_to_end P.text_of P.end_count (lines_of input)))) }
+    ensures refused { IfOk result (λ refused. IfSome (R.remaining reader.old) (λ input. refused ≡ P.has_refused (lines_of input) (P.end_count (lines_of input)))) }
+    ensures limits { OnOk result (IfSome (R.remaining reader.old) (IsWithinLimits most)) }
 
     // After a fault the text of the lines before it is written, and what was read shows a limit that was passed.
     ensures fault { IfErr result (λ fault. IfSome (R.remaining reader.old) (λ input.
-        StopsIn P.text_of input (R.remaining reader.new) (W.contents writer.old) (W.contents writer.new) fault)) }
+        StopsIn most P.text_of P.end_count input (R.remaining reader.new) (W.contents writer.old) (W.contents writer.new) fault)) }
 {
     P::text_only_grows();
     let mut taker = PagePrinter {
@@ -44,10 +48,30 @@ pub fn print_lines<R: Read, W: Write, P: LinePrinter + Drop>(
         page: Page::new(alloc),
         is_lost: false,
     };
-    let taken = take_lines(alloc, reader, &mut taker, writer);
+    let taken = take_all(alloc, most, reader, &mut taker, writer);
     taker.page.flush(writer)?;
     match taken {
         Ok(()) => Ok(taker.page.is_refused),
         Err(fault) => Err(fault),
     }
+}
+
+/// Prints the lines of the input, and its end.
+fn take_all<R: Read, W: Write, P: LinePrinter>(
+    alloc: Global,
+    most: usize,
+    reader: &mut R,
+    taker: &mut PagePrinter<P>,
+    writer: &mut W,
+) -> Result<(), RunFault>
+    requires few { most ≤ P.limit }
+    ensures ok { OnOk result (IfSome (R.remaining reader.old) (λ input. TakesAll most (P.has_printed taker.new.printer) P.text_of P.has_refused P.end_count taker.new.page taker.new.is_lost
+        (λ before. StandsFor (λ xs. P.has_printed taker.old.printer xs 0) (λ xs. P.text_of xs 0) (λ xs. P.has_refused xs 0) taker.old.page taker.old.is_lost before (W.contents writer.old) [])
+        (R.remaining reader.new) (W.contents writer.new) input)) }
+    ensures err { IfErr result (λ fault. IfSome (R.remaining reader.old) (λ input. TakesSome most (P.has_printed taker.new.printer) P.text_of P.has_refused P.end_count taker.new.page taker.new.is_lost
+        (λ before. StandsFor (λ xs. P.has_printed taker.old.printer xs 0) (λ xs. P.text_of xs 0) (λ xs. P.has_refused xs 0) taker.old.page taker.old.is_lost before (W.contents writer.old) [])
+        (R.remaining reader.new) (W.contents writer.new) fault input)) }
+{
+    take_lines(alloc, most, reader, taker, writer)?;
+    taker.finish(writer)
 }

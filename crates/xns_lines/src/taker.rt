@@ -8,8 +8,11 @@ use std::io::Write;
 /// `fails`, what is left of that after a failed write.
 pub trait LineTaker {
     ghost use Rattle.std.specs.Prelude.{◌≡◌, ◌≤◌, ◌+◌, ◌++◌, ℕ, List, [], ◌∷◌, Option, IfErr, OnOk, length};
-    ghost use Rattle.xns_lines.specs.Lines.{most_line_bytes, most_lines};
+    ghost use Rattle.xns_lines.specs.Lines.{most_line_bytes};
     ghost use Rattle.xns_lines.specs.Lines.Cutter.{StandsAfterLine};
+
+    // It is handed at most so many lines.
+    ghost limit: { ℕ };
 
     // The taker has taken these lines, and the writer, which held the first bytes, holds the second.
     ghost stands: { Self → Option (List ℕ) → Option (List ℕ) → List (List ℕ) → Type 0 };
@@ -27,7 +30,7 @@ pub trait LineTaker {
         line: &[u8],
         writer: &mut W,
     ) -> Result<(), RunFault>
-        requires few { number ≤ most_lines }
+        requires few { number ≤ limit }
         requires short { length line.now ≤ most_line_bytes }
         ensures ok { OnOk result ((before : Option (List ℕ)) (lines : List (List ℕ)) → number ≡ length lines + 1 → stands self.old before (W.contents writer.old) lines
             → stands self.new before (W.contents writer.new) (lines ++ line.now ∷ [])) }

@@ -6,7 +6,7 @@ use Rattle.xns_script.specs.Reading.{HasRead}
 use Rattle.xns_script.specs.declared.script.Script.{Script}
 use Rattle.xns_sim.specs.declared.script_taker.ScriptTaker.{ScriptTaker}
 use Rattle.xns_lines.specs.Faults.{AppendsPart, IsJustified}
-use Rattle.xns_lines.specs.Lines.{IsWithinLimits, lines_of}
+use Rattle.xns_lines.specs.Lines.{IsWithinLimits, lines_of, most_lines}
 use Rattle.xns_lines.specs.Lines.Cutter.{StandsAfter, StopsShort}
 use Rattle.xns_sim.specs.Sim.{HasLeft, StopsIn, is_script_refused, script_lines, script_text, sim_text}
 use Rattle.xns_sim.specs.Sim.Script.{HasReadAll, never, stands_for}
@@ -21,12 +21,12 @@ if_some P X (Some input) p f = f input p
 
 -- the lines were taken to the end
 abbrev pub TakesAll : Option (List ℕ) → Option (List ℕ) → Option (List ℕ) → ScriptTaker → ScriptTaker → List ℕ → Type 0
-TakesAll left first mid t0 t input = Consumes (Some input) left input × IsWithinLimits input × ((before : Option (List ℕ)) → stands_for t0 before first [] → stands_for t before mid (lines_of input))
+TakesAll left first mid t0 t input = Consumes (Some input) left input × IsWithinLimits most_lines input × ((before : Option (List ℕ)) → stands_for t0 before first [] → stands_for t before mid (lines_of input))
 
 -- or up to a fault
 abbrev pub TakesSome : Option (List ℕ) → Option (List ℕ) → Option (List ℕ) → ScriptTaker → ScriptTaker → RunFault → List ℕ → Type 0
 TakesSome left first mid t0 t f input = (read : List ℕ) × Consumes (Some input) left read
-    × ((before : Option (List ℕ)) → stands_for t0 before first [] → StopsShort f read (StandsAfter f (stands_for t before mid) (never t before mid)))
+    × ((before : Option (List ℕ)) → stands_for t0 before first [] → StopsShort most_lines f read (StandsAfter f (stands_for t before mid) (never t before mid)))
 
 pub all_read : (start left first mid : Option (List ℕ)) (t0 t : ScriptTaker) → HasRead t0.script [] → IfSome start (TakesAll left first mid t0 t) → IfSome start (λ input. HasReadAll t.script input left first mid)
 all_read start left first mid t0 t new all = if_some _ _ start all (λ input h.
@@ -61,7 +61,7 @@ abbrev pub Makes : Script → List ℕ → Type 0
 Makes s text = (lines : List (List ℕ)) → HasRead s lines → text ≡ script_text lines
 
 -- the whole input was read before the fault
-stops_behind : (input : List ℕ) (left first mid after : Option (List ℕ)) (s : Script) (f : RunFault) → HasReadAll s input left first mid → IsJustified f input (lines_of input) [] → HasLeft f input first after → StopsIn input left first after f
+stops_behind : (input : List ℕ) (left first mid after : Option (List ℕ)) (s : Script) (f : RunFault) → HasReadAll s input left first mid → IsJustified most_lines f input (lines_of input) [] → HasLeft f input first after → StopsIn input left first after f
 stops_behind input left first mid after s f h shown written = record {
   read = input;
   consumed = h.consumed;
@@ -92,5 +92,5 @@ pub refused : (start left first mid : Option (List ℕ)) (s : Script) (b : Bool)
     → IfSome start (λ input. HasReadAll s input left first mid) → IfSome start (λ input. b ≡ is_script_refused input)
 refused start left first mid s b is all = if_some _ _ start all (λ input h. is ∙ ap is_some h.read.refused)
 
-pub limits : (start left first mid : Option (List ℕ)) (s : Script) → IfSome start (λ input. HasReadAll s input left first mid) → IfSome start IsWithinLimits
+pub limits : (start left first mid : Option (List ℕ)) (s : Script) → IfSome start (λ input. HasReadAll s input left first mid) → IfSome start (IsWithinLimits most_lines)
 limits start left first mid s all = if_some _ _ start all (λ input h. h.within)

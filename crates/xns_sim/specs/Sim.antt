@@ -9,7 +9,7 @@ use Rattle.courier_calls.specs.Calls.{CallModel}
 use Rattle.xns_script.specs.Script.{calls_in, events_in, first_refused}
 use Rattle.item_world.specs.declared.event.Event.{Event}
 use Rattle.xns_lines.specs.Faults.{AppendsPart, IsJustified}
-use Rattle.xns_lines.specs.Lines.{AreWithinLimits, lines_of, without_return}
+use Rattle.xns_lines.specs.Lines.{AreWithinLimits, lines_of, most_lines, without_return}
 use Rattle.xns_sim.specs.Sim.Play.{play_text}
 use Rattle.xns_lines.specs.declared.fault.RunFault.{RunFault}
 use Rattle.xns_lines.specs.declared.fault.RunFault.TheVariants as fault
@@ -48,6 +48,6 @@ pub record StopsIn (input : List ℕ) (left before after : Option (List ℕ)) (f
   pub good : List (List ℕ)
   pub next : List (List ℕ)
   pub lines : lines_of read ≡ good ++ next
-  pub within : AreWithinLimits good
-  pub shown : IsJustified f read good next
+  pub within : AreWithinLimits most_lines good
+  pub shown : IsJustified most_lines f read good next
   pub written : HasLeft f input before after

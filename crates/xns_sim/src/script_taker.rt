@@ -27,6 +27,9 @@ impl ScriptTaker {
 
 impl LineTaker for ScriptTaker {
     ghost use Rattle.xns_sim.specs.Sim.Script.{stands_for, never};
+    ghost use Rattle.xns_lines.specs.Lines.{most_lines};
+
+    ghost limit = { most_lines };
 
     ghost stands = { stands_for };
 

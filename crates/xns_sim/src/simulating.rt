@@ -1,7 +1,7 @@
 //! `sim`: plays calls through a network that the lines of a script describe.
 ghost use Rattle.std.specs.Prelude.{◌≡◌, IfErr, IfOk, IfSome, OnOk};
 ghost use Rattle.std.specs.Io.KnownBytes.{Appends};
-ghost use Rattle.xns_lines.specs.Lines.{IsWithinLimits};
+ghost use Rattle.xns_lines.specs.Lines.{IsWithinLimits, most_lines};
 ghost use Rattle.xns_sim.specs.Sim.{StopsIn, is_script_refused, sim_text};
 ghost use Rattle.xns_sim.specs.Sim.Script.{HasReadAll};
 
@@ -9,7 +9,7 @@ use crate::playing::play_script;
 use crate::script_taker::ScriptTaker;
 use std::alloc::Global;
 use std::io::{Read, Write};
-use xns_lines::{RunFault, take_lines, write_whole};
+use xns_lines::{MOST_LINES, RunFault, take_lines, write_whole};
 use xns_script::Script;
 
 /// Reads the lines of a script, plays its calls through its events, and prints what came of them. The answer is
@@ -35,7 +35,7 @@ pub fn sim<R: Read, W: Write>(
     ensures text { IfOk result (λ refused. IfSome (R.remaining reader.old) (λ input.
         Appends (W.contents writer.old) (W.contents writer.new) (sim_text input))) }
     ensures refused { IfOk result (λ refused. IfSome (R.remaining reader.old) (λ input. refused ≡ is_script_refused input)) }
-    ensures limits { OnOk result (IfSome (R.remaining reader.old) IsWithinLimits) }
+    ensures limits { OnOk result (IfSome (R.remaining reader.old) (IsWithinLimits most_lines)) }
 
     // After a failed write a prefix of that text is written, and after any other fault nothing; what was read shows a limit that was passed.
     ensures fault { IfErr result (λ fault. IfSome (R.remaining reader.old) (λ input.
@@ -61,6 +61,6 @@ fn read_script<R: Read, W: Write>(
         StopsIn input (R.remaining reader.new) (W.contents writer.old) (W.contents writer.new) fault)) }
 {
     let mut taker = ScriptTaker::new(alloc);
-    take_lines(alloc, reader, &mut taker, writer)?;
+    take_lines(alloc, MOST_LINES, reader, &mut taker, writer)?;
     Ok(taker.script)
 }

@@ -3,7 +3,7 @@ use Rattle.std.specs.Prelude.{◌≡◌, ℕ, ◌≤◌, ◌<◌, ◌+◌, ◌-�
 use Rattle.std.specs.List.{list_any}
 use Rattle.memchr.specs.Find.{Nowhere, Passes, is_byte}
 use Rattle.xns_lines.specs.Faults.{IsJustified}
-use Rattle.xns_lines.specs.Lines.{AreWithinLimits, closed_lines, is_long, lines_of, open_line, most_line_bytes, most_lines}
+use Rattle.xns_lines.specs.Lines.{AreWithinLimits, closed_lines, is_long, lines_of, open_line, most_line_bytes}
 use Rattle.xns_lines.specs.declared.cutter.Cutter.{Cutter}
 use Rattle.xns_lines.specs.declared.fault.RunFault.{RunFault}
 use Rattle.xns_lines.specs.declared.fault.RunFault.TheVariants as fault
@@ -12,25 +12,26 @@ use Rattle.xns_lines.specs.declared.fault.RunFault.TheVariants as fault
 abbrev pub Says : Type 1
 Says = List (List ℕ) → Type 0
 
--- the cutter has taken these bytes
-pub record HasCut (cutter : Cutter) (taken : List ℕ) : Type 0 where
+-- the cutter has taken these bytes, of an input of at most so many lines
+pub record HasCut (most : ℕ) (cutter : Cutter) (taken : List ℕ) : Type 0 where
+  pub limit : cutter.most ≡ most
   pub line : cutter.line.items ≡ open_line taken
   pub count : cutter.count ≡ length (closed_lines taken)
   pub closed_short : list_any is_long (closed_lines taken) ≡ false
   pub open_short : length (open_line taken) ≤ most_line_bytes
-  pub few : length (lines_of taken) ≤ most_lines
+  pub few : length (lines_of taken) ≤ most
 
 -- and the taker stands for the lines that are over
-abbrev pub HasTaken : Cutter → Says → List ℕ → Type 0
-HasTaken cutter stands taken = HasCut cutter taken × stands (closed_lines taken)
+abbrev pub HasTaken : ℕ → Cutter → Says → List ℕ → Type 0
+HasTaken most cutter stands taken = HasCut most cutter taken × stands (closed_lines taken)
 
 -- the bytes at which a fault of limits is found, and those behind them
-abbrev pub IsJustifiedAt : RunFault → List ℕ → List ℕ → Type 0
-IsJustifiedAt fault.Read front more = ⊥
-IsJustifiedAt fault.Write front more = Unit {0}
-IsJustifiedAt fault.LineTooLong front more = (length (closed_lines front) < most_lines) × (most_line_bytes < length (open_line front))
-IsJustifiedAt fault.TooManyLines front more = (length (closed_lines front) ≡ most_lines) × (0 < length more)
-IsJustifiedAt fault.NoMemory front more = Unit {0}
+abbrev pub IsJustifiedAt : ℕ → RunFault → List ℕ → List ℕ → Type 0
+IsJustifiedAt most fault.Read front more = ⊥
+IsJustifiedAt most fault.Write front more = Unit {0}
+IsJustifiedAt most fault.LineTooLong front more = (length (closed_lines front) < most) × (most_line_bytes < length (open_line front))
+IsJustifiedAt most fault.TooManyLines front more = (length (closed_lines front) ≡ most) × (0 < length more)
+IsJustifiedAt most fault.NoMemory front more = Unit {0}
 
 -- the cutter's own faults, at which the taker is as it was
 abbrev pub IsOwn : RunFault → Type 0
@@ -50,26 +51,26 @@ StandsAfterLine fault.Write stands fails lines line = fails (lines ++ line ∷ [
 StandsAfterLine _ stands fails lines line = ⊥
 
 -- it stopped within these bytes, and of the lines that are over at that place this is so
-pub record IsCutShort (f : RunFault) (taken : List ℕ) (left : Says) : Type 0 where
+pub record IsCutShort (most : ℕ) (f : RunFault) (taken : List ℕ) (left : Says) : Type 0 where
   pub front : List ℕ
   pub more : List ℕ
   pub parts : front ++ more ≡ taken
-  pub within : AreWithinLimits (closed_lines front)
-  pub found : IsJustifiedAt f front more
+  pub within : AreWithinLimits most (closed_lines front)
+  pub found : IsJustifiedAt most f front more
   pub is_left : left (closed_lines front)
 
 -- after a fault: of the lines of what was read these are good, of which this is so, and those come next
-pub record StopsShort (f : RunFault) (read : List ℕ) (left : Says) : Type 0 where
+pub record StopsShort (most : ℕ) (f : RunFault) (read : List ℕ) (left : Says) : Type 0 where
   pub good : List (List ℕ)
   pub next : List (List ℕ)
   pub lines : lines_of read ≡ good ++ next
-  pub within : AreWithinLimits good
-  pub shown : IsJustified f read good next
+  pub within : AreWithinLimits most good
+  pub shown : IsJustified most f read good next
   pub is_left : left good
 
 -- how many bytes the limits still allow, at most
 abbrev pub room_of : Cutter → ℕ
-room_of cutter = (most_lines - cutter.count) * (most_line_bytes + 1) + (most_line_bytes - length cutter.line.items)
+room_of cutter = (cutter.most - cutter.count) * (most_line_bytes + 1) + (most_line_bytes - length cutter.line.items)
 
 -- no byte of the run is 10
 abbrev pub HasNoNewline : List ℕ → Type 0

@@ -1,7 +1,7 @@
 -- A script that takes the lines of an input.
 use Rattle.std.specs.Prelude.{◌≡◌, ℕ, List, Option, Some, map}
 use Rattle.std.specs.Io.KnownBytes.{Consumes}
-use Rattle.xns_lines.specs.Lines.{IsWithinLimits, lines_of, without_return}
+use Rattle.xns_lines.specs.Lines.{IsWithinLimits, lines_of, most_lines, without_return}
 use Rattle.xns_script.specs.Reading.{HasRead}
 use Rattle.xns_script.specs.declared.script.Script.{Script}
 use Rattle.xns_sim.specs.declared.script_taker.ScriptTaker.{ScriptTaker}
@@ -17,6 +17,6 @@ never taker before after lines = ⊥
 -- the script has read the whole input, and nothing was written
 pub record HasReadAll (script : Script) (input : List ℕ) (left before after : Option (List ℕ)) : Type 0 where
   pub consumed : Consumes (Some input) left input
-  pub within : IsWithinLimits input
+  pub within : IsWithinLimits most_lines input
   pub read : HasRead script (map without_return (lines_of input))
   pub unwritten : after ≡ before

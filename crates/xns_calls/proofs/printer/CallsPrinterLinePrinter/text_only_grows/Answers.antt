@@ -1,5 +1,11 @@
+use Rattle.std.proofs.Common.{arith, ap, suc, ◌≡◌, ◌+◌}
+use Rattle.xns_calls.specs.Calls.{known_with_end, text_with_end}
 use Rattle.xns_calls.proofs.Behind.{text_behind}
 use Rattle.xns_calls.proofs.printer.CallsPrinterLinePrinter.text_only_grows.Goals as goal
 
 pub returns-clause-begins : goal.returns-clause-begins
 returns-clause-begins c = text_behind
+
+pub returns-clause-ends : goal.returns-clause-ends
+returns-clause-ends c = λ lines part.
+    let e : suc part ≡ part + 1 = omega arith in ((known_with_end lines (suc part)).text, ap (text_with_end lines) e)

@@ -13,8 +13,8 @@ returns-clause-err g c =
     let contents = g.W.Write.contents c.take_line.new.writer in
     let some : 0 < length c.args.self.line.items = grind (arith, nat_tests, c.args.self.line.ok.0, c.is_empty.ensures) in
     if_err_1 _ _ c.take_line.result c.take_line.ensures.err
-    (λ fault err. λ taken before h. stops_finishing c.args.self taken fault (stands before contents) (fails before contents) some h.0
-    (left_as c.args.self fault (stands before contents) (fails before contents) taken c.as_slice.result.now c.as_slice.ensures.value h.0
+    (λ fault err. λ most taken before h. stops_finishing most c.args.self taken fault (stands before contents) (fails before contents) some h.0
+    (left_as most c.args.self fault (stands before contents) (fails before contents) taken c.as_slice.result.now c.as_slice.ensures.value h.0
     (err before (closed_lines taken) (ap (λ n. n + 1) h.0.count) h.1)))
 
 pub returns-clause-ok : goal.returns-clause-ok
@@ -23,7 +23,7 @@ returns-clause-ok g c =
     let contents = g.W.Write.contents c.take_line.new.writer in
     let some : 0 < length c.args.self.line.items = grind (arith, nat_tests, c.args.self.line.ok.0, c.is_empty.ensures) in
     on_ok_1 _ _ c.take_line.result c.take_line.ensures.ok
-    (λ ok. λ taken before h. finished_open c.args.self (stands before contents) taken c.as_slice.result.now some c.as_slice.ensures.value h.0
+    (λ ok. λ most taken before h. finished_open most c.args.self (stands before contents) taken c.as_slice.result.now some c.as_slice.ensures.value h.0
     (ok before (closed_lines taken) (ap (λ n. n + 1) h.0.count) h.1))
 
 pub returns-then-is_empty-clause-ok : goal.returns-then-is_empty-clause-ok

@@ -12,10 +12,10 @@ returns-in_err-take_end-clause-err g c =
     let so_far = c.loop-end.invariant in
     let found = c.in-Some.ensures in
     let p = err_from_is_err_and c.from_residual.result c.from_residual.ensures.1 in
-    rw (p.1, p.2) (λ taken before h.
-    short_later _ (drop (c.in-Some.end + 1) c.loop-end.rest.now) _ _ _
+    rw (p.1, p.2) (λ most taken before h.
+    short_later most _ (drop (c.in-Some.end + 1) c.loop-end.rest.now) _ _ _
     (newline_split taken so_far.0 c.loop-end.rest.now c.args.piece.now c.in-Some.end so_far.1 found.0.high found.1)
-    (c.in_err-take_end.ensures.err (taken ++ so_far.0) before (so_far.2 taken before h)))
+    (c.in_err-take_end.ensures.err most (taken ++ so_far.0) before (so_far.2 most taken before h)))
 
 pub loop-end-preserved : goal.loop-end-preserved
 loop-end-preserved g c =
@@ -23,10 +23,10 @@ loop-end-preserved g c =
     let found = c.in-Some.ensures in (
       (so_far.0 ++ take c.in-Some.end c.loop-end.rest.now) ++ 10 ∷ [],
       newline_front so_far.0 c.loop-end.rest.now c.args.piece.now _ c.in-Some.end so_far.1 found.0.high found.1 (take_rest c.loop-end.rest.now (c.in-Some.end + 1)),
-      (λ taken before h. takes_as _ (g.T.LineTaker.stands c.take_end.new.taker before (g.W.Write.contents c.take_end.new.writer)) _ _ (longer_front taken so_far.0 (take c.in-Some.end c.loop-end.rest.now) (10 ∷ []))
-          (c.in_ok-take_end.ensures.ok (taken ++ so_far.0) before (so_far.2 taken before h))),
-      (λ taken h. cut_as _ _ _ (longer_front taken so_far.0 (take c.in-Some.end c.loop-end.rest.now) (10 ∷ []))
-          (c.in_ok-take_end.ensures.cut (taken ++ so_far.0) (so_far.3 taken h))),
+      (λ most taken before h. takes_as most _ (g.T.LineTaker.stands c.take_end.new.taker before (g.W.Write.contents c.take_end.new.writer)) _ _ (longer_front taken so_far.0 (take c.in-Some.end c.loop-end.rest.now) (10 ∷ []))
+          (c.in_ok-take_end.ensures.ok most (taken ++ so_far.0) before (so_far.2 most taken before h))),
+      (λ most taken h. cut_as most _ _ _ (longer_front taken so_far.0 (take c.in-Some.end c.loop-end.rest.now) (10 ∷ []))
+          (c.in_ok-take_end.ensures.cut most (taken ++ so_far.0) (so_far.3 most taken h))),
       omega (
         arith,
         c.in_ok-take_end.ensures.room,
@@ -36,13 +36,14 @@ loop-end-preserved g c =
         length-append so_far.0 (take c.in-Some.end c.loop-end.rest.now),
         length-take c.in-Some.end c.loop-end.rest.now,
       ),
+      c.in_ok-take_end.ensures.limit ∙ so_far.5,
     )
 
 pub returns-clause-cut : goal.returns-clause-cut
 returns-clause-cut g c =
     let so_far = c.loop-end.invariant in
     on_ok_1 _ _ c.take_run.result c.take_run.ensures.ok
-    (λ ok. λ taken h. cut_as _ _ _ (whole_split taken so_far.0 c.loop-end.rest.now c.args.piece.now so_far.1) (ok (taken ++ so_far.0) (so_far.3 taken h)).0)
+    (λ ok. λ most taken h. cut_as most _ _ _ (whole_split taken so_far.0 c.loop-end.rest.now c.args.piece.now so_far.1) (ok most (taken ++ so_far.0) (so_far.3 most taken h)).0)
 
 pub returns-clause-ok : goal.returns-clause-ok
 returns-clause-ok g c =
@@ -50,8 +51,8 @@ returns-clause-ok g c =
     let contents = g.W.Write.contents c.loop-end.writer in
     let so_far = c.loop-end.invariant in
     on_ok_1 _ _ c.take_run.result c.take_run.ensures.ok
-    (λ ok. λ taken before h. takes_as _ (stands before contents) _ _ (whole_split taken so_far.0 c.loop-end.rest.now c.args.piece.now so_far.1)
-    (takes_run _ _ (stands before contents) (taken ++ so_far.0) _ (ok (taken ++ so_far.0)) (so_far.2 taken before h)))
+    (λ ok. λ most taken before h. takes_as most _ (stands before contents) _ _ (whole_split taken so_far.0 c.loop-end.rest.now c.args.piece.now so_far.1)
+    (takes_run most _ _ (stands before contents) (taken ++ so_far.0) _ (ok most (taken ++ so_far.0)) (so_far.2 most taken before h)))
 
 pub returns-clause-err : goal.returns-clause-err
 returns-clause-err g c =
@@ -60,17 +61,17 @@ returns-clause-err g c =
     let contents = g.W.Write.contents c.loop-end.writer in
     let so_far = c.loop-end.invariant in
     if_err_1 _ _ c.take_run.result c.take_run.ensures.err
-    (λ fault err. λ taken before h.
-    let t = so_far.2 taken before h in
-    short_later ((taken ++ so_far.0) ++ c.loop-end.rest.now) [] _ _ _
+    (λ fault err. λ most taken before h.
+    let t = so_far.2 most taken before h in
+    short_later most ((taken ++ so_far.0) ++ c.loop-end.rest.now) [] _ _ _
     (append-nil ((taken ++ so_far.0) ++ c.loop-end.rest.now) ∙ whole_split taken so_far.0 c.loop-end.rest.now c.args.piece.now so_far.1)
-    (short_own fault (stands before contents) (fails before contents) (taken ++ so_far.0) _ t.1 (err (taken ++ so_far.0) t.0)))
+    (short_own most fault (stands before contents) (fails before contents) (taken ++ so_far.0) _ t.1 (err most (taken ++ so_far.0) t.0)))
 
 pub loop-end-init : goal.loop-end-init
 loop-end-init g c = grind (arith, common_steps)
 
-pub take_end-requires : goal.take_end-requires
-take_end-requires g c = grind (arith, common_steps)
+pub take_end-requires-clause-plain : goal.take_end-requires-clause-plain
+take_end-requires-clause-plain g c = grind (arith, common_steps)
 
 pub returns-clause-room : goal.returns-clause-room
 returns-clause-room g c = grind (arith, common_steps)

@@ -4,12 +4,12 @@ use Rattle.xns_lines.proofs.Cutting.{cut_run, run_cut, short_long}
 use Rattle.xns_lines.proofs.cutter.Cutter.take_run.Goals as goal
 
 pub returns-then-len-run-gt-MOST_LINE_BYTES-clause-err : goal.returns-then-len-run-gt-MOST_LINE_BYTES-clause-err
-returns-then-len-run-gt-MOST_LINE_BYTES-clause-err c = λ taken h.
-    short_long c.args.self.now taken c.args.run.now c.requires (omega (arith, c.in_ok-next_number.ensures.ok)) (omega (arith, c.args.self.now.line.ok.0)) h
+returns-then-len-run-gt-MOST_LINE_BYTES-clause-err c = λ most taken h.
+    short_long most c.args.self.now taken c.args.run.now c.requires (omega (arith, c.in_ok-next_number.ensures.ok)) (omega (arith, c.args.self.now.line.ok.0)) h
 
 pub returns-in-Ok-clause-ok : goal.returns-in-Ok-clause-ok
-returns-in-Ok-clause-ok c = λ taken h.
-    run_cut _ taken c.args.run.now c.requires (cut_run c.args.self.now _ taken c.args.run.now c.requires (omega (arith, c.in_ok-next_number.ensures.ok)) (omega (arith, c.args.self.now.line.ok.0)) c.in-Ok.ensures.items refl h)
+returns-in-Ok-clause-ok c = λ most taken h.
+    run_cut most _ taken c.args.run.now c.requires (cut_run most c.args.self.now _ taken c.args.run.now c.requires (omega (arith, c.in_ok-next_number.ensures.ok)) (omega (arith, c.args.self.now.line.ok.0)) refl c.in-Ok.ensures.items refl h)
 
 pub returns-then-is_empty-clause-ok : goal.returns-then-is_empty-clause-ok
 returns-then-is_empty-clause-ok c = grind (arith, common_steps)

@@ -1,0 +1,31 @@
+use Rattle.std.proofs.Common.{arith, ◌≡◌, ◌<◌, ◌∙◌, subst}
+use Rattle.std.proofs.lemmas.Result.{err_from_is_err_and}
+use Rattle.xns_lines.specs.Printing.{StandsFor}
+use Rattle.xns_lines.proofs.page_printer.PagePrinter.finish.Goals as goal
+
+pub returns-then-self-clause-err : goal.returns-then-self-clause-err
+returns-then-self-clause-err g c = λ before lines h. (0, omega arith, h)
+
+pub loop-part-init : goal.loop-part-init
+loop-part-init g c = λ before lines h. h
+
+pub loop-part-preserved : goal.loop-part-preserved
+loop-part-preserved g c = λ before lines h.
+    let count = c.count_ends-part-end.ensures lines (h.printed c.if-self.false) in
+    c.in_ok-take_end.ensures.ok before lines (omega (arith, count, c.loop-part-test.true)) (c.loop-part.invariant before lines h)
+
+pub returns-in_err-take_end-clause-err : goal.returns-in_err-take_end-clause-err
+returns-in_err-take_end-clause-err g c =
+    let p = err_from_is_err_and c.from_residual.result c.from_residual.ensures.1 in
+    rw (p.1, p.2) (λ before lines h.
+    let count = c.count_ends-part-end.ensures lines (h.printed c.if-self.false) in
+    let few : c.loop-part.part < g.P.LinePrinter.end_count lines = omega (arith, count, c.loop-part-test.true) in
+    let s = c.in_err-take_end.ensures.err before lines few (c.loop-part.invariant before lines h) in (s.0, omega (arith, s.1, few), s.2))
+
+pub returns-clause-ok : goal.returns-clause-ok
+returns-clause-ok g c = λ before lines h.
+    let printer = g.P.LinePrinter in
+    let count = c.count_ends-part-end.ensures lines (h.printed c.if-self.false) in
+    let all : c.loop-part.part ≡ printer.end_count lines = omega (arith, count) in
+    subst (λ n. StandsFor (λ xs. printer.has_printed c.loop-part.self.printer xs n) (λ xs. printer.text_of xs n) (λ xs. printer.has_refused xs n) c.loop-part.self.page c.loop-part.self.is_lost before (g.W.Write.contents c.loop-part.writer) lines) all
+    (c.loop-part.invariant before lines h)
