@@ -5,6 +5,7 @@ usage: reading.py CRATE FILE FUNCTION [CLAUSE] [--stop]   a function, a method (
                                                           the function requires
        reading.py --table                                 the table of docs/PROOF.md
        reading.py --check                                 whether docs/PROOF.md has this table, and the two machines
+       reading.py --write                                 puts both into docs/PROOF.md, where they stand
 
 A definition is one of specs/, or a struct, an enum or a trait of src/. Its lines are those of its text without comments and blank lines.
 The names of the standard library and of the kit's crates are not followed. With --stop neither are the names of STEPS: what the ends and the
@@ -65,6 +66,7 @@ class Text:
             self.read_definitions(text)
 
     def read_definitions(self, text):
+        chunk = None
         for block in re.split(r"\n\s*\n", text):
             lines = [line for line in block.split("\n") if line.strip()]
             while lines and lines[0].lstrip().startswith("--"):
@@ -72,7 +74,10 @@ class Text:
             lines = [line for line in lines if not re.match(r"\s*--", line)]
             if not lines or lines[0].startswith(("use ", "pub mod", "mod ", "pub use")):
                 continue
-            chunk = Chunk(self, lines)
+            if lines[0].startswith(" ") and chunk:     # a blank line within a definition, or within several that name each other
+                chunk.lines += lines
+            else:
+                chunk = Chunk(self, lines)
             for name in chunk.defines():
                 self.chunks.setdefault(name, chunk)
 
@@ -247,16 +252,29 @@ def table():
     return "\n".join(rows)
 
 
+def page_now(page):
+    """The page with the table and the machines as they are."""
+    page = re.sub(r"\| What is read \|.*\n(?:\|.*\n)+", lambda _: table() + "\n", page)
+    for path in map(CRATES.joinpath, MACHINES):
+        text = path.read_text()
+        text = text[text.index("pub record"):]
+        head = text[:text.index("\n")]
+        page = re.sub(r"```\n" + re.escape(head) + r".*?```", lambda _: "```\n" + text + "```", page, flags=re.S)
+    return page
+
+
 def main(words):
     if words == ["--table"]:
         print(table())
         return 0
-    if words == ["--check"]:
+    if words in (["--check"], ["--write"]):
         page = PAGE.read_text()
-        parts = [table()] + [path.read_text()[path.read_text().index("\npub record"):] for path in map(CRATES.joinpath, MACHINES)]
-        missing = [part for part in parts if part not in page]
-        print("\n".join(f"docs/PROOF.md lacks this:\n{part}" for part in missing), end="\n" if missing else "")
-        return 1 if missing else 0
+        now = page_now(page)
+        if words == ["--write"]:
+            PAGE.write_text(now)
+        elif now != page:
+            print("docs/PROOF.md is not what tests/reading.py --write makes of it; the table is:\n" + table())
+        return int(words == ["--check"] and now != page)
     stop = "--stop" in words
     words = [word for word in words if word != "--stop"]
     if len(words) not in (3, 4):
