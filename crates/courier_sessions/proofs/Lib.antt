@@ -1,0 +1,7 @@
+pub mod Told
+pub mod Done
+pub mod Hearing
+pub mod Answered
+pub mod Agree
+pub mod Room
+pub mod Pumps

@@ -1,0 +1,29 @@
+-- What is told of an item that is fed to a side of a conversation.
+use Rattle.std.specs.Prelude.{ℕ, ◌+◌, ◌≡◌, Result, Ok, Err}
+use Rattle.courier_messages.specs.Message.{most_bytes}
+use Rattle.courier_messages.specs.declared.fault.SessionFault.{SessionFault}
+use Rattle.courier_messages.specs.declared.fault.SessionFault.TheVariants as faults
+use Rattle.courier_messages.specs.declared.fault.SessionFault.TheVariants.{NoCommonVersion, BadVersions, BadMessage, WrongTransaction, BadReply, Stream, Failed}
+use Rattle.courier_sessions.specs.declared.feed_refusal.FeedRefusal.{FeedRefusal}
+use Rattle.courier_sessions.specs.declared.feed_refusal.FeedRefusal.TheVariants.{Fault, NoMemory}
+
+-- no item has more bytes than the versions and the longest message
+abbrev pub longest_item : ℕ
+longest_item = 4 + most_bytes
+
+-- a side with one more item of its peer's, or the first fault
+abbrev pub heard : {S : Type 0} → Result S SessionFault → Result S FeedRefusal
+heard (Ok t) = Ok t
+heard (Err e) = Err (Fault e)
+
+-- what is told of an item that was looked at
+abbrev pub told : Result (Unit {0}) SessionFault → Result (Unit {0}) FeedRefusal
+told (Ok u) = Ok u
+told (Err faults.NoMemory) = Err NoMemory
+told (Err NoCommonVersion) = Err (Fault NoCommonVersion)
+told (Err BadVersions) = Err (Fault BadVersions)
+told (Err (BadMessage f)) = Err (Fault (BadMessage f))
+told (Err WrongTransaction) = Err (Fault WrongTransaction)
+told (Err BadReply) = Err (Fault BadReply)
+told (Err (Stream kind)) = Err (Fault (Stream kind))
+told (Err Failed) = Err (Fault Failed)

@@ -1,0 +1,7 @@
+pub mod Feeding
+pub mod Talk
+pub mod Talks
+pub mod Answering
+pub mod Answerings
+pub mod Room
+pub mod Pumping

@@ -1,0 +1,118 @@
+-- Items that move between a side of a conversation and an end until nothing moves: what is out is sent as far as the end accepts it; once nothing is
+-- out, what waits is handed up to the side, as far as that takes it.
+use Rattle.std.specs.Prelude.{◌≡◌, ◌<◌, ◌≤◌, ℕ, List, [], ◌∷◌, length, Bool, false, Option, Some, None, Result, Ok, Err, IfSome}
+use Rattle.courier_messages.specs.Refusal.{Stops}
+use Rattle.xns_spp.specs.Held.{Held, StandsFor}
+use Rattle.xns_spp.specs.Sending.{send_fault, after_send, take_answer, after_take}
+use Rattle.xns_spp.specs.State.{State}
+use Rattle.xns_spp.specs.declared.item.Item.{Item}
+use Rattle.xns_spp.specs.declared.send_fault.SendFault.{SendFault}
+use Rattle.courier_sessions.specs.Answering as answering
+use Rattle.courier_sessions.specs.Answering.{Answering, is_busy}
+use Rattle.courier_sessions.specs.Feeding.{longest_item}
+use Rattle.courier_sessions.specs.Talk as talk
+use Rattle.courier_sessions.specs.Talk.{Talk}
+use Rattle.courier_sessions.specs.declared.feed_refusal.FeedRefusal.{FeedRefusal}
+use Rattle.courier_sessions.specs.declared.feed_refusal.FeedRefusal.TheVariants.{Stopped, Busy, TooLong, Attention, Fault, NoMemory}
+
+-- a side of a conversation
+pub record Side (S : Type 0) : Type 1 where
+  -- what is out, and the side with that out instead
+  pub out : S → List Item
+  pub with_out : S → List Item → S
+  -- what an item is told, or where it leads
+  pub fed : S → Item → Result S FeedRefusal
+  -- how a fault leaves it
+  pub stops : S → S → Type 0
+  -- an item at which memory may be refused
+  pub grows : S → Item → Type 0
+
+-- ---- one item that is fed
+
+-- what is answered to an item that is fed, and what the side is then: a fault is one that a peer makes
+abbrev pub IsFed : {S : Type 0} → Side S → S → Item → Result (Unit {0}) FeedRefusal → S → Type 0
+IsFed side t x (Ok u) n = side.fed t x ≡ Ok n
+IsFed side t x (Err NoMemory) n = (n ≡ t) × side.grows t x
+IsFed side t x (Err Attention) n = side.stops t n × (side.fed t x ≡ Err Attention)
+IsFed side t x (Err (Fault f)) n = Stops f ⊥ (side.stops t n × (side.fed t x ≡ Err (Fault f)))
+IsFed side t x (Err Stopped) n = (n ≡ t) × (side.fed t x ≡ Err Stopped)
+IsFed side t x (Err Busy) n = (n ≡ t) × (side.fed t x ≡ Err Busy)
+IsFed side t x (Err TooLong) n = (n ≡ t) × (side.fed t x ≡ Err TooLong)
+
+-- ---- steps
+
+-- what a step comes to: none applies, or the side and the end are so afterwards, or the side refuses the item
+abbrev pub Step : Type 0 → Type 0
+Step S = Option (Result (S × State) FeedRefusal)
+
+abbrev pub sending : {S : Type 0} → Option SendFault → S → State → Step S
+sending (Some f) t v = None
+sending None t v = Some (Ok (t, v))
+
+-- an item for which the side is busy waits
+abbrev pub feeding : {S : Type 0} → Result S FeedRefusal → State → Step S
+feeding (Ok t) v = Some (Ok (t, v))
+feeding (Err Busy) v = None
+feeding (Err Stopped) v = Some (Err Stopped)
+feeding (Err TooLong) v = Some (Err TooLong)
+feeding (Err Attention) v = Some (Err Attention)
+feeding (Err (Fault f)) v = Some (Err (Fault f))
+feeding (Err NoMemory) v = Some (Err NoMemory)
+
+-- the step that feeds the side the next item that waits, if one does
+abbrev pub feeds : {S : Type 0} → Side S → S → State → Option Item → Step S
+feeds side t v None = None
+feeds side t v (Some x) = feeding (side.fed t x) (after_take v)
+
+-- the first item that is out is sent, if the end accepts it, and the others xs are out still; where none is out the next that waits is fed
+abbrev pub moving : {S : Type 0} → Side S → S → State → List Item → Step S
+moving side t v (x ∷ xs) = sending (send_fault v x) (side.with_out t xs) (after_send v x)
+moving side t v [] = feeds side t v (take_answer v)
+
+abbrev pub one_step : {S : Type 0} → Side S → S × State → Step S
+one_step side y = moving side y.0 y.1 (side.out y.0)
+
+-- ---- the side that calls
+
+abbrev pub caller_grows : Talk → Item → Type 0
+caller_grows t x = (t.failed ≡ false) × (x.attention ≡ false) × (length x.body ≤ longest_item) × (0 < length x.body)
+
+abbrev pub caller_side : Side Talk
+caller_side = record { out = λ t. t.out; with_out = λ t xs. record t { out = xs }; fed = talk.fed; stops = talk.IsStopped; grows = caller_grows }
+
+-- ---- the side that is called
+
+abbrev pub server_grows : Answering → Item → Type 0
+server_grows a x = (a.failed ≡ false) × (is_busy a ≡ false) × (x.attention ≡ false) × (length x.body ≤ longest_item) × (0 < length x.body)
+
+abbrev pub server_side : Side Answering
+server_side = record { out = λ a. a.out; with_out = λ a xs. record a { out = xs }; fed = answering.fed; stops = answering.IsStopped; grows = server_grows }
+
+-- ---- steps that are taken
+
+-- steps lead from one to the other
+pub data Leads {S : Type 0} (side : Side S) (x : S × State) : S × State → Type 0 where
+  here : Leads side x x
+  on : {y z : S × State} → Leads side x y → one_step side y ≡ Some (Ok z) → Leads side x z
+
+-- the next item that waits is refused, and leaves the side so; it is not for want of time
+abbrev pub Refuses : {S : Type 0} → Side S → S → Option Item → FeedRefusal → S → Type 0
+Refuses side t None e n = ⊥
+Refuses side t (Some x) Busy n = ⊥
+Refuses side t (Some x) NoMemory n = IsFed side t x (Err NoMemory) n
+Refuses side t (Some x) Stopped n = IsFed side t x (Err Stopped) n
+Refuses side t (Some x) TooLong n = IsFed side t x (Err TooLong) n
+Refuses side t (Some x) Attention n = IsFed side t x (Err Attention) n
+Refuses side t (Some x) (Fault f) n = IsFed side t x (Err (Fault f)) n
+
+-- where items stop to move
+abbrev pub Settles : {S : Type 0} → Side S → S × State → Result (Unit {0}) FeedRefusal → S → Type 0
+Settles side last (Ok u) n = (n ≡ last.0) × (one_step side last ≡ None)
+Settles side last (Err e) n = (side.out last.0 ≡ []) × Refuses side last.0 (take_answer last.1) e n
+
+-- steps were taken up to the last, where none applies, or where nothing is out and the next item that waits is refused
+pub record Pumped {S : Type 0} (side : Side S) (first : S × State) (result : Result (Unit {0}) FeedRefusal) (session : S) (endpoint : Held) : Type 0 where
+  pub last : S × State
+  pub leads : Leads side first last
+  pub stands : StandsFor endpoint last.1
+  pub settled : Settles side last result session

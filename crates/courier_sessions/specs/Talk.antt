@@ -1,0 +1,97 @@
+-- The side of a Courier conversation that calls, over words (XSIS 038112, Courier).
+use Rattle.std.specs.Prelude.{◌≡◌, ℕ, ◌+◌, ◌%◌, List, [], ◌∷◌, ◌++◌, length, Bool, true, false, ◌&&◌, ◌||◌, ◌==◌, nat_lt, if◌then◌else◌, Option, Some, None, Result, Ok, Err}
+use Rattle.xns_spp.specs.declared.item.Item.{Item}
+use Rattle.courier_messages.specs.declared.fault.SessionFault.{SessionFault}
+use Rattle.courier_messages.specs.declared.fault.SessionFault.TheVariants.{WrongTransaction, BadReply}
+use Rattle.courier_messages.specs.declared.message.Message.{Message}
+use Rattle.courier_messages.specs.declared.message.Message.TheVariants.{Call, Reject, Return, Abort}
+use Rattle.courier_messages.specs.RawCalls.{RawCall, most_call_words}
+use Rattle.courier_messages.specs.Conversation.{Phase, opening}
+use Rattle.courier_messages.specs.Cutting.{cut, versions_item}
+use Rattle.courier_messages.specs.RawCalls.{call_message}
+use Rattle.courier_messages.specs.Phases.{run, said, ◌then◌}
+use Rattle.courier_messages.specs.Text.{signs}
+use Rattle.courier_sessions.specs.Feeding.{longest_item, heard}
+use Rattle.courier_sessions.specs.declared.call_refusal.CallRefusal.{CallRefusal}
+use Rattle.courier_sessions.specs.declared.call_refusal.CallRefusal.TheVariants as refusals
+use Rattle.courier_sessions.specs.declared.feed_refusal.FeedRefusal.{FeedRefusal}
+use Rattle.courier_sessions.specs.declared.feed_refusal.FeedRefusal.TheVariants as unfed
+
+pub record Talk : Type 0 where
+  -- what is kept of the peer's text
+  pub phase : Phase
+  -- what is to go out
+  pub out : List Item
+  pub failed : Bool
+  -- the last call's number
+  pub transaction : ℕ
+  -- whether it waits for its answer
+  pub waiting : Bool
+  -- the answer that is not picked up
+  pub outcome : Option Message
+
+-- the versions are out
+abbrev pub new_talk : Talk
+new_talk = record { phase = opening []; out = versions_item ∷ []; failed = false; transaction = 0; waiting = false; outcome = None }
+
+abbrev pub next_transaction : Talk → ℕ
+next_transaction t = (t.transaction + 1) % 65536
+
+-- with one more call
+abbrev pub called : Talk → RawCall → Talk
+called t c = record t { out = t.out ++ cut (call_message (next_transaction t) c); transaction = next_transaction t; waiting = true }
+
+abbrev pub is_there : Option Message → Bool
+is_there None = false
+is_there (Some m) = true
+
+-- why a call may not be made
+abbrev pub call_refusal : Talk → RawCall → Option CallRefusal
+call_refusal t c =
+    if t.failed then Some refusals.Stopped
+    else if t.waiting || is_there t.outcome then Some refusals.Busy
+    else if nat_lt most_call_words (length c.words) then Some refusals.TooLong
+    else None
+
+-- what is answered to a call, which may be made where this refusal is none: memory is refused only to one that may
+abbrev pub CallAnswers : Option CallRefusal → Result (Unit {0}) CallRefusal → Type 0
+CallAnswers refusal (Ok u) = refusal ≡ None
+CallAnswers refusal (Err refusals.NoMemory) = refusal ≡ None
+CallAnswers refusal (Err refusals.Stopped) = refusal ≡ Some refusals.Stopped
+CallAnswers refusal (Err refusals.Busy) = refusal ≡ Some refusals.Busy
+CallAnswers refusal (Err refusals.TooLong) = refusal ≡ Some refusals.TooLong
+
+abbrev pub wrong_unless : Bool → Option SessionFault
+wrong_unless right = if right then None else Some WrongTransaction
+
+-- why a message is no answer to the call that waits
+abbrev pub reply_fault : Bool → ℕ → Message → Option SessionFault
+reply_fault waiting expects (Call transaction program version procedure words) = Some BadReply
+reply_fault waiting expects (Reject transaction reason words) = wrong_unless (waiting && (transaction == expects))
+reply_fault waiting expects (Return transaction words) = wrong_unless (waiting && (transaction == expects))
+reply_fault waiting expects (Abort transaction error words) = wrong_unless (waiting && (transaction == expects))
+
+abbrev pub answered_unless : Option SessionFault → Talk → Message → Result Talk SessionFault
+answered_unless (Some e) t m = Err e
+answered_unless None t m = Ok (record t { waiting = false; outcome = Some m })
+
+-- with the messages that an item ended, of which there is at most one
+abbrev pub answered : Talk → List Message → Result Talk SessionFault
+answered t [] = Ok t
+answered t (m ∷ ms) = answered_unless (reply_fault t.waiting t.transaction m) t m
+
+-- with one more item of the peer's, or the first fault
+abbrev pub after_item : Talk → Item → Result Talk SessionFault
+after_item t x = run t.phase (signs x) then λ p. answered (record t { phase = p }) (said t.phase (signs x))
+
+-- what an item is told, or where it leads: that it is an attention item is told before its bytes are looked at
+abbrev pub fed : Talk → Item → Result Talk FeedRefusal
+fed t x =
+    if t.failed then Err unfed.Stopped
+    else if x.attention then Err unfed.Attention
+    else if nat_lt longest_item (length x.body) then Err unfed.TooLong
+    else heard (after_item t x)
+
+-- stopped: what is out and the answer that is there stay
+abbrev pub IsStopped : Talk → Talk → Type 0
+IsStopped old new = new ≡ record old { failed = true; phase = new.phase }

@@ -1,0 +1,15 @@
+use thiserror::Error;
+
+/// Why an answer is not put out. The side is as it was.
+#[derive(Clone, Copy, Debug, PartialEq, Eq, Error)]
+pub enum AnswerRefusal {
+    /// No call waits for it.
+    #[error("no call waits for this answer")]
+    NoCall,
+    /// The message has over 131,072 bytes.
+    #[error("the message has more than 131072 bytes")]
+    TooLong,
+    /// A growth was refused.
+    #[error("no memory")]
+    NoMemory,
+}

@@ -1,0 +1,84 @@
+//! The bytes of items that are fed, and the words of messages on their way out.
+
+ghost use Rattle.std.specs.Prelude.{◌≡◌, ◌<◌, ℕ, List, ◌++◌, length, false, OnErr, IfOk, Ok};
+ghost use Rattle.courier_messages.specs.Cutting.{cut};
+ghost use Rattle.courier_messages.specs.Head.{with_words};
+ghost use Rattle.courier_messages.specs.Message.{message_words};
+ghost use Rattle.courier_messages.specs.declared.head.Head.TheVariants.{Call};
+
+use courier_messages::{Head, MOST_BYTES, put_out};
+use std::alloc::{AllocError, Global};
+use std::collections::VecDeque;
+use xns_spp::{Bytes, Item};
+
+/// The most bytes that an item may have: the versions and the longest message.
+pub const LONGEST_ITEM: usize = 4 + MOST_BYTES;
+
+/// An item of datastream 0 or another, which is no attention item, whose bytes are copied. It is refused memory only where there are some.
+pub fn copied_item(alloc: Global, stream: u8, last: bool, body: &[u8]) -> Result<Item, AllocError>
+    ensures copied { IfOk result (λ x. x ≡ record { stream = stream; attention = false; last = last; body = body.now }) }
+    ensures memory { OnErr result (0 < length body.now) }
+{
+    let mut bytes = Vec::new(alloc);
+    if !body.is_empty() {
+        bytes.extend_from_slice(body)?;
+    }
+    Ok(Item {
+        stream,
+        attention: false,
+        last,
+        body: Bytes::new(bytes),
+    })
+}
+
+/// The program, version and procedure that a call with this head names; 0 for each where it is no call's.
+fn procedure_of(head: Head) -> (u32, u16, u16)
+    ensures { (transaction program version procedure : ℕ) → head ≡ Call transaction program version procedure → result ≡ (program, version, procedure) }
+{
+    match head {
+        Head::Call {
+            program,
+            version,
+            procedure,
+            ..
+        } => (program, version, procedure),
+        _ => (0, 0, 0),
+    }
+}
+
+/// The words of a message with this head and these words.
+fn whole_words(alloc: Global, head: Head, words: &[u16]) -> Result<Vec<u16>, AllocError>
+    ensures { IfOk result (λ w. w.items ≡ message_words (with_words head words.now)) }
+{
+    let mut all = Vec::with_capacity(alloc, head.size() + words.len())?;
+    match head {
+        Head::Call { transaction, .. } => {
+            let (program, version, procedure) = procedure_of(head);
+            let high = (program / 65536) as u16;
+            let low = (program % 65536) as u16;
+            all.extend_from_slice(&[0, transaction, high, low, version, procedure])?;
+        }
+        Head::Reject {
+            transaction,
+            reason,
+        } => all.extend_from_slice(&[1, transaction, reason])?,
+        Head::Return { transaction } => all.extend_from_slice(&[2, transaction])?,
+        Head::Abort { transaction, error } => all.extend_from_slice(&[3, transaction, error])?,
+    }
+    all.extend_from_slice(words)?;
+    Ok(all)
+}
+
+/// Puts the items of a message with this head and these words behind those that are out. Where memory is refused these stay as they are.
+pub fn put_message(
+    alloc: Global,
+    head: Head,
+    words: &[u16],
+    out: &mut VecDeque<Item>,
+) -> Result<(), AllocError>
+    ensures put { result ≡ Ok tt → out.new.items ≡ out.old.items ++ cut (with_words head words.now) }
+    ensures unchanged { OnErr result (out.new.items ≡ out.old.items) }
+{
+    let all = whole_words(alloc, head, words)?;
+    put_out(alloc, all.as_slice(), out)
+}

@@ -1,0 +1,7 @@
+/// A program that can be called, in its versions from the lowest to the highest.
+#[derive(Clone, Copy, Debug, PartialEq, Eq)]
+pub struct Program {
+    pub number: u32,
+    pub lowest: u16,
+    pub highest: u16,
+}

@@ -1,0 +1,101 @@
+//! Items that move between a side of a conversation and an endpoint.
+
+ghost use Rattle.std.specs.Prelude.{◌≡◌, ◌≢◌, ◌<◌, List, ◌∷◌, length, true, false, None, Ok, IfErr, OnErr, Some};
+ghost use Rattle.std.specs.Option.{is_some};
+ghost use Rattle.xns_spp.specs.Held.{StandsFor};
+ghost use Rattle.xns_spp.specs.Sending.{send_fault, after_send, take_answer, after_take};
+ghost use Rattle.xns_spp.specs.State.{State};
+ghost use Rattle.xns_spp.specs.declared.item.Item.{Item};
+ghost use Rattle.courier_sessions.specs.Pumping.{Pumped, Refuses, feeds};
+
+use crate::feed_refusal::FeedRefusal;
+use crate::side::WordSide;
+use std::alloc::Global;
+use xns_spp::{Endpoint, Item};
+
+/// Whether an endpoint would refuse an item.
+fn refuses(endpoint: &Endpoint, item: &Item) -> bool
+    ensures { (s : State) → StandsFor endpoint.now s → result ≡ is_some (send_fault s item.now) }
+{
+    endpoint.send_fault(item).is_some()
+}
+
+/// Has an endpoint accept an item, unless it would be refused: that one is let go.
+fn accept(endpoint: &mut Endpoint, item: Item)
+    ensures { (s : State) → StandsFor endpoint.old s → StandsFor endpoint.new (after_send s item) }
+{
+    let _ = endpoint.send(item);
+}
+
+/// Sends the first item that is to go out, if there is one and the endpoint accepts it; whether it did.
+fn send_first<S: WordSide>(side: &mut S, endpoint: &mut Endpoint) -> bool
+    ensures sent { (s : State) (x : Item) (xs : List Item) → StandsFor endpoint.old s → S.side.out side.old ≡ x ∷ xs → result ≡ true →
+        (send_fault s x ≡ None) × (S.side.out side.new ≡ xs) × StandsFor endpoint.new (after_send s x) }
+    ensures refused { (s : State) (x : Item) (xs : List Item) → StandsFor endpoint.old s → S.side.out side.old ≡ x ∷ xs → result ≡ false → send_fault s x ≢ None }
+    ensures beside { result ≡ true → side.new ≡ S.side.with_out side.old (S.side.out side.new) }
+    ensures stays { result ≡ false → (side.new ≡ side.old) × (endpoint.new ≡ endpoint.old) }
+    ensures fewer { result ≡ true → length (S.side.out side.new) < length (S.side.out side.old) }
+{
+    let Some(first) = side.first_out() else {
+        return false;
+    };
+    if refuses(endpoint, first) {
+        return false;
+    }
+    if let Some(item) = side.take_out() {
+        accept(endpoint, item);
+    }
+    true
+}
+
+/// Feeds the item that waits first at an endpoint, which then hands it up; whether it did. Where it is refused it waits still. None is fed where none waits,
+/// or the side is busy.
+fn feed_first<S: WordSide>(
+    side: &mut S,
+    alloc: Global,
+    endpoint: &mut Endpoint,
+) -> Result<bool, FeedRefusal>
+    ensures fed { (s : State) → StandsFor endpoint.old s → result ≡ Ok true →
+        (feeds S.side side.old s (take_answer s) ≡ Some (Ok (side.new, after_take s))) × StandsFor endpoint.new (after_take s) }
+    ensures unfed { (s : State) → StandsFor endpoint.old s → result ≡ Ok false → feeds S.side side.old s (take_answer s) ≡ None }
+    ensures refused { (s : State) → StandsFor endpoint.old s → IfErr result (λ e. Refuses S.side side.old (take_answer s) e side.new) }
+    ensures same { result ≡ Ok false → side.new ≡ side.old }
+    ensures stays { result ≢ Ok true → endpoint.new ≡ endpoint.old }
+    ensures out { S.side.out side.new ≡ S.side.out side.old }
+{
+    let Some(item) = endpoint.first_waiting() else {
+        return Ok(false);
+    };
+    match side.feed(alloc, item) {
+        Ok(()) => {
+            let _ = endpoint.take();
+            Ok(true)
+        }
+        Err(FeedRefusal::Busy) => Ok(false),
+        Err(refusal) => Err(refusal),
+    }
+}
+
+/// Moves items both ways between a side and an endpoint until nothing moves. What is out is sent, as far as the endpoint accepts it; once nothing is out,
+/// what waits at the endpoint is fed to the side, until that is busy.
+///
+/// The first item that the side refuses for another reason is told, with the reason: it waits at the endpoint still, and so do those behind it. After
+/// `NoMemory` the same call goes on.
+pub fn pump<S: WordSide>(
+    side: &mut S,
+    alloc: Global,
+    endpoint: &mut Endpoint,
+) -> Result<(), FeedRefusal>
+    ensures { (s : State) → StandsFor endpoint.old s → Pumped S.side (side.old, s) result side.new endpoint.new }
+{
+    while send_first(side, endpoint) {}
+    if side.first_out().is_some() {
+        return Ok(());
+    }
+    for _ in 0..endpoint.waiting() {
+        if !feed_first(side, alloc, endpoint)? {
+            return Ok(());
+        }
+    }
+    Ok(())
+}

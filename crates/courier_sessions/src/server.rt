@@ -1,0 +1,362 @@
+//! The side of a Courier conversation that is called. It reads no shapes: a call is handed as a message, and its answer goes out with its words.
+
+ghost use Rattle.std.specs.Prelude.{◌≡◌, ◌<◌, ◌++◌, ℕ, List, length, true, false, OnErr, IfOk, Some, None, Ok, Err, option_map, option_copied, nat_lt};
+ghost use Rattle.courier_messages.specs.declared.fault.SessionFault.TheVariants.{NoMemory};
+ghost use Rattle.courier_messages.specs.declared.message.Message.{Message};
+ghost use Rattle.courier_messages.specs.Cutting.{cut};
+ghost use Rattle.courier_messages.specs.Head.{with_words};
+ghost use Rattle.courier_messages.specs.Message.{message_words, most_words};
+ghost use Rattle.courier_messages.specs.Refusal.{Follows};
+ghost use Rattle.courier_sessions.specs.Answering.{Answering, new_answering, is_busy, is_there, after_item, is_a_call, transaction_in, after_call, why_unlisted, reject_message, after_reject, answer_message, answers_to, is_reject, answer_refusal, AnswerAnswers, answered, HandsCall, IsRejected};
+ghost use Rattle.courier_sessions.specs.Pumping.{server_side, IsFed};
+ghost use Rattle.courier_sessions.specs.declared.unlisted.Unlisted.{Unlisted};
+
+use crate::answer::Answer;
+use crate::answer_refusal::AnswerRefusal;
+use crate::feed_refusal::FeedRefusal;
+use crate::outgoing::{LONGEST_ITEM, copied_item, put_message};
+use crate::program::Program;
+use crate::side::{WordSide, told};
+use crate::unlisted::{Unlisted, refusal, reject_words};
+use courier_messages::{
+    Head, Incoming, MOST_BYTES, PiecedMessage, SessionFault, put_out, versions,
+};
+use std::alloc::{AllocError, Global};
+use std::collections::VecDeque;
+use std::marker::Model;
+use xns_spp::Item;
+
+/// The most words that a message may have.
+const MOST_WORDS: usize = MOST_BYTES / 2;
+
+/// The side that is called, one call at a time.
+#[derive(Drop)]
+pub struct WordServer {
+    programs: Vec<Program>,
+    incoming: Incoming,
+    out: VecDeque<Item>,
+    failed: bool,
+    call: Option<PiecedMessage>,
+    asked: Option<u16>,
+}
+
+impl Model for WordServer {
+    ghost use Rattle.courier_sessions.specs.Answering.{Answering};
+
+    ghost Value = { Answering };
+
+    ghost view = { λ s. record { programs = s.programs.items; phase = s.incoming; out = s.out.items; failed = s.failed; call = s.call; asked = s.asked } };
+}
+
+/// Whether a message with this head is a call.
+fn is_call(head: Head) -> bool
+    ensures { (words : List ℕ) → result ≡ is_a_call (with_words head words) }
+{
+    matches!(head, Head::Call { .. })
+}
+
+/// Which call a message with this head belongs to.
+fn transaction_of(head: Head) -> u16
+    ensures { (words : List ℕ) → result ≡ transaction_in (with_words head words) }
+{
+    match head {
+        Head::Call { transaction, .. }
+        | Head::Reject { transaction, .. }
+        | Head::Return { transaction }
+        | Head::Abort { transaction, .. } => transaction,
+    }
+}
+
+/// The head of an answer to the call of this transaction.
+fn answer_head(answer: Answer, transaction: u16) -> Head
+    ensures { (words : List ℕ) → with_words result words ≡ answer_message answer transaction words }
+{
+    match answer {
+        Answer::Reject { reason } => Head::Reject {
+            transaction,
+            reason,
+        },
+        Answer::Return => Head::Return { transaction },
+        Answer::Abort { error } => Head::Abort { transaction, error },
+    }
+}
+
+/// Whether it is a reject.
+fn is_reject(answer: Answer) -> bool
+    ensures { result ≡ is_reject answer }
+{
+    matches!(answer, Answer::Reject { .. })
+}
+
+/// Whether a message with this head and so many words is longer than any message.
+fn is_too_long(head: Head, count: usize) -> bool
+    ensures { (words : List ℕ) → length words ≡ count → result ≡ nat_lt most_words (length (message_words (with_words head words))) }
+{
+    count > MOST_WORDS - head.size()
+}
+
+impl WordServer {
+    /// A side for these programs, whose versions are out. Where there are none each call is handed. The only error is want of memory.
+    pub fn new(alloc: Global, programs: Vec<Program>) -> Result<WordServer, AllocError>
+        ensures { IfOk result (λ s. s ≡ new_answering programs.items) }
+    {
+        Ok(WordServer {
+            programs,
+            incoming: Incoming::new(alloc),
+            out: versions(alloc)?,
+            failed: false,
+            call: None,
+            asked: None,
+        })
+    }
+
+    /// Whether a call waits, or something is out.
+    pub fn is_busy(&self) -> bool
+        ensures { result ≡ is_busy self.now }
+    {
+        self.call.is_some() || self.asked.is_some() || !self.out.is_empty()
+    }
+
+    /// Takes in one more item, and keeps the call that it ends.
+    fn take_item(&mut self, alloc: Global, item: Item) -> Result<(), SessionFault>
+        ensures hears { Follows result (after_item self.old item) self.new }
+        ensures beside { self.new ≡ record self.old { phase = self.new.phase; call = self.new.call } }
+        ensures same { OnErr result (self.new.call ≡ self.old.call) }
+        ensures memory { result ≡ Err NoMemory → (self.new ≡ self.old) × (0 < length item.body) }
+    {
+        let Some(message) = self.incoming.take(alloc, item)? else {
+            return Ok(());
+        };
+        if !is_call(message.head()) {
+            return Err(SessionFault::BadReply);
+        }
+        self.call = Some(message);
+        Ok(())
+    }
+
+    /// Looks at an item of these parts, whose bytes are copied.
+    fn hear(
+        &mut self,
+        alloc: Global,
+        stream: u8,
+        last: bool,
+        body: &[u8],
+    ) -> Result<(), SessionFault>
+        ensures hears { Follows result (after_item self.old (record { stream = stream; attention = false; last = last; body = body.now })) self.new }
+        ensures beside { self.new ≡ record self.old { phase = self.new.phase; call = self.new.call } }
+        ensures same { OnErr result (self.new.call ≡ self.old.call) }
+        ensures memory { result ≡ Err NoMemory → (self.new ≡ self.old) × (0 < length body.now) }
+    {
+        let item = copied_item(alloc, stream, last, body)?;
+        self.take_item(alloc, item)
+    }
+
+    /// Takes in one more item of these parts of the peer's, whose bytes are copied, and keeps the call that it ends.
+    pub fn feed_parts(
+        &mut self,
+        alloc: Global,
+        stream: u8,
+        attention: bool,
+        last: bool,
+        body: &[u8],
+    ) -> Result<(), FeedRefusal>
+        ensures { IsFed server_side self.old (record { stream = stream; attention = attention; last = last; body = body.now }) result self.new }
+    {
+        if self.failed {
+            return Err(FeedRefusal::Stopped);
+        }
+        if self.is_busy() {
+            return Err(FeedRefusal::Busy);
+        }
+        if attention {
+            self.failed = true;
+            return Err(FeedRefusal::Attention);
+        }
+        if body.len() > LONGEST_ITEM {
+            return Err(FeedRefusal::TooLong);
+        }
+        told(self.hear(alloc, stream, last, body), &mut self.failed)
+    }
+
+    /// Whether it has stopped.
+    pub fn is_stopped(&self) -> bool
+        ensures { result ≡ self.now.failed }
+    {
+        self.failed
+    }
+
+    /// Whether a call was handed and waits for its answer.
+    pub fn is_asked(&self) -> bool
+        ensures { result ≡ is_there self.now.asked }
+    {
+        self.asked.is_some()
+    }
+
+    /// The call that waits to be handed, listed or not, which stays.
+    pub fn first_call(&self) -> Option<&PiecedMessage>
+        ensures { option_copied result ≡ self.now.call }
+    {
+        self.call.as_ref()
+    }
+
+    /// Hands the call that waits, once, if its program and version are listed.
+    pub fn take_call(&mut self) -> Option<PiecedMessage>
+        ensures handed { (m : Message) → self.old.call ≡ Some m → HandsCall (why_unlisted self.old.programs m) self.old m result self.new }
+        ensures none { self.old.call ≡ None → (result ≡ None) × (self.new ≡ self.old) }
+    {
+        if self.refusal().is_some() {
+            return None;
+        }
+        let found = self.call.take()?;
+        self.asked = Some(transaction_of(found.head()));
+        Some(found)
+    }
+
+    /// Why the call that waits is not handed, with its transaction.
+    fn refusal(&self) -> Option<(u16, Unlisted)>
+        ensures waits { (m : Message) → self.now.call ≡ Some m → result ≡ option_map (λ u. (transaction_in m, u)) (why_unlisted self.now.programs m) }
+        ensures none { self.now.call ≡ None → result ≡ None }
+    {
+        let found = self.call.as_ref()?;
+        let head = found.head();
+        let unlisted = refusal(self.programs.as_slice(), head)?;
+        Some((transaction_of(head), unlisted))
+    }
+
+    /// Puts out the reject of the call that waits.
+    fn reject(
+        &mut self,
+        alloc: Global,
+        transaction: u16,
+        unlisted: Unlisted,
+    ) -> Result<(), AllocError>
+        ensures rejected { result ≡ Ok tt → self.new ≡ record self.old { out = self.old.out ++ cut (reject_message transaction unlisted); call = None } }
+        ensures unchanged { OnErr result (self.new ≡ self.old) }
+    {
+        let all = reject_words(alloc, transaction, unlisted)?;
+        put_out(alloc, all.as_slice(), &mut self.out)?;
+        self.call = None;
+        Ok(())
+    }
+
+    /// Puts out the reject of a call that waits and whose program or version is not listed: reason 0, or reason 1 with the versions that are (XSIS
+    /// 038112, Courier, Reject message). Whether there was one. The only error is want of memory: nothing is changed then.
+    pub fn reject_unlisted(&mut self, alloc: Global) -> Result<bool, AllocError>
+        ensures waits { (m : Message) → self.old.call ≡ Some m → IsRejected (why_unlisted self.old.programs m) self.old m result self.new }
+        ensures none { self.old.call ≡ None → (result ≡ Ok false) × (self.new ≡ self.old) }
+    {
+        let Some((transaction, unlisted)) = self.refusal() else {
+            return Ok(false);
+        };
+        self.reject(alloc, transaction, unlisted)?;
+        Ok(true)
+    }
+
+    /// Puts out the items of an answer.
+    fn put_out(&mut self, alloc: Global, head: Head, words: &[u16]) -> Result<(), AllocError>
+        ensures answered { result ≡ Ok tt → self.new ≡ answered self.old (with_words head words.now) }
+        ensures unchanged { OnErr result (self.new ≡ self.old) }
+    {
+        put_message(alloc, head, words, &mut self.out)?;
+        self.asked = None;
+        self.call = None;
+        Ok(())
+    }
+
+    /// Which call an answer is for: the one that was handed; a reject is also for one that waits, is listed and was not handed.
+    fn answers_to(&self, answer: Answer) -> Option<u16>
+        ensures { result ≡ answers_to self.now answer }
+    {
+        if self.asked.is_some() {
+            return self.asked;
+        }
+        if !is_reject(answer) {
+            return None;
+        }
+        let found = self.call.as_ref()?;
+        let head = found.head();
+        match refusal(self.programs.as_slice(), head) {
+            Some(_) => None,
+            None => Some(transaction_of(head)),
+        }
+    }
+
+    /// Puts out the answer to this call, if there is one.
+    fn answer_to(
+        &mut self,
+        alloc: Global,
+        asked: Option<u16>,
+        answer: Answer,
+        words: &[u16],
+    ) -> Result<(), AnswerRefusal>
+        ensures answer { AnswerAnswers (answer_refusal asked answer words.now) result }
+        ensures answered { (k : ℕ) → asked ≡ Some k → result ≡ Ok tt → self.new ≡ answered self.old (answer_message answer k words.now) }
+        ensures unchanged { OnErr result (self.new ≡ self.old) }
+    {
+        let Some(transaction) = asked else {
+            return Err(AnswerRefusal::NoCall);
+        };
+        let head = answer_head(answer, transaction);
+        if is_too_long(head, words.len()) {
+            return Err(AnswerRefusal::TooLong);
+        }
+        if self.put_out(alloc, head, words).is_err() {
+            return Err(AnswerRefusal::NoMemory);
+        }
+        Ok(())
+    }
+
+    /// Puts out the answer to the call that was handed.
+    ///
+    /// It is refused, and nothing is changed, as `NoCall` where none was handed that waits for its answer; `TooLong` over 131,072 bytes; `NoMemory` where a
+    /// growth was refused.
+    pub fn answer(
+        &mut self,
+        alloc: Global,
+        answer: Answer,
+        words: &[u16],
+    ) -> Result<(), AnswerRefusal>
+        ensures answer { AnswerAnswers (answer_refusal self.old.asked answer words.now) result }
+        ensures answered { (k : ℕ) → self.old.asked ≡ Some k → result ≡ Ok tt → self.new ≡ answered self.old (answer_message answer k words.now) }
+        ensures unchanged { OnErr result (self.new ≡ self.old) }
+    {
+        self.answer_to(alloc, self.asked, answer, words)
+    }
+
+    /// The same; but a reject also answers a call that waits, is listed and was not handed, as one that is too long for the program: it is handed no more.
+    pub fn answer_or_reject(
+        &mut self,
+        alloc: Global,
+        answer: Answer,
+        words: &[u16],
+    ) -> Result<(), AnswerRefusal>
+        ensures answer { AnswerAnswers (answer_refusal (answers_to self.old answer) answer words.now) result }
+        ensures answered { (k : ℕ) → answers_to self.old answer ≡ Some k → result ≡ Ok tt → self.new ≡ answered self.old (answer_message answer k words.now) }
+        ensures unchanged { OnErr result (self.new ≡ self.old) }
+    {
+        let asked = self.answers_to(answer);
+        self.answer_to(alloc, asked, answer, words)
+    }
+}
+
+impl WordSide for WordServer {
+    ghost side = { server_side };
+
+    fn feed(&mut self, alloc: Global, item: &Item) -> Result<(), FeedRefusal> {
+        self.feed_parts(
+            alloc,
+            item.stream,
+            item.attention,
+            item.last,
+            item.body.as_slice(),
+        )
+    }
+
+    fn first_out(&self) -> Option<&Item> {
+        self.out.front()
+    }
+
+    fn take_out(&mut self) -> Option<Item> {
+        self.out.pop_front()
+    }
+}

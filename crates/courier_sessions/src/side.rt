@@ -1,0 +1,56 @@
+//! A side of a conversation, which puts out items and is fed items.
+
+ghost use Rattle.std.specs.Prelude.{◌≡◌, ◌≢◌, Ok, Err, true, false};
+ghost use Rattle.courier_messages.specs.declared.fault.SessionFault.TheVariants.{NoMemory};
+ghost use Rattle.courier_sessions.specs.Feeding as feeding;
+
+use crate::feed_refusal::FeedRefusal;
+use courier_messages::SessionFault;
+use std::alloc::Global;
+use xns_spp::Item;
+
+/// A side of a Courier conversation over words, whose items go out and which is fed the peer's.
+///
+/// An `impl` names its side, by which its steps are defined.
+pub trait WordSide {
+    ghost use Rattle.std.specs.Prelude.{◌≡◌, ◌≢◌, ◌<◌, List, [], ◌∷◌, length, Some, None, option_copied};
+    ghost use Rattle.xns_spp.specs.declared.item.Item.{Item};
+    ghost use Rattle.courier_sessions.specs.Pumping.{Side, IsFed};
+
+    // What is out, and what an item is told.
+    ghost side: { Side Self };
+
+    /// Takes in one more item of the peer's, whose bytes are copied, and keeps the message that it ends.
+    fn feed(&mut self, alloc: Global, item: &Item) -> Result<(), FeedRefusal>
+        ensures fed { IsFed side self.old item.now result self.new }
+        ensures out { side.out self.new ≡ side.out self.old };
+
+    /// The first item that is to go out, which stays.
+    fn first_out(&self) -> Option<&Item>
+        ensures first { (x : Item) (xs : List Item) → side.out self.now ≡ x ∷ xs → option_copied result ≡ Some x }
+        ensures none { result ≡ None → side.out self.now ≡ [] }
+        ensures some { result ≢ None → side.out self.now ≢ [] };
+
+    /// Takes the first item that is to go out.
+    fn take_out(&mut self) -> Option<Item>
+        ensures taken { (x : Item) (xs : List Item) → side.out self.old ≡ x ∷ xs → (result ≡ Some x) × (side.out self.new ≡ xs) }
+        ensures beside { self.new ≡ side.with_out self.old (side.out self.new) }
+        ensures fewer { side.out self.old ≢ [] → length (side.out self.new) < length (side.out self.old) };
+}
+
+/// What is told of an item that a side looked at. A fault stops the side; where memory is refused it goes on.
+pub fn told(taken: Result<(), SessionFault>, failed: &mut bool) -> Result<(), FeedRefusal>
+    ensures told { result ≡ feeding.told taken }
+    ensures good { taken ≡ Ok tt → failed.new ≡ failed.old }
+    ensures memory { taken ≡ Err NoMemory → failed.new ≡ failed.old }
+    ensures stops { taken ≢ Ok tt → taken ≢ Err NoMemory → failed.new ≡ true }
+{
+    match taken {
+        Ok(()) => Ok(()),
+        Err(SessionFault::NoMemory) => Err(FeedRefusal::NoMemory),
+        Err(fault) => {
+            *failed = true;
+            Err(FeedRefusal::Fault(fault))
+        }
+    }
+}
