@@ -5,7 +5,7 @@ use Rattle.std.specs.Prelude.{Result, Ok, Err, MatchResult}
 use Rattle.hex.specs.declared.error.FromHexError.{FromHexError}
 use Rattle.hex.specs.declared.error.FromHexError.TheVariants.{OutOfMemory}
 use Rattle.std.specs.Borrow.{Bor}
-use Rattle.xns_script.specs.Word.{all_hex_words, bytes_in, is_dash, put_byte, raw_words_of, word_in, words_after, words_of_line}
+use Rattle.xns_script.specs.Word.{all_hex_words, bytes_if_any, is_dash, put_byte, raw_words_of, word_in, words_after, words_of_line}
 
 -- two bytes make a word
 pub two_bytes : (bytes : List ℕ) → length bytes ≡ 2 → Some (from_be_bytes w16 (get_or bytes 0 0 ∷ get_or bytes 1 0 ∷ [])) ≡ word_in (Ok bytes)
@@ -14,11 +14,11 @@ two_bytes (a ∷ []) e = absurd (omega arith)
 two_bytes (a ∷ b ∷ []) e = refl
 two_bytes (a ∷ b ∷ c ∷ bytes) e = absurd (omega arith)
 
-pub no_bytes : (bytes : List ℕ) → length bytes ≡ 0 → None ≡ bytes_in (Ok bytes)
+pub no_bytes : (bytes : List ℕ) → length bytes ≡ 0 → None ≡ bytes_if_any (Ok bytes)
 no_bytes [] e = refl
 no_bytes (b ∷ bytes) e = absurd (omega arith)
 
-pub some_bytes : (bytes : List ℕ) → (length bytes ≡ 0 → ⊥) → Some bytes ≡ bytes_in (Ok bytes)
+pub some_bytes : (bytes : List ℕ) → (length bytes ≡ 0 → ⊥) → Some bytes ≡ bytes_if_any (Ok bytes)
 some_bytes [] e = absurd (e refl)
 some_bytes (b ∷ bytes) e = refl
 
@@ -36,7 +36,7 @@ pub word_err : (r : Result (List ℕ) FromHexError) (f : FromHexError) (out : Li
 word_err (Ok bytes) f out h = cc
 word_err (Err e) f out h = refl
 
-pub err_bytes : (r : Result (List ℕ) FromHexError) (e : FromHexError) → (e ≡ OutOfMemory) ⊎ (r ≡ Err e) → (e ≡ OutOfMemory → ⊥) → None ≡ bytes_in r
+pub err_bytes : (r : Result (List ℕ) FromHexError) (e : FromHexError) → (e ≡ OutOfMemory) ⊎ (r ≡ Err e) → (e ≡ OutOfMemory → ⊥) → None ≡ bytes_if_any r
 err_bytes r e (inl memory) never = absurd (never memory)
 err_bytes r e (inr h) never = rw h refl
 

@@ -6,7 +6,7 @@ use Rattle.std.proofs.lemmas.Grind.{flat_map-append}
 use Rattle.courier_calls.specs.Calls.{CallModel}
 use Rattle.item_world.specs.declared.event.Event.{Event}
 use Rattle.xns_script.specs.Command.{CommandModel, calls, command_of, happens, skips}
-use Rattle.xns_script.specs.Script.{call_in, calls_in, event_in, events_in, first_refused, refused_from, refused_or}
+use Rattle.xns_script.specs.Script.{command_call, calls_in, command_event, events_in, first_refused, refused_from, refused_or}
 
 abbrev or_later : Option ℕ → Option ℕ → Option ℕ
 or_later None later = later
@@ -41,20 +41,20 @@ refuses None made events lines line number e c at h =
       tt,
     )
 
-one_call : (line : List ℕ) (o : Option CommandModel) → o ≡ command_of line → flat_map (λ l. call_in (command_of l)) (line ∷ []) ≡ call_in o
-one_call line o c = append-nil (call_in (command_of line)) ∙ ap call_in (sym c)
+one_call : (line : List ℕ) (o : Option CommandModel) → o ≡ command_of line → flat_map (λ l. command_call (command_of l)) (line ∷ []) ≡ command_call o
+one_call line o c = append-nil (command_call (command_of line)) ∙ ap command_call (sym c)
 
-one_event : (line : List ℕ) (o : Option CommandModel) → o ≡ command_of line → flat_map (λ l. event_in (command_of l)) (line ∷ []) ≡ event_in o
-one_event line o c = append-nil (event_in (command_of line)) ∙ ap event_in (sym c)
+one_event : (line : List ℕ) (o : Option CommandModel) → o ≡ command_of line → flat_map (λ l. command_event (command_of l)) (line ∷ []) ≡ command_event o
+one_event line o c = append-nil (command_event (command_of line)) ∙ ap command_event (sym c)
 
 pub reads : (refused : Option ℕ) (made : List CallModel) (events : List Event) (lines : List (List ℕ)) (line : List ℕ) (command : CommandModel) → false ≡ is_some refused → Some command ≡ command_of line
-    → Read refused made events lines → Read refused (made ++ call_in (Some command)) (events ++ event_in (Some command)) (lines ++ line ∷ [])
+    → Read refused made events lines → Read refused (made ++ command_call (Some command)) (events ++ command_event (Some command)) (lines ++ line ∷ [])
 reads (Some n) made events lines line command e c h = absurd cc
 reads None made events lines line command e c h = (
   ap (λ o. refused_or (1 + length lines) o None) c ∙ ap (λ r. or_later r (refused_or (1 + length lines) (command_of line) None)) h.0 ∙ sym (refused_from-append 1 lines line),
   (
-    ap (λ cs. cs ++ call_in (Some command)) h.1.0 ∙ ap (λ cs. calls_in lines ++ cs) (sym (one_call line (Some command) c)) ∙ sym (flat_map-append (λ l. call_in (command_of l)) lines (line ∷ [])),
-    ap (λ es. es ++ event_in (Some command)) h.1.1 ∙ ap (λ es. events_in lines ++ es) (sym (one_event line (Some command) c)) ∙ sym (flat_map-append (λ l. event_in (command_of l)) lines (line ∷ [])),
+    ap (λ cs. cs ++ command_call (Some command)) h.1.0 ∙ ap (λ cs. calls_in lines ++ cs) (sym (one_call line (Some command) c)) ∙ sym (flat_map-append (λ l. command_call (command_of l)) lines (line ∷ [])),
+    ap (λ es. es ++ command_event (Some command)) h.1.1 ∙ ap (λ es. events_in lines ++ es) (sym (one_event line (Some command) c)) ∙ sym (flat_map-append (λ l. command_event (command_of l)) lines (line ∷ [])),
   ),
 )
 

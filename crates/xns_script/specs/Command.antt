@@ -52,12 +52,14 @@ three_words a b c =
     else None
 
 abbrev pub raw_call_of : Option ℕ → Option ℕ → Option ℕ → Option (List ℕ) → Option CommandModel
-raw_call_of (Some p) (Some v) (Some q) (Some ws) = Some (calls (record { program = p; version = v; procedure = q; arguments = raw_words ws }))
+raw_call_of (Some p) (Some v) (Some q) (Some ws) =
+    Some (calls (record { program = p; version = v; procedure = q; arguments = raw_words ws }))
 raw_call_of _ _ _ _ = None
 
 abbrev pub more_words : List ℕ → List ℕ → List ℕ → List ℕ → List ℕ → List (List ℕ) → Option CommandModel
 more_words a b p v q words =
-    if bytes_eq a (codes "call") && bytes_eq b (codes "raw") then raw_call_of (number_of 4294967295 p) (number_of 65535 v) (number_of 65535 q) (raw_words_of words)
+    if bytes_eq a (codes "call") && bytes_eq b (codes "raw")
+    then raw_call_of (number_of 4294967295 p) (number_of 65535 v) (number_of 65535 q) (raw_words_of words)
     else None
 
 abbrev pub command_in : List (List ℕ) → Option CommandModel

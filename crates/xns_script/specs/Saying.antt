@@ -14,7 +14,8 @@ is_no_fields (ValueModel.fields no_values) = true
 is_no_fields _ = false
 
 abbrev pub is_said_with : CallModel → ArgumentsModel → Bool
-is_said_with c (typed v) = c.program == 7 && (c.version == 2 && (if c.procedure == 1 then is_cardinal v else c.procedure == 2 && is_no_fields v))
+is_said_with c (typed v) = c.program == 7 && (c.version == 2
+    && (if c.procedure == 1 then is_cardinal v else c.procedure == 2 && is_no_fields v))
 is_said_with c (raw_words words) = nat_le (length words) most_call_words
 
 -- an Add, a Total, or words that fit in a message

@@ -5,25 +5,25 @@ use Rattle.courier_calls.specs.Calls.{CallModel}
 use Rattle.item_world.specs.declared.event.Event.{Event}
 use Rattle.xns_script.specs.Command.{CommandModel, calls, command_of, happens, skips}
 
-abbrev pub call_in : Option CommandModel → List CallModel
-call_in (Some (calls c)) = c ∷ []
-call_in (Some (happens e)) = []
-call_in (Some skips) = []
-call_in None = []
+abbrev pub command_call : Option CommandModel → List CallModel
+command_call (Some (calls c)) = c ∷ []
+command_call (Some (happens e)) = []
+command_call (Some skips) = []
+command_call None = []
 
-abbrev pub event_in : Option CommandModel → List Event
-event_in (Some (happens e)) = e ∷ []
-event_in (Some (calls c)) = []
-event_in (Some skips) = []
-event_in None = []
+abbrev pub command_event : Option CommandModel → List Event
+command_event (Some (happens e)) = e ∷ []
+command_event (Some (calls c)) = []
+command_event (Some skips) = []
+command_event None = []
 
 -- the calls in order, wherever their lines stand
 abbrev pub calls_in : List (List ℕ) → List CallModel
-calls_in lines = flat_map (λ line. call_in (command_of line)) lines
+calls_in lines = flat_map (λ line. command_call (command_of line)) lines
 
 -- the events in order
 abbrev pub events_in : List (List ℕ) → List Event
-events_in lines = flat_map (λ line. event_in (command_of line)) lines
+events_in lines = flat_map (λ line. command_event (command_of line)) lines
 
 abbrev pub refused_or : ℕ → Option CommandModel → Option ℕ → Option ℕ
 refused_or n None later = Some n

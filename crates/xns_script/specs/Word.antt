@@ -57,13 +57,13 @@ word_in _ = None
 unfoldable pub hex_word_of : List ℕ → Option ℕ
 hex_word_of word = word_in (decode_sized word 2)
 
-abbrev pub bytes_in : Result (List ℕ) FromHexError → Option (List ℕ)
-bytes_in (Ok (byte ∷ bytes)) = Some (byte ∷ bytes)
-bytes_in _ = None
+abbrev pub bytes_if_any : Result (List ℕ) FromHexError → Option (List ℕ)
+bytes_if_any (Ok (byte ∷ bytes)) = Some (byte ∷ bytes)
+bytes_if_any _ = None
 
 -- an even number of hex digits, at least two
 unfoldable pub hex_bytes_of : List ℕ → Option (List ℕ)
-hex_bytes_of word = bytes_in (decode_of word)
+hex_bytes_of word = bytes_if_any (decode_of word)
 
 abbrev pub and_more : Option ℕ → Option (List ℕ) → Option (List ℕ)
 and_more (Some w) (Some ws) = Some (w ∷ ws)

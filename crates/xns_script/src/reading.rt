@@ -156,7 +156,8 @@ fn read_after_three(
     program: &[u8],
     line: &[u8],
 ) -> Result<Option<Command>, AllocError>
-    ensures { IfOk result (λ answer. option_map command_model answer ≡ command_in (first.now ∷ second.now ∷ program.now ∷ words_of_line line.now)) }
+    ensures { IfOk result (λ answer. option_map command_model answer
+        ≡ command_in (first.now ∷ second.now ∷ program.now ∷ words_of_line line.now)) }
 {
     let (version, rest) = cut_word(line);
     match rest {
@@ -173,7 +174,8 @@ fn read_after_four(
     version: &[u8],
     line: &[u8],
 ) -> Result<Option<Command>, AllocError>
-    ensures { IfOk result (λ answer. option_map command_model answer ≡ command_in (first.now ∷ second.now ∷ program.now ∷ version.now ∷ words_of_line line.now)) }
+    ensures { IfOk result (λ answer. option_map command_model answer
+        ≡ command_in (first.now ∷ second.now ∷ program.now ∷ version.now ∷ words_of_line line.now)) }
 {
     let (procedure, words) = cut_word(line);
     if is(first, b"call") && is(second, b"raw") {
@@ -189,7 +191,9 @@ fn read_raw(
     procedure: &[u8],
     words: Option<&[u8]>,
 ) -> Result<Option<Command>, AllocError>
-    ensures { IfOk result (λ answer. option_map command_model answer ≡ raw_call_of (number_of 4294967295 program.now) (number_of 65535 version.now) (number_of 65535 procedure.now) (raw_words_of (words_after (option_map (λ rest. rest.now) words.entry)))) }
+    ensures { IfOk result (λ answer. option_map command_model answer
+        ≡ raw_call_of (number_of 4294967295 program.now) (number_of 65535 version.now) (number_of 65535 procedure.now)
+        (raw_words_of (words_after (option_map (λ rest. rest.now) words.entry)))) }
 {
     let Some(program) = read_number(u32::MAX, program) else {
         return Ok(None);

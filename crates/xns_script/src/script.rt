@@ -44,7 +44,8 @@ impl Script {
     /// Where memory is refused; the script is then as it was.
     pub fn read_line(&mut self, number: usize, line: &[u8]) -> Result<(), AllocError>
         requires short { length line.now ≤ 4096 }
-        ensures ok { OnOk result ((lines : List (List ℕ)) → number ≡ length lines + 1 → HasRead self.old lines → HasRead self.new (lines ++ line.now ∷ [])) }
+        ensures ok { OnOk result ((lines : List (List ℕ)) → number ≡ length lines + 1 → HasRead self.old lines →
+            HasRead self.new (lines ++ line.now ∷ [])) }
         ensures err { OnErr result ((lines : List (List ℕ)) → HasRead self.old lines → HasRead self.new lines) }
     {
         if self.refused.is_some() {
