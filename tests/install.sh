@@ -68,7 +68,7 @@ holds() {
 }
 
 version=$(cat VERSION)
-pages='C CAPTURES ENDPOINT FORMATS GLOSSARY PROMISES WORLD'
+pages='C CAPTURES COURIER ENDPOINT FORMATS GLOSSARY PROMISES PROOF WORLD'
 folders='bin include lib lib/pkgconfig share share/doc share/doc/xns share/doc/xns/examples share/man share/man/man1 share/xns share/xns/python'
 files="bin/xns include/xns.h lib/libxns.a lib/libxns.so lib/libxns.so.0 lib/libxns.so.$version lib/pkgconfig/xns.pc share/man/man1/xns.1"
 for page in $pages; do files="$files share/doc/xns/$page.md"; done
