@@ -1,0 +1,12 @@
+use crate::dropped::Dropped;
+
+/// What became of a packet that was taken in without an answer.
+#[derive(Clone, Copy, Debug, PartialEq, Eq)]
+pub struct Input {
+    /// How many items were taken: the packet's, with the early ones that follow it, or none.
+    pub took: usize,
+    /// Whether the peer is owed a reply: `receive` would have given one.
+    pub owes_reply: bool,
+    /// Why the packet's item was neither taken nor kept; `None` where it was, or where the packet brings none.
+    pub dropped: Option<Dropped>,
+}
