@@ -1,1 +1,3 @@
+mod Ordered
 mod Silent
+mod Tree

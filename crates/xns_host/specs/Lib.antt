@@ -1,2 +1,5 @@
+pub mod Identifiers
 pub mod Settings
+pub mod Strays
+pub mod Times
 pub mod Waiting

@@ -1,0 +1,41 @@
+-- A time for some of the connections, and the earliest.
+use Rattle.std.specs.Prelude.{◌≡◌, ◌≢◌, ℕ, ◌+◌, ◌-◌, ◌*◌, ◌<◌, ◌≤◌, nat_le, nat_lt, List, length, if◌then◌else◌, Option, Some, None, slice_get, slice_index_or}
+
+-- there is a time, no later than this one
+abbrev pub IsBy : Option ℕ → ℕ → Type 0
+IsBy None t = ⊥
+IsBy (Some s) t = s ≤ t
+
+-- no number's time is earlier than this one; where there is none, no number has one
+pub record HasEarliest (times : List (Option ℕ)) (first : Option ℕ) : Type 0 where
+  pub least : (k t : ℕ) → slice_get times k ≡ Some (Some t) → IsBy first t
+
+-- a number with its time, and no time is earlier
+pub record IsEarliest (times : List (Option ℕ)) (number time : ℕ) : Type 0 where
+  pub there : slice_get times number ≡ Some (Some time)
+  pub least : HasEarliest times (Some time)
+
+-- each time is after now
+pub record HasNoneBy (times : List (Option ℕ)) (now : ℕ) : Type 0 where
+  pub after : (k t : ℕ) → slice_get times k ≡ Some (Some t) → now < t
+
+-- ---- the tree
+
+abbrev pub sooner : Option ℕ → Option ℕ → Option ℕ
+sooner None b = b
+sooner (Some s) None = Some s
+sooner (Some s) (Some t) = if nat_le s t then Some s else Some t
+
+-- the nodes from the length of the tree on are the times
+abbrev pub node : List (Option ℕ) → List (Option ℕ) → ℕ → Option ℕ
+node tree times i = if nat_lt i (length tree) then slice_index_or tree i None else slice_index_or times (i - length tree) None
+
+-- each node above the times has the sooner time of the two below it, but the one above a node that was changed
+pub record IsTreeBut (tree times : List (Option ℕ)) (changed : ℕ) : Type 0 where
+  pub same : length tree ≡ length times
+  pub rule : (i : ℕ) → 1 ≤ i → i < length tree → changed ≢ 2 * i → changed ≢ 2 * i + 1 → slice_index_or tree i None ≡ sooner (node tree times (2 * i)) (node tree times (2 * i + 1))
+
+-- each node above the times does
+pub record IsTree (tree times : List (Option ℕ)) : Type 0 where
+  pub same : length tree ≡ length times
+  pub rule : (i : ℕ) → 1 ≤ i → i < length tree → slice_index_or tree i None ≡ sooner (node tree times (2 * i)) (node tree times (2 * i + 1))

@@ -1,0 +1,92 @@
+//! Packets of no connection that are to go out.
+
+ghost use Rattle.std.specs.Prelude.{◌≡◌, ◌≤◌, ◌++◌, [], length, true, false, IfOk, OnErr, Some, None};
+ghost use Rattle.std.specs.Option.{option_to_list};
+ghost use Rattle.xns_idp.specs.Packet.{most_data, packet_model};
+ghost use Rattle.xns_small.specs.Echo.{IsAnswered, echo_reply};
+ghost use Rattle.xns_host.specs.Strays.{new_strays, with_stray, stray_of};
+
+use crate::stray::Stray;
+use std::alloc::{AllocError, Global};
+use std::collections::VecDeque;
+use std::marker::Model;
+use xns_idp::{Address, Packet};
+use xns_small::answer_echo;
+use xns_spp::Bytes;
+
+/// Packets of no connection that are to go out, in order, at most so many. What is over is as if lost.
+#[derive(Drop)]
+pub struct Strays {
+    waiting: VecDeque<Stray>,
+    most: usize,
+}
+
+impl Model for Strays {
+    ghost use Rattle.std.specs.VecDeque.{deque_len, deque_capacity};
+    ghost use Rattle.xns_host.specs.Strays.{StrayQueue, HasRoom};
+
+    ghost Value = { StrayQueue };
+
+    ghost view = { λ s. record { most = s.most; waiting = s.waiting.items } };
+
+    ghost invariant = { λ s. HasRoom s.most s.waiting.items (deque_len s.waiting) (deque_capacity s.waiting) };
+}
+
+impl Strays {
+    /// None, with room for so many.
+    pub fn new(alloc: Global, most: usize) -> Result<Strays, AllocError>
+        ensures { IfOk result (λ s. s ≡ new_strays most) }
+    {
+        let waiting = VecDeque::with_capacity(alloc, most)?;
+        Ok(Strays { waiting, most })
+    }
+
+    /// Whether there is none.
+    pub fn is_empty(&self) -> bool
+        ensures { result ≡ true → self.now.waiting ≡ [] }
+    {
+        self.waiting.is_empty()
+    }
+
+    /// Puts one behind the others, unless there are as many as there may be.
+    pub fn push(&mut self, stray: Stray)
+        ensures { self.new ≡ with_stray self.old stray }
+    {
+        if self.waiting.len() < self.most {
+            self.waiting.push_back_reserved(stray);
+        }
+    }
+
+    /// Takes the first.
+    pub fn take(&mut self) -> Option<Stray>
+        ensures waiting { self.old.waiting ≡ option_to_list result ++ self.new.waiting }
+        ensures most { self.new.most ≡ self.old.most }
+    {
+        self.waiting.pop_front()
+    }
+
+    /// Answers a packet that is an Echo request to `own` (XSIS 028112, Echo Protocol); whether it is one. The answer goes out by the
+    /// `via` of the request. The only error is want of memory: nothing is changed then.
+    pub fn echo(
+        &mut self,
+        alloc: Global,
+        own: Address,
+        via: u32,
+        packet: &Packet<'_>,
+    ) -> Result<bool, AllocError>
+        requires { length packet.now.body.now ≤ most_data }
+        ensures answered { IfOk result (λ b. b ≡ true → IsAnswered own (packet_model packet.now) × (self.new ≡ with_stray self.old (stray_of via (echo_reply own (packet_model packet.now))))) }
+        ensures none { IfOk result (λ b. b ≡ false → (IsAnswered own (packet_model packet.now) → ⊥) × (self.new ≡ self.old)) }
+        ensures memory { OnErr result (IsAnswered own (packet_model packet.now)) }
+        ensures unchanged { OnErr result (self.new ≡ self.old) }
+    {
+        let Some(reply) = answer_echo(alloc, own, packet)? else {
+            return Ok(false);
+        };
+        self.push(Stray {
+            via,
+            packet: Bytes::new(reply),
+        });
+        Ok(true)
+    }
+}
