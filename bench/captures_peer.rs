@@ -41,9 +41,9 @@ enum Said { Range(Vec<u8>), Behind, Message(Vec<u8>), Waiting }
 struct Track { next: u64, early: BTreeMap<u64, Item>, said: Said }
 
 #[derive(Default)]
-struct Side { track: Option<Track>, call: Option<(u64, u32)> }
+struct Side { track: Option<Track>, call: Option<(u64, u64)> }
 
-struct Name { line: u32, connection: usize, side: char }
+struct Name { line: u64, connection: usize, side: char }
 
 fn words(out: &mut Vec<u8>, b: &[u8]) {
     if b.is_empty() { out.push(b'-'); }
@@ -59,7 +59,7 @@ fn behind_mark(last: bool) -> Said { if last { Said::Message(Vec::new()) } else 
 const MOST: usize = 131_072;
 
 // A whole message, or why it is none.
-fn message(out: &mut Vec<u8>, name: &Name, d: &[u8], own: &mut Option<(u64, u32)>, asked: &mut Option<(u64, u32)>) -> Result<(), String> {
+fn message(out: &mut Vec<u8>, name: &Name, d: &[u8], own: &mut Option<(u64, u64)>, asked: &mut Option<(u64, u64)>) -> Result<(), String> {
     if d.len() % 2 == 1 { return Err("OddLength".into()); }
     if d.len() < 2 { return Err("ShortMessage".into()); }
     let kind = be(&d[..2]);
@@ -83,7 +83,7 @@ fn message(out: &mut Vec<u8>, name: &Name, d: &[u8], own: &mut Option<(u64, u32)
 }
 
 // Hears one more item, and gives why what was said is refused.
-fn hear(out: &mut Vec<u8>, name: &Name, said: &mut Said, item: Item, own: &mut Option<(u64, u32)>, asked: &mut Option<(u64, u32)>) -> Result<(), String> {
+fn hear(out: &mut Vec<u8>, name: &Name, said: &mut Said, item: Item, own: &mut Option<(u64, u64)>, asked: &mut Option<(u64, u64)>) -> Result<(), String> {
     let mut body = &item.body[..];
     if let Said::Waiting = said { *said = behind_mark(item.last); return Ok(()); }
     if let Said::Range(bytes) = said {
@@ -146,10 +146,11 @@ fn main() {
     let stdout = io::stdout();
     let mut output = io::BufWriter::new(stdout.lock());
     let (mut line, mut bytes, mut out) = (Vec::new(), Vec::new(), Vec::new());
-    let mut n = 0u32;
+    let mut n = 0u64;
     let mut refused = false;
     let mut places: HashMap<Key, usize> = HashMap::new();
     let mut connections: Vec<[Side; 2]> = Vec::new();
+    let mut flows: Vec<(usize, usize)> = Vec::new();
     loop {
         line.clear();
         if input.read_until(b'\n', &mut line).unwrap() == 0 { break; }
@@ -204,6 +205,7 @@ fn main() {
             out.push(b'\n');
             let (next, said) = if field < 64 { (0, Said::Range(Vec::new())) } else { (field, Said::Waiting) };
             own.track = Some(Track { next, early: BTreeMap::new(), said });
+            flows.push((place, side));
         }
         let track = own.track.as_mut().unwrap();
         let Some(number) = nearest(track.next, field) else { continue };
@@ -211,6 +213,15 @@ fn main() {
         bring(&mut out, &mut refused, &name(side), own, other, number.saturating_sub(63));
         own.track.as_mut().unwrap().early.insert(number, Item { stream: b[1], last: b[0] & 16 != 0, body: b[12..].to_vec() });
         bring(&mut out, &mut refused, &name(side), own, other, 0);
+    }
+    for (place, side) in flows {
+        let name = Name { line: n, connection: place + 1, side: if side == 0 { 'a' } else { 'b' } };
+        let [first, second] = &mut connections[place];
+        let (own, other) = if side == 0 { (first, second) } else { (second, first) };
+        let last = own.track.as_ref().and_then(|track| Some(track.early.keys().next_back()? + 1));
+        if let Some(number) = last { bring(&mut out, &mut refused, &name, own, other, number); }
+        output.write_all(&out).unwrap();
+        out.clear();
     }
     output.write_all(&out).unwrap();
     output.flush().unwrap();
