@@ -67,6 +67,7 @@ class Result(enum.IntEnum):
     STOPPED = 56
     BUSY = 57
     CLOSING = 58
+    ATTENTION = 59
     TRUNCATED = 71
     NOT_BOOLEAN = 72
     OVER_MAXIMUM = 73
@@ -165,6 +166,7 @@ _TEXTS = {
     Result.STOPPED: "the conversation has stopped",
     Result.BUSY: "a call waits for its answer, or an answer or what is out was not picked up",
     Result.CLOSING: "the peer closes the connection",
+    Result.ATTENTION: "an attention item is no part of a message",
     Result.TRUNCATED: "the words end before the value does",
     Result.NOT_BOOLEAN: "the word of a boolean is neither 0 nor 1",
     Result.OVER_MAXIMUM: "the count of a sequence is over its maximum",

@@ -123,17 +123,6 @@ reject_message transaction (unlisted.Version low high) = Reject transaction 1 (l
 abbrev pub after_reject : Answering → Message → Unlisted → Answering
 after_reject a m u = record a { out = a.out ++ cut (reject_message (transaction_in m) u); call = None }
 
--- what is handed of the call that waits, and what the side is then
-abbrev pub HandsCall : Option Unlisted → Answering → Message → Option Message → Answering → Type 0
-HandsCall None a m result n = (result ≡ Some m) × (n ≡ after_call a m)
-HandsCall (Some u) a m result n = (result ≡ None) × (n ≡ a)
-
--- whether the call that waits is rejected, and what the side is then: memory may be refused for a reject
-abbrev pub IsRejected : {E : Type 0} → Option Unlisted → Answering → Message → Result Bool E → Answering → Type 0
-IsRejected None a m result n = (result ≡ Ok false) × (n ≡ a)
-IsRejected (Some u) a m (Ok done) n = (done ≡ true) × (n ≡ after_reject a m u)
-IsRejected (Some u) a m (Err e) n = n ≡ a
-
 -- an answer that is given
 
 -- the answer of these words to the call of this transaction

@@ -1,4 +1,5 @@
-/// A program that can be called, in its versions from the lowest to the highest.
+/// A program that can be called, in its versions from the lowest to the highest. It is laid out as in C.
+#[repr(C)]
 #[derive(Clone, Copy, Debug, PartialEq, Eq)]
 pub struct Program {
     pub number: u32,

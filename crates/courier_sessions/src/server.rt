@@ -1,13 +1,13 @@
 //! The side of a Courier conversation that is called. It reads no shapes: a call is handed as a message, and its answer goes out with its words.
 
-ghost use Rattle.std.specs.Prelude.{◌≡◌, ◌<◌, ◌++◌, ℕ, List, length, true, false, OnErr, IfOk, Some, None, Ok, Err, option_map, option_copied, nat_lt};
+ghost use Rattle.std.specs.Prelude.{◌≡◌, ◌≢◌, ◌<◌, ◌++◌, ℕ, List, length, true, false, OnErr, IfOk, Some, None, Ok, Err, option_map, option_copied, nat_lt};
 ghost use Rattle.courier_messages.specs.declared.fault.SessionFault.TheVariants.{NoMemory};
 ghost use Rattle.courier_messages.specs.declared.message.Message.{Message};
 ghost use Rattle.courier_messages.specs.Cutting.{cut};
 ghost use Rattle.courier_messages.specs.Head.{with_words};
 ghost use Rattle.courier_messages.specs.Message.{message_words, most_words};
 ghost use Rattle.courier_messages.specs.Refusal.{Follows};
-ghost use Rattle.courier_sessions.specs.Answering.{Answering, new_answering, is_busy, is_there, after_item, is_a_call, transaction_in, after_call, why_unlisted, reject_message, after_reject, answer_message, answers_to, is_reject, answer_refusal, AnswerAnswers, answered, HandsCall, IsRejected};
+ghost use Rattle.courier_sessions.specs.Answering.{Answering, new_answering, is_busy, is_there, after_item, is_a_call, transaction_in, after_call, why_unlisted, reject_message, after_reject, answer_message, answers_to, is_reject, answer_refusal, AnswerAnswers, answered};
 ghost use Rattle.courier_sessions.specs.Pumping.{server_side, IsFed};
 ghost use Rattle.courier_sessions.specs.declared.unlisted.Unlisted.{Unlisted};
 
@@ -201,7 +201,8 @@ impl WordServer {
 
     /// Hands the call that waits, once, if its program and version are listed.
     pub fn take_call(&mut self) -> Option<PiecedMessage>
-        ensures handed { (m : Message) → self.old.call ≡ Some m → HandsCall (why_unlisted self.old.programs m) self.old m result self.new }
+        ensures handed { (m : Message) → self.old.call ≡ Some m → why_unlisted self.old.programs m ≡ None → (result ≡ Some m) × (self.new ≡ after_call self.old m) }
+        ensures unlisted { (m : Message) (u : Unlisted) → self.old.call ≡ Some m → why_unlisted self.old.programs m ≡ Some u → (result ≡ None) × (self.new ≡ self.old) }
         ensures none { self.old.call ≡ None → (result ≡ None) × (self.new ≡ self.old) }
     {
         if self.refusal().is_some() {
@@ -215,6 +216,7 @@ impl WordServer {
     /// Why the call that waits is not handed, with its transaction.
     fn refusal(&self) -> Option<(u16, Unlisted)>
         ensures waits { (m : Message) → self.now.call ≡ Some m → result ≡ option_map (λ u. (transaction_in m, u)) (why_unlisted self.now.programs m) }
+        ensures listed { (m : Message) → self.now.call ≡ Some m → result ≡ None → why_unlisted self.now.programs m ≡ None }
         ensures none { self.now.call ≡ None → result ≡ None }
     {
         let found = self.call.as_ref()?;
@@ -242,8 +244,11 @@ impl WordServer {
     /// Puts out the reject of a call that waits and whose program or version is not listed: reason 0, or reason 1 with the versions that are (XSIS
     /// 038112, Courier, Reject message). Whether there was one. The only error is want of memory: nothing is changed then.
     pub fn reject_unlisted(&mut self, alloc: Global) -> Result<bool, AllocError>
-        ensures waits { (m : Message) → self.old.call ≡ Some m → IsRejected (why_unlisted self.old.programs m) self.old m result self.new }
-        ensures none { self.old.call ≡ None → (result ≡ Ok false) × (self.new ≡ self.old) }
+        ensures rejected { (m : Message) (u : Unlisted) → self.old.call ≡ Some m → why_unlisted self.old.programs m ≡ Some u → result ≡ Ok true → self.new ≡ after_reject self.old m u }
+        ensures unlisted { (m : Message) → self.old.call ≡ Some m → result ≡ Ok false → why_unlisted self.old.programs m ≡ None }
+        ensures listed { (m : Message) → self.old.call ≡ Some m → why_unlisted self.old.programs m ≡ None → result ≡ Ok false }
+        ensures none { self.old.call ≡ None → result ≡ Ok false }
+        ensures stays { result ≢ Ok true → self.new ≡ self.old }
     {
         let Some((transaction, unlisted)) = self.refusal() else {
             return Ok(false);

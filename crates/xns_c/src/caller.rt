@@ -6,17 +6,18 @@ ghost use Rattle.xns_spp.specs.declared.item.Item.{Item};
 ghost use Rattle.courier_messages.specs.declared.message.Message.{Message};
 ghost use Rattle.courier_messages.specs.RawCalls.{words_call};
 ghost use Rattle.xns_c_parts.specs.Handle.{line_of, talk_of};
-ghost use Rattle.xns_c_parts.specs.Courier.{MessageIsGiven, heard_number};
+ghost use Rattle.xns_c_parts.specs.Courier.{MessageIsGiven};
 ghost use Rattle.xns_c_parts.specs.Given.{ItemIsGiven};
 ghost use Rattle.xns_c_parts.specs.Line.{Keeps, packets_of};
-ghost use Rattle.xns_c_parts.specs.Pumping.{caller_side, Pumped, IfBoth};
-ghost use Rattle.xns_c_parts.specs.Results.{ok, nothing, no_memory, no_endpoint, no_caller, short_buffer, stopped, too_long};
-ghost use Rattle.xns_c_parts.specs.Talk.{Talk, new_talk, called, call_number, longest_item, after_item, IsStopped};
+ghost use Rattle.courier_sessions.specs.Pumping.{caller_side};
+ghost use Rattle.courier_sessions.specs.Talk.{Talk, new_talk, called};
+ghost use Rattle.xns_c_parts.specs.Results.{ok, nothing, no_memory, no_endpoint, no_caller, short_buffer};
+ghost use Rattle.xns_c_parts.specs.Sessions.{call_number, FedTo, PumpedTo, IfBoth};
 ghost use Rattle.xns_c_parts.specs.Views.{item_given};
 
 use std::alloc::{AllocError, Global};
 use xns_c_parts::results::{NO_CALLER, NO_ENDPOINT, NO_MEMORY, OK};
-use xns_c_parts::{Session, XnsCaller, XnsEndpoint, XnsItem, XnsMessage, next_item, pump};
+use xns_c_parts::{Session, XnsCaller, XnsEndpoint, XnsItem, XnsMessage};
 
 fn make_session(alloc: Global) -> Result<Box<Session>, AllocError>
     ensures { IfOk result (λ b. b.value ≡ new_talk) }
@@ -99,7 +100,7 @@ pub extern "C" fn xns_caller_next_item(
     let Some(mut session) = handle.take(alloc) else {
         return NO_CALLER;
     };
-    let result = next_item(&mut *session, item, buffer);
+    let result = session.next_item(item, buffer);
     handle.put(session);
     result
 }
@@ -116,15 +117,8 @@ pub extern "C" fn xns_caller_feed(
     last: u8,
     body: &[u8],
 ) -> u32
-    ensures number { (t : Talk) → talk_of handle.old ≡ Some t → t.failed ≡ false → length body.now ≤ longest_item → result ≢ no_memory →
-        result ≡ heard_number (after_item t (item_given stream 0 last body.now)) }
-    ensures heard { (t n : Talk) → talk_of handle.old ≡ Some t → result ≡ ok → after_item t (item_given stream 0 last body.now) ≡ Ok n → talk_of handle.new ≡ Some n }
-    ensures stops { (t : Talk) → talk_of handle.old ≡ Some t → result ≢ ok → result ≢ no_memory → result ≢ too_long → IfSome (talk_of handle.new) (IsStopped t) }
-    ensures memory { result ≡ no_memory → talk_of handle.new ≡ talk_of handle.old }
-    ensures long { (t : Talk) → talk_of handle.old ≡ Some t → t.failed ≡ false → longest_item < length body.now → result ≡ too_long }
-    ensures unheard { result ≡ too_long → (longest_item < length body.now) × (talk_of handle.new ≡ talk_of handle.old) }
+    ensures fed { (t : Talk) → talk_of handle.old ≡ Some t → IfSome (talk_of handle.new) (FedTo caller_side t (item_given stream 0 last body.now) result) }
     ensures stays { (t : Talk) → talk_of handle.old ≡ Some t → talk_of handle.new ≢ None }
-    ensures refuses { (t : Talk) → talk_of handle.old ≡ Some t → t.failed ≡ true → (result ≡ stopped) × (talk_of handle.new ≡ talk_of handle.old) }
     ensures none { talk_of handle.old ≡ None → (result ≡ no_caller) × (talk_of handle.new ≡ None) }
 {
     let Some(mut session) = handle.take(alloc) else {
@@ -147,7 +141,7 @@ pub extern "C" fn xns_caller_pump(
     endpoint: &mut XnsEndpoint,
 ) -> u32
     ensures pumped { (t : Talk) (s : State) → talk_of handle.old ≡ Some t → Keeps (line_of endpoint.old) s →
-        IfBoth (talk_of handle.new) (line_of endpoint.new) (λ n l. Pumped caller_side IsStopped (t, s) result n l.endpoint) }
+        IfBoth (talk_of handle.new) (line_of endpoint.new) (λ n l. PumpedTo caller_side (t, s) result n l.endpoint) }
     ensures packets { packets_of (line_of endpoint.new) ≡ packets_of (line_of endpoint.old) }
     ensures no_caller { talk_of handle.old ≡ None → (result ≡ no_caller) × (talk_of handle.new ≡ None) × (line_of endpoint.new ≡ line_of endpoint.old) }
     ensures no_endpoint { talk_of handle.old ≢ None → line_of endpoint.old ≡ None → (result ≡ no_endpoint) × (talk_of handle.new ≡ talk_of handle.old) × (line_of endpoint.new ≡ None) }
@@ -159,7 +153,7 @@ pub extern "C" fn xns_caller_pump(
         handle.put(session);
         return NO_ENDPOINT;
     };
-    let result = pump(&mut *session, alloc, &mut connection);
+    let result = session.pump(alloc, &mut connection);
     endpoint.put(connection);
     handle.put(session);
     result

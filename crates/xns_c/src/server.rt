@@ -4,24 +4,24 @@ ghost use Rattle.std.specs.Prelude.{◌≡◌, ◌≢◌, ◌<◌, ◌≤◌, �
 ghost use Rattle.xns_spp.specs.State.{State};
 ghost use Rattle.xns_spp.specs.declared.item.Item.{Item};
 ghost use Rattle.courier_messages.specs.declared.message.Message.{Message};
-ghost use Rattle.xns_c_parts.specs.Answering.{Answering, new_answering, is_busy, after_item, feed_number, IsStopped, after_call, call_refusal, after_reject, answer_given, answers_to, answer_number, answered};
+ghost use Rattle.courier_sessions.specs.Answering.{Answering, new_answering, is_busy, after_call, why_unlisted, after_reject, answer_message, answers_to, answered};
+ghost use Rattle.courier_sessions.specs.Pumping.{server_side};
+ghost use Rattle.courier_sessions.specs.declared.answer.Answer.{Answer};
+ghost use Rattle.courier_sessions.specs.declared.unlisted.Unlisted.{Unlisted};
 ghost use Rattle.xns_c_parts.specs.Courier.{MessageIsGiven};
 ghost use Rattle.xns_c_parts.specs.Given.{ItemIsGiven};
 ghost use Rattle.xns_c_parts.specs.Handle.{answering_of, line_of};
 ghost use Rattle.xns_c_parts.specs.Line.{Keeps, packets_of};
-ghost use Rattle.xns_c_parts.specs.Pumping.{server_side, Pumped, IfBoth};
-ghost use Rattle.xns_c_parts.specs.Results.{ok, nothing, no_memory, no_endpoint, no_server, short_buffer, too_long};
-ghost use Rattle.xns_c_parts.specs.Talk.{longest_item};
+ghost use Rattle.xns_c_parts.specs.Results.{ok, nothing, no_memory, no_endpoint, no_server, short_buffer};
+ghost use Rattle.xns_c_parts.specs.Sessions.{answer_in, answer_number, FedTo, PumpedTo, IfBoth};
 ghost use Rattle.xns_c_parts.specs.Views.{item_given};
-ghost use Rattle.xns_c_parts.specs.declared.unlisted.Unlisted.{Unlisted};
 
+use courier_sessions::Program;
 use std::alloc::{AllocError, Global};
 use xns_c_parts::results::{NO_ENDPOINT, NO_MEMORY, NO_SERVER, OK};
-use xns_c_parts::{
-    ServerSession, XnsEndpoint, XnsItem, XnsMessage, XnsProgram, XnsServer, next_item, pump,
-};
+use xns_c_parts::{ServerSession, XnsEndpoint, XnsItem, XnsMessage, XnsServer};
 
-fn make_session(alloc: Global, programs: &[XnsProgram]) -> Result<Box<ServerSession>, AllocError>
+fn make_session(alloc: Global, programs: &[Program]) -> Result<Box<ServerSession>, AllocError>
     ensures { IfOk result (λ b. b.value ≡ new_answering programs.now) }
 {
     let session = ServerSession::new(alloc, programs)?;
@@ -33,11 +33,7 @@ fn make_session(alloc: Global, programs: &[XnsProgram]) -> Result<Box<ServerSess
 ///
 /// `NO_MEMORY` where memory is refused. The handle then has no session.
 #[unsafe(no_mangle)]
-pub extern "C" fn xns_server_new(
-    alloc: Global,
-    handle: &mut XnsServer,
-    programs: &[XnsProgram],
-) -> u32
+pub extern "C" fn xns_server_new(alloc: Global, handle: &mut XnsServer, programs: &[Program]) -> u32
     ensures made { result ≡ ok → answering_of handle.new ≡ Some (new_answering programs.now) }
     ensures memory { result ≢ ok → (result ≡ no_memory) × (answering_of handle.new ≡ None) }
 {
@@ -72,14 +68,8 @@ pub extern "C" fn xns_server_feed(
     last: u8,
     body: &[u8],
 ) -> u32
-    ensures number { (a : Answering) → answering_of handle.old ≡ Some a → result ≢ no_memory → result ≡ feed_number a (item_given stream 0 last body.now) }
-    ensures heard { (a n : Answering) → answering_of handle.old ≡ Some a → result ≡ ok → after_item a (item_given stream 0 last body.now) ≡ Ok n → answering_of handle.new ≡ Some n }
-    ensures memory { (a : Answering) → answering_of handle.old ≡ Some a → result ≡ no_memory → (a.failed ≡ false) × (is_busy a ≡ false) × (answering_of handle.new ≡ Some a) }
-    ensures stops { (a : Answering) → answering_of handle.old ≡ Some a → a.failed ≡ false → is_busy a ≡ false → result ≢ ok → result ≢ no_memory → result ≢ too_long → IfSome (answering_of handle.new) (IsStopped a) }
-    ensures unheard { result ≡ too_long → (longest_item < length body.now) × (answering_of handle.new ≡ answering_of handle.old) }
+    ensures fed { (a : Answering) → answering_of handle.old ≡ Some a → IfSome (answering_of handle.new) (FedTo server_side a (item_given stream 0 last body.now) result) }
     ensures stays { (a : Answering) → answering_of handle.old ≡ Some a → answering_of handle.new ≢ None }
-    ensures waits { (a : Answering) → answering_of handle.old ≡ Some a → is_busy a ≡ true → answering_of handle.new ≡ Some a }
-    ensures stopped { (a : Answering) → answering_of handle.old ≡ Some a → a.failed ≡ true → answering_of handle.new ≡ Some a }
     ensures none { answering_of handle.old ≡ None → (result ≡ no_server) × (answering_of handle.new ≡ None) }
 {
     let Some(mut session) = handle.take(alloc) else {
@@ -119,11 +109,11 @@ pub extern "C" fn xns_server_call(
     words: &mut [u16],
     count: &mut usize,
 ) -> u32
-    ensures given { (a : Answering) (m : Message) → answering_of handle.old ≡ Some a → a.call ≡ Some m → call_refusal a.programs m ≡ None →
+    ensures given { (a : Answering) (m : Message) → answering_of handle.old ≡ Some a → a.call ≡ Some m → why_unlisted a.programs m ≡ None →
         MessageIsGiven m call.new words.old words.new count.new result }
     ensures rest { (a : Answering) (m : Message) → answering_of handle.old ≡ Some a → a.call ≡ Some m → result ≡ ok →
-        (call_refusal a.programs m ≡ None) × (answering_of handle.new ≡ Some (after_call a m)) }
-    ensures rejects { (a : Answering) (m : Message) (u : Unlisted) → answering_of handle.old ≡ Some a → a.call ≡ Some m → call_refusal a.programs m ≡ Some u → result ≢ no_memory →
+        (why_unlisted a.programs m ≡ None) × (answering_of handle.new ≡ Some (after_call a m)) }
+    ensures rejects { (a : Answering) (m : Message) (u : Unlisted) → answering_of handle.old ≡ Some a → a.call ≡ Some m → why_unlisted a.programs m ≡ Some u → result ≢ no_memory →
         (result ≡ nothing) × (answering_of handle.new ≡ Some (after_reject a m u)) × (count.new ≡ count.old) }
     ensures nothing { (a : Answering) → answering_of handle.old ≡ Some a → a.call ≡ None → (result ≡ nothing) × (answering_of handle.new ≡ Some a) × (count.new ≡ count.old) }
     ensures none { answering_of handle.old ≡ None → (result ≡ no_server) × (answering_of handle.new ≡ None) × (count.new ≡ count.old) }
@@ -153,10 +143,10 @@ pub extern "C" fn xns_server_answer(
     number: u16,
     words: &[u16],
 ) -> u32
-    ensures number { (a : Answering) → answering_of handle.old ≡ Some a → result ≢ no_memory → result ≡ answer_number (answers_to a kind) kind number words.now }
-    ensures memory { (a : Answering) → answering_of handle.old ≡ Some a → result ≡ no_memory → answer_number (answers_to a kind) kind number words.now ≡ ok }
-    ensures answered { (a : Answering) (k : ℕ) (m : Message) → answering_of handle.old ≡ Some a → answers_to a kind ≡ Some k → answer_given kind k number words.now ≡ Some m →
-        result ≡ ok → answering_of handle.new ≡ Some (answered a m) }
+    ensures number { (a : Answering) → answering_of handle.old ≡ Some a → result ≢ no_memory → result ≡ answer_number a (answer_in kind number) words.now }
+    ensures memory { (a : Answering) → answering_of handle.old ≡ Some a → result ≡ no_memory → answer_number a (answer_in kind number) words.now ≡ ok }
+    ensures answered { (a : Answering) (answer : Answer) (k : ℕ) → answering_of handle.old ≡ Some a → answer_in kind number ≡ Some answer → answers_to a answer ≡ Some k →
+        result ≡ ok → answering_of handle.new ≡ Some (answered a (answer_message answer k words.now)) }
     ensures none { answering_of handle.old ≡ None → result ≡ no_server }
     ensures unchanged { result ≢ ok → answering_of handle.new ≡ answering_of handle.old }
 {
@@ -189,7 +179,7 @@ pub extern "C" fn xns_server_next_item(
     let Some(mut session) = handle.take(alloc) else {
         return NO_SERVER;
     };
-    let result = next_item(&mut *session, item, buffer);
+    let result = session.next_item(item, buffer);
     handle.put(session);
     result
 }
@@ -206,7 +196,7 @@ pub extern "C" fn xns_server_pump(
     endpoint: &mut XnsEndpoint,
 ) -> u32
     ensures pumped { (a : Answering) (s : State) → answering_of handle.old ≡ Some a → Keeps (line_of endpoint.old) s →
-        IfBoth (answering_of handle.new) (line_of endpoint.new) (λ n l. Pumped server_side IsStopped (a, s) result n l.endpoint) }
+        IfBoth (answering_of handle.new) (line_of endpoint.new) (λ n l. PumpedTo server_side (a, s) result n l.endpoint) }
     ensures packets { packets_of (line_of endpoint.new) ≡ packets_of (line_of endpoint.old) }
     ensures no_server { answering_of handle.old ≡ None → (result ≡ no_server) × (answering_of handle.new ≡ None) × (line_of endpoint.new ≡ line_of endpoint.old) }
     ensures no_endpoint { answering_of handle.old ≢ None → line_of endpoint.old ≡ None → (result ≡ no_endpoint) × (answering_of handle.new ≡ answering_of handle.old) × (line_of endpoint.new ≡ None) }
@@ -218,7 +208,7 @@ pub extern "C" fn xns_server_pump(
         handle.put(session);
         return NO_ENDPOINT;
     };
-    let result = pump(&mut *session, alloc, &mut connection);
+    let result = session.pump(alloc, &mut connection);
     endpoint.put(connection);
     handle.put(session);
     result

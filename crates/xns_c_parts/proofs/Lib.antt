@@ -1,12 +1,6 @@
 pub mod Values
 pub mod Owned
 pub mod Sizes
-pub mod Told
-pub mod Done
-pub mod Hearing
-pub mod Answered
-pub mod Agree
-pub mod Room
-pub mod Pumps
 pub mod Arrivals
 pub mod Peers
+pub mod Sessions

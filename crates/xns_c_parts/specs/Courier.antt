@@ -1,5 +1,5 @@
 -- Courier's messages, as C has them.
-use Rattle.std.specs.Prelude.{◌≡◌, ◌<◌, ◌≤◌, ℕ, ◌==◌, ◌||◌, if◌then◌else◌, List, length, Option, Some, None, Result, Ok, Err}
+use Rattle.std.specs.Prelude.{◌≡◌, ◌<◌, ◌≤◌, ℕ, ◌==◌, ◌||◌, if◌then◌else◌, List, length, Option, Some, None}
 use Rattle.courier_messages.specs.declared.fault.MessageFault.{MessageFault}
 use Rattle.courier_messages.specs.declared.fault.MessageFault.TheVariants.{OddLength, ShortMessage, UnknownKind, TooLong}
 use Rattle.courier_messages.specs.declared.message.Message.{Message}
@@ -53,8 +53,3 @@ session_fault_number BadReply = 54
 session_fault_number (Stream kind) = stream_number kind
 session_fault_number NoMemory = no_memory
 session_fault_number Failed = stopped
-
--- what is told of an item
-abbrev pub heard_number : {A : Type 0} → Result A SessionFault → ℕ
-heard_number (Ok t) = ok
-heard_number (Err e) = session_fault_number e

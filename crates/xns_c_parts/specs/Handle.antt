@@ -1,9 +1,9 @@
 -- What a handle of C's stands for.
 use Rattle.std.specs.Prelude.{Option}
-use Rattle.xns_c_parts.specs.Answering.{Answering}
+use Rattle.courier_sessions.specs.Answering.{Answering}
 use Rattle.xns_c_parts.specs.Line.{Line}
 use Rattle.xns_c_parts.specs.Listening.{Listening}
-use Rattle.xns_c_parts.specs.Talk.{Talk}
+use Rattle.courier_sessions.specs.Talk.{Talk}
 use Rattle.xns_c_parts.specs.declared.caller_handle.XnsCaller.{XnsCaller}
 use Rattle.xns_c_parts.specs.declared.handle.XnsEndpoint.{XnsEndpoint}
 use Rattle.xns_c_parts.specs.declared.listener_handle.XnsListener.{XnsListener}

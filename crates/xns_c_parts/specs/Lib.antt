@@ -7,9 +7,4 @@ pub mod Peers
 pub mod Handle
 pub mod Given
 pub mod Courier
-pub mod Talk
-pub mod Talks
-pub mod Answering
-pub mod Answerings
-pub mod Room
-pub mod Pumping
+pub mod Sessions

@@ -59,6 +59,9 @@ busy = 57
 abbrev pub closing : ℕ
 closing = 58
 
+abbrev pub attention : ℕ
+attention = 59
+
 abbrev pub truncated : ℕ
 truncated = 71
 

@@ -1,14 +1,14 @@
 ghost use Rattle.std.specs.Prelude.{◌≡◌, ◌≢◌, ◌<◌, ◌≤◌, ℕ, List, [], ◌∷◌, length, OnOk, OnErr, IfOk, IfSome, Some, None, option_copied};
-ghost use Rattle.std.specs.Option.{is_some};
 ghost use Rattle.xns_idp.specs.Packet.{most_packet};
 ghost use Rattle.xns_spp.specs.Ends.{is_open};
 ghost use Rattle.xns_spp.specs.Held.{StandsFor};
 ghost use Rattle.xns_spp.specs.Item.{IsShortItem};
 ghost use Rattle.xns_spp.specs.Packet.{most_body};
 ghost use Rattle.xns_spp.specs.Receiving.{receive_answer, after_receive, NeedsMemory, is_ours};
-ghost use Rattle.xns_spp.specs.Sending.{send_fault, send_answer, after_send, is_full, waiting_count, flush_answer, after_flush, tick_answer, after_tick, take_answer, after_take};
+ghost use Rattle.xns_spp.specs.Sending.{send_answer, after_send, is_full, waiting_count, flush_answer, after_flush, tick_answer, after_tick, take_answer, after_take};
 ghost use Rattle.xns_spp.specs.State.{State};
 ghost use Rattle.xns_spp.specs.Telling.{told_answer, resend_answer, after_resend, unacknowledged_count, room_to_send, own_name, peer_name};
+ghost use Rattle.courier_sessions.specs.Pumping.{Pumped};
 ghost use Rattle.xns_c_parts.specs.Given.{IsPut};
 ghost use Rattle.xns_c_parts.specs.Results.{ok, nothing, no_memory, short_buffer, too_long, send_number};
 ghost use Rattle.xns_c_parts.specs.Views.{item_given};
@@ -16,6 +16,7 @@ ghost use Rattle.xns_c_parts.specs.Views.{item_given};
 use crate::front::{put_front, put_made};
 use crate::laws::packets_have_their_sizes;
 use crate::results::{NO_MEMORY, NOTHING, OK, TOO_LONG, send_fault_number};
+use courier_sessions::{FeedRefusal, WordSide, pump};
 use std::alloc::{AllocError, Global};
 use std::marker::Model;
 use xns_idp::Address;
@@ -119,19 +120,12 @@ impl Connection {
         self.endpoint.first_waiting()
     }
 
-    /// Whether an item would be refused.
-    pub fn refuses(&self, item: &Item) -> bool
-        ensures { (s : State) → StandsFor self.now.endpoint s → result ≡ is_some (send_fault s item.now) }
-    {
-        self.endpoint.send_fault(item).is_some()
-    }
-
-    /// Accepts an item, unless it would be refused: that one is let go.
-    pub fn accept(&mut self, item: Item)
-        ensures stands { (s : State) → StandsFor self.old.endpoint s → StandsFor self.new.endpoint (after_send s item) }
+    /// Moves items both ways between a side of a conversation and the endpoint until nothing moves.
+    pub fn pump<S: WordSide>(&mut self, side: &mut S, alloc: Global) -> Result<(), FeedRefusal>
+        ensures pumped { (s : State) → StandsFor self.old.endpoint s → Pumped S.side (side.old, s) result side.new self.new.endpoint }
         ensures packets { self.new.packets ≡ self.old.packets }
     {
-        let _ = self.endpoint.send(item);
+        pump(side, alloc, &mut self.endpoint)
     }
 
     /// Takes in the bytes of a packet.

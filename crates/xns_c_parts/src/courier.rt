@@ -64,26 +64,6 @@ pub fn session_fault_number(fault: SessionFault) -> u32
     }
 }
 
-/// What is told of an item that a session took in. A fault stops the session; where memory is refused it goes on.
-pub fn told(taken: Result<(), SessionFault>, failed: &mut bool) -> u32
-    ensures good { taken ≡ Ok tt → result ≡ ok }
-    ensures ok { result ≡ ok → taken ≡ Ok tt }
-    ensures err { (fault : SessionFault) → taken ≡ Err fault → result ≡ session_fault_number fault }
-    ensures memory { result ≡ no_memory → taken ≡ Err NoMemory }
-    ensures stays { (result ≡ ok) ⊎ (result ≡ no_memory) → failed.new ≡ failed.old }
-    ensures stops { result ≢ ok → result ≢ no_memory → failed.new ≡ true }
-    ensures apart { result ≢ too_long }
-{
-    match taken {
-        Ok(()) => OK,
-        Err(SessionFault::NoMemory) => NO_MEMORY,
-        Err(fault) => {
-            *failed = true;
-            session_fault_number(fault)
-        }
-    }
-}
-
 /// The program, version and procedure that a call with this head names; 0 for each where it is no call's.
 pub fn procedure_of(head: Head) -> (u32, u16, u16)
     ensures { (transaction program version procedure : ℕ) → head ≡ Call transaction program version procedure → result ≡ (program, version, procedure) }

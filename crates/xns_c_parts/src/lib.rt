@@ -1,5 +1,5 @@
-//! What the library for C, `xns_c`, is made of: both sides of a Courier conversation over words, the connections behind one socket, and their
-//! handles. Nothing of it is exported.
+//! What the library for C, `xns_c`, is made of: the sides of a Courier conversation with C's numbers and buffers, the connections behind one
+//! socket, and their handles. Nothing of it is exported.
 //!
 //! C keeps each by its handle, and is told of each by a number of `results`.
 #![tactic(auto)]
@@ -12,6 +12,7 @@ mod connection;
 mod courier;
 mod flag;
 mod front;
+mod giving;
 mod guest;
 mod handle;
 mod handling;
@@ -22,19 +23,15 @@ mod listener_handle;
 mod listener_handling;
 mod loose;
 mod message;
-mod outgoing;
 mod owner;
 mod peer;
-mod program;
-mod pumping;
 mod received;
 pub mod results;
 mod server_handle;
 mod server_handling;
 mod server_session;
 mod session;
-mod talker;
-mod unlisted;
+mod told;
 
 pub use address::{XnsAddress, tell_end};
 pub use arrived::Arrived;
@@ -49,11 +46,7 @@ pub use item::XnsItem;
 pub use listener::Listener;
 pub use listener_handle::XnsListener;
 pub use message::XnsMessage;
-pub use outgoing::next_item;
-pub use program::XnsProgram;
-pub use pumping::pump;
 pub use received::XnsReceived;
 pub use server_handle::XnsServer;
 pub use server_session::ServerSession;
 pub use session::Session;
-pub use talker::Talker;

@@ -57,6 +57,9 @@ pub const BUSY: u32 = 57;
 /// The peer closes the connection.
 pub const CLOSING: u32 = 58;
 
+/// An attention item came, of which Courier has none.
+pub const ATTENTION: u32 = 59;
+
 /// The words end before the value does.
 pub const TRUNCATED: u32 = 71;
 

@@ -1,7 +1,7 @@
 ghost use Rattle.std.specs.Prelude.{Option};
 ghost use Rattle.std.specs.Coded.{coded_option};
 ghost use Rattle.xns_c_parts.specs.Owned.{owned_if};
-ghost use Rattle.xns_c_parts.specs.Answering.{Answering};
+ghost use Rattle.courier_sessions.specs.Answering.{Answering};
 ghost use Rattle.xns_c_parts.specs.contracts.server_session.ServerSession.{the_row};
 
 use std::marker::Model;

@@ -1,6 +1,6 @@
 use Rattle.std.proofs.Common.{◌∙◌, ap}
 use Rattle.xns_c_parts.specs.Handle.{talk_of}
-use Rattle.xns_c_parts.specs.Talk.{Talk}
+use Rattle.courier_sessions.specs.Talk.{Talk}
 use Rattle.xns_c.proofs.Kept.{kept}
 use Rattle.xns_c.proofs.caller.xns_caller_next_item.Goals as goal
 

@@ -1,5 +1,0 @@
-use Rattle.std.proofs.Common.{rules}
-use Rattle.xns_c_parts.proofs.pumping.send_first.Goals as goal
-
-pub returns-in-Some-take_out-clause-sent : goal.returns-in-Some-take_out-clause-sent
-returns-in-Some-take_out-clause-sent g c = search rules

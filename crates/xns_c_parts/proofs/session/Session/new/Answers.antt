@@ -1,5 +1,0 @@
-use Rattle.std.proofs.Common.{false, None}
-use Rattle.xns_c_parts.proofs.session.Session.new.Goals as goal
-
-pub returns : goal.returns
-returns c = λ i. record { phase = c.new.ensures i; out = c.in_ok-versions.ensures i; failed = false; transaction = 0; waiting = false; outcome = None }

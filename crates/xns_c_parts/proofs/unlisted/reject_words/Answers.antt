@@ -1,5 +1,0 @@
-use Rattle.std.proofs.Common.{rules}
-use Rattle.xns_c_parts.proofs.unlisted.reject_words.Goals as goal
-
-pub returns-in-Version : goal.returns-in-Version
-returns-in-Version c = search rules
