@@ -8,7 +8,7 @@ use Rattle.xns_sim.specs.declared.script_taker.ScriptTaker.{ScriptTaker}
 use Rattle.xns_lines.specs.Faults.{AppendsPart, IsJustified}
 use Rattle.xns_lines.specs.Lines.{IsWithinLimits, lines_of, most_lines}
 use Rattle.xns_lines.specs.Lines.Cutter.{StandsAfter, StopsShort}
-use Rattle.xns_sim.specs.Sim.{HasLeft, StopsIn, is_script_refused, script_lines, script_text, sim_text}
+use Rattle.xns_sim.specs.Sim.{HasLeft, SimStopsIn, is_script_refused, script_lines, script_text, sim_text}
 use Rattle.xns_sim.specs.Sim.Script.{HasReadAll, never, stands_for}
 use Rattle.xns_lines.specs.declared.fault.RunFault.{RunFault}
 use Rattle.xns_lines.specs.declared.fault.RunFault.TheVariants as fault
@@ -40,7 +40,7 @@ nothing_left fault.LineTooLong t input first mid lines h = h.1
 nothing_left fault.TooManyLines t input first mid lines h = h.1
 nothing_left fault.NoMemory t input first mid lines h = h.1
 
-pub some_read : (start left first mid : Option (List ℕ)) (t0 t : ScriptTaker) (f : RunFault) → HasRead t0.script [] → IfSome start (TakesSome left first mid t0 t f) → IfSome start (λ input. StopsIn input left first mid f)
+pub some_read : (start left first mid : Option (List ℕ)) (t0 t : ScriptTaker) (f : RunFault) → HasRead t0.script [] → IfSome start (TakesSome left first mid t0 t f) → IfSome start (λ input. SimStopsIn input left first mid f)
 some_read start left first mid t0 t f new some = if_some _ _ start some (λ input h.
     let said = h.2 first (new, refl) in
     record {
@@ -61,7 +61,7 @@ abbrev pub Makes : Script → List ℕ → Type 0
 Makes s text = (lines : List (List ℕ)) → HasRead s lines → text ≡ script_text lines
 
 -- the whole input was read before the fault
-stops_behind : (input : List ℕ) (left first mid after : Option (List ℕ)) (s : Script) (f : RunFault) → HasReadAll s input left first mid → IsJustified most_lines f input (lines_of input) [] → HasLeft f input first after → StopsIn input left first after f
+stops_behind : (input : List ℕ) (left first mid after : Option (List ℕ)) (s : Script) (f : RunFault) → HasReadAll s input left first mid → IsJustified most_lines f input (lines_of input) [] → HasLeft f input first after → SimStopsIn input left first after f
 stops_behind input left first mid after s f h shown written = record {
   read = input;
   consumed = h.consumed;
@@ -74,12 +74,12 @@ stops_behind input left first mid after s f h shown written = record {
 }
 
 -- memory was refused once the whole input was read
-pub unmade : (start left first mid : Option (List ℕ)) (s : Script) → IfSome start (λ input. HasReadAll s input left first mid) → IfSome start (λ input. StopsIn input left first mid fault.NoMemory)
+pub unmade : (start left first mid : Option (List ℕ)) (s : Script) → IfSome start (λ input. HasReadAll s input left first mid) → IfSome start (λ input. SimStopsIn input left first mid fault.NoMemory)
 unmade start left first mid s all = if_some _ _ start all (λ input h. stops_behind input left first mid mid s fault.NoMemory h tt h.unwritten)
 
 -- a write failed
 pub unwritten : (start left first mid after : Option (List ℕ)) (s : Script) (text : List ℕ) (f : RunFault) → (f ≡ fault.Write) × AppendsPart mid after text → Makes s text
-    → IfSome start (λ input. HasReadAll s input left first mid) → IfSome start (λ input. StopsIn input left first after f)
+    → IfSome start (λ input. HasReadAll s input left first mid) → IfSome start (λ input. SimStopsIn input left first after f)
 unwritten start left first mid after s text f failed made all = if_some _ _ start all (λ input h. rw failed.0 (stops_behind input left first mid after s fault.Write h tt
     (subst (λ (t : List ℕ). AppendsPart first after t) (made (script_lines input) h.read) (subst (λ (m : Option (List ℕ)). AppendsPart m after text) h.unwritten failed.1))))
 

@@ -42,7 +42,7 @@ HasLeft fault.Write input before after = AppendsPart before after (sim_text inpu
 HasLeft _ input before after = after ≡ before
 
 -- what was read is the front of the input that is no longer left; of its lines these are good and those come next, which shows the fault
-pub record StopsIn (input : List ℕ) (left before after : Option (List ℕ)) (f : RunFault) : Type 0 where
+pub record SimStopsIn (input : List ℕ) (left before after : Option (List ℕ)) (f : RunFault) : Type 0 where
   pub read : List ℕ
   pub consumed : Consumes (Some input) left read
   pub good : List (List ℕ)

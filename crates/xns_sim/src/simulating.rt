@@ -2,7 +2,7 @@
 ghost use Rattle.std.specs.Prelude.{◌≡◌, IfErr, IfOk, IfSome, OnOk};
 ghost use Rattle.std.specs.Io.KnownBytes.{Appends};
 ghost use Rattle.xns_lines.specs.Lines.{IsWithinLimits, most_lines};
-ghost use Rattle.xns_sim.specs.Sim.{StopsIn, is_script_refused, sim_text};
+ghost use Rattle.xns_sim.specs.Sim.{SimStopsIn, is_script_refused, sim_text};
 ghost use Rattle.xns_sim.specs.Sim.Script.{HasReadAll};
 
 use crate::playing::play_script;
@@ -37,9 +37,10 @@ pub fn sim<R: Read, W: Write>(
     ensures refused { IfOk result (λ refused. IfSome (R.remaining reader.old) (λ input. refused ≡ is_script_refused input)) }
     ensures limits { OnOk result (IfSome (R.remaining reader.old) (IsWithinLimits most_lines)) }
 
-    // After a failed write a prefix of that text is written, and after any other fault nothing; what was read shows a limit that was passed.
+    // After a failed write a prefix of that text is written, and after any other fault nothing; what was read shows a
+    // limit that was passed.
     ensures fault { IfErr result (λ fault. IfSome (R.remaining reader.old) (λ input.
-        StopsIn input (R.remaining reader.new) (W.contents writer.old) (W.contents writer.new) fault)) }
+        SimStopsIn input (R.remaining reader.new) (W.contents writer.old) (W.contents writer.new) fault)) }
 {
     let script = read_script(alloc, reader, writer)?;
     let Ok(text) = play_script(alloc, &script) else {
@@ -58,7 +59,7 @@ fn read_script<R: Read, W: Write>(
     ensures ok { IfOk result (λ script. IfSome (R.remaining reader.old) (λ input.
         HasReadAll script input (R.remaining reader.new) (W.contents writer.old) (W.contents writer.new))) }
     ensures err { IfErr result (λ fault. IfSome (R.remaining reader.old) (λ input.
-        StopsIn input (R.remaining reader.new) (W.contents writer.old) (W.contents writer.new) fault)) }
+        SimStopsIn input (R.remaining reader.new) (W.contents writer.old) (W.contents writer.new) fault)) }
 {
     let mut taker = ScriptTaker::new(alloc);
     take_lines(alloc, MOST_LINES, reader, &mut taker, writer)?;

@@ -30,7 +30,8 @@ pub(crate) struct Played<'a> {
 /// Appends the text of a play.
 #[tactic(auto, unfolding(crate::specs::Sim::Trace::trace_text))]
 pub(crate) fn append_trace(text: &mut Report, played: &Played<'_>) -> Result<(), AllocError>
-    ensures { Adds result text.old text.new (trace_text played.now.calls played.now.carried (map seen_model played.now.seen.now) played.now.total played.now.packets) }
+    ensures { Adds result text.old text.new (trace_text played.now.calls played.now.carried (map seen_model played.now.seen.now)
+        played.now.total played.now.packets) }
 {
     append_count(text, b"calls ", played.calls)?;
     append_count(text, b"carried ", played.carried)?;

@@ -28,7 +28,9 @@ outcome_lines k (seen ∷ more) = outcome_line k seen ++ outcome_lines (k + 1) m
 unfoldable pub count_line : List ℕ → ℕ → List ℕ
 count_line name number = name ++ decimal number ++ codes "\n"
 
--- how many calls there are, how many the server decided, the outcomes that the caller saw, the tally's total, and how many packets were sent
+-- how many calls there are, how many the server decided, the outcomes that the caller saw, the tally's total, and how
+-- many packets were sent
 unfoldable pub trace_text : ℕ → ℕ → List SeenModel → ℕ → ℕ → List ℕ
 trace_text calls carried seen total packets =
-    count_line (codes "calls ") calls ++ count_line (codes "carried ") carried ++ outcome_lines 1 seen ++ count_line (codes "total ") total ++ count_line (codes "packets ") packets
+    count_line (codes "calls ") calls ++ count_line (codes "carried ") carried ++ outcome_lines 1 seen
+    ++ count_line (codes "total ") total ++ count_line (codes "packets ") packets
