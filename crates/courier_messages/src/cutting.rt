@@ -15,6 +15,7 @@ use xns_spp::{Bytes, Item, MOST_BODY};
 const WORDS_AN_ITEM: usize = MOST_BODY / 2;
 
 #[tactic(auto, using(crate::proofs::Cuts::bytes_length))]
+#[inline(always)]
 fn make_item(alloc: Global, last: bool, words: &[u16]) -> Result<Item, AllocError>
     requires { 2 * length words.now ≤ most_body }
     ensures { IfOk result (λ x. x ≡ message_item last (bytes_of words.now)) }
@@ -56,6 +57,7 @@ pub fn versions(alloc: Global) -> Result<VecDeque<Item>, AllocError>
 /// Puts the items that the words of a message go out in behind those that are out. The only error is want of
 /// memory, after which `out` holds what it held.
 #[tactic(auto, using(crate::proofs::Cuts::last_item))]
+#[inline(always)]
 pub fn put_out(alloc: Global, words: &[u16], out: &mut VecDeque<Item>) -> Result<(), AllocError>
     ensures ok { OnOk result (out.new.items ≡ out.old.items ++ cut_bytes (bytes_of words.now)) }
     ensures size { OnOk result (length (bytes_in out.new.items) ≡ length (bytes_in out.old.items) + 2 * length words.now) }

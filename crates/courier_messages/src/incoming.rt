@@ -96,6 +96,7 @@ fn range_in(pieces: &Pieces, body: &[u8]) -> Option<(u16, u16)>
 
 /// The words of the pieces behind those that are skipped.
 #[tactic(auto, using(crate::proofs::Ranges::words_skipped))]
+#[inline(always)]
 fn words_behind(pieces: &Pieces, skipped: usize) -> PieceWords<'_>
     requires { IsSkipped skipped pieces.now }
     ensures { result ≡ words_of (drop skipped pieces.now) }
@@ -110,6 +111,7 @@ fn words_behind(pieces: &Pieces, skipped: usize) -> PieceWords<'_>
 }
 
 /// What the message begins with that the pieces are.
+#[inline(always)]
 fn read_head_in(pieces: &Pieces, skipped: usize) -> Result<Head, MessageFault>
     requires skipped { IsSkipped skipped pieces.now }
     requires size { length pieces.now ≤ most_bytes + skipped }
@@ -152,6 +154,7 @@ fn take_range(pieces: &mut Pieces, body: Vec<u8>) -> Result<(Stage, usize), Sess
 
 /// More bytes of a message.
 #[tactic(auto, using(crate::proofs::Ranges::more_bytes, crate::proofs::Ranges::too_many_bytes))]
+#[inline(always)]
 fn take_more(pieces: &mut Pieces, skipped: usize, body: Vec<u8>) -> Result<(), SessionFault>
     requires skipped { IsSkipped skipped pieces.old }
     requires size { length pieces.old ≤ most_bytes + skipped }
@@ -170,6 +173,7 @@ fn take_more(pieces: &mut Pieces, skipped: usize, body: Vec<u8>) -> Result<(), S
 
 /// The first bytes behind the version range, if there are any: where one is then.
 #[tactic(auto, using(crate::proofs::Ranges::fresh_bytes, crate::proofs::Ranges::no_more_bytes))]
+#[inline(always)]
 fn take_first(pieces: &mut Pieces, body: Vec<u8>) -> Result<Stage, SessionFault>
     requires { pieces.old ≡ [] }
     ensures runs { IfOk result (λ stage. run fresh (map byte body.items) ≡ Ok (phase_in stage pieces.new)) }
@@ -217,6 +221,7 @@ impl Incoming {
     }
 
     /// More bytes.
+    #[inline(always)]
     fn take_body(&mut self, body: Vec<u8>) -> Result<(), SessionFault>
         ensures follows { Follows result (run self.old (map byte body.items)) self.new }
         ensures memory { result ≡ Err NoMemory → self.new ≡ self.old }
@@ -238,6 +243,7 @@ impl Incoming {
     }
 
     /// A mark, which may end a message.
+    #[inline(always)]
     fn take_mark(&mut self, alloc: Global) -> Result<Option<PiecedMessage>, SessionFault>
         ensures takes { Takes result (step self.old mark) (ended self.old mark) self.new }
         ensures memory { result ≡ Err NoMemory → ⊥ }
@@ -263,6 +269,7 @@ impl Incoming {
     /// One more item, which may end a message. Memory is only refused to bytes that are to be kept behind others and with which nothing is wrong: then
     /// nothing is changed, and the item can be given again. So the first piece of a message takes none.
     #[tactic(auto, using(crate::proofs::Runs::run_append, crate::proofs::Runs::said_append, crate::proofs::Runs::run_mark, crate::proofs::Runs::said_mark, crate::proofs::Runs::said_bytes))]
+    #[inline(always)]
     pub fn take(&mut self, alloc: Global, item: Item) -> Result<Option<PiecedMessage>, SessionFault>
         ensures takes { Takes result (run self.old (signs item)) (said self.old (signs item)) self.new }
         ensures memory { result ≡ Err NoMemory → self.new ≡ self.old }

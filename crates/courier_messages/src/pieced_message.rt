@@ -34,6 +34,7 @@ impl Model for PiecedMessage {
 }
 
 impl PiecedMessage {
+    #[inline(always)]
     pub fn new(head: Head, pieces: Pieces, skipped: usize) -> PiecedMessage
         ensures { result ≡ with_words head (drop skipped (words_of pieces)) }
     {
@@ -44,6 +45,7 @@ impl PiecedMessage {
         }
     }
 
+    #[inline(always)]
     pub fn head(&self) -> Head
         ensures { self.now ≡ with_words result (words_in self.now) }
     {
@@ -51,6 +53,7 @@ impl PiecedMessage {
     }
 
     /// The message's words, written out once.
+    #[inline(always)]
     pub fn words(&self, alloc: Global) -> Result<Words, AllocError>
         ensures words { IfOk result (λ w. w ≡ words_in self.now) }
         // It is refused memory only where there are words.
@@ -75,6 +78,7 @@ impl PiecedMessage {
 
     /// How many words the message has of its own.
     #[tactic(auto, using(crate::proofs::Wholes::left_behind))]
+    #[inline(always)]
     pub fn word_count(&self) -> usize
         ensures { result ≡ length (words_in self.now) }
     {
@@ -83,6 +87,7 @@ impl PiecedMessage {
 
     /// The value that all of the message's words spell, if there is one.
     #[tactic(auto, unfolding(crate::specs::Whole::whole))]
+    #[inline(always)]
     pub fn value(&self, alloc: Global, shape: &Shape) -> Result<Option<Value>, AllocError>
         requires { IsChecked (shape_model shape.now) }
         ensures whole { IfOk result (λ o. option_map value_model o ≡ whole (shape_model shape.now) (words_in self.now)) }

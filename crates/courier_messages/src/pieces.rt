@@ -26,6 +26,7 @@ impl Kept {
         Kept::One(Vec::new(alloc))
     }
 
+    #[inline(always)]
     fn as_slice(&self) -> &[Vec<u8>]
         ensures { joined result.now ≡ bytes_kept self.now }
     {
@@ -37,6 +38,7 @@ impl Kept {
 
     /// One more piece.
     #[tactic(auto, using(crate::proofs::Joins::joined_push))]
+    #[inline(always)]
     fn push(&mut self, alloc: Global, piece: Vec<u8>) -> Result<(), AllocError>
         ensures ok { OnOk result (bytes_kept self.new ≡ bytes_kept self.old ++ piece.items) }
         ensures err { OnErr result (bytes_kept self.new ≡ bytes_kept self.old) }
@@ -96,12 +98,14 @@ impl Pieces {
     }
 
     /// How many bytes there are.
+    #[inline(always)]
     pub fn len(&self) -> usize
         ensures { result ≡ length self.now }
     {
         self.count
     }
 
+    #[inline(always)]
     pub fn as_slice(&self) -> &[Vec<u8>]
         ensures { joined result.now ≡ self.now }
     {
@@ -116,6 +120,7 @@ impl Pieces {
     }
 
     /// The pieces; none are left behind.
+    #[inline(always)]
     pub fn take(&mut self, alloc: Global) -> Pieces
         ensures taken { result ≡ self.old }
         ensures left { self.new ≡ [] }
@@ -131,6 +136,7 @@ impl Pieces {
     }
 
     /// One more piece. The only error is want of memory, which a piece of no bytes never meets, nor the first one.
+    #[inline(always)]
     pub fn push(&mut self, piece: Vec<u8>) -> Result<(), AllocError>
         requires { length self.old + length piece.items < 2 ^ 64 }
         ensures ok { OnOk result (self.new ≡ self.old ++ piece.items) }

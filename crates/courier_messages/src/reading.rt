@@ -18,6 +18,7 @@ use std::alloc::{AllocError, Global};
 pub const MOST_BYTES: usize = 131_072;
 
 /// The next word, where there is one.
+#[inline(always)]
 pub fn take_word<S: WordSource>(source: &mut S) -> u16
     requires { 0 < length (S.words_left source.old) }
     ensures { S.words_left source.old ≡ result ∷ S.words_left source.new }
@@ -28,6 +29,7 @@ pub fn take_word<S: WordSource>(source: &mut S) -> u16
     }
 }
 
+#[inline(always)]
 fn read_call_head<S: WordSource>(transaction: u16, source: &mut S) -> Result<Head, MessageFault>
     ensures { ReadsHead result (S.words_left source.new) (call_in transaction (S.words_left source.old)) }
 {
@@ -68,6 +70,7 @@ fn read_abort_head<S: WordSource>(transaction: u16, source: &mut S) -> Result<He
 }
 
 /// What comes before a message's words.
+#[inline(always)]
 pub fn read_head<S: WordSource>(source: &mut S) -> Result<Head, MessageFault>
     ensures { ReadsHead result (S.words_left source.new) (message_in (S.words_left source.old)) }
 {
@@ -86,6 +89,7 @@ pub fn read_head<S: WordSource>(source: &mut S) -> Result<Head, MessageFault>
 }
 
 /// The words that are left, written out once. It is refused memory only where there are some.
+#[inline(always)]
 pub fn words_left<S: WordSource>(alloc: Global, source: &mut S) -> Result<Words, AllocError>
     ensures words { IfOk result (λ w. w ≡ S.words_left source.old) }
     ensures memory { OnErr result (0 < length (S.words_left source.old)) }

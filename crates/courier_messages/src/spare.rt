@@ -26,6 +26,7 @@ impl Spare {
     }
 
     /// No words, in the room that is kept or in new room.
+    #[inline(always)]
     pub fn take(&mut self, alloc: Global) -> Result<Vec<u16>, AllocError>
         ensures { IfOk result (λ w. w.items ≡ []) }
     {
@@ -36,6 +37,7 @@ impl Spare {
     }
 
     /// Keeps the room of words that are no longer wanted, where it is small.
+    #[inline(always)]
     pub fn keep(&mut self, words: Vec<u16>) {
         if words.capacity() <= FIRST_ROOM {
             self.room = words;
