@@ -1,5 +1,5 @@
 -- The numbers from 1 to n, in any order.
-use Rattle.std.proofs.Common.{zero, suc, ◌≡◌, ◌≢◌, ◌∙◌, ◌⊎◌, inl, inr, sym, ap, subst, refl, ℕ, ◌+◌, ◌-◌, ◌<◌, ◌≤◌, ◌==◌, Bool, true, false, List, [], ◌∷◌, ◌++◌, length, replicate, get_or, arith, add-one, length-append}
+use Rattle.std.proofs.Common.{zero, suc, ◌≡◌, ◌≢◌, ◌∙◌, ◌⊎◌, inl, inr, sym, ap, refl, ℕ, ◌+◌, ◌-◌, ◌<◌, ◌≤◌, ◌==◌, true, false, List, [], ◌∷◌, ◌++◌, length, replicate, get_or, arith, add-one, length-append}
 use Rattle.std.specs.Prelude.{IsPermutation, Option, Some, None, position}
 use Rattle.std.specs.Option.{is_none}
 use Rattle.std.proofs.lemmas.List.Quantifiers.{position-Some}

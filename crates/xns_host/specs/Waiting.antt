@@ -1,5 +1,5 @@
 -- When a connection says something again, asks its peer for a word, and is given up. Times are in milliseconds.
-use Rattle.std.specs.Prelude.{◌≡◌, ℕ, ◌+◌, ◌-◌, ◌*◌, ◌^◌, ◌<◌, ◌≤◌, Bool, true, false, ◌==◌, nat_le, min, if◌then◌else◌, Option, Some, None}
+use Rattle.std.specs.Prelude.{◌≡◌, ℕ, ◌+◌, ◌-◌, ◌*◌, ◌^◌, ◌≤◌, Bool, true, false, ◌==◌, nat_le, min, if◌then◌else◌, Option, Some, None}
 use Rattle.xns_host.specs.declared.act.Act.{Act}
 use Rattle.xns_host.specs.declared.act.Act.TheVariants.{Nothing, Again, Ask, GiveUp, Forget}
 use Rattle.xns_host.specs.declared.due.Due.{Due}

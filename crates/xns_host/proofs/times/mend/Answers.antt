@@ -1,4 +1,4 @@
-use Rattle.std.proofs.Common.{◌≡◌, ◌*◌, ◌+◌, ◌/◌, ◌≤◌, ℕ, Option, length, arith}
+use Rattle.std.proofs.Common.{◌≡◌, ◌*◌, ◌+◌, ◌/◌, ◌≤◌, arith}
 use Rattle.std.proofs.lemmas.List.{length-set}
 use Rattle.xns_host.specs.Times.{node, sooner}
 use Rattle.xns_host.proofs.Tree.{mended_above}

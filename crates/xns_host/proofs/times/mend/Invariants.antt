@@ -1,4 +1,4 @@
-use Rattle.std.proofs.Common.{◌≡◌, ◌+◌, ◌<◌, ◌≤◌, length}
+use Rattle.std.proofs.Common.{◌+◌, ◌<◌, ◌≤◌, length}
 use Rattle.xns_host.specs.Times.{IsTreeBut}
 use Rattle.xns_host.proofs.times.mend.Given as goal
 

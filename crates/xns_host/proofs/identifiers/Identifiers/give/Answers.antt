@@ -1,4 +1,4 @@
-use Rattle.std.proofs.Common.{rules, ◌≡◌, ◌∙◌, ap, sym, refl, ℕ, ◌+◌, ◌<◌, ◌++◌, length, take, drop, position, slice_get, slice_set, Some}
+use Rattle.std.proofs.Common.{rules, ◌∙◌, ap, sym, refl, ℕ, ◌+◌, ◌<◌, ◌++◌, length, take, drop, position, slice_get, slice_set, Some}
 use Rattle.std.proofs.lemmas.List.{length-set}
 use Rattle.std.proofs.lemmas.Option.{slice_get_read}
 use Rattle.xns_host.specs.Identifiers.{Ids, is_free}
