@@ -316,22 +316,22 @@ run play
 expect 'another subcommand' 2 "error: unrecognized subcommand 'play'; the subcommands are dump, calls and sim; try 'xns --help'" "$work/nothing"
 
 run dump file
-expect 'a word too many' 2 "error: unexpected argument 'file' found; try 'xns --help'" "$work/nothing"
+expect 'a word too many' 2 "error: unexpected argument 'file' found; a command reads standard input, as in 'xns dump < FILE'; try 'xns --help'" "$work/nothing"
 
 run dump --loud
-expect 'an option that is none' 2 "error: unexpected argument '--loud' found; try 'xns --help'" "$work/nothing"
+expect 'an option that is none' 2 "error: unexpected argument '--loud' found; a command reads standard input, as in 'xns dump < FILE'; try 'xns --help'" "$work/nothing"
 
 run --loud
-expect 'an option before any subcommand' 2 "error: unexpected argument '--loud' found; try 'xns --help'" "$work/nothing"
+expect 'an option before any subcommand' 2 "error: unexpected argument '--loud' found; a command reads standard input, as in 'xns dump < FILE'; try 'xns --help'" "$work/nothing"
 
 run "$(printf 'dump\377')"
 expect 'a word that is not UTF-8' 2 "error: a word of the command line is not UTF-8; try 'xns --help'" "$work/nothing"
 
 run calls file
-expect 'a word too many behind calls' 2 "error: unexpected argument 'file' found; try 'xns --help'" "$work/nothing"
+expect 'a word too many behind calls' 2 "error: unexpected argument 'file' found; a command reads standard input, as in 'xns dump < FILE'; try 'xns --help'" "$work/nothing"
 
 run sim file
-expect 'a word too many behind sim' 2 "error: unexpected argument 'file' found; try 'xns --help'" "$work/nothing"
+expect 'a word too many behind sim' 2 "error: unexpected argument 'file' found; a command reads standard input, as in 'xns dump < FILE'; try 'xns --help'" "$work/nothing"
 
 for words in --help -h 'dump --help' 'dump -h' 'calls --help' 'sim --help' 'help' 'help dump' 'help calls' 'help sim'; do
     # shellcheck disable=SC2086
@@ -350,7 +350,8 @@ for words in --help 'dump --help' 'calls --help' 'sim --help'; do
     done
 done
 
-# The limits that help names are those that hold: a line of so many bytes and so many lines are read, and not one more.
+# The limits that help names are those that hold: a line of so many bytes and so many lines are read, and not one more. That of
+# `calls` names none of lines.
 for words in --help 'dump --help' 'calls --help' 'sim --help'; do
     # shellcheck disable=SC2086
     run $words
@@ -363,6 +364,11 @@ for words in --help 'dump --help' 'calls --help' 'sim --help'; do
     repeat $((bytes + 1)) ' ' > "$work/in"
     run dump
     expect "$words: a line of a byte more than '$bytes'" 3 'xns: line too long' -
+    if [ "$words" = 'calls --help' ]; then
+        [ -z "$lines" ]
+        saw "$words: names a limit of lines" $?
+        continue
+    fi
     repeat "$lines" '\n' > "$work/in"
     run dump
     expect "$words: '$lines' lines" 1 '' -
@@ -442,31 +448,37 @@ refuse_growths() {
     expect "$mode: a run that asks for fewer than $growth growths" "$fine" '' "$work/text"
 }
 
-# Each growth is refused in turn to a command line in error: its one line and 2, or 3. Both are seen.
+# Each growth is refused in turn to a command line in error: 2, by its one line or, where there is no memory for that, by the one that is
+# given second, or 3 where its words can't be read. All three are seen.
 refuse_mistaken() {
-    mistake=$1
-    shift
-    growth=1 told=0
+    mistake=$1 short=$2
+    shift 2
+    growth=1 told=0 shortly=0
     while [ $growth -le 1000 ]; do
         run_refusing $growth "$@"
         [ -e "$work/failed" ] || break
-        if [ "$ended" -eq 2 ]; then
+        if [ "$ended" -eq 3 ]; then
+            expect "$*: growth $growth refused" 3 'xns: no memory' "$work/nothing"
+        elif [ "$(cat "$work/err")" = "$short" ]; then
+            shortly=$((shortly + 1))
+            expect "$*: growth $growth refused, and said shortly" 2 "$short" "$work/nothing"
+        else
             told=$((told + 1))
             expect "$*: growth $growth refused, and done without" 2 "$mistake" "$work/nothing"
-        else
-            expect "$*: growth $growth refused" 3 'xns: no memory' "$work/nothing"
         fi
         growth=$((growth + 1))
     done
-    echo "$*: $((growth - 1)) growths were refused, $told of them done without"
-    [ $told -gt 0 ] && [ $told -lt $((growth - 1)) ]
-    saw "$*: not both 2 and 3 after a refused growth" $?
+    echo "$*: $((growth - 1)) growths were refused, $told of them done without, $shortly said shortly"
+    [ $told -gt 0 ] && [ $shortly -gt 0 ] && [ $((told + shortly)) -lt $((growth - 1)) ]
+    saw "$*: not each of the three after a refused growth" $?
     expect "$*: a run that asks for fewer than $growth growths" 2 "$mistake" "$work/nothing"
 }
 
 : > "$work/in"
-refuse_mistaken "error: unrecognized subcommand 'play'; the subcommands are dump, calls and sim; try 'xns --help'" play
-refuse_mistaken "error: unexpected argument 'extra' found; try 'xns --help'" dump extra
+refuse_mistaken "error: unrecognized subcommand 'play'; the subcommands are dump, calls and sim; try 'xns --help'" \
+    "error: the command line is wrong; the subcommands are dump, calls and sim; try 'xns --help'" play
+refuse_mistaken "error: unexpected argument 'extra' found; a command reads standard input, as in 'xns dump < FILE'; try 'xns --help'" \
+    "error: the command line is wrong; a command reads standard input, as in 'xns dump < FILE'; try 'xns --help'" dump extra
 
 { cat "$work/packet" && echo 5g; } > "$work/in"
 "$program" dump < "$work/in" > "$work/text"

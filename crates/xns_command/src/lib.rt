@@ -1,11 +1,13 @@
-//! What the program `xns` is asked to do, and the status that it ends with. How the words of its command line are read
-//! stands in `xns`.
+//! What the program `xns` is asked to do, the command that does it, and the status that it ends with. How the words of
+//! its command line are read stands in `xns`.
 #![tactic(auto)]
 
+mod commands;
 mod mode;
 mod refusal;
 mod status;
 
+pub use commands::perform;
 pub use mode::Mode;
 pub use refusal::Refusal;
 pub use status::{answer_status, refusal_status};

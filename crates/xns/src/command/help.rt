@@ -4,9 +4,10 @@
 pub const ABOUT: &str =
     "xns 0.1.0: reads packets of the Xerox Network Systems, and plays Courier calls";
 
-/// What `xns --help` says at its end.
+/// What `xns --help` says at its end. The pages that it names are those that `install.sh` installs.
 pub const HELP: &str = "\
-Each command reads lines from standard input, and writes lines to standard output:
+Each command reads lines from standard input, as in `xns dump < FILE`, and writes
+lines to standard output:
   dump   A line is one packet in hex. What its header and its body say is printed.
   calls  A line is one packet in hex. The Courier calls that the packets carry are
          printed, each once it is complete, and what came back.
@@ -14,7 +15,7 @@ Each command reads lines from standard input, and writes lines to standard outpu
 
 The hex of a packet begins at the checksum of the internet packet, right after the
 Ethernet header.
-A line has at most 4,096 bytes, and there are at most 65,536 lines.
+A line has at most 4,096 bytes. An input of dump or sim has at most 65,536 lines.
 
 Exit status:
   0    all is fine
@@ -29,8 +30,9 @@ Examples:
   printf '%s\\n' 'call add 5' 'tick a' rest rest rest rest rest | xns sim
 
 `xns dump --help`, `xns calls --help` and `xns sim --help` say more, and so does the
-manual page, `man xns`. docs/CAPTURES.md leads from a capture to its packets and
-calls; docs/FORMATS.md has every line that is read and printed.";
+manual page, `man xns`. CAPTURES.md leads from a capture to its packets and calls,
+FORMATS.md has every line that is read and printed: both are in docs/ of the source,
+and in share/doc/xns where xns is installed.";
 
 /// What `xns dump --help` says at its end.
 pub const DUMP_HELP: &str = "\
@@ -39,7 +41,8 @@ are ignored. The hex begins at the checksum of the internet packet, right after 
 Ethernet header.
 Two to four lines are printed for each packet: the fields of its header, and what
 its body says. Each begins with the number of the input line.
-A line has at most 4,096 bytes, and there are at most 65,536 lines.
+A line has at most 4,096 bytes, and there are at most 65,536 lines. A longer input is
+read in parts: `split -l 65536 --filter='xns dump || [ $? = 1 ]' < FILE`.
 
 Exit status: 0 all is fine, 1 a line was refused, 2 the command line is wrong,
 3 reading or writing failed, a limit was passed, or there was no memory.
@@ -47,8 +50,8 @@ Exit status: 0 all is fine, 1 a line was refused, 2 the command line is wrong,
 Example:
   echo 532300220002000000010000aa0001020002000000010000aa000304040000014869 | xns dump
 
-docs/FORMATS.md has each line that is printed; docs/CAPTURES.md leads from a capture
-to these lines.";
+FORMATS.md has each line that is printed, CAPTURES.md leads from a capture to these
+lines: both are in share/doc/xns where xns is installed.";
 
 /// What `xns calls --help` says at its end.
 pub const CALLS_HELP: &str = "\
@@ -57,10 +60,10 @@ checksum of the internet packet, right after the Ethernet header.
 A line is printed for each flow of items that begins; for each Courier call, return,
 reject and abort once it is complete, in however many packets it came; for items that
 the capture lacks; and for what is refused.
-Each begins with the number of the input line and the name of the flow: `1a` and
-`1b` are the two flows of the first connection. A return, a reject and an abort
-name the line of their call.
-A line has at most 4,096 bytes, and there are at most 65,536 lines.
+Each begins with the number of the input line, and then, but for a line that is no
+packet, with the name of the flow: `1a` and `1b` are the two flows of the first
+connection. A return, a reject and an abort name the line of their call.
+A line has at most 4,096 bytes.
 
 Exit status: 0 all is fine, 1 a line was refused, 2 the command line is wrong,
 3 reading or writing failed, a limit was passed, or there was no memory.
@@ -68,8 +71,8 @@ Exit status: 0 all is fine, 1 a line was refused, 2 the command line is wrong,
 Example:
   echo ffff003c0005000000010000aa0001020005000000010000aa0003040400100012345678000000000003000300030000000100000007000200010005 | xns calls
 
-docs/FORMATS.md has each line that is printed; docs/CAPTURES.md leads from a capture
-to these lines.";
+FORMATS.md has each line that is printed, CAPTURES.md leads from a capture to these
+lines: both are in share/doc/xns where xns is installed.";
 
 /// What `xns sim --help` says at its end.
 pub const SIM_HELP: &str = "\
@@ -98,4 +101,5 @@ Exit status: 0 all is fine, 1 a line was refused, 2 the command line is wrong,
 Example:
   printf '%s\\n' 'call add 5' 'tick a' rest rest rest rest rest | xns sim
 
-docs/FORMATS.md has each line; docs/WORLD.md says what happens in a play.";
+FORMATS.md has each line, WORLD.md says what happens in a play: both are in
+share/doc/xns where xns is installed.";
