@@ -13,7 +13,7 @@ use Rattle.item_world.proofs.Continues.{went_on, receive_continues}
 use Rattle.item_world.proofs.Networks.{quiet, lands_as}
 use Rattle.item_world.proofs.Sides.{same_end, same_other, same_marked}
 use Rattle.item_world.proofs.Later.{later_itself, later_then, flushes_later, landing_later}
-use Rattle.item_world.proofs.Runs.{delivers_lands}
+use Rattle.item_world.proofs.Runs.{flushed, delivers_lands}
 use Rattle.item_world.specs.declared.event.Event.{Event}
 use Rattle.item_world.specs.declared.item_trace.ItemTrace.{ItemTrace}
 use Rattle.item_world.specs.declared.network.Network.{Network}
@@ -27,7 +27,7 @@ use Rattle.item_world.specs.EndLaws.{EndLaws}
 use Rattle.item_world.specs.Events.{happens, delivers, run, IsEvent}
 use Rattle.xns_spp.specs.Growth.{Begins}
 use Rattle.item_world.specs.Going.{Continues, Later}
-use Rattle.item_world.specs.Landing.{landing, flushed, end_reached}
+use Rattle.item_world.specs.Landing.{landing, end_reached}
 use Rattle.item_world.specs.Laws.{ItemsComeInOrder}
 use Rattle.item_world.specs.Network.{IsNetwork, IsEnd}
 use Rattle.item_world.specs.Play.{at_side, with_side, IsParticipant, IsPlaying, IsPlayed}

@@ -14,7 +14,7 @@ use Rattle.item_world.specs.Events.{Step, IsStep, arrival, noise, sending, takin
 use Rattle.xns_spp.specs.Growth.{Begins}
 use Rattle.item_world.specs.Invariant.{Holds}
 use Rattle.item_world.specs.Laws.{EachStepKeepsTheOrder}
-use Rattle.item_world.specs.Landing.{landing, reached, flushed}
+use Rattle.item_world.specs.Landing.{landing, reached}
 use Rattle.item_world.specs.Setup.{IsSetup, IsGood}
 use Rattle.item_world.specs.Side.{other}
 use Rattle.item_world.specs.Telling.{resends, tells}
@@ -79,6 +79,11 @@ pub begins_always : EachStepKeepsTheOrder → (setup : Setup) (events : List Eve
 begins_always laws setup events side fits good given = laws.order (run (start setup) events) side (always_holds laws setup events fits good given)
 
 -- ---- the deliveries of an event
+
+-- the world once the end that a packet came to has answered it, and has flushed then
+abbrev pub flushed : World → Option (Side × World) → World
+flushed w None = w
+flushed w (Some l) = flushes l.1 l.0
 
 lands_flushed : (w : World) (k : ℕ) (o : Option (Side × World)) → landing w k ≡ o → all_stepped w (arrival_steps k o) ≡ flushed w o
 lands_flushed w k None e = refl

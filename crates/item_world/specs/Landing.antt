@@ -3,7 +3,7 @@ use Rattle.std.specs.Prelude.{ℕ, slice_get, Option, Some, None, if◌then◌el
 use Rattle.item_world.specs.declared.emitted.Emitted.{Emitted}
 use Rattle.item_world.specs.declared.side.Side.{Side}
 use Rattle.item_world.specs.Side.{other}
-use Rattle.item_world.specs.World.{World, has_passed, receives, marked, flushes}
+use Rattle.item_world.specs.World.{World, has_passed, receives, marked}
 
 -- packet k, which is x, comes to the other end, which answers it
 abbrev pub answered : World → ℕ → Emitted → World
@@ -26,8 +26,3 @@ end_reached (Some l) = Some l.0
 abbrev pub reached : World → Option (Side × World) → World
 reached w None = w
 reached w (Some l) = l.1
-
--- and once it has flushed then
-abbrev pub flushed : World → Option (Side × World) → World
-flushed w None = w
-flushed w (Some l) = flushes l.1 l.0

@@ -17,10 +17,10 @@ use Rattle.item_world.specs.Channel.{Channel, IsQuiet, Accepts, HandsUp, Move, I
 use Rattle.item_world.specs.Network.{IsNetwork, unsettled}
 use Rattle.item_world.specs.declared.network.Network.{Network}
 use Rattle.xns_spp.specs.Receiving.{after_receive}
-use Rattle.xns_spp.specs.Sending.{send_answer, take_answer, after_flush, after_tick}
+use Rattle.xns_spp.specs.Sending.{send_answer, take_answer, after_flush}
 use Rattle.xns_spp.specs.State.{State}
 use Rattle.item_world.specs.Events.{Step, IsStep, IsOther, IsEvent, stepped, steps_of, all_stepped, delivers, undelivered, happens, run}
-use Rattle.item_world.specs.Landing.{landing, flushed, end_reached}
+use Rattle.item_world.specs.Landing.{landing, end_reached}
 use Rattle.item_world.specs.World.{World, start, end_of, moved, has_passed, flushes, sends, takes, channel_of, packets_of, sent_at, handed_at}
 use Rattle.xns_spp.specs.Growth.{Begins}
 use Rattle.item_world.specs.Invariant.{Holds, IsSoundSpelling}
@@ -32,7 +32,6 @@ pub record EachStepKeepsTheOrder : Type 0 where
   pub order : (w : World) (side : Side) → Holds w → Begins (handed_at w side) (sent_at w (other side))
   pub read : (w : World) (x : Emitted) → Holds w → has_passed w x ≡ false → (i : IsSoundSpelling (end_of w x.side) (end_of w (other x.side)) x) →
       numbers_in (end_of w (other x.side)) i.says.packet ≡ as_meant i.says.meant
-  pub deliver : (w : World) (k : ℕ) → delivers w k ≡ flushed w (landing w k)
 
 pub record ItemsComeInOrder : Type 0 where
   pub begins : (setup : Setup) (events : List Event) (side : Side) → IsSetup setup → IsGood setup → All IsEvent events →
@@ -51,10 +50,9 @@ ARestDeliversWhatNeverWas = (w : World) → happens w Rest ≡ fold delivers w (
 abbrev pub TheBagNeverShrinks : Type 0
 TheBagNeverShrinks = (w : World) (events : List Event) → Begins (packets_of w) (packets_of (run w events))
 
--- an end that flushes, ticks or receives accepts and hands up nothing, and what it has handed up stays
+-- an end that flushes or receives accepts and hands up nothing, and what it has handed up stays
 pub record WhatWasHandedUpStays : Type 0 where
   pub flush : (s : State) → Continues s (after_flush s)
-  pub tick : (s : State) → Continues s (after_tick s)
   pub receive : (s : State) (b : List ℕ) → Continues s (after_receive s b)
   pub handed : (s t : State) → Continues s t → s.handed ≤ length s.taken → take t.handed t.taken ≡ take s.handed s.taken
 

@@ -39,7 +39,7 @@ pub fn end_laws_are_given()
 /// in whatever order they are taken.
 ///
 /// Where it is true, what either end has handed up begins what the other sent, and a packet that still lives is read as the
-/// numbers that its fields were made of. To deliver a packet is to let it land, and then to flush the end that it came to.
+/// numbers that its fields were made of.
 pub fn each_step_keeps_the_order()
     ensures { EachStepKeepsTheOrder }
 {
@@ -94,7 +94,7 @@ pub fn the_bag_never_shrinks()
 
 /// The laws of the network, for a play that does more at its ends than hand items up.
 ///
-/// An end that flushes, ticks or receives keeps what it accepted and handed up. Only an end that is given an item accepts one, and only an
+/// An end that flushes or receives keeps what it accepted and handed up. Only an end that is given an item accepts one, and only an
 /// end that hands an item up does so; the other end stays as it is. A world goes on with each move: its ends take no less, and its bag
 /// keeps what was sent. An end that sends and takes nothing leaves the network as it was. A packet that lands is received, and whether one
 /// lands is known by the end that it comes to. One that lands nowhere as a rest begins never lands again, so a rest may leave it out.

@@ -1,4 +1,5 @@
-ghost use Rattle.std.specs.Prelude.{◌≡◌, ◌≤◌, ◌<◌, ◌+◌, ◌^◌, ◌∷◌, ◌++◌, if◌then◌else◌, ℕ, [], map, length, Some, OnOk, IfOk, IfSome, slice_get};
+ghost use Rattle.std.specs.Prelude.{◌≡◌, ◌≤◌, ◌<◌, ◌+◌, ◌^◌, ◌∷◌, ◌++◌, if◌then◌else◌, ℕ, [], map, length, Some, IsSome, OnOk, OnErr, IfOk, IfSome, slice_get};
+ghost use Rattle.std.specs.Vec.{vec_len, vec_capacity};
 ghost use Rattle.std.specs.Option.{option_to_list};
 ghost use Rattle.xns_spp.specs.Numbers.{most_items};
 ghost use Rattle.xns_spp.specs.State.{State};
@@ -74,15 +75,20 @@ impl Network {
         self.packets[number].bytes.as_slice()
     }
 
-    /// An end sends these packets.
+    /// An end sends these packets. The only error is want of memory, where there are packets; the network is then as it was.
     pub fn emit(&mut self, side: Side, packets: Vec<Bytes>) -> Result<(), AllocError>
-        ensures { OnOk result ((w : World) (s : State) → IsNetwork self.old w → length s.taken ≡ length (end_of w side).taken → IsNetwork self.new (moved w side s packets.items)) }
+        ensures unchanged { OnErr result (self.new ≡ self.old) }
+        ensures memory { OnErr result (0 < length packets.items) }
+        ensures sends { OnOk result ((w : World) (s : State) → IsNetwork self.old w → length s.taken ≡ length (end_of w side).taken → IsNetwork self.new (moved w side s packets.items)) }
     {
         let at = self.taken.moment(side);
-        append_all(&mut self.packets, side, at, packets)
+        self.packets.reserve(packets.as_slice().len())?;
+        append_all(&mut self.packets, side, at, packets);
+        Ok(())
     }
 
-    /// A packet was delivered to an end, which took so many items from it, and perhaps replies.
+    /// A packet was delivered to an end, which took so many items from it, and perhaps replies. The only error is want of memory, where there
+    /// is a reply; the network is then as it was.
     pub fn deliver(
         &mut self,
         side: Side,
@@ -91,13 +97,17 @@ impl Network {
         reply: Option<Bytes>,
     ) -> Result<(), AllocError>
         requires { number < length self.old.packets }
-        ensures { OnOk result ((w : World) (x : Emitted) (s : State) → IsNetwork self.old w → slice_get w.bag number ≡ Some x → length s.taken ≤ most_items → length (end_of w side).taken + took ≡ length s.taken →
+        ensures unchanged { OnErr result (self.new ≡ self.old) }
+        ensures memory { OnErr result (IsSome reply) }
+        ensures delivers { OnOk result ((w : World) (x : Emitted) (s : State) → IsNetwork self.old w → slice_get w.bag number ≡ Some x → length s.taken ≤ most_items → length (end_of w side).taken + took ≡ length s.taken →
             IsNetwork self.new (moved (marked w number x) side s (option_to_list reply))) }
     {
+        let mut taken = self.taken;
+        taken.add(side, took);
+        append(&mut self.packets, side, taken.moment(side), reply)?;
         self.packets[number].delivered = true;
-        self.taken.add(side, took);
-        let at = self.taken.moment(side);
-        append(&mut self.packets, side, at, reply)
+        self.taken = taken;
+        Ok(())
     }
 
     /// Whether nothing is left to be done with a packet: it was delivered, or it lives no longer.
@@ -131,9 +141,11 @@ impl Network {
         Ok(())
     }
 
-    /// The numbers of the packets that are not settled, in order.
+    /// The numbers of the packets that are not settled, in order. The only error is want of memory, where there are packets; whatever
+    /// comes, the network stands for what it stood for.
     pub fn unsettled(&mut self, alloc: Global) -> Result<Vec<usize>, AllocError>
-        ensures network { OnOk result ((w : World) → IsNetwork self.old w → IsNetwork self.new w) }
+        ensures network { (w : World) → IsNetwork self.old w → IsNetwork self.new w }
+        ensures memory { OnErr result (0 < length self.old.packets) }
         ensures numbers { IfOk result (λ v. (w : World) → IsNetwork self.old w → v.items ≡ unsettled w 0 w.bag) }
     {
         self.rested = self.first_unsettled();
@@ -144,11 +156,15 @@ impl Network {
         Ok(numbers)
     }
 
-    /// Every packet with its sender.
+    /// Every packet with its sender. The only error is want of memory, where there are packets.
     pub fn into_bag(self, alloc: Global) -> Result<Bag, AllocError>
-        ensures { IfOk result (λ b. b ≡ map sender_and_bytes self.packets) }
+        ensures memory { OnErr result (0 < length self.packets) }
+        ensures bag { IfOk result (λ b. b ≡ map sender_and_bytes self.packets) }
     {
         let Network { packets, .. } = self;
+        if packets.as_slice().is_empty() {
+            return Ok(Bag::new(Vec::new(alloc)));
+        }
         let packets = packets
             .into_iter()
             .map(|packet| (packet.side, packet.bytes));
@@ -156,19 +172,14 @@ impl Network {
     }
 }
 
-/// Appends packets of one moment to those before.
-fn append_all(
-    before: &mut Vec<Emitted>,
-    side: Side,
-    at: Moment,
-    packets: Vec<Bytes>,
-) -> Result<(), AllocError>
-    ensures { OnOk result (before.new.items ≡ joined before.old.items side at packets.items) }
+/// Appends packets of one moment to those before, which have room for them.
+fn append_all(before: &mut Vec<Emitted>, side: Side, at: Moment, packets: Vec<Bytes>)
+    requires { vec_len before.old + vec_len packets ≤ vec_capacity before.old }
+    ensures { before.new.items ≡ joined before.old.items side at packets.items }
 {
     for bytes in packets {
-        before.push(Emitted::new(side, at, bytes))?;
+        before.push_reserved(Emitted::new(side, at, bytes));
     }
-    Ok(())
 }
 
 /// Appends a reply to the packets before, where there is one.
@@ -178,7 +189,10 @@ fn append(
     at: Moment,
     reply: Option<Bytes>,
 ) -> Result<(), AllocError>
-    ensures { OnOk result (before.new.items ≡ joined before.old.items side at (option_to_list reply)) }
+    ensures items { OnOk result (before.new.items ≡ joined before.old.items side at (option_to_list reply)) }
+    ensures len { vec_len before.old ≤ vec_len before.new }
+    ensures unchanged { OnErr result (before.new.items ≡ before.old.items) }
+    ensures memory { OnErr result (IsSome reply) }
 {
     if let Some(bytes) = reply {
         before.push(Emitted::new(side, at, bytes))?;

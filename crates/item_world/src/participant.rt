@@ -1,4 +1,4 @@
-ghost use Rattle.std.specs.Prelude.{◌≡◌, [], OnOk, IfOk};
+ghost use Rattle.std.specs.Prelude.{◌≡◌, ◌<◌, [], length, OnOk, OnErr, IfOk};
 ghost use Rattle.xns_spp.specs.Sending.{after_send, after_take};
 ghost use Rattle.item_world.specs.Play.{Becomes};
 
@@ -47,14 +47,17 @@ impl Participant {
     }
 }
 
-/// The item once more.
+/// The item once more. The only error is want of memory, where the item has bytes.
 pub fn copied(alloc: Global, item: &Item) -> Result<Item, AllocError>
-    ensures { IfOk result (λ x. x ≡ item.now) }
+    ensures item { IfOk result (λ x. x ≡ item.now) }
+    ensures memory { OnErr result (0 < length item.now.body) }
 {
+    let mut body = Vec::new(alloc);
+    body.extend_from_slice(item.body.as_slice())?;
     Ok(Item {
         stream: item.stream,
         attention: item.attention,
         last: item.last,
-        body: Bytes::new(Vec::from_slice(alloc, item.body.as_slice())?),
+        body: Bytes::new(body),
     })
 }

@@ -189,6 +189,11 @@ stepped_feed p w b P is h =
     subst (λ (c : Bool). Stepped true w (if c then Some (feeds w A) else caller_step p w A) P) (sym is ∙ h.0)
     (subst (λ (c : Bool). P (if c then feeds w A else w)) is h.1)
 
+pub stepped_outcome : {S : Type 0} (p : Parties S) (w : CallWorld) (b : Bool) (P : CallWorld → Type 0) → b ≡ true → (b ≡ has_outcome p w) × P (if b then lists w else w) → Stepped true w (caller_step p w A) P
+stepped_outcome p w b P is h =
+    subst (λ (c : Bool). Stepped true w (if c then Some (lists w) else if may_call p w then Some (makes w) else None) P) (sym is ∙ h.0)
+    (subst (λ (c : Bool). P (if c then lists w else w)) is h.1)
+
 pub stepped_none : {S : Type 0} (p : Parties S) (w : CallWorld) (b : Bool) (P : CallWorld → Type 0) → next_out p w A ≡ None
     → Stepped b w (if nat_lt 0 (waiting_count w.world.a) then Some (feeds w A) else caller_step p w A) P → Stepped b w (step p A w) P
 stepped_none p w b P is h = subst (λ (o : Option Item). Stepped b w (step_with p w A o) P) (sym is) (fed_or_not p w b (nat_lt 0 (waiting_count w.world.a)) P h)

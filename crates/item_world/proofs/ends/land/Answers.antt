@@ -1,7 +1,8 @@
-use Rattle.std.proofs.Common.{◌≡◌, ℕ, ◌+◌, List, Some, length, ◌∙◌, ap, subst}
-use Rattle.std.specs.Prelude.{slice_get}
+use Rattle.std.proofs.Common.{◌≡◌, ℕ, ◌+◌, List, Option, Some, None, Result, Ok, Err, inr, length, refl, sym, ◌∙◌, ap, subst}
+use Rattle.std.proofs.lemmas.Result.{on_err_weaker}
+use Rattle.std.specs.Prelude.{slice_get, IsSome, OnErr}
 use Rattle.xns_spp.specs.Held.{StandsFor}
-use Rattle.xns_spp.specs.Receiving.{receive_answer, after_receive}
+use Rattle.xns_spp.specs.Receiving.{NeedsMemory, receive_answer, after_receive}
 use Rattle.xns_spp.specs.declared.received.Received.{Received}
 use Rattle.item_world.proofs.Continues.{ok_then, receive_took}
 use Rattle.item_world.proofs.Networks.{lands_as, end_reached_by}
@@ -9,9 +10,9 @@ use Rattle.item_world.proofs.ends.land.Goals as goal
 use Rattle.item_world.specs.World.{end_of}
 use Rattle.item_world.specs.declared.emitted.Emitted.{Emitted}
 
-pub returns : goal.returns
-returns c =
-    ok_then c.deliver.result c.deliver.ensures (λ delivered laws w v h e.
+pub returns-clause-stands : goal.returns-clause-stands
+returns-clause-stands c =
+    ok_then c.deliver.result c.deliver.ensures.delivers (λ delivered laws w v h e.
     let side = c.args.side in
     let k = c.args.number in
     let s = end_of w side in
@@ -24,3 +25,21 @@ returns c =
     let took = ap (λ (r : Received). length s.taken + r.took) answer ∙ receive_took laws s x.bytes in
     end_reached_by w v k side l c.receive.new.self c.deliver.new.self c.in_ok-received.received.reply stands (ap (λ (r : Received). r.reply) answer)
     (delivered w x (after_receive s x.bytes) h.network l.is stands.fits.bounds.taken_most took))
+
+err_always : {T E P : Type 0} (r : Result T E) → P → OnErr r P
+err_always (Ok x) p = tt
+err_always (Err e) p = p
+
+pub returns-in_err-received-clause-memory : goal.returns-in_err-received-clause-memory
+returns-in_err-received-clause-memory c = err_always c.from_residual.result (λ s x h is. subst (NeedsMemory s) (c.bytes.ensures x is) (c.in_err-received.ensures.memory s h))
+
+some_reply : (o : Option (List ℕ)) → IsSome o → (reply : List ℕ) × (o ≡ Some reply)
+some_reply (Some reply) is = (reply, refl)
+some_reply None is = absurd (cc)
+
+pub returns-clause-memory : goal.returns-clause-memory
+returns-clause-memory c =
+    on_err_weaker c.deliver.result (λ some s x h is.
+    let answer = c.in_ok-received.ensures.answer s h ∙ ap (receive_answer s) (c.bytes.ensures x is) in
+    let e = some_reply c.in_ok-received.received.reply some in
+    inr (inr (e.0, sym (ap (λ (r : Received). r.reply) answer) ∙ e.1))) c.deliver.ensures.memory

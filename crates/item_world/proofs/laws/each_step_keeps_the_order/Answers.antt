@@ -1,5 +1,5 @@
 use Rattle.item_world.proofs.Kept.{start_kept, land_kept, read_kept, holds, kept, in_order}
-use Rattle.item_world.proofs.Runs.{step_holds, delivers_lands}
+use Rattle.item_world.proofs.Runs.{step_holds}
 use Rattle.item_world.proofs.laws.each_step_keeps_the_order.Goals as goal
 use Rattle.item_world.specs.World.{start}
 
@@ -12,5 +12,4 @@ returns c =
       land = λ w k l h e. holds l.1 (land_kept laws w k l (kept w h) e);
       order = in_order;
       read = λ w x h alive i. read_kept laws w x (kept w h) alive i;
-      deliver = delivers_lands;
     }

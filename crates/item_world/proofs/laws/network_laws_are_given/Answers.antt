@@ -1,4 +1,4 @@
-use Rattle.item_world.proofs.Continues.{flush_continues, tick_continues, receive_continues, handed_same}
+use Rattle.item_world.proofs.Continues.{flush_continues, receive_continues, handed_same}
 use Rattle.item_world.proofs.Later.{later_itself, later_then, moved_later, flushes_later, landing_later}
 use Rattle.item_world.proofs.Networks.{quiet, lands_as}
 use Rattle.item_world.proofs.Plays.{some_landing, no_landing}
@@ -12,7 +12,7 @@ pub returns : goal.returns
 returns c =
     let laws = c.end_laws_are_given.ensures in
     record {
-      stays = record { flush = flush_continues laws; tick = tick_continues laws; receive = receive_continues laws; handed = handed_same };
+      stays = record { flush = flush_continues laws; receive = receive_continues laws; handed = handed_same };
       goes_on = record { itself = later_itself; further = later_then; moved = moved_later; flush = flushes_later laws; land = landing_later laws };
       quiet = quiet;
       lands = lands_as;

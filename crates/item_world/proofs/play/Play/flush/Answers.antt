@@ -6,6 +6,6 @@ use Rattle.item_world.specs.World.{end_of}
 
 pub returns : goal.returns
 returns c =
-    ok_then c.flush_end.result c.flush_end.ensures (λ flushed laws w.
+    ok_then c.flush_end.result c.flush_end.ensures.stands (λ flushed laws w.
     let s = end_of w c.args.side in
     goes_quietly c.args.self.now w c.args.side c.at.result.now c.flush_end.new.endpoint c.flush_end.new.network (after_flush s) (flush_answer s) c.at.ensures.value (flush_continues laws s) (flushed laws w))

@@ -10,7 +10,7 @@ use Rattle.item_world.specs.World.{World}
 pub returns : goal.returns
 returns c =
     ok_then c.deliver_all.result c.deliver_all.ensures (λ all laws w h.
-    let there = all laws w (record { ends = h.ends; network = c.in_ok-numbers.ensures.network w h.network }) in
+    let there = all laws w (record { ends = h.ends; network = c.unsettled.ensures.network w h.network }) in
     let listed = c.as_slice.ensures.value ∙ c.in_ok-numbers.ensures.numbers w h.network in
     subst (λ (v : World). IsPlaying c.deliver_all.new.self v)
     (ap (λ (l : List ℕ). fold delivers w l) listed ∙ (sym (unsettled_is_enough laws w) ∙ sym (deliveries w (undelivered 0 w.bag)))) there)

@@ -6,6 +6,6 @@ use Rattle.item_world.specs.World.{end_of}
 
 pub returns : goal.returns
 returns c =
-    ok_then c.tick_end.result c.tick_end.ensures (λ ticked laws w.
+    ok_then c.tick_end.result c.tick_end.ensures.stands (λ ticked laws w.
     let s = end_of w c.args.side in
     goes_quietly c.args.self.now w c.args.side c.at.result.now c.tick_end.new.endpoint c.tick_end.new.network (after_tick s) (tick_answer s) c.at.ensures.value (tick_continues laws s) (ticked laws w))

@@ -11,5 +11,5 @@ returns g c p w ready h =
       carried = parts.carried p _ ran.ends;
       seen = parts.seen p _ ran.ends;
       service = parts.service p _ ready.serving_is ran.ends;
-      bag = c.in_ok-bag.ensures ∙ ap (map sender_and_bytes) ran.network.bag;
+      bag = c.in_ok-bag.ensures.bag ∙ ap (map sender_and_bytes) ran.network.bag;
     }
