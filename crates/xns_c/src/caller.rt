@@ -132,7 +132,7 @@ pub extern "C" fn xns_caller_feed(
 /// Moves items both ways between the session and an endpoint until nothing moves. What is to go out is sent, as far as the endpoint accepts it; once
 /// nothing is out, what waits at the endpoint is fed to the session. The session's memory and the endpoint's are all that it takes.
 ///
-/// `NO_CALLER`; `NO_ENDPOINT`; else 0, or what `xns_caller_feed` answers to the first item that it refuses. That one waits at the endpoint still, and so
+/// `NO_CALLER`; `NO_ENDPOINT`; `ATTENTION` for an attention item, which stops the session; else 0, or what `xns_caller_feed` answers to the first item that it refuses. That one waits at the endpoint still, and so
 /// does what comes behind it; what the endpoint does not accept is still to go out. After `NO_MEMORY` the same call goes on.
 #[unsafe(no_mangle)]
 pub extern "C" fn xns_caller_pump(

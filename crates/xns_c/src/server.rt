@@ -187,7 +187,7 @@ pub extern "C" fn xns_server_next_item(
 /// Moves items both ways between the session and an endpoint until nothing moves. What is to go out is sent, as far as the endpoint accepts it; once
 /// nothing is out, what waits at the endpoint is fed to the session, until it is busy.
 ///
-/// `NO_SERVER`; `NO_ENDPOINT`; else 0, or what `xns_server_feed` answers to the first item that it refuses for another reason than `BUSY`. What is not fed
+/// `NO_SERVER`; `NO_ENDPOINT`; `ATTENTION` for an attention item, which stops the session; else 0, or what `xns_server_feed` answers to the first item that it refuses for another reason than `BUSY`. What is not fed
 /// waits at the endpoint still, and what the endpoint does not accept is still to go out. After `NO_MEMORY` the same call goes on.
 #[unsafe(no_mangle)]
 pub extern "C" fn xns_server_pump(
