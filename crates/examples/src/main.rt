@@ -4,6 +4,7 @@
 mod asking;
 mod calls;
 mod capture;
+mod client;
 mod connection;
 mod counting_lines;
 mod dumping;
@@ -13,8 +14,10 @@ mod hosts;
 mod network;
 mod packet;
 mod scripting;
+mod service;
 mod simulating;
 mod values;
+mod words;
 
 fn main(rt: HostRuntime) -> Result<(), anyhow::Error> {
     packet::shorten(&rt)?;
@@ -23,6 +26,7 @@ fn main(rt: HostRuntime) -> Result<(), anyhow::Error> {
     connection::send_an_item(&rt)?;
     values::show(&rt, rt.alloc())?;
     calls::converse(&rt)?;
+    words::call(&rt)?;
     network::play(&rt)?;
     counting_lines::count(&rt)?;
     scripting::read(&rt)?;
