@@ -42,4 +42,4 @@ returns-clause-memory c =
     on_err_weaker c.deliver.result (λ some s x h is.
     let answer = c.in_ok-received.ensures.answer s h ∙ ap (receive_answer s) (c.bytes.ensures x is) in
     let e = some_reply c.in_ok-received.received.reply some in
-    inr (inr (e.0, sym (ap (λ (r : Received). r.reply) answer) ∙ e.1))) c.deliver.ensures.memory
+    inr (e.0, sym (ap (λ (r : Received). r.reply) answer) ∙ e.1)) c.deliver.ensures.memory
