@@ -23,4 +23,4 @@ is_refused Sim = sim.is_script_refused
 abbrev pub StopsIn : Mode → List ℕ → Option (List ℕ) → Option (List ℕ) → Option (List ℕ) → RunFault → Type 0
 StopsIn Dump input left before after fault = dump.StopsIn input left before after fault
 StopsIn Calls input left before after fault = calls.StopsIn input left before after fault
-StopsIn Sim input left before after fault = sim.StopsIn input left before after fault
+StopsIn Sim input left before after fault = sim.SimStopsIn input left before after fault
