@@ -222,7 +222,7 @@ expect 'their names are printed' cmp "$work/expected" "$work/names"
         "$prefix/bin/xns" $words
     done
     cat "$prefix/share/man/man1/xns.1" "$prefix/include/xns.h" "$prefix/share/xns/python/xns.py" "$prefix"/share/doc/xns/C*.md
-} | grep -o '[A-Z]*\.md' | sort -u > "$work/pages"
+} | grep -o '[A-Z][A-Z]*\.md' | sort -u > "$work/pages"
 [ -s "$work/pages" ] || fail 'no page is named'
 while read -r page; do
     expect "the page $page, which is named" test -s "$prefix/share/doc/xns/$page"
@@ -305,13 +305,13 @@ else left_out man 'the manual page'; fi
 
 # ---- the archive for those who have no kit
 
-name=xns-$version-x86_64-linux
+archived=xns-$version-x86_64-linux
 if sh release.sh "$work/one" > "$work/said" 2> "$work/err"; then
-    expect 'its sum' sh -c "cd '$work/one' && sha256sum -c '$name.tar.gz.sha256'"
+    expect 'its sum' sh -c "cd '$work/one' && sha256sum -c '$archived.tar.gz.sha256'"
     expect 'another' sh -c "sh release.sh '$work/two' 2> '$work/log'"
-    expect 'is the same' cmp "$work/one/$name.tar.gz" "$work/two/$name.tar.gz"
-    expect 'unpacking' tar -xzf "$work/one/$name.tar.gz" -C "$work"
-    unpacked=$work/$name
+    expect 'is the same' cmp "$work/one/$archived.tar.gz" "$work/two/$archived.tar.gz"
+    expect 'unpacking' tar -xzf "$work/one/$archived.tar.gz" -C "$work"
+    unpacked=$work/$archived
     # shellcheck disable=SC2046,SC2086
     holds 'what is in it' "$unpacked" README $folders $(echo $files | sed 's|share/xns/installed||')
     for file in bin/xns include/xns.h lib/libxns.a lib/libxns.so; do expect "$file" cmp "$prefix/$file" "$unpacked/$file"; done
