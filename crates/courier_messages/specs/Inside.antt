@@ -8,7 +8,12 @@ use Rattle.courier_messages.specs.Conversation.{range_bytes, Phase, opening, fre
 use Rattle.courier_messages.specs.declared.incoming.Stage.{Stage}
 use Rattle.courier_messages.specs.declared.incoming.Stage.TheVariants.{Opening, Fresh, Inside}
 
--- the bytes of what is kept
+-- how many pieces are kept
+abbrev pub pieces_kept : Kept → ℕ
+pieces_kept (One only) = 1
+pieces_kept (Several several) = length several.items
+
+-- their bytes
 abbrev pub bytes_kept : Kept → List ℕ
 bytes_kept (One only) = only.items
 bytes_kept (Several several) = joined several.items

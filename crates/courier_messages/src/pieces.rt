@@ -1,7 +1,7 @@
 //! Bytes that came in pieces.
-ghost use Rattle.std.specs.Prelude.{ℕ, List, ◌≡◌, ◌+◌, ◌<◌, ◌^◌, ◌++◌, [], length, slice_get, OnOk, OnErr};
+ghost use Rattle.std.specs.Prelude.{ℕ, List, ◌≡◌, ◌+◌, ◌<◌, ◌≤◌, ◌^◌, ◌++◌, [], length, slice_get, OnOk, OnErr};
 ghost use Rattle.courier_types.specs.Pieces.{joined};
-ghost use Rattle.courier_messages.specs.Inside.{bytes_kept};
+ghost use Rattle.courier_messages.specs.Inside.{bytes_kept, pieces_kept};
 
 use std::alloc::{AllocError, Global};
 use std::marker::Model;
@@ -21,14 +21,16 @@ pub enum Kept {
 
 impl Kept {
     fn new(alloc: Global) -> Kept
-        ensures { bytes_kept result ≡ [] }
+        ensures bytes { bytes_kept result ≡ [] }
+        ensures pieces { pieces_kept result ≡ 1 }
     {
         Kept::One(Vec::new(alloc))
     }
 
     #[inline(always)]
     fn as_slice(&self) -> &[Vec<u8>]
-        ensures { joined result.now ≡ bytes_kept self.now }
+        ensures bytes { joined result.now ≡ bytes_kept self.now }
+        ensures pieces { length result.now ≡ pieces_kept self.now }
     {
         match self {
             Kept::One(only) => from_ref(only),
@@ -42,6 +44,8 @@ impl Kept {
     fn push(&mut self, alloc: Global, piece: Vec<u8>) -> Result<(), AllocError>
         ensures ok { OnOk result (bytes_kept self.new ≡ bytes_kept self.old ++ piece.items) }
         ensures err { OnErr result (bytes_kept self.new ≡ bytes_kept self.old) }
+        ensures more { OnOk result (pieces_kept self.new ≡ pieces_kept self.old + 1) }
+        ensures same { OnErr result (pieces_kept self.new ≡ pieces_kept self.old) }
     {
         match self {
             Kept::Several(several) => several.push(piece)?,
@@ -83,7 +87,8 @@ impl Model for Pieces {
 
     ghost view = { λ p. bytes_kept p.kept };
 
-    ghost invariant = { λ p. p.count ≡ length (bytes_kept p.kept) };
+    // Each piece but one has bytes, so there are no more pieces than bytes, but for one.
+    ghost invariant = { λ p. (p.count ≡ length (bytes_kept p.kept)) × (pieces_kept p.kept ≤ p.count + 1) };
 }
 
 impl Pieces {
@@ -105,9 +110,11 @@ impl Pieces {
         self.count
     }
 
+    /// The pieces, of which there are no more than bytes, but for one.
     #[inline(always)]
     pub fn as_slice(&self) -> &[Vec<u8>]
-        ensures { joined result.now ≡ self.now }
+        ensures bytes { joined result.now ≡ self.now }
+        ensures few { length result.now ≤ length self.now + 1 }
     {
         self.kept.as_slice()
     }
