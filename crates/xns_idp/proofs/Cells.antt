@@ -1,6 +1,8 @@
 -- Fields as single bytes.
-use Rattle.std.proofs.Common.{◌≡◌, ℕ, List, [], ◌∷◌, ◌++◌, length, get_or, refl, sym, ap, ◌∙◌, arith}
+use Rattle.std.proofs.Common.{◌≡◌, ℕ, Bool, true, false, nat_eq, List, [], ◌∷◌, ◌++◌, length, get_or, refl, sym, ap, ◌∙◌, arith}
 use Rattle.std.specs.Int.{w16, w32, to_be_bytes}
+use Rattle.std.specs.Prelude.{◌&&◌}
+use Rattle.std.specs.Str.{bytes_eq}
 use Rattle.xns_idp.specs.Packet.{address_bytes}
 use Rattle.xns_idp.specs.declared.address.Address.{Address}
 
@@ -21,3 +23,46 @@ address_cells a n s six en es =
     ap (λ (m : List ℕ). get_or m 0 0 ∷ get_or m 1 0 ∷ get_or m 2 0 ∷ get_or m 3 0 ∷ get_or a.host 0 0 ∷ get_or a.host 1 0 ∷ get_or a.host 2 0 ∷ get_or a.host 3 0 ∷ get_or a.host 4 0 ∷ get_or a.host 5 0 ∷ get_or s 0 0 ∷ get_or s 1 0 ∷ []) en
     ∙ ap (λ (m : List ℕ). to_be_bytes w32 a.network ++ (get_or a.host 0 0 ∷ get_or a.host 1 0 ∷ get_or a.host 2 0 ∷ get_or a.host 3 0 ∷ get_or a.host 4 0 ∷ get_or a.host 5 0 ∷ get_or m 0 0 ∷ get_or m 1 0 ∷ [])) es
     ∙ ap (λ (h : List ℕ). to_be_bytes w32 a.network ++ h ++ to_be_bytes w16 a.socket) (sym (six_cells a.host six))
+
+-- twelve bytes, one by one
+abbrev twelve_of : List ℕ → List ℕ
+twelve_of h = get_or h 0 0 ∷ get_or h 1 0 ∷ get_or h 2 0 ∷ get_or h 3 0 ∷ get_or h 4 0 ∷ get_or h 5 0 ∷ get_or h 6 0 ∷ get_or h 7 0 ∷ get_or h 8 0 ∷ get_or h 9 0 ∷ get_or h 10 0 ∷ get_or h 11 0 ∷ []
+
+twelve_cells : (h : List ℕ) → length h ≡ 12 → twelve_of h ≡ h
+twelve_cells [] is = absurd (omega (arith, is))
+twelve_cells (a ∷ []) is = absurd (omega (arith, is))
+twelve_cells (a ∷ b ∷ []) is = absurd (omega (arith, is))
+twelve_cells (a ∷ b ∷ c ∷ []) is = absurd (omega (arith, is))
+twelve_cells (a ∷ b ∷ c ∷ d ∷ []) is = absurd (omega (arith, is))
+twelve_cells (a ∷ b ∷ c ∷ d ∷ e ∷ []) is = absurd (omega (arith, is))
+twelve_cells (a ∷ b ∷ c ∷ d ∷ e ∷ f ∷ []) is = absurd (omega (arith, is))
+twelve_cells (a ∷ b ∷ c ∷ d ∷ e ∷ f ∷ g ∷ []) is = absurd (omega (arith, is))
+twelve_cells (a ∷ b ∷ c ∷ d ∷ e ∷ f ∷ g ∷ h ∷ []) is = absurd (omega (arith, is))
+twelve_cells (a ∷ b ∷ c ∷ d ∷ e ∷ f ∷ g ∷ h ∷ i ∷ []) is = absurd (omega (arith, is))
+twelve_cells (a ∷ b ∷ c ∷ d ∷ e ∷ f ∷ g ∷ h ∷ i ∷ j ∷ []) is = absurd (omega (arith, is))
+twelve_cells (a ∷ b ∷ c ∷ d ∷ e ∷ f ∷ g ∷ h ∷ i ∷ j ∷ k ∷ []) is = absurd (omega (arith, is))
+twelve_cells (a ∷ b ∷ c ∷ d ∷ e ∷ f ∷ g ∷ h ∷ i ∷ j ∷ k ∷ l ∷ []) is = refl
+twelve_cells (a ∷ b ∷ c ∷ d ∷ e ∷ f ∷ g ∷ h ∷ i ∷ j ∷ k ∷ l ∷ x ∷ xs) is = absurd (omega (arith, is))
+
+-- a header: the length field, the control and the type, and two addresses
+pub header_cells : (n t s front target source : List ℕ) (control kind : ℕ) → n ≡ front → length t ≡ 12 → length s ≡ 12 → t ≡ target → s ≡ source
+    → 0 ∷ 0 ∷ get_or n 0 0 ∷ get_or n 1 0 ∷ control ∷ kind ∷ twelve_of t ++ twelve_of s ≡ 0 ∷ 0 ∷ get_or front 0 0 ∷ get_or front 1 0 ∷ control ∷ kind ∷ target ++ source
+header_cells n t s front target source control kind en tl sl et es =
+    ap (λ (m : List ℕ). 0 ∷ 0 ∷ get_or m 0 0 ∷ get_or m 1 0 ∷ control ∷ kind ∷ twelve_of t ++ twelve_of s) en
+    ∙ (ap (λ (x : List ℕ). 0 ∷ 0 ∷ get_or front 0 0 ∷ get_or front 1 0 ∷ control ∷ kind ∷ x ++ twelve_of s) (twelve_cells t tl ∙ et)
+    ∙ ap (λ (x : List ℕ). 0 ∷ 0 ∷ get_or front 0 0 ∷ get_or front 1 0 ∷ control ∷ kind ∷ target ++ x) (twelve_cells s sl ∙ es))
+
+together : (p q r s t u : Bool) → (((((p && q) && r) && s) && t) && u) ≡ (p && (q && (r && (s && (t && (u && true))))))
+together false q r s t u = refl
+together true false r s t u = refl
+together true true false s t u = refl
+together true true true false t u = refl
+together true true true true false u = refl
+together true true true true true false = refl
+together true true true true true true = refl
+
+-- six bytes are compared one by one
+pub same_six : (a b : List ℕ) → length a ≡ 6 → length b ≡ 6 → ((((nat_eq (get_or a 0 0) (get_or b 0 0) && nat_eq (get_or a 1 0) (get_or b 1 0)) && nat_eq (get_or a 2 0) (get_or b 2 0)) && nat_eq (get_or a 3 0) (get_or b 3 0)) && nat_eq (get_or a 4 0) (get_or b 4 0)) && nat_eq (get_or a 5 0) (get_or b 5 0) ≡ bytes_eq a b
+same_six a b al bl =
+    together (nat_eq (get_or a 0 0) (get_or b 0 0)) (nat_eq (get_or a 1 0) (get_or b 1 0)) (nat_eq (get_or a 2 0) (get_or b 2 0)) (nat_eq (get_or a 3 0) (get_or b 3 0)) (nat_eq (get_or a 4 0) (get_or b 4 0)) (nat_eq (get_or a 5 0) (get_or b 5 0))
+    ∙ sym (ap (λ (x : List ℕ). bytes_eq x b) (six_cells a al) ∙ ap (λ (y : List ℕ). bytes_eq (get_or a 0 0 ∷ get_or a 1 0 ∷ get_or a 2 0 ∷ get_or a 3 0 ∷ get_or a 4 0 ∷ get_or a 5 0 ∷ []) y) (six_cells b bl))

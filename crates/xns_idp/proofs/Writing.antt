@@ -10,18 +10,18 @@ use Rattle.xns_idp.specs.Packet.{PacketModel, address_bytes, after_checksum, pac
 abbrev pub padding : PacketModel → List ℕ
 padding p = replicate (length p.body % 2) 0
 
-regroup : (o c f t s b d g : List ℕ) → o ++ (c ++ f) ++ t ++ s ++ b ++ d ++ g ≡ o ++ (c ++ (f ++ t ++ s ++ (b ++ d) ++ g))
+regroup : (o c f t s b d g : List ℕ) → o ++ (c ++ (f ++ t ++ s)) ++ b ++ d ++ g ≡ o ++ (c ++ (f ++ t ++ s ++ (b ++ d) ++ g))
 regroup o c f t s b d g = simp append_assoc
 
 -- the pieces of the packet with d behind its data, c being in the place of the checksum field
-pub pieces : (p : PacketModel) (old o0 o1 o2 o3 o4 o5 c f t s d g : List ℕ) → let q = with_data_behind p d in
-    f ≡ c ++ (to_be_bytes w16 (30 + length q.body) ++ (p.control ∷ p.kind ∷ [])) → t ≡ address_bytes p.target → s ≡ address_bytes p.source → g ≡ padding q
-    → o0 ≡ old → o1 ≡ o0 ++ f → o2 ≡ o1 ++ t → o3 ≡ o2 ++ s → o4 ≡ o3 ++ p.body → o5 ≡ o4 ++ d → o5 ++ g ≡ old ++ (c ++ after_checksum q (padding q))
+pub pieces : (p : PacketModel) (old o0 o1 o2 o3 c f d g : List ℕ) → let q = with_data_behind p d in
+    f ≡ c ++ (to_be_bytes w16 (30 + length q.body) ++ (p.control ∷ p.kind ∷ []) ++ address_bytes p.target ++ address_bytes p.source) → g ≡ padding q
+    → o0 ≡ old → o1 ≡ o0 ++ f → o2 ≡ o1 ++ p.body → o3 ≡ o2 ++ d → o3 ++ g ≡ old ++ (c ++ after_checksum q (padding q))
 unfolding after_checksum
-pieces p old o0 o1 o2 o3 o4 o5 c f t s d g ef et es eg e0 e1 e2 e3 e4 e5 =
+pieces p old o0 o1 o2 o3 c f d g ef eg e0 e1 e2 e3 =
     let pad = padding (with_data_behind p d) in
     let front = to_be_bytes w16 (30 + length (p.body ++ d)) ++ (p.control ∷ p.kind ∷ []) in
-    let all : o5 ++ g ≡ old ++ (c ++ front) ++ address_bytes p.target ++ address_bytes p.source ++ p.body ++ d ++ pad = cc in
+    let all : o3 ++ g ≡ old ++ (c ++ (front ++ address_bytes p.target ++ address_bytes p.source)) ++ p.body ++ d ++ pad = cc in
     all ∙ regroup old c front (address_bytes p.target) (address_bytes p.source) p.body d pad
 
 -- the part from the field on
@@ -64,13 +64,13 @@ no_byte_or_one (suc zero) h = refl
 no_byte_or_one (suc (suc n)) h = absurd (omega (arith, h))
 
 -- the pieces of a packet that begins with two bytes of 0
-pub pieces_of : (p : PacketModel) (o1 o2 o3 o4 f t s g : List ℕ)
-    → f ≡ 0 ∷ 0 ∷ to_be_bytes w16 (30 + length p.body) ++ (p.control ∷ p.kind ∷ []) → t ≡ address_bytes p.target → s ≡ address_bytes p.source → g ≡ padding p
-    → o1 ≡ f → o2 ≡ o1 ++ t → o3 ≡ o2 ++ s → o4 ≡ o3 ++ p.body → o4 ++ g ≡ 0 ∷ 0 ∷ after_checksum p (padding p)
+pub pieces_of : (p : PacketModel) (o1 o2 f g : List ℕ)
+    → f ≡ 0 ∷ 0 ∷ to_be_bytes w16 (30 + length p.body) ++ (p.control ∷ p.kind ∷ []) ++ address_bytes p.target ++ address_bytes p.source → g ≡ padding p
+    → o1 ≡ f → o2 ≡ o1 ++ p.body → o2 ++ g ≡ 0 ∷ 0 ∷ after_checksum p (padding p)
 unfolding after_checksum
-pieces_of p o1 o2 o3 o4 f t s g ef et es eg e1 e2 e3 e4 =
+pieces_of p o1 o2 f g ef eg e1 e2 =
     let front = 0 ∷ 0 ∷ to_be_bytes w16 (30 + length p.body) ++ (p.control ∷ p.kind ∷ []) in
-    let all : o4 ++ g ≡ front ++ address_bytes p.target ++ address_bytes p.source ++ p.body ++ padding p = cc in
+    let all : o2 ++ g ≡ front ++ address_bytes p.target ++ address_bytes p.source ++ p.body ++ padding p = cc in
     all
 
 -- the packet of which t stands before its checksum is put into it, with what stood behind it

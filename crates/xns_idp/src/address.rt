@@ -17,6 +17,7 @@ pub struct Address {
 }
 
 impl Address {
+    ghost use Rattle.std.specs.Str.{bytes_eq};
     ghost use Rattle.xns_idp.specs.Packet.{IsAddress, address_bytes, broadcast, same_place};
 
     /// Whether its host is the broadcast host.
@@ -31,7 +32,21 @@ impl Address {
     pub fn is_same_place(&self, other: &Address) -> bool
         ensures { result ≡ same_place self.now other.now }
     {
-        self.host == other.host && self.socket == other.socket
+        self.is_same_host(other) && self.socket == other.socket
+    }
+
+    /// Whether both addresses name one host, byte by byte: a call of the comparison of arrays would keep both addresses in memory.
+    #[inline(always)]
+    pub fn is_same_host(&self, other: &Address) -> bool
+        ensures { result ≡ bytes_eq self.now.host other.now.host }
+    {
+        let (ours, theirs) = (self.host, other.host);
+        (ours[0] == theirs[0])
+            & (ours[1] == theirs[1])
+            & (ours[2] == theirs[2])
+            & (ours[3] == theirs[3])
+            & (ours[4] == theirs[4])
+            & (ours[5] == theirs[5])
     }
 
     /// Does nothing; says to a proof that the numbers of an address are within their types' bounds.

@@ -1,7 +1,7 @@
-ghost use Rattle.std.specs.Prelude.{◌≡◌, ◌+◌, ◌<◌, ◌≤◌, ◌++◌, ◌%◌, if◌then◌else◌, length, drop, replicate, IsOk, OnOk, OnErr, vec_len, vec_capacity};
+ghost use Rattle.std.specs.Prelude.{◌≡◌, ◌+◌, ◌<◌, ◌≤◌, ◌++◌, ◌∷◌, [], ◌%◌, if◌then◌else◌, length, drop, replicate, IsOk, OnOk, OnErr, vec_len, vec_capacity};
 ghost use Rattle.std.specs.Int.{w16, to_be_bytes};
 ghost use Rattle.xns_idp.specs.Checksum.{words, cycle_checksum};
-ghost use Rattle.xns_idp.specs.Packet.{most_data, packet_model, packet_spelling, with_data_behind};
+ghost use Rattle.xns_idp.specs.Packet.{most_data, address_bytes, packet_model, packet_spelling, with_data_behind};
 ghost use Rattle.xns_idp.specs.Reading.{made_even};
 
 use crate::checksum::cycle_sum;
@@ -46,19 +46,58 @@ pub fn encode_parts(
     // No room is given back.
     ensures room { vec_capacity out.old ≤ vec_capacity out.new }
 {
-    let (target, source) = (packet.target.to_bytes(), packet.source.to_bytes());
     let size = packet.body.len() + rest.len();
     let start = out.len();
     out.reserve(HEADER_BYTES + size + size % 2)?;
-    let [high, low] = (HEADER + size as u16).to_be_bytes();
-    out.extend_from_slice(&[0, 0, high, low, packet.control, packet.kind])?;
-    out.extend_from_slice(&target)?;
-    out.extend_from_slice(&source)?;
+    out.extend_from_slice(&header_bytes(packet, size))?;
     out.extend_from_slice(packet.body)?;
     out.extend_from_slice(rest)?;
     pad(size, out)?;
     put_checksum(&mut out.as_mut_slice()[start..], packet.summed);
     Ok(())
+}
+
+/// The bytes of a header before so many bytes of data, with 0 in the place of the checksum.
+#[inline(always)]
+pub(crate) fn header_bytes(packet: &Packet<'_>, size: usize) -> [u8; HEADER_BYTES]
+    requires { size ≤ most_data }
+    ensures { result ≡ 0 ∷ 0 ∷ to_be_bytes w16 (30 + size) ++ (packet.now.control ∷ packet.now.kind ∷ []) ++ address_bytes packet.now.target ++ address_bytes packet.now.source }
+{
+    let [high, low] = (HEADER + size as u16).to_be_bytes();
+    let [t0, t1, t2, t3, t4, t5, t6, t7, t8, t9, t10, t11] = packet.target.to_bytes();
+    let [s0, s1, s2, s3, s4, s5, s6, s7, s8, s9, s10, s11] = packet.source.to_bytes();
+    [
+        0,
+        0,
+        high,
+        low,
+        packet.control,
+        packet.kind,
+        t0,
+        t1,
+        t2,
+        t3,
+        t4,
+        t5,
+        t6,
+        t7,
+        t8,
+        t9,
+        t10,
+        t11,
+        s0,
+        s1,
+        s2,
+        s3,
+        s4,
+        s5,
+        s6,
+        s7,
+        s8,
+        s9,
+        s10,
+        s11,
+    ]
 }
 
 /// Appends a garbage byte where the size is odd.

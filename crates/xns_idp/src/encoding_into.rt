@@ -2,10 +2,11 @@ ghost use Rattle.std.specs.Prelude.{◌≡◌, ◌+◌, ◌≤◌, ◌++◌, ℕ
 ghost use Rattle.xns_idp.specs.Packet.{most_data, packet_model, packet_spelling};
 ghost use Rattle.xns_idp.specs.Reading.{made_even};
 
-use crate::encoding::{GARBAGE, put_checksum};
-use crate::packet::{HEADER, Packet};
+use crate::encoding::{GARBAGE, header_bytes, put_checksum};
+use crate::packet::Packet;
 
 /// Puts bytes behind the first `at` of a slice, and says where they end.
+#[inline(always)]
 fn put_behind(out: &mut [u8], at: usize, bytes: &[u8]) -> usize
     requires { at + length bytes.now ≤ length out.old }
     ensures end { result ≡ at + length bytes.now }
@@ -26,10 +27,7 @@ pub fn encode_into(packet: &Packet<'_>, out: &mut [u8]) -> usize
     requires room { made_even (30 + length packet.now.body.now) ≤ length out.old }
     ensures { (result ≡ length (packet_spelling (packet_model packet.now))) × (out.new ≡ packet_spelling (packet_model packet.now) ++ drop (length (packet_spelling (packet_model packet.now))) out.old) }
 {
-    let [high, low] = (HEADER + packet.body.len() as u16).to_be_bytes();
-    let end = put_behind(out, 0, &[0, 0, high, low, packet.control, packet.kind]);
-    let end = put_behind(out, end, &packet.target.to_bytes());
-    let end = put_behind(out, end, &packet.source.to_bytes());
+    let end = put_behind(out, 0, &header_bytes(packet, packet.body.len()));
     let end = put_behind(out, end, packet.body);
     let end = put_behind(out, end, &[GARBAGE][..packet.body.len() % 2]);
     put_checksum(&mut out[..end], packet.summed);

@@ -1,4 +1,4 @@
-use Rattle.std.proofs.Common.{◌≡◌, ◌%◌, ◌<◌, List, ℕ, [], ◌∷◌, get_or, length, take, drop, refl, ap, ◌∙◌, arith}
+use Rattle.std.proofs.Common.{◌≡◌, ◌%◌, ◌<◌, List, ℕ, length, take, drop, refl, ◌∙◌, arith}
 use Rattle.xns_idp.specs.Packet.{packet_model}
 use Rattle.xns_idp.proofs.Writing.{no_byte_or_one, pieces_of, placed}
 use Rattle.xns_idp.proofs.encoding_into.encode_into.Goals as goal
@@ -9,14 +9,10 @@ returns c =
     let garbage : length p.body % 2 < 2 = omega arith in
     let o1 = take c.put_behind-end.result c.put_behind-end.new.out in
     let o2 = take c.put_behind-end-2.result c.put_behind-end-2.new.out in
-    let o3 = take c.put_behind-end-3.result c.put_behind-end-3.new.out in
-    let o4 = take c.put_behind-end-4.result c.put_behind-end-4.new.out in
-    let n = c.put_behind-end-5.result in
-    let whole = c.put_behind-end-5.ensures.put ∙ pieces_of p o1 o2 o3 o4 _ c.to_bytes.result c.to_bytes-2.result _
-    (ap (λ (x : List ℕ). 0 ∷ 0 ∷ get_or x 0 0 ∷ get_or x 1 0 ∷ p.control ∷ p.kind ∷ []) c.to_be_bytes.ensures) c.to_bytes.ensures c.to_bytes-2.ensures (no_byte_or_one (length p.body % 2) garbage)
-    c.put_behind-end.ensures.put c.put_behind-end-2.ensures.put c.put_behind-end-3.ensures.put c.put_behind-end-4.ensures.put in
-    let e1 = c.put_behind-end.ensures.end in let e2 = c.put_behind-end-2.ensures.end in let e3 = c.put_behind-end-3.ensures.end in let e4 = c.put_behind-end-4.ensures.end in let e5 = c.put_behind-end-5.ensures.end in
-    let behind : drop n c.put_behind-end-5.new.out ≡ drop n c.args.out.now =
-    c.put_behind-end-5.ensures.behind n (omega (arith, e5)) ∙ c.put_behind-end-4.ensures.behind n (omega (arith, e4, e5)) ∙ c.put_behind-end-3.ensures.behind n (omega (arith, e3, e4, e5))
-    ∙ c.put_behind-end-2.ensures.behind n (omega (arith, e2, e3, e4, e5)) ∙ c.put_behind-end.ensures.behind n (omega (arith, e1, e2, e3, e4, e5)) in
-    placed p n c.args.out.now c.put_behind-end-5.new.out c.put_checksum.new.packet _ refl whole c.put_behind-end-5.ensures.within behind c.put_checksum.ensures
+    let n = c.put_behind-end-3.result in
+    let whole = c.put_behind-end-3.ensures.put ∙ pieces_of p o1 o2 c.header_bytes.result _ c.header_bytes.ensures (no_byte_or_one (length p.body % 2) garbage)
+    c.put_behind-end.ensures.put c.put_behind-end-2.ensures.put in
+    let e1 = c.put_behind-end.ensures.end in let e2 = c.put_behind-end-2.ensures.end in let e3 = c.put_behind-end-3.ensures.end in
+    let behind : drop n c.put_behind-end-3.new.out ≡ drop n c.args.out.now =
+    c.put_behind-end-3.ensures.behind n (omega (arith, e3)) ∙ c.put_behind-end-2.ensures.behind n (omega (arith, e2, e3)) ∙ c.put_behind-end.ensures.behind n (omega (arith, e1, e2, e3)) in
+    placed p n c.args.out.now c.put_behind-end-3.new.out c.put_checksum.new.packet _ refl whole c.put_behind-end-3.ensures.within behind c.put_checksum.ensures
