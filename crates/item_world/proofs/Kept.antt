@@ -1,29 +1,22 @@
--- What each small step of the world keeps.
-use Rattle.std.proofs.Common.{append-nil, ◌≡◌, ℕ, ◌+◌, ◌-◌, ◌≤◌, Bool, true, List, [], ◌++◌, length, length-take, map, take, Option, Some, None, Ok, refl, sym, ◌∙◌, ap, subst, arith}
-use Rattle.item_world.specs.World.{World, end_of, start, moment, emitted, moved, is_past, has_passed, flushes, receives, ticks, sends, takes, marked, sent_at, handed_at}
-use Rattle.item_world.specs.Telling.{resends, tells}
-use Rattle.item_world.specs.Landing.{answered, landed, landing}
+-- What each small step of the world keeps, and what is true at every moment.
+use Rattle.std.proofs.Common.{append-nil, ◌≡◌, ℕ, ◌≤◌, Bool, true, List, [], length, map, take, Some, None, Ok, refl, sym, ◌∙◌, ap, subst, arith, ◌∷◌, fold, Option}
+use Rattle.item_world.specs.World.{World, end_of, start, moment, emitted, moved, is_past, has_passed, receives, marked, sent_at, handed_at, flushes}
+use Rattle.item_world.specs.Landing.{answered, landing, reached}
 use Rattle.xns_spp.specs.Growth.{Begins, IsFresh, Grows}
-use Rattle.item_world.proofs.Sound.{IsProper, stays_sound}
-use Rattle.item_world.proofs.Sides.{each_side, placed}
-use Rattle.item_world.proofs.Moves.{Keeps, GoesOn, silent, flush_moves, tick_moves, resend_moves, told_moves, take_goes, send_goes}
-use Rattle.item_world.proofs.Fronts.{begins_then, begins_get, begins_length, front_begins}
-use Rattle.std.proofs.lemmas.List.{length-append}
-use Rattle.xns_spp.specs.Item.{IsItem}
+use Rattle.item_world.proofs.Sides.{each_side, placed, has_landed, noise_changes_nothing}
+use Rattle.item_world.proofs.Moves.{IsProper, Sends, stays_sound, flush_sends, tick_sends, take_sends, send_sends, resend_sends, told_sends}
+use Rattle.item_world.specs.Fronts.{begins_then, front_begins, begins_length}
+use Rattle.item_world.proofs.Fronts.{begins_get}
 use Rattle.std.specs.Option.{option_to_list}
-use Rattle.std.specs.Prelude.{slice_get, All, false, if◌then◌else◌}
-use Rattle.std.proofs.Math.Seq.{take-append-add}
-use Rattle.std.proofs.lemmas.List.Elements.{All-nil, All-append, All-map, All-set, All-weaker}
+use Rattle.std.specs.Prelude.{slice_get, All, false}
+use Rattle.std.proofs.lemmas.List.Elements.{All-nil, All-append, All-map, All-set, All-weaker, All-cons, All-take, All-head, All-tail}
 use Rattle.std.proofs.lemmas.Option.{get_or_from_slice_get, slice_get_within}
 use Rattle.xns_spp.specs.Meant.{as_meant}
-use Rattle.xns_spp.specs.Packet.{SppPacketModel, IsSppPacket, spelled, spp_packet_spelling, spp_packet_of}
+use Rattle.xns_spp.specs.Packet.{SppPacketModel, IsSppPacket, spp_packet_spelling, spp_packet_of}
 use Rattle.xns_spp.specs.Receiving.{numbers_in, receive_answer, after_receive}
-use Rattle.xns_spp.specs.Sending.{after_send, flush_packets, flush_answer, after_flush, tick_packets, tick_answer, after_tick, after_take}
 use Rattle.xns_spp.specs.State.{State, IsState}
-use Rattle.xns_spp.specs.Telling.{told_packet, told_answer, resend_packet, resend_answer, after_resend}
 use Rattle.xns_spp.specs.declared.item.Item.{Item}
-use Rattle.item_world.proofs.Alive.{read_as_meant}
-use Rattle.item_world.proofs.Arrivals.{Sends, receive_sends}
+use Rattle.item_world.proofs.Arrivals.{read_as_meant, receive_sends}
 use Rattle.item_world.specs.EndLaws.{EndLaws}
 use Rattle.item_world.specs.declared.emitted.Emitted.{Emitted}
 use Rattle.item_world.specs.declared.setup.Setup.{Setup}
@@ -32,14 +25,15 @@ use Rattle.item_world.specs.declared.side.Side.TheVariants.{A, B}
 use Rattle.item_world.specs.Invariant.{IsSound, IsSoundSpelling, WentOut, Stands, Holds}
 use Rattle.item_world.specs.Setup.{IsSetup, IsGood}
 use Rattle.item_world.specs.Side.{other}
+use Rattle.std.proofs.lemmas.List.Sums.{fold-append}
+use Rattle.item_world.specs.declared.event.Event.{Event}
+use Rattle.item_world.specs.declared.event.Event.TheVariants.{Deliver, Rest, Tick, Foreign, Send, Take}
+use Rattle.item_world.specs.Events.{Step, IsStep, arrival, noise, sending, taking, flushing, ticking, resending, telling, stepped, all_stepped, arrival_steps, delivery_steps, delivers, delivery_steps_of, undelivered, steps_of, happens, run, IsEvent}
+use Rattle.item_world.specs.Laws.{EachStepKeepsTheOrder}
 
 -- a packet of the bag
 abbrev IsKeptIn : World → Emitted → Type 0
 IsKeptIn w x = IsSoundSpelling (end_of w x.side) (end_of w (other x.side)) x
-
-pub record IsKept (w : World) : Type 0 where
-  pub ends : (side : Side) → Keeps (end_of w side) (end_of w (other side))
-  pub bag : All (IsKeptIn w) w.bag
 
 -- ---- an end goes on
 
@@ -48,8 +42,8 @@ still_out : (s t : State) (k : ℕ) (x : Item) → Grows s t → WentOut s k x �
 still_out s t k x g was = record { is = begins_get s.accepted t.accepted k x g.accepted was.is; sent = omega (arith, was.sent, g.sent) }
 
 -- its peer stands as before
-peer_keeps : (s t peer : State) → Grows s t → Keeps t peer → Keeps peer s → Keeps peer t
-peer_keeps s t peer g now k = record {
+peer_stands : (s t peer : State) → Grows s t → Stands t peer → Stands peer s → Stands peer t
+peer_stands s t peer g now k = record {
   fits = k.fits;
   taken = begins_then peer.taken s.accepted t.accepted k.taken g.accepted;
   went_out = omega (arith, k.went_out, g.sent);
@@ -90,40 +84,31 @@ proper_spelled t peer side ps h =
     }) ps h)
 
 new_spelled : (s t peer : State) (side : Side) (bytes : List (List ℕ)) → Sends s t peer bytes → All (IsNew t peer side) bytes
-new_spelled s t peer side bytes m = subst (λ (l : List (List ℕ)). All (IsNew t peer side) l) (sym m.spells) (proper_spelled t peer side m.packets m.moves.packets)
+new_spelled s t peer side bytes m = subst (λ (l : List (List ℕ)). All (IsNew t peer side) l) (sym m.spells) (proper_spelled t peer side m.packets m.proper)
 
 -- an end moves
-moved_kept : (w : World) (side : Side) (t : State) (bs : List (List ℕ)) → IsKept w → Sends (end_of w side) t (end_of w (other side)) bs → IsKept (moved w side t bs)
+pub moved_kept : (w : World) (side : Side) (t : State) (bs : List (List ℕ)) → Holds w → Sends (end_of w side) t (end_of w (other side)) bs → Holds (moved w side t bs)
 moved_kept w side t bs k m =
     let v : World = moved w side t bs in
     let s : State = end_of w side in
     let peer : State = end_of w (other side) in
-    let g : Grows s t = m.moves.grows in
+    let g : Grows s t = m.grows in
     let new : List ℕ → Emitted = emitted side (moment t peer) in
     let sent : All (λ b. IsKeptIn v (new b)) bs =
     All-weaker (IsNew t peer side) (λ b. IsKeptIn v (new b)) (λ b i. placed w side t bs (λ x y. IsSoundSpelling x y (new b)) i) bs (new_spelled s t peer side bs m) in
     record {
-      ends = λ u. each_side w side t bs Keeps (λ h. m.moves.keeps) (peer_keeps s t peer g m.moves.keeps) u (k.ends u);
+      ends = λ u. each_side w side t bs Stands (λ h. m.stands) (peer_stands s t peer g m.stands) u (k.ends u);
       bag = All-append (IsKeptIn v) w.bag (map new bs)
           (All-weaker (IsKeptIn w) (IsKeptIn v) (λ x i. each_side w side t bs (λ y z. IsSoundSpelling y z x) (stays_spelled s t peer x g) (peer_spelled s t peer x g) x.side i) w.bag k.bag)
           (All-map (IsKeptIn v) new bs sent);
     }
 
--- no packets
-silent_kept : (w : World) (side : Side) (t : State) → IsKept w → GoesOn (end_of w side) t (end_of w (other side)) → IsKept (moved w side t [])
-silent_kept w side t k g = moved_kept w side t [] k (record { packets = []; spells = refl; moves = silent (end_of w side) t (end_of w (other side)) g })
-
-pub flush_kept : EndLaws → (w : World) (side : Side) → IsKept w → IsKept (flushes w side)
-flush_kept laws w side k =
-    let s : State = end_of w side in
-    moved_kept w side (after_flush s) (flush_answer s) k (record { packets = flush_packets s; spells = laws.goes_out.flush_bytes s; moves = flush_moves laws s (end_of w (other side)) (k.ends side) })
-
 -- ---- a packet is delivered
 
-in_bag : (w : World) (k : ℕ) (x : Emitted) → slice_get w.bag k ≡ Some x → IsKept w → IsKeptIn w x
+in_bag : (w : World) (k : ℕ) (x : Emitted) → slice_get w.bag k ≡ Some x → Holds w → IsKeptIn w x
 in_bag w k x is h = subst (IsKeptIn w) (get_or_from_slice_get w.bag k x x is) (h.bag k x (slice_get_within w.bag k x is))
 
-marked_kept : (w : World) (k : ℕ) (x : Emitted) → IsKeptIn w x → IsKept w → IsKept (marked w k x)
+marked_kept : (w : World) (k : ℕ) (x : Emitted) → IsKeptIn w x → Holds w → Holds (marked w k x)
 marked_kept w k x i h =
     let v : World = marked w k x in
     let y : Emitted = record x { delivered = true } in
@@ -131,7 +116,7 @@ marked_kept w k x i h =
     let peer = end_of w (other x.side) in
     let there : IsKeptIn w y = spelled_on s s peer peer x true i i.sound (omega arith) (omega arith) in
     record {
-      ends = λ side. elim side as (λ s. Keeps (end_of v s) (end_of v (other s))) [ A ↦ h.ends A | B ↦ h.ends B ];
+      ends = λ side. elim side as (λ s. Stands (end_of v s) (end_of v (other s))) [ A ↦ h.ends A | B ↦ h.ends B ];
       bag = All-set (IsKeptIn w) w.bag k y there h.bag;
     }
 
@@ -139,7 +124,7 @@ read_back : EndLaws → (bytes : List ℕ) (p : SppPacketModel) → IsSppPacket 
 read_back laws bytes p fits is = ap spp_packet_of (is ∙ sym (append-nil (spp_packet_spelling p))) ∙ laws.written.again p [] fits
 
 received_kept : EndLaws → (w : World) (side : Side) (x : Emitted) → IsSoundSpelling (end_of w (other side)) (end_of w side) x → is_past x.at (length (end_of w (other side)).taken) (length (end_of w side).taken) ≡ false
-    → IsKept w → IsKept (receives w side x.bytes)
+    → Holds w → Holds (receives w side x.bytes)
 received_kept laws w side x i alive k =
     let s : State = end_of w side in
     let peer : State = end_of w (other side) in
@@ -152,68 +137,23 @@ received_kept laws w side x i alive k =
 abbrev GoesTo : World → Emitted → Side → Side → Type 0
 GoesTo v x from to = (IsSoundSpelling (end_of v from) (end_of v to) x) × (is_past x.at (length (end_of v from).taken) (length (end_of v to).taken) ≡ false)
 
-answered_kept : EndLaws → (w : World) (k : ℕ) (x : Emitted) → slice_get w.bag k ≡ Some x → has_passed w x ≡ false → IsKept w → IsKept (answered w k x)
+answered_kept : EndLaws → (w : World) (k : ℕ) (x : Emitted) → slice_get w.bag k ≡ Some x → has_passed w x ≡ false → Holds w → Holds (answered w k x)
 answered_kept laws w k x is alive h =
     let v : World = marked w k x in
     let side : Side = other x.side in
     let there : IsKeptIn w x = in_bag w k x is h in
-    let kept : IsKept v = marked_kept w k x there h in
+    let kept : Holds v = marked_kept w k x there h in
     let here : GoesTo v x (other side) side =
     elim (x.side) as (λ s. GoesTo w x s (other s) → GoesTo v x (other (other s)) (other s)) [ A ↦ λ g. g | B ↦ λ g. g ] (there, alive) in
     received_kept laws v side x here.0 here.1 kept
 
-landed_kept : EndLaws → (w : World) (k : ℕ) (o : Option Emitted) (l : Side × World) → slice_get w.bag k ≡ o → IsKept w → landed w k o ≡ Some l → IsKept l.1
-landed_kept laws w k None l is h e = absurd (cc)
-landed_kept laws w k (Some x) l is h e =
-    elim (has_passed w x) as (λ b. has_passed w x ≡ b → (if b then None else Some (other x.side, answered w k x)) ≡ Some l → IsKept l.1) [
-      | true ↦ λ past f. absurd (cc)
-      | false ↦ λ alive f. let same : (other x.side, answered w k x) ≡ l = cc in subst (λ (m : Side × World). IsKept m.1) same (answered_kept laws w k x is alive h)
-    ] refl e
-
-pub land_kept : EndLaws → (w : World) (k : ℕ) (l : Side × World) → IsKept w → landing w k ≡ Some l → IsKept l.1
-land_kept laws w k l h e = landed_kept laws w k (slice_get w.bag k) l refl h e
-
--- ---- each small step
-
-pub tick_kept : EndLaws → (w : World) (side : Side) → IsKept w → IsKept (ticks w side)
-tick_kept laws w side k =
-    let s : State = end_of w side in
-    moved_kept w side (after_tick s) (tick_answer s) k (record { packets = tick_packets s; spells = laws.goes_out.tick_bytes s; moves = tick_moves laws s (end_of w (other side)) (k.ends side) })
-
-spelled_one : (o : Option SppPacketModel) → option_to_list (spelled o) ≡ map spp_packet_spelling (option_to_list o)
-spelled_one None = refl
-spelled_one (Some p) = refl
-
-pub resend_kept : EndLaws → (w : World) (side : Side) → IsKept w → IsKept (resends w side)
-resend_kept laws w side k =
-    let s : State = end_of w side in
-    moved_kept w side (after_resend s) (option_to_list (resend_answer s)) k (record {
-      packets = option_to_list (resend_packet s);
-      spells = ap option_to_list (laws.goes_out.resend_bytes s) ∙ spelled_one (resend_packet s);
-      moves = resend_moves laws s (end_of w (other side)) (k.ends side);
-    })
-
-pub told_kept : EndLaws → (w : World) (side : Side) (asks : Bool) → IsKept w → IsKept (tells w side asks)
-told_kept laws w side asks k =
-    let s : State = end_of w side in
-    moved_kept w side s (option_to_list (told_answer s asks)) k (record {
-      packets = option_to_list (told_packet s asks);
-      spells = ap option_to_list (laws.goes_out.told_bytes s asks) ∙ spelled_one (told_packet s asks);
-      moves = told_moves laws s (end_of w (other side)) asks (k.ends side);
-    })
-
-pub send_kept : EndLaws → (w : World) (side : Side) (x : Item) → IsItem x → IsKept w → IsKept (sends w side x)
-send_kept laws w side x fits k = silent_kept w side (after_send (end_of w side) x) k
-    (send_goes laws (end_of w side) (end_of w (other side)) x (laws.bounds.send (end_of w side) x (k.ends side).fits fits) (k.ends side))
-
-pub take_kept : EndLaws → (w : World) (side : Side) → IsKept w → IsKept (takes w side)
-take_kept laws w side k = silent_kept w side (after_take (end_of w side)) k
-    (take_goes laws (end_of w side) (end_of w (other side)) (k.ends side))
+pub land_kept : EndLaws → (w : World) (k : ℕ) (l : Side × World) → Holds w → landing w k ≡ Some l → Holds l.1
+land_kept laws w k l h e = let i = has_landed w k l e in subst (λ (m : Side × World). Holds m.1) i.leads (answered_kept laws w k i.packet i.is i.alive h)
 
 -- ---- the start
 
-new_keeps : (s peer : State) → IsState s → IsFresh s → IsFresh peer → Keeps s peer
-new_keeps s peer fits new peer_new = record {
+new_stands : (s peer : State) → IsState s → IsFresh s → IsFresh peer → Stands s peer
+new_stands s peer fits new peer_new = record {
   fits = fits;
   taken = subst (λ (l : List Item). Begins l peer.accepted) (sym new.taken) (peer.accepted, refl);
   went_out = omega (arith, ap length new.taken);
@@ -222,7 +162,7 @@ new_keeps s peer fits new peer_new = record {
   reached = omega (arith, ap length peer_new.taken);
 }
 
-pub start_kept : EndLaws → (setup : Setup) → IsSetup setup → IsGood setup → IsKept (start setup)
+pub start_kept : EndLaws → (setup : Setup) → IsSetup setup → IsGood setup → Holds (start setup)
 start_kept laws setup fits good =
     let w : World = start setup in
     let a : IsState w.a =
@@ -232,52 +172,100 @@ start_kept laws setup fits good =
     let a_new : IsFresh w.a = laws.fresh.initiator setup.a setup.b setup.a_id setup.window setup.backlog in
     let b_new : IsFresh w.b = laws.fresh.responder setup.b setup.a setup.b_id setup.a_id setup.window setup.backlog in
     record {
-      ends = λ side. elim side as (λ s. Keeps (end_of w s) (end_of w (other s))) [
-        | A ↦ new_keeps w.a w.b a a_new b_new
-        | B ↦ new_keeps w.b w.a b b_new a_new
+      ends = λ side. elim side as (λ s. Stands (end_of w s) (end_of w (other s))) [
+        | A ↦ new_stands w.a w.b a a_new b_new
+        | B ↦ new_stands w.b w.a b b_new a_new
       ];
       bag = All-nil (IsKeptIn w);
     }
 
--- ---- as the definitions say it
+-- ---- what it gives
 
--- a prefix that is no longer than n is a prefix of the first n
-begins_take : (xs ys : List Item) (n : ℕ) → Begins xs ys → length xs ≤ n → Begins xs (take n ys)
-begins_take xs ys n b h =
-    let more : length xs + (n - length xs) ≡ n = omega arith in
-    (take (n - length xs) b.0, sym (ap (take n) (sym b.1) ∙ (ap (λ (k : ℕ). take k (xs ++ b.0)) (sym more) ∙ take-append-add xs b.0 (n - length xs))))
-
-stands : (s peer : State) → Keeps s peer → Stands s peer
-stands s peer k = record { fits = k.fits; taken = begins_take s.taken peer.accepted peer.sent k.taken k.went_out; early = k.early; acknowledged = k.acknowledged; reached = k.reached }
-
-pub holds : (w : World) → IsKept w → Holds w
-holds w k = record { ends = λ side. stands (end_of w side) (end_of w (other side)) (k.ends side); bag = k.bag }
-
-living : EndLaws → (w : World) (side : Side) (x : Emitted) → IsKept w → (i : IsSoundSpelling (end_of w side) (end_of w (other side)) x) → is_past x.at (length (end_of w side).taken) (length (end_of w (other side)).taken) ≡ false
+living : EndLaws → (w : World) (side : Side) (x : Emitted) → Holds w → (i : IsSoundSpelling (end_of w side) (end_of w (other side)) x) → is_past x.at (length (end_of w side).taken) (length (end_of w (other side)).taken) ≡ false
     → numbers_in (end_of w (other side)) i.says.packet ≡ as_meant i.says.meant
 living laws w A x k i alive = read_as_meant laws w.b w.a x i (k.ends B) alive
 living laws w B x k i alive = read_as_meant laws w.a w.b x i (k.ends A) alive
 
--- and back
-keeps : (s peer : State) → Stands s peer → Keeps s peer
-keeps s peer h = record {
-  fits = h.fits;
-  taken = begins_then s.taken (take peer.sent peer.accepted) peer.accepted h.taken (front_begins peer.sent peer.accepted);
-  went_out = omega (arith, ap (length {A = Item}) h.taken.1, length-append s.taken h.taken.0, length-take peer.sent peer.accepted);
-  early = h.early;
-  acknowledged = h.acknowledged;
-  reached = h.reached;
-}
-
-pub kept : (w : World) → Holds w → IsKept w
-kept w h = record { ends = λ side. keeps (end_of w side) (end_of w (other side)) (h.ends side); bag = h.bag }
-
 pub in_order : (w : World) (side : Side) → Holds w → Begins (handed_at w side) (sent_at w (other side))
-in_order w side h =
-    let s : State = end_of w side in
-    let k = keeps s (end_of w (other side)) (h.ends side) in
-    begins_then (take s.handed s.taken) s.taken (sent_at w (other side)) (front_begins s.handed s.taken) k.taken
+in_order w side h = let s : State = end_of w side in begins_then (take s.handed s.taken) s.taken (sent_at w (other side)) (front_begins s.handed s.taken) (h.ends side).taken
 
 -- a packet that lives is read as what it was made of
-pub read_kept : EndLaws → (w : World) (x : Emitted) → IsKept w → has_passed w x ≡ false → (i : IsSoundSpelling (end_of w x.side) (end_of w (other x.side)) x) → numbers_in (end_of w (other x.side)) i.says.packet ≡ as_meant i.says.meant
+pub read_kept : EndLaws → (w : World) (x : Emitted) → Holds w → has_passed w x ≡ false → (i : IsSoundSpelling (end_of w x.side) (end_of w (other x.side)) x) → numbers_in (end_of w (other x.side)) i.says.packet ≡ as_meant i.says.meant
 read_kept laws w x k alive i = living laws w x.side x k i alive
+
+reached_holds : EndLaws → (w : World) (k : ℕ) (o : Option (Side × World)) → landing w k ≡ o → Holds w → Holds (reached w o)
+reached_holds laws w k None e h = h
+reached_holds laws w k (Some l) e h = land_kept laws w k l h e
+
+pub step_holds : EndLaws → (w : World) (s : Step) → IsStep s → Holds w → Holds (stepped w s)
+step_holds laws w (arrival k) fits h = reached_holds laws w k (landing w k) refl h
+step_holds laws w (noise side bytes) fits h = subst Holds (sym (noise_changes_nothing laws w side bytes)) h
+step_holds laws w (sending side x) fits h = moved_kept w side _ [] h (send_sends laws _ _ x fits (h.ends side))
+step_holds laws w (taking side) fits h = moved_kept w side _ [] h (take_sends laws _ _ (h.ends side))
+step_holds laws w (flushing side) fits h = moved_kept w side _ _ h (flush_sends laws _ _ (h.ends side))
+step_holds laws w (ticking side) fits h = moved_kept w side _ _ h (tick_sends laws _ _ (h.ends side))
+step_holds laws w (resending side) fits h = moved_kept w side _ _ h (resend_sends laws _ _ (h.ends side))
+step_holds laws w (telling side asks) fits h = moved_kept w side _ _ h (told_sends laws _ _ asks (h.ends side))
+
+-- ---- the steps of an event
+
+arrival_fits : (k : ℕ) (o : Option (Side × World)) → All IsStep (arrival_steps k o)
+arrival_fits k None = All-nil IsStep
+arrival_fits k (Some l) = All-cons IsStep (arrival k) (flushing l.0 ∷ []) tt (All-cons IsStep (flushing l.0) [] tt (All-nil IsStep))
+
+deliveries_fit : (w : World) (ks : List ℕ) → All IsStep (delivery_steps_of w ks)
+deliveries_fit w [] = All-nil IsStep
+deliveries_fit w (k ∷ ks) = All-append IsStep (delivery_steps w k) (delivery_steps_of (delivers w k) ks) (arrival_fits k (landing w k)) (deliveries_fit (delivers w k) ks)
+
+one_fits : (s : Step) → IsStep s → All IsStep (s ∷ [])
+one_fits s h = All-cons IsStep s [] h (All-nil IsStep)
+
+pub steps_fit : (w : World) (e : Event) → IsEvent e → All IsStep (steps_of w e)
+steps_fit w (Deliver k) fits = arrival_fits k (landing w k)
+steps_fit w Rest fits = deliveries_fit w (undelivered 0 w.bag)
+steps_fit w (Tick side) fits = one_fits (ticking side) tt
+steps_fit w (Foreign side bytes) fits = one_fits (noise side bytes) tt
+steps_fit w (Send side x) fits = All-cons IsStep (sending side x) (flushing side ∷ []) fits (one_fits (flushing side) tt)
+steps_fit w (Take side) fits = one_fits (taking side) tt
+
+pub all_hold : EachStepKeepsTheOrder → (w : World) (ss : List Step) → All IsStep ss → Holds w → Holds (all_stepped w ss)
+all_hold laws w [] fits h = h
+all_hold laws w (s ∷ ss) fits h = all_hold laws (stepped w s) ss (All-tail IsStep s ss fits) (laws.each w s (All-head IsStep s ss fits) h)
+
+run_holds : EachStepKeepsTheOrder → (w : World) (es : List Event) → All IsEvent es → Holds w → Holds (run w es)
+run_holds laws w [] fits h = h
+run_holds laws w (e ∷ es) fits h = run_holds laws (happens w e) es (All-tail IsEvent e es fits) (all_hold laws w (steps_of w e) (steps_fit w e (All-head IsEvent e es fits)) h)
+
+-- ---- at every moment
+
+-- after these events, and after the first n small steps of one event more
+pub within_holds : EachStepKeepsTheOrder → (setup : Setup) (events : List Event) (e : Event) (n : ℕ) → IsSetup setup → IsGood setup → All IsEvent events → IsEvent e
+    → Holds (all_stepped (run (start setup) events) (take n (steps_of (run (start setup) events) e)))
+within_holds laws setup events e n fits good given event =
+    let w : World = run (start setup) events in
+    (all_hold laws w (take n (steps_of w e)) (All-take IsStep n (steps_of w e) (steps_fit w e event)) (run_holds laws (start setup) events given (laws.start setup fits good)))
+
+pub always_holds : EachStepKeepsTheOrder → (setup : Setup) (events : List Event) → IsSetup setup → IsGood setup → All IsEvent events → Holds (run (start setup) events)
+always_holds laws setup events fits good given = (run_holds laws (start setup) events given (laws.start setup fits good))
+
+pub begins_always : EachStepKeepsTheOrder → (setup : Setup) (events : List Event) (side : Side) → IsSetup setup → IsGood setup → All IsEvent events → Begins (handed_at (run (start setup) events) side) (sent_at (run (start setup) events) (other side))
+begins_always laws setup events side fits good given = laws.order (run (start setup) events) side (always_holds laws setup events fits good given)
+
+-- ---- the deliveries of an event
+
+-- the world once the end that a packet came to has answered it, and has flushed then
+abbrev pub flushed : World → Option (Side × World) → World
+flushed w None = w
+flushed w (Some l) = flushes l.1 l.0
+
+lands_flushed : (w : World) (k : ℕ) (o : Option (Side × World)) → landing w k ≡ o → all_stepped w (arrival_steps k o) ≡ flushed w o
+lands_flushed w k None e = refl
+lands_flushed w k (Some l) e = ap (λ (o : Option (Side × World)). flushes (reached w o) l.0) e
+
+pub delivers_lands : (w : World) (k : ℕ) → delivers w k ≡ flushed w (landing w k)
+delivers_lands w k = lands_flushed w k (landing w k) refl
+
+-- to deliver packets in turn is to take the steps of each in turn
+pub deliveries : (w : World) (ks : List ℕ) → all_stepped w (delivery_steps_of w ks) ≡ fold delivers w ks
+deliveries w [] = refl
+deliveries w (k ∷ ks) = fold-append stepped w (delivery_steps w k) (delivery_steps_of (delivers w k) ks) ∙ deliveries (delivers w k) ks

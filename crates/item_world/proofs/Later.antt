@@ -1,18 +1,16 @@
 -- A world goes on: both ends take no less, and what was sent stays in the bag.
 use Rattle.std.proofs.Common.{◌≡◌, ℕ, zero, suc, ◌-◌, ◌<◌, ◌≤◌, Bool, true, false, nat_lt, List, [], ◌∷◌, length, map, set, Option, Some, None, refl, sym, ◌∙◌, ap, subst, arith}
 use Rattle.std.specs.Prelude.{slice_get, if◌then◌else◌, ◌||◌}
-use Rattle.std.specs.Option.{option_to_list}
 use Rattle.std.proofs.lemmas.Bool.{ltb-true, lt-ltb}
 use Rattle.std.proofs.lemmas.List.{map-append, map-set, set-get_or}
 use Rattle.std.proofs.lemmas.Option.{get_or_from_slice_get}
-use Rattle.xns_spp.specs.Receiving.{receive_answer, after_receive}
-use Rattle.xns_spp.specs.Sending.{after_send, flush_answer, after_flush, tick_answer, after_tick, after_take}
+use Rattle.xns_spp.specs.Receiving.{after_receive}
+use Rattle.xns_spp.specs.Sending.{after_send, after_tick, after_take}
 use Rattle.xns_spp.specs.State.{State}
-use Rattle.xns_spp.specs.Telling.{told_answer, resend_answer, after_resend}
-use Rattle.xns_spp.specs.declared.item.Item.{Item}
-use Rattle.item_world.proofs.Foreign.{noise_changes_nothing}
-use Rattle.item_world.proofs.Fronts.{begins_itself, begins_then, begins_same, begins_map, begins_get, begins_length}
-use Rattle.item_world.proofs.Sides.{each_end, same_marked}
+use Rattle.xns_spp.specs.Telling.{after_resend}
+use Rattle.item_world.specs.Fronts.{begins_itself, begins_then, begins_length}
+use Rattle.item_world.proofs.Fronts.{begins_same, begins_map, begins_get}
+use Rattle.item_world.proofs.Sides.{each_end, same_marked, has_landed, noise_changes_nothing}
 use Rattle.item_world.specs.EndLaws.{EndLaws}
 use Rattle.item_world.specs.Events.{Step, arrival, noise, sending, taking, flushing, ticking, resending, telling, stepped, all_stepped, steps_of, happens, run}
 use Rattle.xns_spp.specs.Growth.{Begins, HearsNothing}
@@ -20,8 +18,7 @@ use Rattle.item_world.specs.Landing.{answered, landed, landing, reached}
 use Rattle.item_world.specs.Going.{Later, as_sent}
 use Rattle.item_world.specs.Network.{is_settled}
 use Rattle.item_world.specs.Side.{other}
-use Rattle.item_world.specs.Telling.{resends}
-use Rattle.item_world.specs.World.{World, end_of, moment, emitted, moved, has_passed, lifetime, flushes, ticks, receives, sends, takes, marked, sender_and_bytes, packets_of}
+use Rattle.item_world.specs.World.{World, end_of, moment, emitted, moved, has_passed, lifetime, flushes, marked, sender_and_bytes, packets_of}
 use Rattle.item_world.specs.declared.emitted.Emitted.{Emitted}
 use Rattle.item_world.specs.declared.event.Event.{Event}
 use Rattle.item_world.specs.declared.moment.Moment.{Moment}
@@ -62,48 +59,16 @@ no_less : (s t : State) → HearsNothing s t → length s.taken ≤ length t.tak
 no_less s t h = omega (arith, ap length h.taken)
 
 pub flushes_later : EndLaws → (w : World) (side : Side) → Later w (flushes w side)
-flushes_later laws w side =
-    let s : State = end_of w side in
-    moved_later w side (after_flush s) (flush_answer s) (no_less s (after_flush s) (laws.hears.flush s))
-
-ticks_later : EndLaws → (w : World) (side : Side) → Later w (ticks w side)
-ticks_later laws w side =
-    let s : State = end_of w side in
-    moved_later w side (after_tick s) (tick_answer s) (no_less s (after_tick s) (laws.hears.tick s))
-
-resends_later : EndLaws → (w : World) (side : Side) → Later w (resends w side)
-resends_later laws w side =
-    let s : State = end_of w side in
-    moved_later w side (after_resend s) (option_to_list (resend_answer s)) (no_less s (after_resend s) (laws.hears.resend s))
-
-sends_later : EndLaws → (w : World) (side : Side) (x : Item) → Later w (sends w side x)
-sends_later laws w side x =
-    let s : State = end_of w side in
-    moved_later w side (after_send s x) [] (no_less s (after_send s x) (laws.hears.send s x))
-
-takes_later : EndLaws → (w : World) (side : Side) → Later w (takes w side)
-takes_later laws w side =
-    let s : State = end_of w side in
-    moved_later w side (after_take s) [] (no_less s (after_take s) (laws.hears.take s))
-
-receives_later : EndLaws → (w : World) (side : Side) (bytes : List ℕ) → Later w (receives w side bytes)
-receives_later laws w side bytes =
-    let s : State = end_of w side in
-    let t : State = after_receive s bytes in
-    moved_later w side t (option_to_list (receive_answer s bytes).reply) (begins_length s.taken t.taken (laws.grows.receive s bytes).taken)
-
-landed_later : EndLaws → (w : World) (k : ℕ) (o : Option Emitted) (l : Side × World) → slice_get w.bag k ≡ o → landed w k o ≡ Some l → Later w l.1
-landed_later laws w k None l is e = absurd (cc)
-landed_later laws w k (Some x) l is e =
-    elim (has_passed w x) as (λ b. (if b then None else Some (other x.side, answered w k x)) ≡ Some l → Later w l.1) [
-      | true ↦ λ f. absurd (cc)
-      | false ↦ λ f.
-          let same : (other x.side, answered w k x) ≡ l = cc in
-          subst (λ (m : Side × World). Later w m.1) same (later_then w (marked w k x) (answered w k x) (marked_later w k x is) (receives_later laws (marked w k x) (other x.side) x.bytes))
-    ] e
+flushes_later laws w side = moved_later w side _ _ (no_less _ _ (laws.hears.flush (end_of w side)))
 
 pub landing_later : EndLaws → (w : World) (k : ℕ) (l : Side × World) → landing w k ≡ Some l → Later w l.1
-landing_later laws w k l e = landed_later laws w k (slice_get w.bag k) l refl e
+landing_later laws w k l e =
+    let i = has_landed w k l e in
+    let x : Emitted = i.packet in
+    let v : World = marked w k x in
+    let s : State = end_of v (other x.side) in
+    let more = moved_later v (other x.side) (after_receive s x.bytes) _ (begins_length s.taken (after_receive s x.bytes).taken (laws.grows.receive s x.bytes).taken) in
+    subst (λ (m : Side × World). Later w m.1) i.leads (later_then w v (answered w k x) (marked_later w k x i.is) more)
 
 reached_later : EndLaws → (w : World) (k : ℕ) (o : Option (Side × World)) → landing w k ≡ o → Later w (reached w o)
 reached_later laws w k None e = later_itself w
@@ -112,12 +77,12 @@ reached_later laws w k (Some l) e = landing_later laws w k l e
 step_later : EndLaws → (w : World) (s : Step) → Later w (stepped w s)
 step_later laws w (arrival k) = reached_later laws w k (landing w k) refl
 step_later laws w (noise side bytes) = subst (λ (v : World). Later w v) (sym (noise_changes_nothing laws w side bytes)) (later_itself w)
-step_later laws w (sending side x) = sends_later laws w side x
-step_later laws w (taking side) = takes_later laws w side
+step_later laws w (sending side x) = moved_later w side (after_send (end_of w side) x) [] (no_less _ _ (laws.hears.send (end_of w side) x))
+step_later laws w (taking side) = moved_later w side (after_take (end_of w side)) [] (no_less _ _ (laws.hears.take (end_of w side)))
 step_later laws w (flushing side) = flushes_later laws w side
-step_later laws w (ticking side) = ticks_later laws w side
-step_later laws w (resending side) = resends_later laws w side
-step_later laws w (telling side asks) = moved_later w side (end_of w side) (option_to_list (told_answer (end_of w side) asks)) (omega arith)
+step_later laws w (ticking side) = moved_later w side (after_tick (end_of w side)) _ (no_less _ _ (laws.hears.tick (end_of w side)))
+step_later laws w (resending side) = moved_later w side (after_resend (end_of w side)) _ (no_less _ _ (laws.hears.resend (end_of w side)))
+step_later laws w (telling side asks) = moved_later w side (end_of w side) _ (omega arith)
 
 pub all_later : EndLaws → (w : World) (ss : List Step) → Later w (all_stepped w ss)
 all_later laws w [] = later_itself w

@@ -1,15 +1,9 @@
 pub mod Sides
 pub mod Fronts
-pub mod Sound
 pub mod Moves
-pub mod Alive
 pub mod Arrivals
-pub mod Foreign
 pub mod Kept
-pub mod Runs
 pub mod Later
-pub mod Resting
-pub mod Continues
 pub mod Networks
 pub mod Quiet
 pub mod Channels

@@ -1,23 +1,19 @@
 -- What the program's network stands for as packets join it and are delivered.
-use Rattle.std.proofs.Common.{◌≡◌, ℕ, zero, suc, ◌+◌, ◌<◌, ◌≤◌, Bool, true, false, List, [], ◌∷◌, ◌++◌, length, map, take, drop, set, get_or, Option, Some, None, refl, sym, ◌∙◌, ap, subst, arith, append_assoc, append-nil, length-append, length-set}
+use Rattle.std.proofs.Common.{◌≡◌, ℕ, zero, suc, ◌+◌, ◌<◌, ◌≤◌, Bool, true, false, List, [], ◌∷◌, ◌++◌, length, map, take, drop, set, get_or, Option, Some, refl, sym, ◌∙◌, ap, subst, arith, append_assoc, append-nil, length-append, length-set}
 use Rattle.std.specs.Option.{option_to_list}
-use Rattle.std.specs.Prelude.{if◌then◌else◌}
 use Rattle.xns_spp.specs.Held.{Held, StandsFor}
 use Rattle.xns_spp.specs.Receiving.{receive_answer, after_receive}
 use Rattle.item_world.specs.Going.{Lands}
-use Rattle.item_world.specs.Landing.{answered, landed, landing}
-use Rattle.item_world.specs.Network.{IsEnd}
-use Rattle.item_world.specs.World.{receives}
 use Rattle.std.proofs.lemmas.List.{take-append-le}
 use Rattle.std.proofs.lemmas.List.Elements.{All-set, All-more, All-head, All-tail, All-weaker}
 use Rattle.std.proofs.lemmas.Option.{get_or_from_slice_get, slice_get_within}
-use Rattle.std.specs.Prelude.{All, slice_get, slice_set}
+use Rattle.std.specs.Prelude.{All, slice_get, slice_set, if◌then◌else◌}
 use Rattle.xns_spp.specs.State.{State}
 use Rattle.item_world.proofs.Later.{settled_later, moved_later, marked_later}
 use Rattle.item_world.proofs.Sides.{each_end, same_end, same_marked}
-use Rattle.item_world.specs.Network.{count_of, with_count, moment_of, is_settled, AreRested, unsettled, IsNetwork}
+use Rattle.item_world.specs.Network.{count_of, with_count, moment_of, is_settled, AreRested, unsettled, IsNetwork, IsEnd}
 use Rattle.item_world.specs.Side.{other}
-use Rattle.item_world.specs.World.{World, end_of, moment, emitted, joined, moved, marked, has_passed}
+use Rattle.item_world.specs.World.{World, end_of, moment, emitted, joined, moved, marked}
 use Rattle.item_world.specs.declared.counts.Counts.{Counts}
 use Rattle.item_world.specs.declared.emitted.Emitted.{Emitted}
 use Rattle.item_world.specs.declared.moment.Moment.{Moment}
@@ -197,34 +193,6 @@ end_moved w side t bs cs e n stands is net = record {
 pub end_sends : (w : World) (side : Side) (t : State) (bs cs : List (List ℕ)) (e : Held) (n m : Network) → t.taken ≡ (end_of w side).taken → StandsFor e t → cs ≡ bs → IsNetwork n w
     → ((v : World) (s : State) → IsNetwork n v → length s.taken ≡ length (end_of v side).taken → IsNetwork m (moved v side s cs)) → IsEnd e m (moved w side t bs) side
 end_sends w side t bs cs e n m same stands is net emits = end_moved w side t bs cs e m stands is (emits w t net (ap length same))
-
-nowhere : (l : Side × World) → None ≡ Some l → ⊥
-nowhere l h = absurd (cc)
-
-same_landing : (l m : Side × World) → Some l ≡ Some m → l ≡ m
-same_landing l m h = cc
-
-landed_as : (w : World) (k : ℕ) (side : Side) (v : World) (o : Option Emitted) → slice_get w.bag k ≡ o → landed w k o ≡ Some (side, v) → Lands w k side v
-landed_as w k side v None is e = absurd (cc)
-landed_as w k side v (Some x) is e =
-    let l : Side × World = (other x.side, answered w k x) in
-    let m : Side × World = (side, v) in
-    let marks : World = marked w k x in
-    let there : l ≡ m → Lands w k side v = λ pair.
-    let on : other x.side ≡ side = ap (λ (q : Side × World). q.0) pair in
-    record {
-      packet = x;
-      is = is;
-      world = ap (λ (s : State). moved marks side (after_receive s x.bytes) (option_to_list (receive_answer s x.bytes).reply)) (sym (same_marked w k x side))
-          ∙ (ap (λ (t : Side). receives marks t x.bytes) (sym on) ∙ ap (λ (q : Side × World). q.1) pair);
-    } in
-    elim (has_passed w x) as (λ b. (if b then None else Some l) ≡ Some m → Lands w k side v) [
-      | true ↦ λ f. absurd (nowhere m f)
-      | false ↦ λ f. there (same_landing l m f)
-    ] e
-
-pub lands_as : (w : World) (k : ℕ) (side : Side) (v : World) → landing w k ≡ Some (side, v) → Lands w k side v
-lands_as w k side v e = landed_as w k side v (slice_get w.bag k) refl e
 
 -- a packet came to an end, and the network has it
 pub end_reached_by : (w v : World) (k : ℕ) (side : Side) (l : Lands w k side v) (e : Held) (n : Network) (reply : Option (List ℕ)) → StandsFor e (after_receive (end_of w side) l.packet.bytes) → reply ≡ (receive_answer (end_of w side) l.packet.bytes).reply

@@ -1,19 +1,19 @@
--- What a play stands for after each event.
-use Rattle.std.proofs.Common.{◌≡◌, ℕ, ◌+◌, ◌<◌, ◌≤◌, List, [], ◌∷◌, ◌++◌, length, map, take, get_or, Option, Some, None, refl, sym, ◌∙◌, ap, subst}
+-- What a play stands for after each event, and that a rest delivers what is not settled.
+use Rattle.std.proofs.Common.{◌≡◌, ℕ, ◌+◌, ◌<◌, ◌≤◌, List, [], ◌∷◌, ◌++◌, length, map, take, get_or, Option, Some, None, refl, sym, ◌∙◌, ap, subst, zero, suc, Bool, true, false, fold, arith}
 use Rattle.std.proofs.lemmas.List.{take_more, take_all}
-use Rattle.std.proofs.lemmas.List.Elements.{All-nil, All-push}
+use Rattle.std.proofs.lemmas.List.Elements.{All-nil, All-push, All-cons, All-head, All-tail}
 use Rattle.std.proofs.lemmas.List.Sums.{fold-append}
-use Rattle.std.specs.Prelude.{All}
+use Rattle.std.specs.Prelude.{All, slice_get, if◌then◌else◌, ◌||◌, is_some, not}
 use Rattle.xns_spp.specs.Held.{Held, StandsFor}
 use Rattle.xns_spp.specs.State.{State}
 use Rattle.xns_spp.specs.declared.item.Item.{Item}
 use Rattle.std.specs.Option.{option_to_list}
 use Rattle.xns_spp.specs.Receiving.{receive_answer, after_receive}
-use Rattle.item_world.proofs.Continues.{went_on, receive_continues}
-use Rattle.item_world.proofs.Networks.{quiet, lands_as}
-use Rattle.item_world.proofs.Sides.{same_end, same_other, same_marked}
-use Rattle.item_world.proofs.Later.{later_itself, later_then, flushes_later, landing_later}
-use Rattle.item_world.proofs.Runs.{flushed, delivers_lands}
+use Rattle.item_world.proofs.Quiet.{went_on, receive_continues}
+use Rattle.item_world.proofs.Networks.{quiet}
+use Rattle.item_world.proofs.Sides.{same_end, same_other, same_marked, lands_as}
+use Rattle.item_world.proofs.Later.{later_itself, later_then, flushes_later, landing_later, lands_nowhere}
+use Rattle.item_world.proofs.Kept.{flushed, delivers_lands}
 use Rattle.item_world.specs.declared.event.Event.{Event}
 use Rattle.item_world.specs.declared.item_trace.ItemTrace.{ItemTrace}
 use Rattle.item_world.specs.declared.network.Network.{Network}
@@ -24,17 +24,19 @@ use Rattle.item_world.specs.declared.setup.Setup.{Setup}
 use Rattle.item_world.specs.declared.side.Side.{Side}
 use Rattle.item_world.specs.declared.side.Side.TheVariants.{A, B}
 use Rattle.item_world.specs.EndLaws.{EndLaws}
-use Rattle.item_world.specs.Events.{happens, delivers, run, IsEvent}
+use Rattle.item_world.specs.Events.{happens, delivers, run, IsEvent, undelivered}
 use Rattle.xns_spp.specs.Growth.{Begins}
-use Rattle.item_world.specs.Going.{Continues, Later}
-use Rattle.item_world.specs.Landing.{landing, end_reached}
+use Rattle.item_world.specs.Going.{Continues, Later, StaysAway, does_land}
+use Rattle.item_world.specs.Landing.{landing, end_reached, answered, landed}
 use Rattle.item_world.specs.Laws.{ItemsComeInOrder}
-use Rattle.item_world.specs.Network.{IsNetwork, IsEnd}
+use Rattle.item_world.specs.Network.{IsNetwork, IsEnd, unsettled}
 use Rattle.item_world.specs.Play.{at_side, with_side, IsParticipant, IsPlaying, IsPlayed}
 use Rattle.item_world.specs.Setup.{IsSetup, IsGood}
 use Rattle.item_world.specs.Side.{other}
 use Rattle.item_world.specs.Trace.{item_trace}
-use Rattle.item_world.specs.World.{World, start, end_of, moved, marked, sender_and_bytes, packets_of}
+use Rattle.item_world.specs.World.{World, start, end_of, moved, marked, sender_and_bytes, packets_of, has_passed}
+use Rattle.std.specs.List.{filter}
+use Rattle.item_world.specs.declared.emitted.Emitted.{Emitted}
 
 -- an end acts, and the other one stays
 pub acts : (pair : Pair) (n : Network) (w v : World) (side : Side) (q : Participant) → ((t : Side) → IsParticipant (at_side pair t) (end_of w t)) → end_of v (other side) ≡ end_of w (other side)
@@ -76,11 +78,6 @@ lands_there laws pair n w v k side p e h is lands end =
     let on : Continues (end_of u side) (after_receive s b) = subst (λ (q : State). Continues q (after_receive s b)) (sym (same_marked w k l.packet side)) (receive_continues laws s b) in
     subst (λ (x : World). IsPlaying (record { ends = with_side pair side (record p { endpoint = e }); network = n }) x) l.world
     (acts_quietly pair n u side p e (after_receive s b) (option_to_list (receive_answer s b).reply) unmarked is on (subst (λ (x : World). IsEnd e n x side) (sym l.world) end))
-
--- an end that is lent out and comes back as it was
-pub lent : (pair : Pair) (side : Side) → with_side pair side (at_side pair side) ≡ pair
-lent pair A = refl
-lent pair B = refl
 
 pub some_landing : (o : Option (Side × World)) (side : Side) → Some side ≡ end_reached o → (v : World) × (o ≡ Some (side, v))
 some_landing None side h = absurd (cc)
@@ -143,3 +140,79 @@ begins_along xs xs' ys ys' p q b = (b.0, ap (λ (l : List Item). l ++ b.0) p ∙
 pub begins_played : ItemsComeInOrder → (p : Play) (setup : Setup) (events : List Event) (side : Side) → IsSetup setup → IsGood setup → IsPlayed p setup events → Begins (at_side p.ends side).handed (at_side p.ends (other side)).sent
 begins_played order p setup events side fits good played =
     begins_along _ _ _ _ (played.stands.ends side).handed (played.stands.ends (other side)).sent (order.begins setup events side fits good played.fits)
+
+-- these packets stand in the bag from number i on
+abbrev StandAt : World → ℕ → List Emitted → Type 0
+StandAt w i xs = (j : ℕ) (x : Emitted) → slice_get xs j ≡ Some x → slice_get w.bag (i + j) ≡ Some x
+
+stand_first : (w : World) (i : ℕ) (x : Emitted) (xs : List Emitted) → StandAt w i (x ∷ xs) → slice_get w.bag i ≡ Some x
+stand_first w i x xs stand = subst (λ (n : ℕ). slice_get w.bag n ≡ Some x) (omega arith) (stand zero x refl)
+
+stand_rest : (w : World) (i : ℕ) (x : Emitted) (xs : List Emitted) → StandAt w i (x ∷ xs) → StandAt w (i + 1) xs
+stand_rest w i x xs stand = λ j y is. subst (λ (n : ℕ). slice_get w.bag n ≡ Some y) (omega arith) (stand (suc j) y is)
+
+stand_all : (w : World) → StandAt w 0 w.bag
+stand_all w = λ j x is. subst (λ (n : ℕ). slice_get w.bag n ≡ Some x) (omega arith) is
+
+-- ---- which numbers are left out
+
+lands_alive : (p : Bool) (l : Side × World) → is_some (if p then None else Some l) ≡ not p
+lands_alive true l = refl
+lands_alive false l = refl
+
+one_more : (f : ℕ → Bool) (i : ℕ) (ns ks : List ℕ) (d p : Bool) → f i ≡ not p → ns ≡ filter f ks → (if d || p then ns else i ∷ ns) ≡ filter f (if d then ks else i ∷ ks)
+one_more f i ns ks true p is on = on
+one_more f i ns ks false true is on = on ∙ sym (ap (λ (b : Bool). if b then i ∷ filter f ks else filter f ks) is)
+one_more f i ns ks false false is on = ap (λ (l : List ℕ). i ∷ l) on ∙ sym (ap (λ (b : Bool). if b then i ∷ filter f ks else filter f ks) is)
+
+left_out_from : (w : World) (i : ℕ) (xs : List Emitted) → StandAt w i xs → unsettled w i xs ≡ filter (does_land w) (undelivered i xs)
+left_out_from w i [] stand = refl
+left_out_from w i (x ∷ xs) stand =
+    let alive : does_land w i ≡ not (has_passed w x) = ap (λ (o : Option Emitted). is_some (landed w i o)) (stand_first w i x xs stand) ∙ lands_alive (has_passed w x) (other x.side, answered w i x) in
+    one_more (does_land w) i (unsettled w (i + 1) xs) (undelivered (i + 1) xs) x.delivered (has_passed w x) alive (left_out_from w (i + 1) xs (stand_rest w i x xs stand))
+
+pub left_out : (w : World) → unsettled w 0 w.bag ≡ filter (does_land w) (undelivered 0 w.bag)
+left_out w = left_out_from w 0 w.bag (stand_all w)
+
+-- ---- nothing comes of them any more
+
+passed_if : (p : Bool) (l : Side × World) → (if p then None else Some l) ≡ None → p ≡ true
+passed_if true l is = refl
+passed_if false l is = absurd (cc)
+
+stays_away : (w : World) (i : ℕ) (x : Emitted) → slice_get w.bag i ≡ Some x → StaysAway w i
+stays_away w i x here = λ none v later.
+    let past = passed_if (has_passed w x) (other x.side, answered w i x) (sym (ap (landed w i) here) ∙ none) in
+    lands_nowhere w v i x later here past
+
+stay_away_from : (w : World) (i : ℕ) (xs : List Emitted) → StandAt w i xs → All (StaysAway w) (undelivered i xs)
+stay_away_from w i [] stand = All-nil (StaysAway w)
+stay_away_from w i (x ∷ xs) stand =
+    let rest = stay_away_from w (i + 1) xs (stand_rest w i x xs stand) in
+    let ks = undelivered (i + 1) xs in
+    elim x.delivered as (λ d. All (StaysAway w) (if d then ks else i ∷ ks)) [
+      | true ↦ rest
+      | false ↦ All-cons (StaysAway w) i ks (stays_away w i x (stand_first w i x xs stand)) rest
+    ]
+
+pub stay_away : (w : World) → All (StaysAway w) (undelivered 0 w.bag)
+stay_away w = stay_away_from w 0 w.bag (stand_all w)
+
+-- ---- so they may be passed over
+
+-- the number k comes first, which lands or stays away
+one_passed : (w v : World) (k : ℕ) (ks : List ℕ) (o : Option (Side × World)) → landing w k ≡ o → StaysAway w k → Later w v → fold delivers (delivers v k) ks ≡ fold delivers (delivers v k) (filter (does_land w) ks)
+    → fold delivers v ks ≡ fold delivers v (filter (does_land w) ks) → fold delivers (delivers v k) ks ≡ fold delivers v (if is_some o then k ∷ filter (does_land w) ks else filter (does_land w) ks)
+one_passed w v k ks (Some l) is away later next same = next
+one_passed w v k ks None is away later next same = ap (λ (u : World). fold delivers u ks) (delivers_nowhere v k (away is v later)) ∙ same
+
+pass_over : EndLaws → (w v : World) (ks : List ℕ) → All (StaysAway w) ks → Later w v → fold delivers v ks ≡ fold delivers v (filter (does_land w) ks)
+pass_over laws w v [] stay later = refl
+pass_over laws w v (k ∷ ks) stay later =
+    let rest = All-tail (StaysAway w) k ks stay in
+    one_passed w v k ks (landing w k) refl (All-head (StaysAway w) k ks stay) later
+    (pass_over laws w (delivers v k) ks rest (later_then w v (delivers v k) later (delivers_later laws v k)))
+    (pass_over laws w v ks rest later)
+
+pub unsettled_is_enough : EndLaws → (w : World) → fold delivers w (undelivered 0 w.bag) ≡ fold delivers w (unsettled w 0 w.bag)
+unsettled_is_enough laws w = pass_over laws w w (undelivered 0 w.bag) (stay_away w) (later_itself w) ∙ ap (fold delivers w) (sym (left_out w))

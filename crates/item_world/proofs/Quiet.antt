@@ -1,34 +1,112 @@
--- What each step of a world does to the items accepted and handed up.
-use Rattle.std.proofs.Common.{◌≡◌, ℕ, zero, suc, ◌≤◌, Bool, true, false, List, [], ◌∷◌, ◌++◌, length, take, Option, Some, None, refl, sym, ◌∙◌, ap, subst}
-use Rattle.std.specs.Option.{option_to_list}
-use Rattle.std.specs.Prelude.{is_ok, All}
-use Rattle.std.proofs.lemmas.List.Elements.{All-head, All-tail}
-use Rattle.xns_spp.specs.Growth.{Begins}
+-- What the steps of an end, and of a world, do to the items accepted and handed up.
+use Rattle.std.proofs.Common.{◌≡◌, ℕ, ◌+◌, ◌≤◌, true, false, List, [], ◌∷◌, ◌++◌, length, take, Some, None, Result, Ok, Err, refl, sym, ◌∙◌, ap, subst, arith, length-append, zero, suc, Bool, Option}
+use Rattle.std.proofs.lemmas.List.{take-append-le}
+use Rattle.std.specs.Prelude.{is_ok, OnOk, All}
+use Rattle.xns_spp.specs.Growth.{Stays, HearsNothing, Begins}
+use Rattle.xns_spp.specs.Held.{Held, StandsFor}
 use Rattle.xns_spp.specs.Receiving.{receive_answer, after_receive}
-use Rattle.xns_spp.specs.Sending.{send_answer, after_send, take_answer, after_take, flush_answer, after_flush, tick_answer, after_tick}
+use Rattle.xns_spp.specs.Sending.{send_answer, after_send, take_answer, after_take, after_flush, after_tick, flush_answer, tick_answer}
 use Rattle.xns_spp.specs.State.{State}
-use Rattle.xns_spp.specs.Telling.{told_answer, resend_answer, after_resend}
+use Rattle.xns_spp.specs.Telling.{after_resend, told_answer, resend_answer}
 use Rattle.xns_spp.specs.declared.item.Item.{Item}
-use Rattle.item_world.proofs.Continues.{continues_itself, flush_continues, tick_continues, resend_continues, receive_continues, handed_same}
-use Rattle.item_world.proofs.Foreign.{noise_changes_nothing}
-use Rattle.item_world.proofs.Fronts.{last_of}
-use Rattle.item_world.proofs.Networks.{lands_as}
-use Rattle.item_world.proofs.Sides.{same_end, same_other, same_marked, each_end}
-use Rattle.item_world.specs.Channel.{IsQuiet, Accepts, HandsUp, Move, quiet, accepts, hands_up, IsHistory}
+use Rattle.xns_spp.specs.declared.send_fault.SendFault.{SendFault}
 use Rattle.item_world.specs.EndLaws.{EndLaws}
-use Rattle.item_world.specs.Events.{Step, IsStep, IsOther, arrival, noise, sending, taking, flushing, ticking, resending, telling, stepped, all_stepped}
 use Rattle.item_world.specs.Going.{Continues}
+use Rattle.item_world.specs.declared.participant.Participant.{Participant}
+use Rattle.item_world.specs.Fronts.{begins_itself, last_of}
+use Rattle.item_world.proofs.Fronts.{begins_same}
+use Rattle.item_world.specs.Play.{IsParticipant}
+use Rattle.std.specs.Option.{option_to_list}
+use Rattle.std.proofs.lemmas.List.Elements.{All-head, All-tail}
+use Rattle.item_world.proofs.Sides.{same_end, same_other, same_marked, each_end, has_landed, noise_changes_nothing}
+use Rattle.item_world.specs.Channel.{IsQuiet, Accepts, HandsUp, Move, quiet, accepts, hands_up, IsHistory}
+use Rattle.item_world.specs.Events.{Step, IsStep, IsOther, arrival, noise, sending, taking, flushing, ticking, resending, telling, stepped, all_stepped}
 use Rattle.item_world.specs.Invariant.{Holds}
-use Rattle.item_world.specs.Landing.{landing, reached}
+use Rattle.item_world.specs.Landing.{answered, landing, reached}
 use Rattle.item_world.specs.Laws.{EachStepKeepsTheOrder}
 use Rattle.item_world.specs.Setup.{IsSetup, IsGood}
 use Rattle.item_world.specs.Side.{other}
-use Rattle.item_world.specs.Telling.{resends, tells}
-use Rattle.item_world.specs.World.{World, start, end_of, moved, flushes, ticks, sends, takes, marked, sent_at, handed_at, channel_of}
+use Rattle.item_world.specs.World.{World, start, end_of, moved, sends, takes, marked, sent_at, handed_at, channel_of}
 use Rattle.item_world.specs.declared.emitted.Emitted.{Emitted}
 use Rattle.item_world.specs.declared.setup.Setup.{Setup}
 use Rattle.item_world.specs.declared.side.Side.{Side}
 use Rattle.item_world.specs.declared.side.Side.TheVariants.{A, B}
+
+pub continues_itself : (s : State) → Continues s s
+continues_itself s = record { accepted = refl; handed = refl; taken = begins_itself s.taken }
+
+hearing_nothing : (s t : State) → Stays s t → HearsNothing s t → Continues s t
+hearing_nothing s t stays hears = record { accepted = stays.accepted; handed = stays.handed; taken = begins_same s.taken t.taken hears.taken }
+
+pub flush_continues : EndLaws → (s : State) → Continues s (after_flush s)
+flush_continues laws s = hearing_nothing s (after_flush s) (laws.stays.flush s) (laws.hears.flush s)
+
+pub tick_continues : EndLaws → (s : State) → Continues s (after_tick s)
+tick_continues laws s = hearing_nothing s (after_tick s) (laws.stays.tick s) (laws.hears.tick s)
+
+pub resend_continues : EndLaws → (s : State) → Continues s (after_resend s)
+resend_continues laws s = hearing_nothing s (after_resend s) (laws.stays.resend s) (laws.hears.resend s)
+
+pub receive_continues : EndLaws → (s : State) (b : List ℕ) → Continues s (after_receive s b)
+receive_continues laws s b =
+    let stays = laws.stays.receive s b in
+    record { accepted = stays.accepted; handed = stays.handed; taken = (laws.grows.receive s b).taken }
+
+-- what an end took from a packet
+pub receive_took : EndLaws → (s : State) (b : List ℕ) → length s.taken + (receive_answer s b).took ≡ length (after_receive s b).taken
+receive_took laws s b = let t = laws.comes_in.taken s b in omega (arith, t.count, ap length t.taken, length-append s.taken t.items)
+
+-- the items that are handed up stay
+pub handed_same : (s t : State) → Continues s t → s.handed ≤ length s.taken → take t.handed t.taken ≡ take s.handed s.taken
+handed_same s t c h = ap (λ (n : ℕ). take n t.taken) c.handed ∙ (ap (take s.handed) (sym c.taken.1) ∙ take-append-le s.handed s.taken c.taken.0 h)
+
+-- a participant whose end alone went on
+pub went_on : (p : Participant) (s t : State) (e : Held) → IsParticipant p s → Continues s t → StandsFor e t → IsParticipant (record p { endpoint = e }) t
+went_on p s t e h c stands =
+    record { stands = stands; sent = h.sent ∙ sym c.accepted; handed = h.handed ∙ sym (handed_same s t c h.stands.fits.bounds.handed_taken) }
+
+-- an item that is refused leaves the end as it was
+pub refused_continues : EndLaws → (s : State) (x y : Item) (r : Result (Unit {0}) (SendFault × Item)) → r ≡ send_answer s y → y ≡ x → is_ok r ≡ false → Continues s (after_send s x)
+refused_continues laws s x y r answer is h =
+    let here : is_ok (send_answer s y) ≡ false = ap is_ok (sym answer) ∙ h in
+    subst (λ (z : Item). Continues s (after_send s z)) is (subst (λ (t : State). Continues s t) (sym (laws.accepts.refused s y here)) (continues_itself s))
+
+-- a participant whose end accepted an item
+pub accepted_it : EndLaws → (p : Participant) (s : State) (x y z : Item) (r : Result (Unit {0}) (SendFault × Item)) (e : Held) (sent : List Item) → IsParticipant p s → r ≡ send_answer s y → y ≡ x → z ≡ x → is_ok r ≡ true → StandsFor e (after_send s y)
+    → sent ≡ p.sent ++ z ∷ [] → IsParticipant (record p { endpoint = e; sent = sent }) (after_send s x)
+accepted_it laws p s x y z r e sent h answer is same ok stands more =
+    let here : is_ok (send_answer s x) ≡ true = ap (λ (w : Item). is_ok (send_answer s w)) (sym is) ∙ (ap is_ok (sym answer) ∙ ok) in
+    let after = laws.accepts.accepted s x here in
+    let q : Participant = record p { endpoint = e; sent = sent } in
+    let there : IsParticipant q (record s { accepted = s.accepted ++ x ∷ [] }) = record {
+      stands = subst (λ (t : State). StandsFor e t) after (subst (λ (w : Item). StandsFor e (after_send s w)) is stands);
+      sent = more ∙ (ap (λ (w : Item). p.sent ++ w ∷ []) same ∙ ap (λ (l : List Item). l ++ x ∷ []) h.sent);
+      handed = h.handed;
+    } in
+    subst (λ (t : State). IsParticipant q t) (sym after) there
+
+-- a participant that handed up an item
+pub took_one : EndLaws → (p : Participant) (s : State) (x : Item) (e : Held) (handed : List Item) → IsParticipant p s → Some x ≡ take_answer s → StandsFor e (after_take s) → handed ≡ p.handed ++ x ∷ []
+    → IsParticipant (record p { endpoint = e; handed = handed }) (after_take s)
+took_one laws p s x e handed h is stands more =
+    let after = laws.hands_up.some s x (sym is) in
+    let q : Participant = record p { endpoint = e; handed = handed } in
+    let here : IsParticipant q (record s { handed = s.handed + 1 }) = record {
+      stands = subst (λ (t : State). StandsFor e t) after stands;
+      sent = h.sent;
+      handed = more ∙ (ap (λ (l : List Item). l ++ x ∷ []) h.handed ∙ sym (laws.hands_up.more s x (sym is)));
+    } in
+    subst (λ (t : State). IsParticipant q t) (sym after) here
+
+-- a participant that had none to hand up
+pub took_none : EndLaws → (p : Participant) (s : State) (e : Held) → IsParticipant p s → None ≡ take_answer s → StandsFor e (after_take s) → IsParticipant (record p { endpoint = e }) (after_take s)
+took_none laws p s e h is stands = went_on p s (after_take s) e h (subst (λ (t : State). Continues s t) (sym (laws.hands_up.none s (sym is))) (continues_itself s)) stands
+
+-- ---- what a call's clauses leave
+
+pub ok_then : {T E : Type 0} {P Q : Type 0} (r : Result T E) → OnOk r P → (P → Q) → OnOk r Q
+ok_then (Ok x) h f = f h
+ok_then (Err e) h f = h
 
 -- w goes on as v, and no item is accepted or handed up
 abbrev Quiet : World → World → Type 0
@@ -45,17 +123,8 @@ moved_quiet w side t bs c h = record {
   handed = λ u. each_end w side t bs (λ v s. take s.handed s.taken ≡ handed_at w v) (handed_same (end_of w side) t c h) u refl;
 }
 
-flush_quiet : EndLaws → (w : World) (side : Side) → Holds w → Quiet w (flushes w side)
-flush_quiet laws w side h = moved_quiet w side (after_flush (end_of w side)) (flush_answer (end_of w side)) (flush_continues laws (end_of w side)) (h.ends side).fits.bounds.handed_taken
-
-tick_quiet : EndLaws → (w : World) (side : Side) → Holds w → Quiet w (ticks w side)
-tick_quiet laws w side h = moved_quiet w side (after_tick (end_of w side)) (tick_answer (end_of w side)) (tick_continues laws (end_of w side)) (h.ends side).fits.bounds.handed_taken
-
-resend_quiet : EndLaws → (w : World) (side : Side) → Holds w → Quiet w (resends w side)
-resend_quiet laws w side h = moved_quiet w side (after_resend (end_of w side)) (option_to_list (resend_answer (end_of w side))) (resend_continues laws (end_of w side)) (h.ends side).fits.bounds.handed_taken
-
-tell_quiet : (w : World) (side : Side) (asks : Bool) → Holds w → Quiet w (tells w side asks)
-tell_quiet w side asks h = moved_quiet w side (end_of w side) (option_to_list (told_answer (end_of w side) asks)) (continues_itself (end_of w side)) (h.ends side).fits.bounds.handed_taken
+held_quiet : (w : World) (side : Side) (t : State) (bs : List (List ℕ)) → Holds w → Continues (end_of w side) t → Quiet w (moved w side t bs)
+held_quiet w side t bs h c = moved_quiet w side t bs c (h.ends side).fits.bounds.handed_taken
 
 marked_quiet : (w : World) (k : ℕ) (x : Emitted) → Quiet w (marked w k x)
 marked_quiet w k x = record {
@@ -65,27 +134,13 @@ marked_quiet w k x = record {
 
 pub land_quiet : EndLaws → (w : World) (k : ℕ) (l : Side × World) → Holds w → landing w k ≡ Some l → Quiet w l.1
 land_quiet laws w k l h e =
-    let side : Side = l.0 in
-    let lands = lands_as w k side l.1 e in
-    let x : Emitted = lands.packet in
+    let i = has_landed w k l e in
+    let x : Emitted = i.packet in
+    let side : Side = other x.side in
     let v : World = marked w k x in
-    let s : State = end_of w side in
-    let t : State = after_receive s x.bytes in
-    let same : s ≡ end_of v side = sym (same_marked w k x side) in
-    let on : Continues (end_of v side) t = subst (λ (q : State). Continues q t) same (receive_continues laws s x.bytes) in
-    let within : (end_of v side).handed ≤ length (end_of v side).taken = subst (λ (q : State). q.handed ≤ length q.taken) same (h.ends side).fits.bounds.handed_taken in
-    let bs : List (List ℕ) = option_to_list (receive_answer s x.bytes).reply in
-    subst (λ (u : World). Quiet w u) lands.world (quiet_then w v (moved v side t bs) (marked_quiet w k x) (moved_quiet v side t bs on within))
-
--- the other end stays as a packet comes
-pub land_there : (w : World) (k : ℕ) (l : Side × World) → landing w k ≡ Some l → end_of l.1 (other l.0) ≡ end_of w (other l.0)
-land_there w k l e =
-    let side : Side = l.0 in
-    let lands = lands_as w k side l.1 e in
-    let x : Emitted = lands.packet in
-    let s : State = end_of w side in
-    ap (λ (u : World). end_of u (other side)) (sym lands.world)
-    ∙ (same_other (marked w k x) side (after_receive s x.bytes) (option_to_list (receive_answer s x.bytes).reply) ∙ same_marked w k x (other side))
+    let within : (end_of v side).handed ≤ length (end_of v side).taken = subst (λ (s : State). s.handed ≤ length s.taken) (sym (same_marked w k x side)) (h.ends side).fits.bounds.handed_taken in
+    let on = moved_quiet v side (after_receive (end_of v side) x.bytes) (option_to_list (receive_answer (end_of v side) x.bytes).reply) (receive_continues laws (end_of v side) x.bytes) within in
+    subst (λ (m : Side × World). Quiet w m.1) i.leads (quiet_then w v (answered w k x) (marked_quiet w k x) on)
 
 -- ---- the channel at first, and as no step changes it
 
@@ -101,10 +156,10 @@ other_quiet laws w (arrival k) i h = reached_quiet laws w k (landing w k) refl h
 other_quiet laws w (noise side bytes) i h = subst (λ (v : World). Quiet w v) (sym (noise_changes_nothing laws w side bytes)) (quiet_itself w)
 other_quiet laws w (sending side x) i h = absurd i
 other_quiet laws w (taking side) i h = absurd i
-other_quiet laws w (flushing side) i h = flush_quiet laws w side h
-other_quiet laws w (ticking side) i h = tick_quiet laws w side h
-other_quiet laws w (resending side) i h = resend_quiet laws w side h
-other_quiet laws w (telling side asks) i h = tell_quiet w side asks h
+other_quiet laws w (flushing side) i h = held_quiet w side _ (flush_answer (end_of w side)) h (flush_continues laws (end_of w side))
+other_quiet laws w (ticking side) i h = held_quiet w side _ (tick_answer (end_of w side)) h (tick_continues laws (end_of w side))
+other_quiet laws w (resending side) i h = held_quiet w side _ (option_to_list (resend_answer (end_of w side))) h (resend_continues laws (end_of w side))
+other_quiet laws w (telling side asks) i h = held_quiet w side _ (option_to_list (told_answer (end_of w side) asks)) h (continues_itself (end_of w side))
 
 -- ---- an item is accepted, and one is handed up
 
@@ -139,14 +194,12 @@ take_hands_up laws keeps w side x holds h =
 send_moves : EndLaws → (w : World) (side : Side) (x : Item) (b : Bool) → is_ok (send_answer (end_of w side) x) ≡ b → Holds w → Move (channel_of w) (channel_of (sends w side x))
 send_moves laws w side x true ok h = accepts side x (send_accepts laws w side x ok)
 send_moves laws w side x false refused h =
-    let s : State = end_of w side in
-    quiet (moved_quiet w side (after_send s x) [] (subst (λ (t : State). Continues s t) (sym (laws.accepts.refused s x refused)) (continues_itself s)) (h.ends side).fits.bounds.handed_taken)
+    quiet (held_quiet w side _ [] h (subst (λ (t : State). Continues (end_of w side) t) (sym (laws.accepts.refused (end_of w side) x refused)) (continues_itself (end_of w side))))
 
 take_moves : EndLaws → EachStepKeepsTheOrder → (w : World) (side : Side) (o : Option Item) → take_answer (end_of w side) ≡ o → Holds w → Move (channel_of w) (channel_of (takes w side))
 take_moves laws keeps w side (Some x) is h = hands_up side x (take_hands_up laws keeps w side x h is)
 take_moves laws keeps w side None is h =
-    let s : State = end_of w side in
-    quiet (moved_quiet w side (after_take s) [] (subst (λ (t : State). Continues s t) (sym (laws.hands_up.none s is)) (continues_itself s)) (h.ends side).fits.bounds.handed_taken)
+    quiet (held_quiet w side _ [] h (subst (λ (t : State). Continues (end_of w side) t) (sym (laws.hands_up.none (end_of w side) is)) (continues_itself (end_of w side))))
 
 pub step_moves : EndLaws → EachStepKeepsTheOrder → (w : World) (s : Step) → Holds w → Move (channel_of w) (channel_of (stepped w s))
 step_moves laws keeps w (sending side x) h = send_moves laws w side x (is_ok (send_answer (end_of w side) x)) refl h

@@ -1,5 +1,5 @@
 -- What is true of both ends and of every packet at every moment.
-use Rattle.std.specs.Prelude.{◌≡◌, ℕ, ◌+◌, ◌<◌, ◌≤◌, false, List, length, take, slice_get, Some, All}
+use Rattle.std.specs.Prelude.{◌≡◌, ℕ, ◌+◌, ◌<◌, ◌≤◌, false, List, length, slice_get, Some, All}
 use Rattle.xns_spp.specs.Ends.{most_pending}
 use Rattle.xns_spp.specs.Growth.{Begins}
 use Rattle.xns_spp.specs.Header.{is_system}
@@ -56,11 +56,12 @@ pub record WentOut (s : State) (k : ℕ) (x : Item) : Type 0 where
   pub is : slice_get s.accepted k ≡ Some x
   pub sent : k < s.sent
 
--- an end beside its peer: what it has taken begins what went out there, and each early item is the item of its number there, which went out; of its own the peer has taken no less than it was
--- acknowledged, and no more than went out
+-- an end beside its peer: what it has taken begins what the peer accepted, and went out there, as did each early item, which is the item of its number; of its own the peer has taken no less than
+-- it was acknowledged, and no more than went out
 pub record Stands (s peer : State) : Type 0 where
   pub fits : IsState s
-  pub taken : Begins s.taken (take peer.sent peer.accepted)
+  pub taken : Begins s.taken peer.accepted
+  pub went_out : length s.taken ≤ peer.sent
   pub early : (k : ℕ) (x : Item) → s.early k ≡ Some x → WentOut peer k x
   pub acknowledged : s.acknowledged ≤ length peer.taken
   pub reached : length peer.taken ≤ s.sent

@@ -1,9 +1,8 @@
 -- What the definitions imply: the statements of the laws, each under the name of its law.
-use Rattle.std.specs.Prelude.{◌≡◌, ◌≤◌, ℕ, Bool, true, false, List, [], length, take, fold, All, Some, None, is_ok}
+use Rattle.std.specs.Prelude.{◌≡◌, ◌≤◌, ℕ, true, false, List, [], length, take, fold, All, Some, None, is_ok}
 use Rattle.std.specs.List.{filter}
-use Rattle.xns_spp.specs.Item.{IsItem}
 use Rattle.xns_spp.specs.Meant.{as_meant}
-use Rattle.xns_spp.specs.Receiving.{numbers_in}
+use Rattle.xns_spp.specs.Receiving.{numbers_in, after_receive}
 use Rattle.xns_spp.specs.declared.item.Item.{Item}
 use Rattle.item_world.specs.declared.emitted.Emitted.{Emitted}
 use Rattle.item_world.specs.declared.event.Event.{Event}
@@ -16,7 +15,6 @@ use Rattle.item_world.specs.Going.{Continues, Later, Lands, StaysAway, does_land
 use Rattle.item_world.specs.Channel.{Channel, IsQuiet, Accepts, HandsUp, Move, IsHistory}
 use Rattle.item_world.specs.Network.{IsNetwork, unsettled}
 use Rattle.item_world.specs.declared.network.Network.{Network}
-use Rattle.xns_spp.specs.Receiving.{after_receive}
 use Rattle.xns_spp.specs.Sending.{send_answer, take_answer, after_flush}
 use Rattle.xns_spp.specs.State.{State}
 use Rattle.item_world.specs.Events.{Step, IsStep, IsOther, IsEvent, stepped, steps_of, all_stepped, delivers, undelivered, happens, run}

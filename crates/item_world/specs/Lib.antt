@@ -1,4 +1,5 @@
 pub mod Side
+pub mod Fronts
 pub mod EndLaws
 pub mod Setup
 pub mod World

@@ -1,5 +1,5 @@
 use Rattle.xns_spp.specs.Sending.{flush_answer, after_flush}
-use Rattle.item_world.proofs.Continues.{ok_then}
+use Rattle.item_world.proofs.Quiet.{ok_then}
 use Rattle.item_world.proofs.Networks.{end_sends}
 use Rattle.item_world.proofs.ends.flush_end.Goals as goal
 use Rattle.item_world.specs.World.{end_of}

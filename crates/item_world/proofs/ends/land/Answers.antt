@@ -4,8 +4,9 @@ use Rattle.std.specs.Prelude.{slice_get, IsSome, OnErr}
 use Rattle.xns_spp.specs.Held.{StandsFor}
 use Rattle.xns_spp.specs.Receiving.{NeedsMemory, receive_answer, after_receive}
 use Rattle.xns_spp.specs.declared.received.Received.{Received}
-use Rattle.item_world.proofs.Continues.{ok_then, receive_took}
-use Rattle.item_world.proofs.Networks.{lands_as, end_reached_by}
+use Rattle.item_world.proofs.Quiet.{ok_then, receive_took}
+use Rattle.item_world.proofs.Networks.{end_reached_by}
+use Rattle.item_world.proofs.Sides.{lands_as}
 use Rattle.item_world.proofs.ends.land.Goals as goal
 use Rattle.item_world.specs.World.{end_of}
 use Rattle.item_world.specs.declared.emitted.Emitted.{Emitted}

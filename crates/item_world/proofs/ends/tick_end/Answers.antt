@@ -1,5 +1,5 @@
 use Rattle.xns_spp.specs.Sending.{tick_answer, after_tick}
-use Rattle.item_world.proofs.Continues.{ok_then}
+use Rattle.item_world.proofs.Quiet.{ok_then}
 use Rattle.item_world.proofs.Networks.{end_sends}
 use Rattle.item_world.proofs.ends.tick_end.Goals as goal
 use Rattle.item_world.specs.World.{end_of}

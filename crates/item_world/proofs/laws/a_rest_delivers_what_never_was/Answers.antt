@@ -1,4 +1,4 @@
-use Rattle.item_world.proofs.Runs.{deliveries}
+use Rattle.item_world.proofs.Kept.{deliveries}
 use Rattle.item_world.proofs.laws.a_rest_delivers_what_never_was.Goals as goal
 use Rattle.item_world.specs.Events.{undelivered}
 

@@ -1,4 +1,4 @@
-use Rattle.item_world.proofs.Foreign.{foreign_changes_nothing}
+use Rattle.item_world.proofs.Sides.{foreign_changes_nothing}
 use Rattle.item_world.proofs.laws.foreign_bytes_change_nothing.Goals as goal
 
 pub returns : goal.returns

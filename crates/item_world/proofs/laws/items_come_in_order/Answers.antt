@@ -1,4 +1,4 @@
-use Rattle.item_world.proofs.Runs.{always_holds, begins_always, within_holds}
+use Rattle.item_world.proofs.Kept.{always_holds, begins_always, within_holds}
 use Rattle.item_world.proofs.laws.items_come_in_order.Goals as goal
 
 pub returns : goal.returns

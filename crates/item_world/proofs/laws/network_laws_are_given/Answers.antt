@@ -1,10 +1,8 @@
-use Rattle.item_world.proofs.Continues.{flush_continues, receive_continues, handed_same}
+use Rattle.item_world.proofs.Quiet.{flush_continues, receive_continues, handed_same}
 use Rattle.item_world.proofs.Later.{later_itself, later_then, moved_later, flushes_later, landing_later}
-use Rattle.item_world.proofs.Networks.{quiet, lands_as}
-use Rattle.item_world.proofs.Plays.{some_landing, no_landing}
-use Rattle.item_world.proofs.Quiet.{land_there}
-use Rattle.item_world.proofs.Resting.{left_out, stay_away}
-use Rattle.item_world.proofs.Sides.{same_end, same_other}
+use Rattle.item_world.proofs.Networks.{quiet}
+use Rattle.item_world.proofs.Plays.{some_landing, no_landing, left_out, stay_away}
+use Rattle.item_world.proofs.Sides.{same_end, same_other, land_there, lands_as}
 use Rattle.item_world.proofs.laws.network_laws_are_given.Goals as goal
 use Rattle.item_world.specs.Landing.{landing}
 

@@ -1,10 +1,9 @@
-use Rattle.std.proofs.Common.{ℕ, ◌+◌, length, ap, subst, arith}
+use Rattle.std.proofs.Common.{ℕ, ◌+◌, length, ap, subst, arith, sym, List}
 use Rattle.item_world.proofs.Fronts.{element}
 use Rattle.item_world.proofs.Networks.{AreListed, listed_more, listed_all}
 use Rattle.item_world.proofs.network.Network.unsettled.Goals as goal
 use Rattle.item_world.specs.Network.{IsNetwork}
 use Rattle.item_world.specs.NetworkModel.{NetworkModel}
-use Rattle.std.proofs.Common.{sym, List}
 
 pub loop-number-preserved : goal.loop-number-preserved
 loop-number-preserved c w h =

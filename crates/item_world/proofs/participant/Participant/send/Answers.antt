@@ -2,7 +2,7 @@ use Rattle.std.proofs.Common.{◌∙◌, sym, subst}
 use Rattle.xns_spp.specs.Held.{StandsFor}
 use Rattle.xns_spp.specs.Sending.{after_send}
 use Rattle.xns_spp.specs.declared.item.Item.{Item}
-use Rattle.item_world.proofs.Continues.{accepted_it, refused_continues, went_on}
+use Rattle.item_world.proofs.Quiet.{accepted_it, refused_continues, went_on}
 use Rattle.item_world.proofs.participant.Participant.send.Goals as goal
 
 pub returns-else-is_ok : goal.returns-else-is_ok

@@ -1,4 +1,4 @@
-use Rattle.item_world.proofs.Continues.{took_none, took_one}
+use Rattle.item_world.proofs.Quiet.{took_none, took_one}
 use Rattle.item_world.proofs.participant.Participant.take.Goals as goal
 
 pub returns-in_ok-push : goal.returns-in_ok-push

@@ -1,7 +1,7 @@
 use Rattle.std.proofs.Common.{◌∙◌, ap, sym, subst}
-use Rattle.item_world.proofs.Continues.{ok_then}
+use Rattle.item_world.proofs.Quiet.{ok_then}
 use Rattle.item_world.proofs.Plays.{lands_there, some_landing, no_landing, delivers_nowhere}
-use Rattle.item_world.proofs.Runs.{flushed, delivers_lands}
+use Rattle.item_world.proofs.Kept.{flushed, delivers_lands}
 use Rattle.item_world.proofs.play.Play.deliver.Goals as goal
 use Rattle.item_world.specs.declared.participant.Participant.{Participant}
 use Rattle.item_world.specs.Landing.{landing}

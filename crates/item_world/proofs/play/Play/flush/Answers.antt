@@ -1,5 +1,5 @@
 use Rattle.xns_spp.specs.Sending.{flush_answer, after_flush}
-use Rattle.item_world.proofs.Continues.{ok_then, flush_continues}
+use Rattle.item_world.proofs.Quiet.{ok_then, flush_continues}
 use Rattle.item_world.proofs.Plays.{goes_quietly}
 use Rattle.item_world.proofs.play.Play.flush.Goals as goal
 use Rattle.item_world.specs.World.{end_of}

@@ -1,5 +1,5 @@
 use Rattle.std.proofs.Common.{sym, subst}
-use Rattle.item_world.proofs.Continues.{ok_then}
+use Rattle.item_world.proofs.Quiet.{ok_then}
 use Rattle.item_world.proofs.play.Play.happen.Goals as goal
 use Rattle.item_world.specs.declared.event.Event.{Event}
 use Rattle.item_world.specs.Events.{happens}

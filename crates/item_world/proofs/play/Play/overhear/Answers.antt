@@ -2,7 +2,7 @@ use Rattle.std.proofs.Common.{◌≡◌, false, sym, ◌∙◌, subst}
 use Rattle.xns_spp.specs.Held.{StandsFor}
 use Rattle.xns_spp.specs.Receiving.{is_ours}
 use Rattle.xns_spp.specs.State.{State}
-use Rattle.item_world.proofs.Foreign.{foreign_changes_nothing}
+use Rattle.item_world.proofs.Sides.{foreign_changes_nothing}
 use Rattle.item_world.proofs.Plays.{stays_there}
 use Rattle.item_world.proofs.play.Play.overhear.Goals as goal
 use Rattle.item_world.specs.declared.participant.Participant.{Participant}

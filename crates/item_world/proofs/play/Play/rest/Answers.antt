@@ -1,7 +1,7 @@
 use Rattle.std.proofs.Common.{ℕ, List, fold, ◌∙◌, ap, sym, subst}
-use Rattle.item_world.proofs.Continues.{ok_then}
-use Rattle.item_world.proofs.Resting.{unsettled_is_enough}
-use Rattle.item_world.proofs.Runs.{deliveries}
+use Rattle.item_world.proofs.Quiet.{ok_then}
+use Rattle.item_world.proofs.Plays.{unsettled_is_enough}
+use Rattle.item_world.proofs.Kept.{deliveries}
 use Rattle.item_world.proofs.play.Play.rest.Goals as goal
 use Rattle.item_world.specs.Events.{delivers, undelivered}
 use Rattle.item_world.specs.Play.{IsPlaying}

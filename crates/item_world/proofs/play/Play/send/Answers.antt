@@ -1,6 +1,6 @@
 use Rattle.std.proofs.Common.{sym, subst}
 use Rattle.xns_spp.specs.Sending.{after_send}
-use Rattle.item_world.proofs.Continues.{ok_then}
+use Rattle.item_world.proofs.Quiet.{ok_then}
 use Rattle.item_world.proofs.Plays.{acts_alone}
 use Rattle.item_world.proofs.play.Play.send.Goals as goal
 use Rattle.item_world.specs.declared.participant.Participant.{Participant}

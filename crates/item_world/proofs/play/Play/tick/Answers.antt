@@ -1,5 +1,5 @@
 use Rattle.xns_spp.specs.Sending.{tick_answer, after_tick}
-use Rattle.item_world.proofs.Continues.{ok_then, tick_continues}
+use Rattle.item_world.proofs.Quiet.{ok_then, tick_continues}
 use Rattle.item_world.proofs.Plays.{goes_quietly}
 use Rattle.item_world.proofs.play.Play.tick.Goals as goal
 use Rattle.item_world.specs.World.{end_of}
