@@ -1,3 +1,5 @@
 mod Ordered
+mod Serving
 mod Silent
 mod Tree
+mod Turning

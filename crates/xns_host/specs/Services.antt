@@ -1,0 +1,20 @@
+-- The sockets at which connections are answered, and for which programs.
+use Rattle.std.specs.Prelude.{◌≡◌, ◌≢◌, ℕ, List, Option, Some, option_map}
+use Rattle.std.specs.BTreeMap.{BTreeMap, get}
+use Rattle.std.specs.Ordering.{nat_cmp}
+use Rattle.std.specs.declared.vec.Vec.{Vec}
+use Rattle.std.specs.Global.{Global}
+use Rattle.courier_sessions.specs.declared.program.Program.{Program}
+
+-- so many sockets are served at most
+abbrev pub most_services : ℕ
+most_services = 16
+
+-- the programs that are served at a socket
+abbrev pub programs_at : BTreeMap ℕ (Vec Program Global) → ℕ → Option (List Program)
+programs_at services socket = option_map (λ v. v.items) (get nat_cmp services socket)
+
+-- from now on these programs are served at a socket, and what is served at the others stays
+pub record Serves (old new : BTreeMap ℕ (Vec Program Global)) (socket : ℕ) (programs : List Program) : Type 0 where
+  pub here : programs_at new socket ≡ Some programs
+  pub others : (other : ℕ) → other ≢ socket → programs_at new other ≡ programs_at old other

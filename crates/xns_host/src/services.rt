@@ -1,0 +1,60 @@
+//! The sockets at which connections are answered.
+
+ghost use Rattle.std.specs.Prelude.{◌≡◌, ◌≤◌, OnOk, OnErr, None, Err, option_map};
+ghost use Rattle.std.specs.BTreeMap.{IsEmpty, btree_map_len};
+ghost use Rattle.xns_host.specs.Services.{Serves, most_services, programs_at};
+ghost use Rattle.xns_host.specs.declared.host_fault.HostFault.TheVariants.{TooManyServices};
+
+use crate::host_fault::HostFault;
+use courier_sessions::Program;
+use std::alloc::Global;
+use std::collections::BTreeMap;
+
+/// How many sockets are served at most.
+const MOST_SERVICES: usize = 16;
+
+/// The sockets at which connections are answered, each with its programs: at most 16.
+#[derive(Drop)]
+pub struct Services {
+    programs: BTreeMap<u16, Vec<Program>>,
+    ghost few: { btree_map_len programs ≤ most_services },
+}
+
+impl Services {
+    /// No socket is served.
+    pub fn new(alloc: Global) -> Services
+        ensures { IsEmpty result.programs }
+    {
+        Services {
+            programs: BTreeMap::new(alloc),
+        }
+    }
+
+    /// From now on connections to this socket are answered for these programs; where there are none, each call is handed. If the socket is
+    /// served already, its list is replaced.
+    ///
+    /// An `Err`, which leaves all as it was, is [`HostFault::TooManyServices`] where 16 other sockets are served, and
+    /// [`HostFault::NoMemory`] after an allocation failure.
+    #[tactic(auto, using(crate::proofs::Serving::serves))]
+    pub fn serve(&mut self, socket: u16, programs: Vec<Program>) -> Result<(), HostFault>
+        ensures served { OnOk result (Serves self.old.programs self.new.programs socket programs.items) }
+        ensures full { result ≡ Err TooManyServices → (programs_at self.old.programs socket ≡ None) × (btree_map_len self.old.programs ≡ most_services) }
+        ensures room { programs_at self.old.programs socket ≡ None → btree_map_len self.old.programs ≡ most_services → result ≡ Err TooManyServices }
+        ensures unchanged { OnErr result (self.new.programs.entries ≡ self.old.programs.entries) }
+    {
+        if self.programs.len() == MOST_SERVICES && !self.programs.contains_key(&socket) {
+            return Err(HostFault::TooManyServices);
+        }
+        match self.programs.insert(socket, programs) {
+            Ok(_) => Ok(()),
+            Err(_) => Err(HostFault::NoMemory),
+        }
+    }
+
+    /// The programs that are served at a socket. A `None`: none is.
+    pub fn at(&self, socket: u16) -> Option<&Vec<Program>>
+        ensures { option_map (λ v. v.now.items) result ≡ programs_at self.now.programs socket }
+    {
+        self.programs.get(&socket)
+    }
+}
