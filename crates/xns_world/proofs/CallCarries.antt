@@ -1,6 +1,11 @@
 -- What is true of a world of calls stays true as a side takes a step.
-use Rattle.std.proofs.Common.{◌≡◌, ℕ, ◌≤◌, true, List, [], ◌∷◌, ◌++◌, length, Some, refl, sym, ◌∙◌, ap, subst, arith}
-use Rattle.std.specs.Prelude.{slice_get, All, nat_lt, ◌==◌, is_ok}
+use Rattle.std.proofs.Common.{◌≡◌, true, false, ℕ, ◌≤◌, List, [], ◌∷◌, ◌++◌, length, Some, refl, sym, ◌∙◌, ap, subst, arith}
+use Rattle.std.specs.Prelude.{is_ok, slice_get, All, nat_lt, ◌==◌}
+use Rattle.courier_messages.specs.Laws.{IsSendableItem}
+use Rattle.xns_spp.specs.Sending.{is_full, send_answer, take_answer}
+use Rattle.xns_spp.specs.State.{State}
+use Rattle.xns_spp.specs.declared.item.Item.{Item}
+use Rattle.item_world.specs.EndLaws.{EndLaws}
 use Rattle.std.proofs.lemmas.Bool.{ltb-true, and_parts}
 use Rattle.std.proofs.lemmas.List.Elements.{All-take, All-weaker}
 use Rattle.std.proofs.lemmas.Option.{slice_get_within, get_or_from_slice_get}
@@ -8,12 +13,10 @@ use Rattle.courier_messages.specs.RawCalls.{RawCall}
 use Rattle.courier_calls.specs.Calls.{SeenModel, IsFitting}
 use Rattle.courier_calls.specs.Caller.{answers}
 use Rattle.courier_calls.specs.Laws.{SidesAgree}
-use Rattle.courier_messages.specs.Laws.{IsSendableItem}
 use Rattle.courier_calls.specs.Server.{server_items}
 use Rattle.xns_spp.specs.Item.{IsItem, IsShortItem}
-use Rattle.xns_spp.specs.Sending.{send_answer, take_answer}
-use Rattle.xns_spp.specs.declared.item.Item.{Item}
-use Rattle.xns_world.proofs.Fronts.{begins_itself, begins_then, begins_length, front_of, one_more, begins_more, element_at}
+use Rattle.item_world.specs.Fronts.{begins_itself, begins_then, front_of, one_more, begins_more, begins_length}
+use Rattle.xns_world.proofs.Fronts.{element_at}
 use Rattle.item_world.specs.declared.side.Side.{Side}
 use Rattle.item_world.specs.declared.side.Side.TheVariants.{A, B}
 use Rattle.xns_spp.specs.Growth.{Begins}
@@ -24,6 +27,9 @@ use Rattle.item_world.specs.World.{World, end_of, sends, takes, channel_of, sent
 use Rattle.xns_world.specs.CallLaws.{Given}
 use Rattle.xns_world.specs.CallOrder.{CallsHold}
 use Rattle.xns_world.specs.CallWorld.{Parties, CallWorld, calls_made, put_out, next_out, outcomes_read, in_world, sends_next, feeds, lists, makes, has_outcome, may_call}
+
+pub not_refused : EndLaws → (s : State) (x : Item) → IsSendableItem x → is_full s ≡ false → is_ok (send_answer s x) ≡ true
+not_refused laws s x p full = laws.accepts.fits s x p.short p.plain full
 
 pub faces : {S : Type 0} (p : Parties S) (w : CallWorld) → Given p → CallsHold p w → SidesAgree p.serving p.service (calls_made p w) (handed_at w.world B) (handed_at w.world A)
 faces p w g h =

@@ -1,9 +1,9 @@
 -- What the two ends of a play of calls stand for after each step.
-use Rattle.std.proofs.Common.{◌≡◌, ℕ, zero, suc, ◌+◌, ◌<◌, ◌≤◌, Bool, true, false, List, [], ◌∷◌, ◌++◌, length, map, take, Option, Some, None, Result, Ok, Err, refl, sym, ◌∙◌, ap, subst, arith, length-append}
-use Rattle.std.specs.Prelude.{slice_get, ◌≢◌, nat_lt, ◌==◌, ◌&&◌, if◌then◌else◌, IfOk, is_some, option_map}
+use Rattle.std.proofs.Common.{◌≡◌, ℕ, zero, suc, ◌+◌, ◌<◌, ◌≤◌, Bool, true, false, List, [], ◌∷◌, ◌++◌, length, map, take, Option, Some, None, refl, sym, ◌∙◌, ap, subst, arith, length-append}
+use Rattle.std.specs.Prelude.{slice_get, ◌≢◌, nat_lt, ◌==◌, ◌&&◌, if◌then◌else◌, is_some, option_map}
 use Rattle.std.specs.Option.{option_to_list}
 use Rattle.std.proofs.lemmas.Bool.{le-ltb, lt-ltb, ltb-false, eq-eqb, ne_eqb}
-use Rattle.std.proofs.lemmas.List.{take_all, take-append-le, length-take-le, map-append, length-map}
+use Rattle.std.proofs.lemmas.List.{take_all, length-take-le, map-append, length-map}
 use Rattle.courier_messages.specs.RawCalls.{RawCall}
 use Rattle.courier_calls.specs.Calls.{SeenModel, seen_model, raw_call}
 use Rattle.courier_calls.specs.Caller as caller
@@ -14,12 +14,11 @@ use Rattle.xns_spp.specs.Held.{Held, StandsFor}
 use Rattle.xns_spp.specs.Sending.{is_full, waiting_count, after_send, take_answer, after_take}
 use Rattle.xns_spp.specs.State.{State}
 use Rattle.xns_spp.specs.declared.item.Item.{Item}
-use Rattle.xns_world.proofs.CallCarries.{next_piece, calls, read_more}
-use Rattle.xns_world.proofs.Fronts.{one_more, front_stays}
-use Rattle.xns_world.proofs.Sendable.{not_refused}
+use Rattle.xns_world.proofs.CallCarries.{next_piece, calls, read_more, not_refused}
+use Rattle.item_world.specs.Fronts.{one_more}
+use Rattle.xns_world.proofs.Fronts.{front_stays}
 use Rattle.xns_world.specs.declared.calling.CallingEnd.{CallingEnd}
 use Rattle.item_world.specs.declared.side.Side.TheVariants.{A}
-use Rattle.xns_spp.specs.Growth.{Begins}
 use Rattle.xns_world.specs.CallLaws.{Given}
 use Rattle.xns_world.specs.CallOrder.{CallsHold}
 use Rattle.xns_world.specs.CallPlay.{IsCalling, caller_history}
@@ -208,24 +207,6 @@ stepped_send p w x P is full h =
     subst (λ (o : Option Item). Stepped true w (step_with p w A o) P) (sym is)
     (subst (λ (f : Bool). Stepped true w (or_caller p w A (if f then None else Some (after_send w.world.a x))) P) (sym full) h)
 
-pub stepped_list : {S : Type 0} (p : Parties S) (w : CallWorld) (P : CallWorld → Type 0) → true ≡ has_outcome p w → P (lists w) → Stepped true w (caller_step p w A) P
-stepped_list p w P is h = subst (λ (b : Bool). Stepped true w (if b then Some (lists w) else if may_call p w then Some (makes w) else None) P) is h
-
-made_or_not : {S : Type 0} (p : Parties S) (w : CallWorld) (P : CallWorld → Type 0) (b : Bool) → P (if b then makes w else w) → Stepped b w (if b then Some (makes w) else None) P
-made_or_not p w P true h = h
-made_or_not p w P false h = h
-
-pub stepped_call : {S : Type 0} (p : Parties S) (w : CallWorld) (b : Bool) (P : CallWorld → Type 0) → has_outcome p w ≡ false → b ≡ may_call p w → P (if b then makes w else w) → Stepped b w (caller_step p w A) P
-stepped_call p w b P none is h =
-    subst (λ (c : Bool). Stepped b w (if c then Some (lists w) else if may_call p w then Some (makes w) else None) P) (sym none)
-    (subst (λ (c : Bool). Stepped b w (if c then Some (makes w) else None) P) is (made_or_not p w P b h))
-
 pub something_out : (out : List Item) → out ≢ [] → (x : Item) × (slice_get out 0 ≡ Some x)
 something_out [] h = absurd (h refl)
 something_out (x ∷ out) h = (x, refl)
-
--- ---- what a call's clauses leave
-
-pub if_ok_then : {T E : Type 0} {P Q : T → Type 0} (r : Result T E) → IfOk r P → ((x : T) → P x → Q x) → IfOk r Q
-if_ok_then (Ok x) h f = f x h
-if_ok_then (Err e) h f = h

@@ -1,6 +1,6 @@
 -- Each small step is one entry of the ledger.
-use Rattle.std.proofs.Common.{◌≡◌, ℕ, zero, suc, ◌+◌, ◌≤◌, Bool, true, false, inl, inr, List, [], ◌∷◌, ◌++◌, length, take, fold, Option, Some, None, refl, sym, ◌∙◌, ap, subst, arith, append-nil, append_assoc}
-use Rattle.std.specs.Prelude.{nat_lt, if◌then◌else◌, All}
+use Rattle.std.proofs.Common.{◌≡◌, ℕ, zero, suc, ◌+◌, ◌≤◌, true, inl, inr, List, [], ◌∷◌, ◌++◌, length, take, fold, Some, refl, sym, ◌∙◌, ap, subst, arith, append-nil, append_assoc}
+use Rattle.std.specs.Prelude.{All}
 use Rattle.std.proofs.lemmas.Bool.{ltb-true}
 use Rattle.courier_messages.specs.RawCalls.{RawCall}
 use Rattle.courier_calls.specs.Calls.{SeenModel, Serving, decision, after_decision, outcomes, last_state}
@@ -9,7 +9,7 @@ use Rattle.courier_calls.specs.Laws.{BringsAtMostOne}
 use Rattle.courier_calls.specs.Server.{decided}
 use Rattle.xns_spp.specs.Growth.{Begins}
 use Rattle.xns_spp.specs.Item.{IsItem}
-use Rattle.xns_spp.specs.Sending.{is_full, waiting_count, after_send, take_answer, after_take}
+use Rattle.xns_spp.specs.Sending.{take_answer}
 use Rattle.xns_spp.specs.declared.item.Item.{Item}
 use Rattle.item_world.specs.Channel.{HandsUp}
 use Rattle.item_world.specs.Events as events
@@ -17,15 +17,15 @@ use Rattle.item_world.specs.World.{World, end_of, sends, takes, channel_of, sent
 use Rattle.item_world.specs.declared.setup.Setup.{Setup}
 use Rattle.item_world.specs.declared.side.Side.{Side}
 use Rattle.item_world.specs.declared.side.Side.TheVariants.{A, B}
-use Rattle.xns_world.proofs.CallCarries.{faces, begun_items, next_piece, read_more, feeds_hold, calls}
-use Rattle.xns_world.proofs.CallMoments.{step_holds}
-use Rattle.xns_world.proofs.CallRuns.{outcomes_begin}
+use Rattle.xns_world.proofs.CallCarries.{faces, begun_items, next_piece, read_more, feeds_hold, calls, not_refused}
+use Rattle.xns_world.proofs.CallRuns.{step_holds, outcomes_begin}
 use Rattle.xns_world.proofs.CallSettling.{waiting_item}
-use Rattle.xns_world.proofs.Fronts.{begins_then, front_begins, one_more, last_of, shorter_begins, front_stays, element_at}
-use Rattle.xns_world.proofs.Sendable.{not_refused}
+use Rattle.xns_world.proofs.CallSteps.{by_step}
+use Rattle.item_world.specs.Fronts.{begins_then, front_begins, one_more, last_of}
+use Rattle.xns_world.proofs.Fronts.{shorter_begins, front_stays, element_at}
 use Rattle.xns_world.specs.CallLaws.{Given}
 use Rattle.xns_world.specs.CallOrder.{decides, ledger_of, CallsHold}
-use Rattle.xns_world.specs.CallWorld.{Parties, CallWorld, or_caller, calls_made, next_out, outcomes_read, in_world, feeds, lists, makes, has_outcome, may_call, caller_step, call_start, carried_at, seen_at, step_with, step, CallStep, arrival, noise, ticking, acting, flushing, resending, telling, call_stepped, all_call_stepped}
+use Rattle.xns_world.specs.CallWorld.{Parties, CallWorld, calls_made, outcomes_read, in_world, feeds, lists, makes, has_outcome, may_call, call_start, carried_at, seen_at, step, CallStep, arrival, noise, ticking, acting, flushing, resending, telling, call_stepped, all_call_stepped}
 use Rattle.xns_world.specs.Ledger as ledger
 use Rattle.xns_world.specs.Ledger.{Ledger, Entry, IsHistory, carried_out, decided_then, IsInOrder}
 use Rattle.xns_world.specs.Settling.{onward}
@@ -166,36 +166,21 @@ makes_entry p w g h is =
 
 -- ---- one step
 
-calling : {S : Type 0} (p : Parties S) (w : CallWorld) → Given p → CallsHold p w → (b c : Bool) → has_outcome p w ≡ b → may_call p w ≡ c → EntryTo p w (onward w (if b then Some (lists w) else if c then Some (makes w) else None))
-calling p w g h true c is may = lists_entry p w g h is
-calling p w g h false true is may = makes_entry p w g h may
-calling p w g h false false is may = ledger.quiet refl
-
-caller_entry : {S : Type 0} (p : Parties S) (w : CallWorld) (side : Side) → Given p → CallsHold p w → EntryTo p w (onward w (caller_step p w side))
-caller_entry p w A g h = calling p w g h (has_outcome p w) (may_call p w) refl refl
-caller_entry p w B g h = ledger.quiet refl
-
-sending : {S : Type 0} (p : Parties S) (w : CallWorld) (side : Side) (x : Item) → Given p → CallsHold p w → next_out p w side ≡ Some x → (b : Bool) → is_full (end_of w.world side) ≡ b
-    → EntryTo p w (onward w (or_caller p w side (if b then None else Some (after_send (end_of w.world side) x))))
-sending p w side x g h is true full = caller_entry p w side g h
-sending p w side x g h is false full =
-    let ok = not_refused g.answering.ends (end_of w.world side) x (next_piece p w side x g h is) full in
-    handed_entry p w (sends w.world side x) (g.answering.network.items.send w.world side x ok).handed
-
-feeding : {S : Type 0} (p : Parties S) (w : CallWorld) (side : Side) → Given p → CallsHold p w → (b : Bool) → nat_lt 0 (waiting_count (end_of w.world side)) ≡ b
-    → EntryTo p w (onward w (or_caller p w side (if b then Some (after_take (end_of w.world side)) else None)))
-feeding p w side g h true is = let e = waiting_item g.answering.ends (end_of w.world side) is in feeds_entry p w side e.0 g h e.1
-feeding p w side g h false is = caller_entry p w side g h
-
-acting_entry : {S : Type 0} (p : Parties S) (w : CallWorld) (side : Side) → Given p → CallsHold p w → (o : Option Item) → next_out p w side ≡ o → EntryTo p w (onward w (step_with p w side o))
-acting_entry p w side g h (Some x) is = sending p w side x g h is (is_full (end_of w.world side)) refl
-acting_entry p w side g h None is = feeding p w side g h (nat_lt 0 (waiting_count (end_of w.world side))) refl
+acting_entry : {S : Type 0} (p : Parties S) (w : CallWorld) (side : Side) → Given p → CallsHold p w → EntryTo p w (onward w (step p side w))
+acting_entry p w side g h = by_step p w (λ t o. EntryTo p w (onward w o)) (record {
+  sent = λ t x is full. handed_entry p w (sends w.world t x) (g.answering.network.items.send w.world t x (not_refused g.answering.ends (end_of w.world t) x (next_piece p w t x g h is) full)).handed;
+  fed = λ t is. let e = waiting_item g.answering.ends (end_of w.world t) is in feeds_entry p w t e.0 g h e.1;
+  listed = lists_entry p w g h;
+  made = makes_entry p w g h;
+  rests = λ is. ledger.quiet refl;
+  stays = ledger.quiet refl;
+}) side
 
 pub step_entry : {S : Type 0} (p : Parties S) (w : CallWorld) (s : CallStep) → Given p → CallsHold p w → EntryTo p w (call_stepped p w s)
 step_entry p w (arrival k) g h = other_entry p w (events.arrival k) tt g h
 step_entry p w (noise side bytes) g h = other_entry p w (events.noise side bytes) tt g h
 step_entry p w (ticking side) g h = other_entry p w (events.ticking side) tt g h
-step_entry p w (acting side) g h = acting_entry p w side g h (next_out p w side) refl
+step_entry p w (acting side) g h = acting_entry p w side g h
 step_entry p w (flushing side) g h = other_entry p w (events.flushing side) tt g h
 step_entry p w (resending side) g h = other_entry p w (events.resending side) tt g h
 step_entry p w (telling side asks) g h = other_entry p w (events.telling side asks) tt g h

@@ -1,23 +1,20 @@
 -- What a play of calls stands for after each event.
-use Rattle.std.proofs.Common.{◌≡◌, ℕ, zero, suc, Bool, true, false, List, [], ◌∷◌, length, map, take, fold, Option, Some, None, refl, sym, ◌∙◌, ap, subst, arith}
+use Rattle.std.proofs.Common.{◌≡◌, ℕ, List, [], ◌∷◌, map, take, fold, Option, Some, None, refl, sym, ◌∙◌, ap, subst}
 use Rattle.std.specs.List.{filter}
-use Rattle.std.specs.Prelude.{All, nat_lt, if◌then◌else◌, is_some}
+use Rattle.std.specs.Prelude.{All, if◌then◌else◌, is_some}
 use Rattle.std.proofs.lemmas.List.Elements.{All-head, All-tail}
-use Rattle.std.proofs.lemmas.List.{length-map}
 use Rattle.courier_messages.specs.RawCalls.{RawCall}
-use Rattle.courier_calls.specs.Calls.{SeenModel, Serving, last_state, outcomes, seen_model, raw_call}
+use Rattle.courier_calls.specs.Calls.{SeenModel, Serving, outcomes, raw_call}
 use Rattle.courier_calls.specs.Caller as caller
 use Rattle.courier_calls.specs.Caller.{answers}
-use Rattle.courier_calls.specs.Server.{call_of}
 use Rattle.courier_calls.specs.declared.call.Call.{Call}
 use Rattle.xns_spp.specs.Held.{Held, StandsFor}
-use Rattle.xns_spp.specs.Sending.{is_full, waiting_count, after_send, after_take, flush_answer, after_flush, tick_answer, after_tick}
+use Rattle.xns_spp.specs.Sending.{flush_answer, after_flush, tick_answer, after_tick}
 use Rattle.xns_spp.specs.State.{State}
 use Rattle.xns_spp.specs.declared.item.Item.{Item}
-use Rattle.xns_world.proofs.CallMoments.{settles_is, arrived, arrived_nowhere, deliveries_all}
-use Rattle.xns_world.proofs.CallRuns.{LeavesCaller, server_steps, quiet_between}
+use Rattle.xns_world.proofs.CallRuns.{settles_is, arrived, arrived_nowhere, deliveries_all, steps_leave, quiet_between}
 use Rattle.xns_world.proofs.CallSettling.{steps_hold}
-use Rattle.xns_world.proofs.ServeEnds.{served_on}
+use Rattle.xns_world.proofs.ServeEnds.{served_on, raw_again}
 use Rattle.xns_world.specs.declared.call_trace.CallTrace.{CallTrace}
 use Rattle.xns_world.specs.declared.calling.CallingEnd.{CallingEnd}
 use Rattle.xns_world.specs.declared.call_pair.CallPair.{CallPair}
@@ -38,85 +35,33 @@ use Rattle.item_world.specs.Events.{undelivered}
 use Rattle.item_world.specs.Network.{IsNetwork, IsEnd, unsettled}
 use Rattle.item_world.specs.Side.{other}
 use Rattle.xns_world.specs.CallLaws.{Answering, Given}
-use Rattle.xns_world.proofs.CallRuns.{AreOnceInOrder}
-use Rattle.xns_world.specs.CallOrder.{IsBetween}
-use Rattle.xns_world.specs.CallPlay.{endpoint_at, with_endpoint, Acts, IsCalling, caller_history, IsServing, IsAtSide, IsCallPair, IsCallPlaying, IsReady, IsCallTrace, IsOnceInOrder, parties}
-use Rattle.xns_world.specs.CallWorld.{Parties, CallWorld, or_caller, calls_made, next_out, outcomes_read, in_world, lists, makes, has_outcome, may_call, caller_step, step_with, seen_at, carried_at, step, settles, delivers, call_happens}
-use Rattle.xns_world.specs.Settling.{most_steps, onward, steps, stepped_out}
+use Rattle.item_world.specs.Fronts.{begins_then}
+use Rattle.xns_world.specs.CallOrder.{decides, ledger_of, IsBetween}
+use Rattle.xns_world.specs.Ledger.{Ledger, IsInOrder}
+use Rattle.xns_world.specs.CallPlay.{endpoint_at, with_endpoint, Acts, IsCalling, caller_history, IsServing, IsAtSide, IsCallPair, IsCallPlaying, IsReady, IsCallTrace, ledger_in, IsOnceInOrder, parties}
+use Rattle.xns_world.specs.CallWorld.{Parties, CallWorld, calls_made, outcomes_read, in_world, seen_at, carried_at, step, settles, delivers, call_happens}
+use Rattle.xns_world.specs.Settling.{most_steps, stepped_out}
 use Rattle.xns_world.specs.ServeEnd.{IsServed}
-use Rattle.item_world.specs.World.{World, end_of, moved, flushes, ticks, channel_of, handed_at}
+use Rattle.item_world.specs.World.{World, end_of, flushes, ticks, channel_of, handed_at}
 use Rattle.item_world.specs.EndLaws.{EndLaws}
-
--- ---- what the steps of a side leave
-
--- the other end, and the network
-pub record Leaves (side : Side) (w v : CallWorld) : Type 0 where
-  pub there : end_of v.world (other side) ≡ end_of w.world (other side)
-  pub network : (n : Network) → IsNetwork n w.world → IsNetwork n v.world
-  pub later : Later w.world v.world
-
-leaves_same : NetworkLaws → (side : Side) (w v : CallWorld) → v.world ≡ w.world → Leaves side w v
-leaves_same laws side w v same = record {
-  there = ap (λ (u : World). end_of u (other side)) same;
-  network = λ n h. subst (λ (u : World). IsNetwork n u) (sym same) h;
-  later = subst (λ (u : World). Later w.world u) (sym same) (laws.goes_on.itself w.world);
-}
-
--- an end moves that sends and takes nothing
-leaves_moved : NetworkLaws → (side : Side) (w : CallWorld) (t : State) → t.taken ≡ (end_of w.world side).taken → Leaves side w (in_world w (moved w.world side t []))
-leaves_moved laws side w t same = record {
-  there = laws.moves.there w.world side t [];
-  network = λ n h. laws.quiet n w.world side t h (ap length same);
-  later = laws.goes_on.moved w.world side t [] (omega (arith, ap length same));
-}
-
-calling_leaves : {S : Type 0} → NetworkLaws → (p : Parties S) (w : CallWorld) (b c : Bool) → Leaves A w (onward w (if b then Some (lists w) else if c then Some (makes w) else None))
-calling_leaves laws p w true c = leaves_same laws A w (lists w) refl
-calling_leaves laws p w false true = leaves_same laws A w (makes w) refl
-calling_leaves laws p w false false = leaves_same laws A w w refl
-
-caller_leaves : {S : Type 0} → NetworkLaws → (p : Parties S) (side : Side) (w : CallWorld) → Leaves side w (onward w (caller_step p w side))
-caller_leaves laws p A w = calling_leaves laws p w (has_outcome p w) (may_call p w)
-caller_leaves laws p B w = leaves_same laws B w w refl
-
-send_leaves : {S : Type 0} (p : Parties S) → Answering p.serving p.service → (side : Side) (w : CallWorld) (x : Item) (b : Bool) → Leaves side w (onward w (or_caller p w side (if b then None else Some (after_send (end_of w.world side) x))))
-send_leaves p laws side w x true = caller_leaves laws.network p side w
-send_leaves p laws side w x false = leaves_moved laws.network side w (after_send (end_of w.world side) x) (laws.ends.hears.send (end_of w.world side) x).taken
-
-feed_leaves : {S : Type 0} (p : Parties S) → Answering p.serving p.service → (side : Side) (w : CallWorld) (b : Bool) → Leaves side w (onward w (or_caller p w side (if b then Some (after_take (end_of w.world side)) else None)))
-feed_leaves p laws side w true = leaves_moved laws.network side w (after_take (end_of w.world side)) (laws.ends.hears.take (end_of w.world side)).taken
-feed_leaves p laws side w false = caller_leaves laws.network p side w
-
-step_leaves : {S : Type 0} (p : Parties S) → Answering p.serving p.service → (side : Side) (w : CallWorld) (o : Option Item) → Leaves side w (onward w (step_with p w side o))
-step_leaves p laws side w (Some x) = send_leaves p laws side w x (is_full (end_of w.world side))
-step_leaves p laws side w None = feed_leaves p laws side w (nat_lt 0 (waiting_count (end_of w.world side)))
-
-pub steps_leave : {S : Type 0} (p : Parties S) → Answering p.serving p.service → (side : Side) (w : CallWorld) (n : ℕ) → Leaves side w (steps (step p side) w n)
-steps_leave p laws side w zero = leaves_same laws.network side w w refl
-steps_leave p laws side w (suc n) =
-    let v = steps (step p side) w n in
-    let u = onward v (step_with p v side (next_out p v side)) in
-    let before = steps_leave p laws side w n in
-    let now = step_leaves p laws side v (next_out p v side) in
-    record { there = now.there ∙ before.there; network = λ m h. now.network m (before.network m h); later = laws.network.goes_on.further w.world v.world u.world before.later now.later }
 
 -- ---- an end whose world goes on elsewhere
 
 abbrev Session : {S : Type 0} → Parties S → caller.CallerState → State → ℕ → ℕ → Type 0
 Session p c s made listed = caller.StandsFor p.serving.table c (record { made = take made p.calls; fed = take s.handed s.taken; fetched = s.accepted; handed = take listed (answers p.serving.table (take made p.calls) (take s.handed s.taken)) })
 
-pub other_calling : {S : Type 0} (p : Parties S) (e : CallingEnd) (w v : CallWorld) → LeavesCaller w v → IsCalling p e w → IsCalling p e v
-other_calling p e w v l h =
+pub other_calling : {S : Type 0} (p : Parties S) (e : CallingEnd) (w v : CallWorld) → v.world.a ≡ w.world.a → v.made ≡ w.made → v.listed ≡ w.listed → IsCalling p e w → IsCalling p e v
+other_calling p e w v world made listed h =
     let same : seen_at p w ≡ seen_at p v =
-    ap (λ (s : State). take w.listed (answers p.serving.table (take w.made p.calls) (take s.handed s.taken))) (sym l.world)
-    ∙ (ap (λ (n : ℕ). take w.listed (answers p.serving.table (take n p.calls) (take v.world.a.handed v.world.a.taken))) (sym l.made)
-    ∙ ap (λ (n : ℕ). take n (outcomes_read p v)) (sym l.listed)) in
-    let one : Session p e.caller v.world.a w.made w.listed = subst (λ (s : State). Session p e.caller s w.made w.listed) (sym l.world) h.session in
-    let two : Session p e.caller v.world.a v.made w.listed = subst (λ (n : ℕ). Session p e.caller v.world.a n w.listed) (sym l.made) one in
+    ap (λ (s : State). take w.listed (answers p.serving.table (take w.made p.calls) (take s.handed s.taken))) (sym world)
+    ∙ (ap (λ (n : ℕ). take w.listed (answers p.serving.table (take n p.calls) (take v.world.a.handed v.world.a.taken))) (sym made)
+    ∙ ap (λ (n : ℕ). take n (outcomes_read p v)) (sym listed)) in
+    let one : Session p e.caller v.world.a w.made w.listed = subst (λ (s : State). Session p e.caller s w.made w.listed) (sym world) h.session in
+    let two : Session p e.caller v.world.a v.made w.listed = subst (λ (n : ℕ). Session p e.caller v.world.a n w.listed) (sym made) one in
     record {
-      stands = subst (λ (s : State). StandsFor e.endpoint s) (sym l.world) h.stands;
-      session = subst (λ (n : ℕ). Session p e.caller v.world.a v.made n) (sym l.listed) two;
-      made = h.made ∙ sym l.made;
+      stands = subst (λ (s : State). StandsFor e.endpoint s) (sym world) h.stands;
+      session = subst (λ (n : ℕ). Session p e.caller v.world.a v.made n) (sym listed) two;
+      made = h.made ∙ sym made;
       seen = h.seen ∙ same;
     }
 
@@ -150,15 +95,16 @@ caller_stepped p laws e w a h i =
     let v = stepped_out (step p A) w in
     pair_of p (record e { a = a }) v i (other_serving p e.b w v (steps_leave p laws A w most_steps).there (h B))
 
-pub server_stepped : {S : Type 0} (p : Parties S) (e : CallPair S) (w : CallWorld) (b : ServingEnd S) → IsCallPair p e w → IsServing p b (stepped_out (step p B) w) → IsCallPair p (record e { b = b }) (stepped_out (step p B) w)
-server_stepped p e w b h i =
+pub server_stepped : {S : Type 0} (p : Parties S) → Answering p.serving p.service → (e : CallPair S) (w : CallWorld) (b : ServingEnd S) → IsCallPair p e w → IsServing p b (stepped_out (step p B) w) → IsCallPair p (record e { b = b }) (stepped_out (step p B) w)
+server_stepped p laws e w b h i =
     let v = stepped_out (step p B) w in
-    pair_of p (record e { b = b }) v (other_calling p e.a w v (server_steps p w most_steps) (h A)) i
+    let l = steps_leave p laws B w most_steps in
+    pair_of p (record e { b = b }) v (other_calling p e.a w v l.there (l.made refl) (l.listed refl) (h A)) i
 
 -- an endpoint goes on that accepts and hands up nothing, and the other end stays
 quiet_pair : {S : Type 0} (p : Parties S) (e : CallPair S) (w : CallWorld) (u : World) (side : Side) (endpoint : Held) → IsQuiet (channel_of w.world) (channel_of u) → end_of u (other side) ≡ end_of w.world (other side) → StandsFor endpoint (end_of u side) → IsCallPair p e w → IsCallPair p (with_endpoint e side endpoint) (in_world w u)
 quiet_pair p e w u A endpoint q same stands h = pair_of p (with_endpoint e A endpoint) (in_world w u) (quiet_calling p e.a w u endpoint q stands (h A)) (other_serving p e.b w (in_world w u) same (h B))
-quiet_pair p e w u B endpoint q same stands h = pair_of p (with_endpoint e B endpoint) (in_world w u) (other_calling p e.a w (in_world w u) (record { world = same; made = refl; listed = refl }) (h A)) (quiet_serving p e.b w u endpoint q stands (h B))
+quiet_pair p e w u B endpoint q same stands h = pair_of p (with_endpoint e B endpoint) (in_world w u) (other_calling p e.a w (in_world w u) same refl refl (h A)) (quiet_serving p e.b w u endpoint q stands (h B))
 
 stands_at : {S : Type 0} (p : Parties S) (e : CallPair S) (w : CallWorld) (side : Side) → IsCallPair p e w → StandsFor (endpoint_at e side) (end_of w.world side)
 stands_at p e w A h = (h A).stands
@@ -276,16 +222,14 @@ unsettled_is_enough p laws w =
 
 -- ---- the headline, of what the play hands over
 
-pub raw_again : (cs : List RawCall) → map raw_call (map call_of cs) ≡ cs
-raw_again [] = refl
-raw_again (c ∷ cs) = ap (λ (l : List RawCall). c ∷ l) (raw_again cs)
-
-pub once_along : {S : Type 0} (serving : Serving S) (service : S) (cs : List Call) (t : CallTrace S) (w : CallWorld) → IsCallTrace (parties serving service cs) t w → AreOnceInOrder (parties serving service cs) w → IsOnceInOrder serving service cs t
-once_along serving service cs t w is once =
+pub once_along : {S : Type 0} (serving : Serving S) (service : S) (cs : List Call) (t : CallTrace S) (w : CallWorld) → IsCallTrace (parties serving service cs) t w → Begins (calls_made (parties serving service cs) w) (map raw_call cs)
+    → IsInOrder (decides serving) service (ledger_of (parties serving service cs) w) → IsOnceInOrder serving service cs t
+once_along {S} serving service cs t w is made once =
     let carried : map raw_call t.carried.items ≡ carried_at w = ap (map raw_call) is.carried ∙ raw_again (carried_at w) in
-    record {
-      carried_once = subst (λ (l : List RawCall). Begins l (map raw_call cs)) (sym carried) once.carried;
-      service_after = is.service ∙ (once.service ∙ ap (λ (l : List RawCall). last_state serving service l) (sym carried));
-      seen_first = subst (λ (l : List SeenModel). Begins l (outcomes serving service (map raw_call cs))) (sym is.seen) once.seen;
-      fewer = omega (arith, once.fewer, ap (length {A = SeenModel}) is.seen, ap (length {A = RawCall}) carried, length-map t.seen.items seen_model, length-map t.carried.items raw_call);
-    }
+    let now : Ledger S RawCall SeenModel = record (ledger_of (parties serving service cs) w) { made = map raw_call cs } in
+    let later : IsInOrder (decides serving) service now =
+    record { carried = begins_then (carried_at w) (calls_made (parties serving service cs) w) (map raw_call cs) once.carried made; answered = once.answered; seen = once.seen } in
+    let same : ledger_in serving service cs t ≡ now =
+    ap (λ (l : List RawCall). record (ledger_in serving service cs t) { carried = l; answered = outcomes serving service l }) carried
+    ∙ (ap (λ (l : List SeenModel). record now { seen = l; state = t.service }) is.seen ∙ ap (λ (s : S). record now { state = s }) is.service) in
+    subst (IsInOrder (decides serving) service) (sym same) later

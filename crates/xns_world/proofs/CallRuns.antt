@@ -1,94 +1,169 @@
--- What is true between events, and the headline.
-use Rattle.std.proofs.Common.{◌≡◌, ℕ, zero, suc, ◌≤◌, Bool, true, false, List, [], ◌∷◌, ◌++◌, length, take, fold, Option, Some, None, refl, sym, ◌∙◌, ap, subst, arith}
-use Rattle.std.specs.Prelude.{nat_lt, if◌then◌else◌}
+-- What an event comes to, that each small step keeps what is always true, and what is true between events.
+use Rattle.std.proofs.Common.{◌≡◌, ℕ, zero, suc, List, [], ◌∷◌, ◌++◌, fold, Option, Some, None, refl, sym, ◌∙◌, ap, ◌≤◌, length, take, subst, arith}
+use Rattle.std.proofs.lemmas.List.Sums.{fold-append}
+use Rattle.item_world.specs.declared.side.Side.{Side}
+use Rattle.item_world.specs.Events as events
+use Rattle.item_world.specs.Landing.{landing, reached}
+use Rattle.item_world.specs.World.{World, flushes, start, end_of, moved, ticks, channel_of, sent_at, handed_at}
+use Rattle.xns_world.proofs.CallCarries.{quiet_holds, faces, same_read}
+use Rattle.xns_world.proofs.CallSettling.{steps_hold, settles_end}
+use Rattle.xns_world.specs.CallLaws.{Given, Answering}
+use Rattle.xns_world.specs.CallOrder.{CallsHold, AllListed, IsBetween, MeetNoFault}
+use Rattle.xns_world.specs.CallWorld.{Parties, CallWorld, in_world, step, CallStep, arrival, noise, ticking, acting, flushing, resending, telling, call_stepped, all_call_stepped, acting_steps, call_arrival_steps, call_deliveries, settles, delivers, calls_made, put_out, outcomes_read, call_start, call_happens, begun, run_calls}
+use Rattle.xns_world.specs.Settling.{most_steps, onward, steps, stepped_out}
 use Rattle.std.proofs.lemmas.Bool.{ltb-false}
 use Rattle.std.proofs.lemmas.List.Elements.{All-nil}
 use Rattle.courier_messages.specs.RawCalls.{RawCall}
-use Rattle.courier_calls.specs.Calls.{SeenModel, Serving, decision, after_decision, outcomes, last_state, IsFitting}
+use Rattle.courier_calls.specs.Calls.{SeenModel, Serving, decision, after_decision, outcomes, IsFitting}
 use Rattle.courier_calls.specs.Caller.{answers}
 use Rattle.courier_calls.specs.Server.{decided}
-use Rattle.xns_spp.specs.Sending.{is_full, waiting_count, after_send, after_take}
+use Rattle.xns_spp.specs.Sending.{after_send, after_take}
 use Rattle.xns_spp.specs.State.{State}
-use Rattle.xns_spp.specs.declared.item.Item.{Item}
-use Rattle.xns_world.proofs.Fronts.{begins_then, begins_length, front_begins}
+use Rattle.item_world.specs.Fronts.{begins_length}
 use Rattle.item_world.specs.declared.event.Event.{Event}
 use Rattle.item_world.specs.declared.event.Event.TheVariants.{Deliver, Rest, Tick, Foreign, Send, Take}
 use Rattle.item_world.specs.declared.setup.Setup.{Setup}
-use Rattle.item_world.specs.declared.side.Side.{Side}
 use Rattle.item_world.specs.declared.side.Side.TheVariants.{A, B}
 use Rattle.xns_spp.specs.Growth.{Begins}
 use Rattle.item_world.specs.Invariant.{Holds}
 use Rattle.item_world.specs.Events.{undelivered}
-use Rattle.item_world.specs.Landing.{landing}
+use Rattle.item_world.specs.Going.{Later}
+use Rattle.item_world.specs.Laws.{NetworkLaws}
+use Rattle.item_world.specs.Network.{IsNetwork}
+use Rattle.item_world.specs.Side.{other}
+use Rattle.item_world.specs.declared.network.Network.{Network}
 use Rattle.item_world.specs.Setup.{IsSetup, IsGood}
-use Rattle.item_world.specs.World.{World, start, end_of, flushes, ticks, channel_of, sent_at, handed_at}
-use Rattle.xns_world.proofs.CallCarries.{faces, same_read, quiet_holds}
-use Rattle.xns_world.specs.CallLaws.{Given}
 use Rattle.item_world.specs.Channel.{IsQuiet}
-use Rattle.item_world.specs.Events as events
-use Rattle.xns_world.proofs.CallMoments.{settles_is, arrived, arrived_nowhere, deliveries_all}
-use Rattle.xns_world.proofs.CallSettling.{steps_hold, settles_end}
-use Rattle.xns_world.specs.CallOrder.{CallsHold, AllListed, IsBetween, MeetNoFault}
-use Rattle.xns_world.specs.CallWorld.{Parties, CallWorld, or_caller, calls_made, put_out, next_out, outcomes_read, in_world, lists, makes, has_outcome, may_call, step_with, call_start, carried_at, seen_at, service_at, step, settles, delivers, call_happens, begun, run_calls}
-use Rattle.xns_world.specs.Settling.{most_steps, onward, steps, stepped_out}
+use Rattle.xns_world.proofs.CallSteps.{by_step}
+
+-- ---- what an event comes to
+
+-- one step, and then n more
+first_step : {X : Type 0} (next : X → Option X) (x : X) (n : ℕ) → steps next x (suc n) ≡ steps next (onward x (next x)) n
+first_step next x zero = refl
+first_step {X} next x (suc n) = ap (λ (y : X). onward y (next y)) (first_step next x n)
+
+acting_all : {S : Type 0} (p : Parties S) (w : CallWorld) (side : Side) (n : ℕ) → all_call_stepped p w (acting_steps side n) ≡ steps (step p side) w n
+acting_all p w side zero = refl
+acting_all p w side (suc n) = acting_all p (onward w (step p side w)) side n ∙ sym (first_step (step p side) w n)
+
+-- a side takes steps until none applies, and then flushes
+abbrev pub flushed_out : {S : Type 0} → Parties S → Side → CallWorld → CallWorld
+flushed_out p side w = in_world (stepped_out (step p side) w) (flushes (stepped_out (step p side) w).world side)
+
+pub settles_is : {S : Type 0} (p : Parties S) (side : Side) (w : CallWorld) → settles p side w ≡ flushed_out p side w
+settles_is p side w =
+    fold-append (call_stepped p) w (acting_steps side most_steps) (flushing side ∷ [])
+    ∙ ap (λ (v : CallWorld). in_world v (flushes v.world side)) (acting_all p w side most_steps)
+
+-- packet k came to an end, which answered it and then settles
+pub arrived : {S : Type 0} (p : Parties S) (w : CallWorld) (k : ℕ) (l : Side × World) → landing w.world k ≡ Some l → delivers p w k ≡ settles p l.0 (in_world w l.1)
+arrived p w k l is =
+    ap (λ (o : Option (Side × World)). all_call_stepped p w (call_arrival_steps k o)) is
+    ∙ ap (λ (o : Option (Side × World)). settles p l.0 (in_world w (reached w.world o))) is
+
+pub arrived_nowhere : {S : Type 0} (p : Parties S) (w : CallWorld) (k : ℕ) → landing w.world k ≡ None → delivers p w k ≡ w
+arrived_nowhere p w k none = ap (λ (o : Option (Side × World)). all_call_stepped p w (call_arrival_steps k o)) none
+
+pub deliveries_all : {S : Type 0} (p : Parties S) (w : CallWorld) (ks : List ℕ) → all_call_stepped p w (call_deliveries p w ks) ≡ fold (delivers p) w ks
+deliveries_all p w [] = refl
+deliveries_all p w (k ∷ ks) =
+    fold-append (call_stepped p) w (call_arrival_steps k (landing w.world k)) (call_deliveries p (delivers p w k) ks)
+    ∙ deliveries_all p (delivers p w k) ks
+
+-- ---- each of them keeps what is always true
+
+-- a small step of the network alone
+other_holds : {S : Type 0} (p : Parties S) (w : CallWorld) (s : events.Step) → events.IsStep s → events.IsOther s → Given p → CallsHold p w → CallsHold p (in_world w (events.stepped w.world s))
+other_holds p w s fits other g h = quiet_holds p w (events.stepped w.world s) h (g.world.each w.world s fits h.holds) (g.answering.network.items.quiet w.world s other h.holds)
+
+pub step_holds : {S : Type 0} (p : Parties S) (w : CallWorld) (s : CallStep) → Given p → CallsHold p w → CallsHold p (call_stepped p w s)
+step_holds p w (arrival k) g h = other_holds p w (events.arrival k) tt tt g h
+step_holds p w (noise side bytes) g h = other_holds p w (events.noise side bytes) tt tt g h
+step_holds p w (ticking side) g h = other_holds p w (events.ticking side) tt tt g h
+step_holds p w (acting side) g h = steps_hold p side w (suc zero) g h
+step_holds p w (flushing side) g h = other_holds p w (events.flushing side) tt tt g h
+step_holds p w (resending side) g h = other_holds p w (events.resending side) tt tt g h
+step_holds p w (telling side asks) g h = other_holds p w (events.telling side asks) tt tt g h
+
+pub all_hold : {S : Type 0} (p : Parties S) (w : CallWorld) (ss : List CallStep) → Given p → CallsHold p w → CallsHold p (all_call_stepped p w ss)
+all_hold p w [] g h = h
+all_hold p w (s ∷ ss) g h = all_hold p (call_stepped p w s) ss g (step_holds p w s g h)
+
+-- ---- what the steps of a side leave
+
+-- the other end, and the network; a server's side, the calls made and listed
+pub record Leaves (side : Side) (w v : CallWorld) : Type 0 where
+  pub there : end_of v.world (other side) ≡ end_of w.world (other side)
+  pub network : (n : Network) → IsNetwork n w.world → IsNetwork n v.world
+  pub later : Later w.world v.world
+  pub made : side ≡ B → v.made ≡ w.made
+  pub listed : side ≡ B → v.listed ≡ w.listed
+
+leaves_itself : NetworkLaws → (side : Side) (w : CallWorld) → Leaves side w w
+leaves_itself laws side w = record { there = refl; network = λ n h. h; later = laws.goes_on.itself w.world; made = λ b. refl; listed = λ b. refl }
+
+-- an end moves that sends and takes nothing
+leaves_moved : NetworkLaws → (side : Side) (w : CallWorld) (t : State) → t.taken ≡ (end_of w.world side).taken → Leaves side w (in_world w (moved w.world side t []))
+leaves_moved laws side w t same = record {
+  there = laws.moves.there w.world side t [];
+  network = λ n h. laws.quiet n w.world side t h (ap length same);
+  later = laws.goes_on.moved w.world side t [] (omega (arith, ap length same));
+  made = λ b. refl;
+  listed = λ b. refl;
+}
+
+step_leaves : {S : Type 0} (p : Parties S) → Answering p.serving p.service → (side : Side) (w : CallWorld) → Leaves side w (onward w (step p side w))
+step_leaves p laws side w =
+    let on : Later w.world w.world = laws.network.goes_on.itself w.world in
+    by_step p w (λ t o. Leaves t w (onward w o)) (record {
+      sent = λ t x is full. leaves_moved laws.network t w (after_send (end_of w.world t) x) (laws.ends.hears.send (end_of w.world t) x).taken;
+      fed = λ t is. leaves_moved laws.network t w (after_take (end_of w.world t)) (laws.ends.hears.take (end_of w.world t)).taken;
+      listed = λ is. record { there = refl; network = λ n h. h; later = on; made = λ b. refl; listed = λ b. absurd (cc) };
+      made = λ may. record { there = refl; network = λ n h. h; later = on; made = λ b. absurd (cc); listed = λ b. refl };
+      rests = λ is. leaves_itself laws.network A w;
+      stays = leaves_itself laws.network B w;
+    }) side
+
+pub steps_leave : {S : Type 0} (p : Parties S) → Answering p.serving p.service → (side : Side) (w : CallWorld) (n : ℕ) → Leaves side w (steps (step p side) w n)
+steps_leave p laws side w zero = leaves_itself laws.network side w
+steps_leave p laws side w (suc n) =
+    let v = steps (step p side) w n in
+    let before = steps_leave p laws side w n in
+    let now = step_leaves p laws side v in
+    record {
+      there = now.there ∙ before.there;
+      network = λ m h. now.network m (before.network m h);
+      later = laws.network.goes_on.further w.world v.world (onward v (step p side v)).world before.later now.later;
+      made = λ b. now.made b ∙ before.made b;
+      listed = λ b. now.listed b ∙ before.listed b;
+    }
 
 -- ---- each outcome that is there was listed
 
-caller_none : {S : Type 0} (p : Parties S) (w : CallWorld) (b c : Bool) → has_outcome p w ≡ b → (if b then Some (lists w) else if c then Some (makes w) else None) ≡ None → AllListed p w
-caller_none p w true c is none = absurd (cc)
-caller_none p w false c is none = ltb-false w.listed (length (outcomes_read p w)) is
+step_none : {S : Type 0} (p : Parties S) (w : CallWorld) (side : Side) → step p side w ≡ None → side ≡ A → AllListed p w
+step_none p w side = by_step p w (λ t o. o ≡ None → t ≡ A → AllListed p w) (record {
+  sent = λ t x is full none. absurd (cc);
+  fed = λ t is none. absurd (cc);
+  listed = λ is none. absurd (cc);
+  made = λ may none. absurd (cc);
+  rests = λ is none a. ltb-false w.listed (length (outcomes_read p w)) is;
+  stays = λ none a. absurd (cc);
+}) side
 
-send_none : {S : Type 0} (p : Parties S) (w : CallWorld) (x : Item) (b : Bool) → (or_caller p w A (if b then None else Some (after_send w.world.a x))) ≡ None → AllListed p w
-send_none p w x true none = caller_none p w (has_outcome p w) (may_call p w) refl none
-send_none p w x false none = absurd (cc)
-
-feed_none : {S : Type 0} (p : Parties S) (w : CallWorld) (b : Bool) → (or_caller p w A (if b then Some (after_take w.world.a) else None)) ≡ None → AllListed p w
-feed_none p w true none = absurd (cc)
-feed_none p w false none = caller_none p w (has_outcome p w) (may_call p w) refl none
-
-step_none : {S : Type 0} (p : Parties S) (w : CallWorld) (o : Option Item) → step_with p w A o ≡ None → AllListed p w
-step_none p w (Some x) none = send_none p w x (is_full (end_of w.world A)) none
-step_none p w None none = feed_none p w (nat_lt 0 (waiting_count (end_of w.world A))) none
-
--- the steps of a side leave the other one, and a server the caller
-pub record LeavesCaller (w v : CallWorld) : Type 0 where
-  pub world : v.world.a ≡ w.world.a
-  pub made : v.made ≡ w.made
-  pub listed : v.listed ≡ w.listed
-
-server_send : {S : Type 0} (p : Parties S) (w : CallWorld) (x : Item) (b : Bool) → LeavesCaller w (onward w (or_caller p w B (if b then None else Some (after_send w.world.b x))))
-server_send p w x true = record { world = refl; made = refl; listed = refl }
-server_send p w x false = record { world = refl; made = refl; listed = refl }
-
-server_feed : {S : Type 0} (p : Parties S) (w : CallWorld) (b : Bool) → LeavesCaller w (onward w (or_caller p w B (if b then Some (after_take w.world.b) else None)))
-server_feed p w true = record { world = refl; made = refl; listed = refl }
-server_feed p w false = record { world = refl; made = refl; listed = refl }
-
-server_step : {S : Type 0} (p : Parties S) (w : CallWorld) (o : Option Item) → LeavesCaller w (onward w (step_with p w B o))
-server_step p w (Some x) = server_send p w x (is_full (end_of w.world B))
-server_step p w None = server_feed p w (nat_lt 0 (waiting_count (end_of w.world B)))
-
-pub server_steps : {S : Type 0} (p : Parties S) (w : CallWorld) (n : ℕ) → LeavesCaller w (steps (step p B) w n)
-server_steps p w zero = record { world = refl; made = refl; listed = refl }
-server_steps p w (suc n) =
-    let v = steps (step p B) w n in
-    let before = server_steps p w n in
-    let now = server_step p v (next_out p v B) in
-    record { world = now.world ∙ before.world; made = now.made ∙ before.made; listed = now.listed ∙ before.listed }
-
-left_listed : {S : Type 0} (p : Parties S) (w v : CallWorld) → LeavesCaller w v → AllListed p w → AllListed p v
+left_listed : {S : Type 0} (p : Parties S) (w v : CallWorld) → Leaves B w v → AllListed p w → AllListed p v
 left_listed p w v l h =
     let same : outcomes_read p v ≡ outcomes_read p w =
-    ap (λ (s : State). answers p.serving.table (calls_made p v) (take s.handed s.taken)) l.world
-    ∙ ap (λ (n : ℕ). answers p.serving.table (take n p.calls) (handed_at w.world A)) l.made in
-    omega (arith, h, ap (length {A = SeenModel}) same, l.listed)
+    ap (λ (s : State). answers p.serving.table (calls_made p v) (take s.handed s.taken)) l.there
+    ∙ ap (λ (n : ℕ). answers p.serving.table (take n p.calls) (handed_at w.world A)) (l.made refl) in
+    omega (arith, h, ap (length {A = SeenModel}) same, l.listed refl)
 
 quiet_listed : {S : Type 0} (p : Parties S) (w : CallWorld) (v : World) → IsQuiet (channel_of w.world) (channel_of v) → AllListed p w → AllListed p (in_world w v)
 quiet_listed p w v q h = subst (λ (rs : List SeenModel). length rs ≤ w.listed) (sym (same_read p w v (q.handed A))) h
 
 stepped_listed : {S : Type 0} (p : Parties S) (side : Side) (w : CallWorld) → Given p → IsBetween p w → AllListed p (stepped_out (step p side) w)
-stepped_listed p A w g b = step_none p (stepped_out (step p A) w) (next_out p (stepped_out (step p A) w) A) (settles_end p A w g b)
-stepped_listed p B w g b = left_listed p w (stepped_out (step p B) w) (server_steps p w most_steps) b.listed
+stepped_listed p A w g b = step_none p (stepped_out (step p A) w) A (settles_end p A w g b) refl
+stepped_listed p B w g b = left_listed p w (stepped_out (step p B) w) (steps_leave p g.answering B w most_steps) b.listed
 
 -- ---- between events
 
@@ -155,7 +230,7 @@ begun_between p setup g fits good = settles_between p B (settles p A (call_start
 pub always_between : {S : Type 0} (p : Parties S) (setup : Setup) (events : List Event) → Given p → IsSetup setup → IsGood setup → IsBetween p (run_calls p setup events)
 always_between p setup events g fits good = run_between p (begun p setup) events g (begun_between p setup g fits good)
 
--- ---- the headline
+-- ---- what the headline needs
 
 outcomes_more : {S : Type 0} (serving : Serving S) (s : S) (cs more : List RawCall) → Begins (outcomes serving s cs) (outcomes serving s (cs ++ more))
 unfolding outcomes
@@ -166,26 +241,6 @@ outcomes_more serving s (c ∷ cs) more =
 
 pub outcomes_begin : {S : Type 0} (serving : Serving S) (s : S) (xs ys : List RawCall) → Begins xs ys → Begins (outcomes serving s xs) (outcomes serving s ys)
 outcomes_begin serving s xs ys b = subst (λ (l : List RawCall). Begins (outcomes serving s xs) (outcomes serving s l)) b.1 (outcomes_more serving s xs b.0)
-
--- what a trace is to say of a world
-pub record AreOnceInOrder {S : Type 0} (p : Parties S) (w : CallWorld) : Type 0 where
-  pub carried : Begins (carried_at w) p.calls
-  pub service : service_at p w ≡ last_state p.serving p.service (carried_at w)
-  pub seen : Begins (seen_at p w) (outcomes p.serving p.service p.calls)
-  pub fewer : length (seen_at p w) ≤ length (carried_at w)
-
-pub once_in_order : {S : Type 0} (p : Parties S) (w : CallWorld) → Given p → CallsHold p w → AreOnceInOrder p w
-once_in_order p w g h =
-    let f = faces p w g h in
-    let front : Begins (calls_made p w) p.calls = front_begins w.made p.calls in
-    let read : Begins (seen_at p w) (outcomes_read p w) = front_begins w.listed (outcomes_read p w) in
-    let most = begins_length (seen_at p w) (outcomes_read p w) read in
-    record {
-      carried = begins_then (carried_at w) (calls_made p w) p.calls f.once front;
-      service = refl;
-      seen = begins_then (seen_at p w) (outcomes_read p w) (outcomes p.serving p.service p.calls) read (begins_then (outcomes_read p w) (outcomes p.serving p.service (calls_made p w)) (outcomes p.serving p.service p.calls) f.answered (outcomes_begin p.serving p.service (calls_made p w) p.calls front));
-      fewer = omega (arith, most, f.fewer);
-    }
 
 pub meet_no_fault : {S : Type 0} (p : Parties S) (w : CallWorld) → Given p → CallsHold p w → MeetNoFault p w
 meet_no_fault p w g h = let f = faces p w g h in record { server = f.server; caller = f.caller }

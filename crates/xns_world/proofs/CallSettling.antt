@@ -1,6 +1,6 @@
 -- A side that settles comes to where no step applies.
 use Rattle.std.proofs.Common.{◌≡◌, ℕ, ◌+◌, ◌-◌, ◌*◌, ◌<◌, ◌≤◌, Bool, true, false, List, [], ◌∷◌, length, Option, Some, None, refl, sym, ◌∙◌, ap, subst, arith, length-append}
-use Rattle.std.specs.Prelude.{nat_lt, ◌==◌, if◌then◌else◌, is_ok, is_some}
+use Rattle.std.specs.Prelude.{nat_lt, ◌==◌, is_ok, is_some}
 use Rattle.std.proofs.lemmas.Bool.{ltb-true, eqb-true, ne_eqb, and_parts}
 use Rattle.courier_calls.specs.Calls.{SeenModel}
 use Rattle.courier_calls.specs.Caller.{answers}
@@ -10,12 +10,12 @@ use Rattle.xns_spp.specs.declared.item.Item.{Item}
 use Rattle.item_world.specs.declared.side.Side.{Side}
 use Rattle.item_world.specs.declared.side.Side.TheVariants.{A, B}
 use Rattle.item_world.specs.World.{World, end_of, sends, handed_at}
-use Rattle.xns_world.proofs.CallCarries.{same_read, next_piece, sends_hold, feeds_hold, lists_hold, calls, makes_hold}
+use Rattle.xns_world.proofs.CallCarries.{same_read, next_piece, sends_hold, feeds_hold, lists_hold, calls, makes_hold, not_refused}
 use Rattle.xns_world.specs.CallLaws.{Given}
-use Rattle.xns_world.proofs.Sendable.{not_refused}
 use Rattle.xns_world.specs.CallOrder.{CallsHold, AllListed, IsBetween, Settles}
-use Rattle.xns_world.specs.CallWorld.{Parties, CallWorld, or_caller, calls_made, next_out, outcomes_read, in_world, sends_next, feeds, lists, makes, has_outcome, may_call, caller_step, step_with, step}
+use Rattle.xns_world.specs.CallWorld.{Parties, CallWorld, calls_made, next_out, outcomes_read, in_world, sends_next, feeds, lists, makes, has_outcome, may_call, step}
 use Rattle.xns_world.specs.Settling.{most_steps, steps}
+use Rattle.xns_world.proofs.CallSteps.{by_step}
 use Rattle.xns_world.proofs.Stepping.{steps_are, GoesOn, IfGoesOn, steps_keep, steps_end}
 use Rattle.item_world.specs.EndLaws.{EndLaws}
 
@@ -125,33 +125,16 @@ makes_go p w g h is =
 
 -- ---- one step
 
-calling : {S : Type 0} (p : Parties S) (w : CallWorld) → Given p → CallsHold p w → (b c : Bool) → has_outcome p w ≡ b → may_call p w ≡ c → IfGoesOn (CallsHold p) (left p A) w (if b then Some (lists w) else if c then Some (makes w) else None)
-unfolding IfGoesOn
-calling p w g h true c is may = lists_go p w h is
-calling p w g h false true is may = makes_go p w g h may
-calling p w g h false false is may = tt
-
-caller_goes : {S : Type 0} (p : Parties S) (w : CallWorld) (side : Side) → Given p → CallsHold p w → IfGoesOn (CallsHold p) (left p side) w (caller_step p w side)
-unfolding IfGoesOn
-caller_goes p w A g h = calling p w g h (has_outcome p w) (may_call p w) refl refl
-caller_goes p w B g h = tt
-
-sending : {S : Type 0} (p : Parties S) (w : CallWorld) (side : Side) (x : Item) → Given p → CallsHold p w → next_out p w side ≡ Some x → (b : Bool) → is_full (end_of w.world side) ≡ b → IfGoesOn (CallsHold p) (left p side) w (or_caller p w side (if b then None else Some (after_send (end_of w.world side) x)))
-unfolding IfGoesOn
-sending p w side x g h is true full = caller_goes p w side g h
-sending p w side x g h is false full = sends_go p w side x g h is full
-
-feeding : {S : Type 0} (p : Parties S) (w : CallWorld) (side : Side) → Given p → CallsHold p w → (b : Bool) → nat_lt 0 (waiting_count (end_of w.world side)) ≡ b → IfGoesOn (CallsHold p) (left p side) w (or_caller p w side (if b then Some (after_take (end_of w.world side)) else None))
-unfolding IfGoesOn
-feeding p w side g h true is = feeds_go p w side g h is
-feeding p w side g h false is = caller_goes p w side g h
-
-stepping : {S : Type 0} (p : Parties S) (w : CallWorld) (side : Side) → Given p → CallsHold p w → (o : Option Item) → next_out p w side ≡ o → IfGoesOn (CallsHold p) (left p side) w (step_with p w side o)
-stepping p w side g h (Some x) is = sending p w side x g h is (is_full (end_of w.world side)) refl
-stepping p w side g h None is = feeding p w side g h (nat_lt 0 (waiting_count (end_of w.world side))) refl
-
 pub step_goes : {S : Type 0} (p : Parties S) (w : CallWorld) (side : Side) → Given p → CallsHold p w → IfGoesOn (CallsHold p) (left p side) w (step p side w)
-step_goes p w side g h = stepping p w side g h (next_out p w side) refl
+unfolding IfGoesOn
+step_goes p w side g h = by_step p w (λ t o. IfGoesOn (CallsHold p) (left p t) w o) (record {
+  sent = λ t x is full. sends_go p w t x g h is full;
+  fed = λ t is. feeds_go p w t g h is;
+  listed = lists_go p w h;
+  made = makes_go p w g h;
+  rests = λ is. tt;
+  stays = tt;
+}) side
 
 -- ---- many steps
 

@@ -1,9 +1,9 @@
 -- In every history of a ledger all is in order, by induction over its entries.
-use Rattle.std.proofs.Common.{◌≡◌, ℕ, zero, suc, List, [], ◌∷◌, ◌++◌, fold, refl, sym, ◌∙◌, ap, subst}
+use Rattle.std.proofs.Common.{ℕ, zero, suc, List, [], ◌∷◌, ◌++◌, refl, sym, ◌∙◌, ap, subst}
 use Rattle.std.proofs.lemmas.List.Sums.{fold-append}
 use Rattle.xns_spp.specs.Growth.{Begins}
-use Rattle.xns_world.proofs.Fronts.{begins_then, begins_more}
-use Rattle.xns_world.specs.Ledger.{Ledger, Entry, quiet, makes, carries, sees, IsHistory, carried_out, decided_then, IsInOrder}
+use Rattle.item_world.specs.Fronts.{begins_then, begins_more}
+use Rattle.xns_world.specs.Ledger.{Ledger, Entry, quiet, makes, carries, sees, IsHistory, decided_then, IsInOrder}
 
 -- what begins a list begins the longer one too
 longer : {X : Type 0} (xs ys : List X) (y : X) → Begins xs ys → Begins xs (ys ++ y ∷ [])

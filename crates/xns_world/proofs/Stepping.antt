@@ -1,6 +1,7 @@
--- Steps that are taken until none applies.
-use Rattle.std.proofs.Common.{◌≡◌, ℕ, zero, suc, ◌+◌, ◌-◌, ◌<◌, ◌≤◌, true, false, Option, Some, None, refl, sym, ◌∙◌, ap, subst, arith}
+-- Steps that are taken until none applies, and what a call's clauses leave.
+use Rattle.std.proofs.Common.{◌≡◌, ℕ, zero, suc, ◌+◌, ◌-◌, ◌<◌, ◌≤◌, Bool, true, false, Option, Some, None, refl, sym, ◌∙◌, ap, subst, arith, Result, Ok, Err}
 use Rattle.xns_world.specs.Settling.{most_steps, onward, steps, stepped_out, Stepped}
+use Rattle.std.specs.Prelude.{OnOk, IfOk}
 
 -- the number itself
 pub steps_are : most_steps ≡ 257
@@ -70,15 +71,15 @@ steps_end step K left go x k few =
 
 -- ---- where a program stops
 
-pub stepped_on : {X : Type 0} (x : X) (o : Option X) (P : X → Type 0) → Stepped true x o P → P (onward x o)
+stepped_on : {X : Type 0} (x : X) (o : Option X) (P : X → Type 0) → Stepped true x o P → P (onward x o)
 stepped_on x None P h = absurd h
 stepped_on x (Some y) P h = h
 
-pub record Stopped {X : Type 0} (x : X) (o : Option X) (P : X → Type 0) : Type 0 where
-  pub none : o ≡ None
-  pub here : P x
+record Stopped {X : Type 0} (x : X) (o : Option X) (P : X → Type 0) : Type 0 where
+  none : o ≡ None
+  here : P x
 
-pub stepped_not : {X : Type 0} (x : X) (o : Option X) (P : X → Type 0) → Stepped false x o P → Stopped x o P
+stepped_not : {X : Type 0} (x : X) (o : Option X) (P : X → Type 0) → Stepped false x o P → Stopped x o P
 stepped_not x None P h = record { none = refl; here = h }
 stepped_not x (Some y) P h = absurd h
 
@@ -92,10 +93,34 @@ steps_stay {X} step x n (suc k) m is none =
     ∙ (ap (λ (y : X). onward y (step y)) same
     ∙ ap (λ (o : Option X). onward (steps step x n) o) none)
 
-pub stepped_all : {X : Type 0} (step : X → Option X) (x : X) (n : ℕ) → n ≤ most_steps → step (steps step x n) ≡ None → steps step x n ≡ stepped_out step x
+stepped_all : {X : Type 0} (step : X → Option X) (x : X) (n : ℕ) → n ≤ most_steps → step (steps step x n) ≡ None → steps step x n ≡ stepped_out step x
 stepped_all step x n h none =
     let count : most_steps ≡ (most_steps - n) + n = omega arith in
     sym (steps_stay step x n (most_steps - n) most_steps count none)
 
 pub stepped_end : {X : Type 0} (step : X → Option X) (x : X) (n : ℕ) → n ≡ most_steps → steps step x n ≡ stepped_out step x
 stepped_end step x n is = ap (λ (k : ℕ). steps step x k) is
+
+-- the program took one step more
+pub goes_further : {X : Type 0} (step : X → Option X) (x : X) (n : ℕ) (b : Bool) (P : X → Type 0) → b ≡ true → Stepped b (steps step x n) (step (steps step x n)) P → P (steps step x (n + 1))
+goes_further step x n b P is h =
+    let y = steps step x n in
+    let next : suc n ≡ n + 1 = omega arith in
+    subst (λ (k : ℕ). P (steps step x k)) next (stepped_on y (step y) P (subst (λ (c : Bool). Stepped c y (step y) P) is h))
+
+-- no step applied
+pub stops_there : {X : Type 0} (step : X → Option X) (x : X) (n : ℕ) (b : Bool) (P : X → Type 0) → b ≡ false → n ≤ most_steps → Stepped b (steps step x n) (step (steps step x n)) P → P (stepped_out step x)
+stops_there step x n b P is few h =
+    let y = steps step x n in
+    let stop = stepped_not y (step y) P (subst (λ (c : Bool). Stepped c y (step y) P) is h) in
+    subst P (stepped_all step x n few stop.none) stop.here
+
+-- ---- what a call's clauses leave
+
+pub ok_then : {T E : Type 0} {P Q : Type 0} (r : Result T E) → OnOk r P → (P → Q) → OnOk r Q
+ok_then (Ok x) h f = f h
+ok_then (Err e) h f = h
+
+pub if_ok_then : {T E : Type 0} {P Q : T → Type 0} (r : Result T E) → IfOk r P → ((x : T) → P x → Q x) → IfOk r Q
+if_ok_then (Ok x) h f = f x h
+if_ok_then (Err e) h f = h

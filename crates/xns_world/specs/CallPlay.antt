@@ -1,13 +1,14 @@
 -- What the program's play of calls stands for.
-use Rattle.std.specs.Prelude.{◌≡◌, ◌≤◌, List, map, length}
-use Rattle.courier_calls.specs.Calls.{Serving, last_state, outcomes, seen_model, raw_call}
+use Rattle.std.specs.Prelude.{◌≡◌, List, map}
+use Rattle.courier_messages.specs.RawCalls.{RawCall}
+use Rattle.courier_calls.specs.Calls.{SeenModel, Serving, outcomes, seen_model, raw_call}
 use Rattle.courier_calls.specs.declared.call.Call.{Call}
 use Rattle.courier_calls.specs.Caller as caller
 use Rattle.courier_calls.specs.Server.{call_of}
 use Rattle.xns_spp.specs.Held.{Held, StandsFor}
 use Rattle.xns_world.specs.CallLaws.{Given}
-use Rattle.xns_world.specs.CallOrder.{IsBetween}
-use Rattle.xns_spp.specs.Growth.{Begins}
+use Rattle.xns_world.specs.CallOrder.{decides, IsBetween}
+use Rattle.xns_world.specs.Ledger.{Ledger, IsInOrder}
 use Rattle.item_world.specs.EndLaws.{EndLaws}
 use Rattle.item_world.specs.Network.{IsNetwork, IsEnd}
 use Rattle.xns_world.specs.ServeEnd.{IsServed}
@@ -85,9 +86,16 @@ CallStepsBy {S} serving calls before after f = (p : Parties S) (w : CallWorld) �
 abbrev pub parties : {S : Type 0} → Serving S → S → List Call → Parties S
 parties serving service calls = record { serving = serving; service = service; calls = map raw_call calls }
 
+-- what was handed over as a ledger, in which all of these calls were made
+abbrev pub ledger_in : {S : Type 0} → Serving S → S → List Call → CallTrace S → Ledger S RawCall SeenModel
+ledger_in serving service calls t = record {
+  made = map raw_call calls;
+  carried = map raw_call t.carried.items;
+  answered = outcomes serving service (map raw_call t.carried.items);
+  seen = map seen_model t.seen.items;
+  state = t.service;
+}
+
 -- each call is carried out at most once and in order, and the k-th outcome that the caller saw is the server's to its k-th call
-pub record IsOnceInOrder {S : Type 0} (serving : Serving S) (service : S) (calls : List Call) (t : CallTrace S) : Type 0 where
-  pub carried_once : Begins (map raw_call t.carried.items) (map raw_call calls)
-  pub service_after : t.service ≡ last_state serving service (map raw_call t.carried.items)
-  pub seen_first : Begins (map seen_model t.seen.items) (outcomes serving service (map raw_call calls))
-  pub fewer : length t.seen.items ≤ length t.carried.items
+abbrev pub IsOnceInOrder : {S : Type 0} → Serving S → S → List Call → CallTrace S → Type 0
+IsOnceInOrder serving service calls t = IsInOrder (decides serving) service (ledger_in serving service calls t)

@@ -1,8 +1,7 @@
 -- A connection whose two ends carry calls: the caller at A, the server at B.
 use Rattle.std.specs.Prelude.{ℕ, zero, suc, ◌+◌, Bool, ◌==◌, ◌&&◌, nat_lt, if◌then◌else◌, List, [], ◌∷◌, ◌++◌, length, take, fold, slice_get, Option, Some, None}
-use Rattle.courier_messages.specs.RawCalls.{RawCall}
+use Rattle.courier_messages.specs.RawCalls.{RawCall, caller_items}
 use Rattle.courier_calls.specs.Calls.{SeenModel, Serving}
-use Rattle.courier_messages.specs.RawCalls.{caller_items}
 use Rattle.courier_calls.specs.Caller.{answers}
 use Rattle.courier_calls.specs.Server.{server_items, server_state, decided}
 use Rattle.xns_spp.specs.State.{State}

@@ -1,11 +1,12 @@
 use Rattle.std.proofs.Common.{refl}
 use Rattle.std.proofs.lemmas.Result.{IfOk-weaker}
 use Rattle.xns_world.proofs.CallPlays.{once_along}
-use Rattle.xns_world.proofs.CallRuns.{start_between, always_between, once_in_order}
-use Rattle.xns_world.specs.CallPlay.{IsReady}
+use Rattle.xns_world.proofs.CallEntries.{in_order}
+use Rattle.xns_world.proofs.CallRuns.{start_between, always_between}
+use Rattle.item_world.specs.Fronts.{front_begins}
+use Rattle.xns_world.specs.CallPlay.{IsReady, parties}
 use Rattle.xns_world.specs.CallWorld.{call_start, run_calls}
 use Rattle.xns_world.specs.CallLaws.{Given}
-use Rattle.xns_world.specs.CallPlay.{parties}
 use Rattle.xns_world.proofs.call_play.play_calls.Goals as goal
 
 trace : goal.returns-clause-trace
@@ -26,5 +27,5 @@ returns-clause-once g c =
     let p = parties g.S.Service.serving c.args.service c.args.calls.now in
     let w = run_calls p c.args.setup.now c.args.events.now in
     let given : Given p = c.laws_are_given.ensures p (record { serving_is = refl; state = c.requires.state; calls = c.known_calls.ensures }) in
-    let once = once_in_order p w given (always_between p c.args.setup.now c.args.events.now given c.known.ensures c.requires.good).holds in
-    IfOk-weaker c.played.result _ _ (λ t is. once_along g.S.Service.serving c.args.service c.args.calls.now t w is once) (trace g c)
+    let once = in_order p w given (always_between p c.args.setup.now c.args.events.now given c.known.ensures c.requires.good).holds in
+    IfOk-weaker c.played.result _ _ (λ t is. once_along g.S.Service.serving c.args.service c.args.calls.now t w is (front_begins w.made p.calls) once) (trace g c)

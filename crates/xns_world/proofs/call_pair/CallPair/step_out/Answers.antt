@@ -1,7 +1,7 @@
 use Rattle.std.proofs.Common.{sym, subst}
 use Rattle.courier_calls.specs.Calls.{Serving}
 use Rattle.xns_world.proofs.CallPlays.{caller_stepped, server_stepped}
-use Rattle.xns_world.proofs.Results.{ok_then}
+use Rattle.xns_world.proofs.Stepping.{ok_then}
 use Rattle.xns_world.proofs.ServeEnds.{stepped_world}
 use Rattle.xns_world.specs.CallLaws.{Answering}
 use Rattle.xns_world.specs.CallPlay.{IsCallPair}
@@ -27,5 +27,5 @@ returns-in-B g c =
     let b = c.step_out-in-B.new.self in
     let serves = subst (λ (u : Serving g.row.S.Denot). Answering u p.service → IsServed u p.service e.b w.world.b → IsServed u p.service b (stepped_out (serve_step u p.service) w.world.b)) (sym ready.serving_is)
     (stepped p.service w.world.b) ready.given.answering (h B) in
-    let here = server_stepped p e w b h (stepped_world p b w serves) in
+    let here = server_stepped p ready.given.answering e w b h (stepped_world p b w serves) in
     subst (λ (t : Side). IsCallPair p (record e { b = b }) (stepped_out (step p t) w)) (sym c.in-B.is) here)

@@ -1,6 +1,6 @@
 use Rattle.std.proofs.Common.{subst}
 use Rattle.xns_world.proofs.CallPlays.{landed, delivers_nowhere, delivers_to}
-use Rattle.xns_world.proofs.Results.{ok_then}
+use Rattle.xns_world.proofs.Stepping.{ok_then}
 use Rattle.xns_world.specs.CallPlay.{IsCallPlaying}
 use Rattle.xns_world.specs.CallWorld.{CallWorld, in_world}
 use Rattle.xns_world.proofs.call_play.CallPlay.deliver.Goals as goal

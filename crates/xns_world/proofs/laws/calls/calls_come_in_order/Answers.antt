@@ -2,8 +2,7 @@ use Rattle.courier_calls.specs.Calls.{Serving}
 use Rattle.xns_world.specs.CallLaws.{LawsAreGiven}
 use Rattle.xns_world.specs.CallPromises.{CallsComeInOrder}
 use Rattle.xns_world.proofs.CallEntries.{in_order, step_entry}
-use Rattle.xns_world.proofs.CallMoments.{all_hold}
-use Rattle.xns_world.proofs.CallRuns.{always_between, start_between, quiet_between, settles_between, tick_between, meet_no_fault}
+use Rattle.xns_world.proofs.CallRuns.{all_hold, always_between, start_between, quiet_between, settles_between, tick_between, meet_no_fault}
 use Rattle.xns_world.proofs.CallSettling.{settles_end}
 use Rattle.xns_world.proofs.laws.calls.calls_come_in_order.Goals as goal
 

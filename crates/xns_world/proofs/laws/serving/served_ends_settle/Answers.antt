@@ -1,4 +1,4 @@
-use Rattle.xns_world.proofs.ServeSettling.{settled}
+use Rattle.xns_world.proofs.ServeBounds.{settled}
 use Rattle.xns_world.proofs.laws.serving.served_ends_settle.Goals as goal
 
 pub returns : goal.returns

@@ -2,8 +2,7 @@ use Rattle.std.proofs.Common.{◌≡◌, Option, Some, subst, refl}
 use Rattle.courier_calls.specs.Server.{server_state}
 use Rattle.xns_spp.specs.Sending.{is_full}
 use Rattle.xns_spp.specs.declared.item.Item.{Item}
-use Rattle.xns_world.proofs.ServeBounds.{Within, handed_items, steps_within, settles_within, hears_all_within, still_handed, kept_ending}
-use Rattle.xns_world.proofs.ServeOuts.{out_first}
+use Rattle.xns_world.proofs.ServeBounds.{Within, handed_items, steps_within, settles_within, hears_all_within, still_handed, kept_ending, out_first}
 use Rattle.xns_world.specs.Serve.{serve, serve_start, serve_settles}
 use Rattle.xns_world.specs.Settling.{handed_by, end_step_with}
 use Rattle.xns_world.proofs.laws.serving.served_ends_stay_within_bounds.Goals as goal
