@@ -13,8 +13,8 @@ use Rattle.xns_spp.specs.Sending.{flush_answer, after_flush, tick_answer, after_
 use Rattle.xns_spp.specs.State.{State}
 use Rattle.xns_spp.specs.declared.item.Item.{Item}
 use Rattle.xns_world.proofs.CallRuns.{settles_is, arrived, arrived_nowhere, deliveries_all, steps_leave, quiet_between}
-use Rattle.xns_world.proofs.CallSettling.{steps_hold}
-use Rattle.xns_world.proofs.ServeEnds.{served_on, raw_again}
+use Rattle.xns_world.proofs.CallCarries.{steps_hold}
+use Rattle.xns_world.proofs.Ends.{served_on, raw_again}
 use Rattle.xns_world.specs.declared.call_trace.CallTrace.{CallTrace}
 use Rattle.xns_world.specs.declared.calling.CallingEnd.{CallingEnd}
 use Rattle.xns_world.specs.declared.call_pair.CallPair.{CallPair}
@@ -27,8 +27,7 @@ use Rattle.xns_spp.specs.Growth.{Begins}
 use Rattle.item_world.specs.Invariant.{Holds}
 use Rattle.item_world.specs.Channel.{IsQuiet}
 use Rattle.item_world.specs.Going.{Later, StaysAway, does_land}
-use Rattle.item_world.specs.Landing.{landing, end_reached}
-use Rattle.item_world.specs.Laws.{NetworkLaws}
+use Rattle.item_world.specs.Landing.{landing}
 use Rattle.item_world.specs.declared.event.Event.TheVariants.{Rest}
 use Rattle.item_world.specs.Events as events
 use Rattle.item_world.specs.Events.{undelivered}
@@ -39,31 +38,34 @@ use Rattle.item_world.specs.Fronts.{begins_then}
 use Rattle.xns_world.specs.CallOrder.{decides, ledger_of, IsBetween}
 use Rattle.xns_world.specs.Ledger.{Ledger, IsInOrder}
 use Rattle.xns_world.specs.CallPlay.{endpoint_at, with_endpoint, Acts, IsCalling, caller_history, IsServing, IsAtSide, IsCallPair, IsCallPlaying, IsReady, IsCallTrace, ledger_in, IsOnceInOrder, parties}
-use Rattle.xns_world.specs.CallWorld.{Parties, CallWorld, calls_made, outcomes_read, in_world, seen_at, carried_at, step, settles, delivers, call_happens}
+use Rattle.xns_world.specs.CallWorld.{Parties, CallWorld, calls_made, in_world, carried_at, step, settles, delivers, call_happens}
 use Rattle.xns_world.specs.Settling.{most_steps, stepped_out}
 use Rattle.xns_world.specs.ServeEnd.{IsServed}
-use Rattle.item_world.specs.World.{World, end_of, flushes, ticks, channel_of, handed_at}
+use Rattle.item_world.specs.World.{World, end_of, flushes, ticks, channel_of, handed_at, sent_at}
 use Rattle.item_world.specs.EndLaws.{EndLaws}
 
 -- ---- an end whose world goes on elsewhere
 
-abbrev Session : {S : Type 0} → Parties S → caller.CallerState → State → ℕ → ℕ → Type 0
-Session p c s made listed = caller.StandsFor p.serving.table c (record { made = take made p.calls; fed = take s.handed s.taken; fetched = s.accepted; handed = take listed (answers p.serving.table (take made p.calls) (take s.handed s.taken)) })
+-- with the same calls and items
+calling_on : {S : Type 0} (p : Parties S) (e : CallingEnd) (w v : CallWorld) (endpoint : Held) → StandsFor endpoint v.world.a → handed_at v.world A ≡ handed_at w.world A → sent_at v.world A ≡ sent_at w.world A → v.made ≡ w.made → v.listed ≡ w.listed
+    → IsCalling p e w → IsCalling p (record e { endpoint = endpoint }) v
+calling_on p e w v endpoint stands handed sent made listed h =
+    let at : ℕ → List Item → List Item → ℕ → caller.CallerHistory =
+    λ n fed fetched m. record { made = take n p.calls; fed = fed; fetched = fetched; handed = take m (answers p.serving.table (take n p.calls) fed) } in
+    let same : caller_history p v ≡ caller_history p w =
+    ap (λ (n : ℕ). at n (handed_at v.world A) (sent_at v.world A) v.listed) made
+    ∙ (ap (λ (l : List Item). at w.made l (sent_at v.world A) v.listed) handed
+    ∙ (ap (λ (l : List Item). at w.made (handed_at w.world A) l v.listed) sent ∙ ap (λ (n : ℕ). at w.made (handed_at w.world A) (sent_at w.world A) n) listed)) in
+    record {
+      stands = stands;
+      session = subst (λ (c : caller.CallerHistory). caller.StandsFor p.serving.table e.caller c) (sym same) h.session;
+      made = h.made ∙ sym made;
+      seen = h.seen ∙ sym (ap (λ (c : caller.CallerHistory). c.handed) same);
+    }
 
 pub other_calling : {S : Type 0} (p : Parties S) (e : CallingEnd) (w v : CallWorld) → v.world.a ≡ w.world.a → v.made ≡ w.made → v.listed ≡ w.listed → IsCalling p e w → IsCalling p e v
 other_calling p e w v world made listed h =
-    let same : seen_at p w ≡ seen_at p v =
-    ap (λ (s : State). take w.listed (answers p.serving.table (take w.made p.calls) (take s.handed s.taken))) (sym world)
-    ∙ (ap (λ (n : ℕ). take w.listed (answers p.serving.table (take n p.calls) (take v.world.a.handed v.world.a.taken))) (sym made)
-    ∙ ap (λ (n : ℕ). take n (outcomes_read p v)) (sym listed)) in
-    let one : Session p e.caller v.world.a w.made w.listed = subst (λ (s : State). Session p e.caller s w.made w.listed) (sym world) h.session in
-    let two : Session p e.caller v.world.a v.made w.listed = subst (λ (n : ℕ). Session p e.caller v.world.a n w.listed) (sym made) one in
-    record {
-      stands = subst (λ (s : State). StandsFor e.endpoint s) (sym world) h.stands;
-      session = subst (λ (n : ℕ). Session p e.caller v.world.a v.made n) (sym listed) two;
-      made = h.made ∙ sym made;
-      seen = h.seen ∙ same;
-    }
+    calling_on p e w v e.endpoint (subst (λ (s : State). StandsFor e.endpoint s) (sym world) h.stands) (ap (λ (s : State). take s.handed s.taken) world) (ap (λ (s : State). s.accepted) world) made listed h
 
 pub other_serving : {S : Type 0} (p : Parties S) (e : ServingEnd S) (w v : CallWorld) → v.world.b ≡ w.world.b → IsServing p e w → IsServing p e v
 other_serving p e w v same h = subst (λ (s : State). IsServed p.serving p.service e s) (sym same) h
@@ -71,15 +73,7 @@ other_serving p e w v same h = subst (λ (s : State). IsServed p.serving p.servi
 -- ---- an end that accepts and hands up nothing
 
 pub quiet_calling : {S : Type 0} (p : Parties S) (e : CallingEnd) (w : CallWorld) (u : World) (endpoint : Held) → IsQuiet (channel_of w.world) (channel_of u) → StandsFor endpoint u.a → IsCalling p e w → IsCalling p (record e { endpoint = endpoint }) (in_world w u)
-quiet_calling p e w u endpoint q stands h =
-    let fed : caller.StandsFor p.serving.table e.caller (record (caller_history p w) { fed = handed_at u A; handed = take w.listed (answers p.serving.table (calls_made p w) (handed_at u A)) }) =
-    subst (λ (l : List Item). caller.StandsFor p.serving.table e.caller (record (caller_history p w) { fed = l; handed = take w.listed (answers p.serving.table (calls_made p w) l) })) (sym (q.handed A)) h.session in
-    record {
-      stands = stands;
-      session = subst (λ (l : List Item). caller.StandsFor p.serving.table e.caller (record { made = calls_made p w; fed = handed_at u A; fetched = l; handed = take w.listed (answers p.serving.table (calls_made p w) (handed_at u A)) })) (sym (q.accepted A)) fed;
-      made = h.made;
-      seen = h.seen ∙ ap (λ (l : List Item). take w.listed (answers p.serving.table (calls_made p w) l)) (sym (q.handed A));
-    }
+quiet_calling p e w u endpoint q stands h = calling_on p e w (in_world w u) endpoint stands (q.handed A) (q.accepted A) refl refl h
 
 pub quiet_serving : {S : Type 0} (p : Parties S) (e : ServingEnd S) (w : CallWorld) (u : World) (endpoint : Held) → IsQuiet (channel_of w.world) (channel_of u) → StandsFor endpoint u.b → IsServing p e w → IsServing p (record e { endpoint = endpoint }) (in_world w u)
 quiet_serving p e w u endpoint q stands h = served_on p.serving p.service e w.world.b u.b endpoint h stands (q.accepted B) (q.handed B)
@@ -110,15 +104,11 @@ stands_at : {S : Type 0} (p : Parties S) (e : CallPair S) (w : CallWorld) (side 
 stands_at p e w A h = (h A).stands
 stands_at p e w B h = (h B).stands
 
-acts : {S : Type 0} (e : CallPair S) (side : Side) (endpoint : Held) (n m : Network) (leads : World → World → Type 0) → (EndLaws → (w v : World) → leads w v → IsEnd (endpoint_at e side) n w side → IsEnd endpoint m v side)
-    → Acts e (with_endpoint e side endpoint) n m side leads
-acts e A endpoint n m leads h = record { pair = refl; stands = h }
-acts e B endpoint n m leads h = record { pair = refl; stands = h }
-
 -- the endpoint at a side acts
 pub acts_at : {S : Type 0} (leads : Side → World → World → Type 0) (e : CallPair S) (side t : Side) (endpoint : Held) (n m : Network) → side ≡ t
     → (EndLaws → (w v : World) → leads t w v → IsEnd (endpoint_at e t) n w t → IsEnd endpoint m v t) → Acts e (with_endpoint e t endpoint) n m side (leads side)
-acts_at leads e side t endpoint n m is h = subst (λ (s : Side). Acts e (with_endpoint e t endpoint) n m s (leads s)) (sym is) (acts e t endpoint n m (leads t) h)
+acts_at leads e side A endpoint n m is h = subst (λ (s : Side). Acts e (with_endpoint e A endpoint) n m s (leads s)) (sym is) (record { pair = refl; stands = h })
+acts_at leads e side B endpoint n m is h = subst (λ (s : Side). Acts e (with_endpoint e B endpoint) n m s (leads s)) (sym is) (record { pair = refl; stands = h })
 
 -- and takes a step of its own, as it flushes or ticks
 pub moves_at : {S : Type 0} (moves : World → Side → World) (e : CallPair S) (side t : Side) (endpoint : Held) (n m : Network) → side ≡ t
@@ -154,13 +144,10 @@ pub record Heard {S : Type 0} (serving : Serving S) (cs : List Call) (p : Partie
   pub ready : IsReady serving cs p w
   pub playing : IsCallPlaying p play w
 
-ready_on : {S : Type 0} (serving : Serving S) (cs : List Call) (p : Parties S) (w : CallWorld) (u : World) → IsReady serving cs p w → Holds u → IsQuiet (channel_of w.world) (channel_of u) → IsReady serving cs p (in_world w u)
-ready_on serving cs p w u r holds q = record { given = r.given; between = quiet_between p w u r.between holds q; serving_is = r.serving_is; calls_are = r.calls_are }
-
 heard : {S : Type 0} (serving : Serving S) (cs : List Call) (p : Parties S) (e f : CallPair S) (n m : Network) (w : CallWorld) (u : World) (side : Side) (leads : World → World → Type 0) → IsReady serving cs p w → IsCallPlaying p (record { ends = e; network = n }) w
     → Acts e f n m side leads → leads w.world u → Holds u → IsQuiet (channel_of w.world) (channel_of u) → end_of u (other side) ≡ end_of w.world (other side) → Heard serving cs p (record { ends = f; network = m }) (in_world w u)
 heard serving cs p e f n m w u side leads r h a led holds q same = record {
-  ready = ready_on serving cs p w u r holds q;
+  ready = record { given = r.given; between = quiet_between p w u r.between holds q; serving_is = r.serving_is; calls_are = r.calls_are };
   playing = acted r.given.answering.ends p e f n m w u side leads a led q same h.ends h.network;
 }
 
@@ -169,12 +156,6 @@ pub landed : {S : Type 0} (serving : Serving S) (cs : List Call) (p : Parties S)
 landed serving cs p e f n m w k u side r h came a =
     let holds = r.between.holds.holds in
     heard serving cs p e f n m w u side (λ w v. landing w k ≡ Some (side, v)) r h a came (r.given.world.land w.world k (side, u) holds came) (r.given.answering.network.items.land w.world k (side, u) holds came) (r.given.answering.network.moves.land w.world k (side, u) came)
-
-pub delivers_to : {S : Type 0} (p : Parties S) (w : CallWorld) (k : ℕ) (side : Side) (u : World) → landing w.world k ≡ Some (side, u) → settles p side (in_world w u) ≡ delivers p w k
-delivers_to p w k side u lands = sym (arrived p w k (side, u) lands)
-
-pub delivers_nowhere : {S : Type 0} → NetworkLaws → (p : Parties S) (w : CallWorld) (k : ℕ) → None ≡ end_reached (landing w.world k) → w ≡ delivers p w k
-delivers_nowhere laws p w k none = sym (arrived_nowhere p w k (laws.reached.none w.world k none))
 
 -- ---- time passes
 

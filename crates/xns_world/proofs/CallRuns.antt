@@ -5,8 +5,7 @@ use Rattle.item_world.specs.declared.side.Side.{Side}
 use Rattle.item_world.specs.Events as events
 use Rattle.item_world.specs.Landing.{landing, reached}
 use Rattle.item_world.specs.World.{World, flushes, start, end_of, moved, ticks, channel_of, sent_at, handed_at}
-use Rattle.xns_world.proofs.CallCarries.{quiet_holds, faces, same_read}
-use Rattle.xns_world.proofs.CallSettling.{steps_hold, settles_end}
+use Rattle.xns_world.proofs.CallCarries.{quiet_holds, faces, same_read, steps_hold, settles_end}
 use Rattle.xns_world.specs.CallLaws.{Given, Answering}
 use Rattle.xns_world.specs.CallOrder.{CallsHold, AllListed, IsBetween, MeetNoFault}
 use Rattle.xns_world.specs.CallWorld.{Parties, CallWorld, in_world, step, CallStep, arrival, noise, ticking, acting, flushing, resending, telling, call_stepped, all_call_stepped, acting_steps, call_arrival_steps, call_deliveries, settles, delivers, calls_made, put_out, outcomes_read, call_start, call_happens, begun, run_calls}
@@ -34,7 +33,7 @@ use Rattle.item_world.specs.Side.{other}
 use Rattle.item_world.specs.declared.network.Network.{Network}
 use Rattle.item_world.specs.Setup.{IsSetup, IsGood}
 use Rattle.item_world.specs.Channel.{IsQuiet}
-use Rattle.xns_world.proofs.CallSteps.{by_step}
+use Rattle.xns_world.proofs.Stepping.{by_step}
 
 -- ---- what an event comes to
 
@@ -183,18 +182,15 @@ delivered_between p w k (Some l) is g b =
     let landed = quiet_between p w l.1 b (g.world.land w.world k l b.holds.holds is) (g.answering.network.items.land w.world k l b.holds.holds is) in
     subst (IsBetween p) (sym (arrived p w k l is)) (settles_between p l.0 (in_world w l.1) g landed)
 
-pub delivers_between : {S : Type 0} (p : Parties S) (w : CallWorld) (k : ℕ) → Given p → IsBetween p w → IsBetween p (delivers p w k)
-delivers_between p w k g b = delivered_between p w k (landing w.world k) refl g b
-
 pub all_between : {S : Type 0} (p : Parties S) (w : CallWorld) (ks : List ℕ) → Given p → IsBetween p w → IsBetween p (fold (delivers p) w ks)
 all_between p w [] g b = b
-all_between p w (k ∷ ks) g b = all_between p (delivers p w k) ks g (delivers_between p w k g b)
+all_between p w (k ∷ ks) g b = all_between p (delivers p w k) ks g (delivered_between p w k (landing w.world k) refl g b)
 
 pub tick_between : {S : Type 0} (p : Parties S) (w : CallWorld) (side : Side) → Given p → IsBetween p w → IsBetween p (in_world w (ticks w.world side))
 tick_between p w side g b = quiet_between p w (ticks w.world side) b (g.world.each w.world (events.ticking side) tt b.holds.holds) (g.answering.network.items.quiet w.world (events.ticking side) tt b.holds.holds)
 
 pub happens_between : {S : Type 0} (p : Parties S) (w : CallWorld) (e : Event) → Given p → IsBetween p w → IsBetween p (call_happens p w e)
-happens_between p w (Deliver k) g b = delivers_between p w k g b
+happens_between p w (Deliver k) g b = delivered_between p w k (landing w.world k) refl g b
 happens_between p w Rest g b = subst (IsBetween p) (sym (deliveries_all p w (undelivered 0 w.world.bag))) (all_between p w (undelivered 0 w.world.bag) g b)
 happens_between p w (Tick side) g b = settles_between p side (in_world w (ticks w.world side)) g (tick_between p w side g b)
 happens_between p w (Foreign side bytes) g b = subst (λ (v : World). IsBetween p (in_world w v)) (sym (g.foreign w.world side bytes)) b

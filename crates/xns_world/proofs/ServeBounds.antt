@@ -9,18 +9,16 @@ use Rattle.xns_spp.specs.Item.{IsItem, IsShortItem}
 use Rattle.xns_spp.specs.Sending.{is_full, waiting_count, after_send, after_take, after_flush, send_answer}
 use Rattle.xns_spp.specs.State.{State, IsState}
 use Rattle.xns_spp.specs.declared.item.Item.{Item}
-use Rattle.xns_world.proofs.CallCarries.{at_place, not_refused}
-use Rattle.xns_world.proofs.CallSteps.{by_end}
-use Rattle.xns_world.proofs.CallSettling.{room_of, room_most, send_room, take_waiting, waiting_item}
+use Rattle.xns_world.proofs.CallCarries.{at_place, not_refused, room_of, room_most, send_room, take_waiting, waiting_item}
+use Rattle.xns_world.proofs.Stepping.{by_end, steps_are, GoesOn, IfGoesOn, steps_keep, steps_end}
 use Rattle.xns_world.specs.CallLaws.{Answering}
 use Rattle.xns_world.specs.ServeEnd.{next_of}
 use Rattle.xns_world.specs.Settling.{handed_by, most_steps, serve_step, stepped_out, steps}
-use Rattle.xns_world.proofs.Stepping.{steps_are, GoesOn, IfGoesOn, steps_keep, steps_end}
 use Rattle.courier_messages.specs.Conversation.{conversation, Phase, ending}
 use Rattle.courier_messages.specs.Bounds.{bytes_in}
 use Rattle.courier_messages.specs.Called.{calls_of, all_calls, server_ending}
 use Rattle.courier_calls.specs.Laws.{AnItemBringsAtMostOneAnswer, BringsAtMostOne, next_answer}
-use Rattle.xns_world.specs.ServeBounds.{IsOutShort}
+use Rattle.xns_world.specs.ServePromises.{IsOutShort}
 use Rattle.xns_idp.specs.Packet.{AreBytes}
 use Rattle.courier_messages.specs.declared.fault.SessionFault.{SessionFault}
 use Rattle.courier_messages.specs.declared.fault.SessionFault.TheVariants.{BadReply}

@@ -1,7 +1,14 @@
--- Steps that are taken until none applies, and what a call's clauses leave.
+-- Steps that are taken until none applies, what is so of the step that an end or a side takes, and what a call's clauses leave.
 use Rattle.std.proofs.Common.{◌≡◌, ℕ, zero, suc, ◌+◌, ◌-◌, ◌<◌, ◌≤◌, Bool, true, false, Option, Some, None, refl, sym, ◌∙◌, ap, subst, arith, Result, Ok, Err}
-use Rattle.xns_world.specs.Settling.{most_steps, onward, steps, stepped_out, Stepped}
-use Rattle.std.specs.Prelude.{OnOk, IfOk}
+use Rattle.xns_world.specs.Settling.{most_steps, onward, steps, stepped_out, Stepped, end_step_with}
+use Rattle.std.specs.Prelude.{OnOk, IfOk, nat_lt, if◌then◌else◌}
+use Rattle.xns_spp.specs.Sending.{is_full, waiting_count, after_send, after_take}
+use Rattle.xns_spp.specs.State.{State}
+use Rattle.xns_spp.specs.declared.item.Item.{Item}
+use Rattle.item_world.specs.World.{end_of}
+use Rattle.item_world.specs.declared.side.Side.{Side}
+use Rattle.item_world.specs.declared.side.Side.TheVariants.{A, B}
+use Rattle.xns_world.specs.CallWorld.{Parties, CallWorld, or_caller, next_out, sends_next, feeds, lists, makes, has_outcome, may_call, caller_step, step}
 
 -- the number itself
 pub steps_are : most_steps ≡ 257
@@ -124,3 +131,38 @@ ok_then (Err e) h f = h
 pub if_ok_then : {T E : Type 0} {P Q : T → Type 0} (r : Result T E) → IfOk r P → ((x : T) → P x → Q x) → IfOk r Q
 if_ok_then (Ok x) h f = f x h
 if_ok_then (Err e) h f = h
+
+if_full : (v : State) (x : Item) (P : Option State → Type 0) (b : Bool) → (b ≡ false → P (Some (after_send v x))) → P None → P (if b then None else Some (after_send v x))
+if_full v x P true send none = none
+if_full v x P false send none = send refl
+
+if_waiting : (v : State) (P : Option State → Type 0) (b : Bool) → (b ≡ true → P (Some (after_take v))) → P None → P (if b then Some (after_take v) else None)
+if_waiting v P true take none = take refl
+if_waiting v P false take none = none
+
+-- an end sends the item that is out, or takes one where none is out, or does neither
+pub by_end : (v : State) (o : Option Item) (P : Option State → Type 0) → ((x : Item) → o ≡ Some x → is_full v ≡ false → P (Some (after_send v x))) → (o ≡ None → nat_lt 0 (waiting_count v) ≡ true → P (Some (after_take v))) → P None
+    → P (end_step_with v o)
+by_end v (Some x) P send take none = if_full v x P (is_full v) (send x refl) none
+by_end v None P send take none = if_waiting v P (nat_lt 0 (waiting_count v)) (take refl) none
+
+-- what a side can do, and that it does nothing
+pub record Cases {S : Type 0} (p : Parties S) (w : CallWorld) (P : Side → Option CallWorld → Type 0) : Type 0 where
+  pub sent : (side : Side) (x : Item) → next_out p w side ≡ Some x → is_full (end_of w.world side) ≡ false → P side (Some (sends_next w side x))
+  pub fed : (side : Side) → nat_lt 0 (waiting_count (end_of w.world side)) ≡ true → P side (Some (feeds w side))
+  pub listed : has_outcome p w ≡ true → P A (Some (lists w))
+  pub made : may_call p w ≡ true → P A (Some (makes w))
+  pub rests : has_outcome p w ≡ false → P A None
+  pub stays : P B None
+
+by_caller : {S : Type 0} (p : Parties S) (w : CallWorld) (P : Side → Option CallWorld → Type 0) → Cases p w P → (b c : Bool) → has_outcome p w ≡ b → may_call p w ≡ c → P A (if b then Some (lists w) else if c then Some (makes w) else None)
+by_caller p w P h true c is may = h.listed is
+by_caller p w P h false true is may = h.made may
+by_caller p w P h false false is may = h.rests is
+
+by_either : {S : Type 0} (p : Parties S) (w : CallWorld) (P : Side → Option CallWorld → Type 0) → Cases p w P → (side : Side) → P side (caller_step p w side)
+by_either p w P h A = by_caller p w P h (has_outcome p w) (may_call p w) refl refl
+by_either p w P h B = h.stays
+
+pub by_step : {S : Type 0} (p : Parties S) (w : CallWorld) (P : Side → Option CallWorld → Type 0) → Cases p w P → (side : Side) → P side (step p side w)
+by_step p w P h side = by_end (end_of w.world side) (next_out p w side) (λ o. P side (or_caller p w side o)) (h.sent side) (λ none is. h.fed side is) (by_either p w P h side)

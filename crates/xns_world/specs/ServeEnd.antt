@@ -1,5 +1,5 @@
--- What a server's end in the program stands for.
-use Rattle.std.specs.Prelude.{◌≡◌, List, length, map, slice_get, Option, Some, All}
+-- What a server's end in the program stands for, and with it what it sent.
+use Rattle.std.specs.Prelude.{◌≡◌, List, length, map, slice_get, Option, Some, All, ◌≤◌}
 use Rattle.courier_calls.specs.Calls.{Serving}
 use Rattle.courier_calls.specs.Server as server
 use Rattle.courier_calls.specs.Server.{decided, server_items, call_of}
@@ -7,11 +7,15 @@ use Rattle.courier_messages.specs.declared.fault.SessionFault.{SessionFault}
 use Rattle.courier_messages.specs.declared.fault.SessionFault.TheVariants.{NoMemory, Failed}
 use Rattle.xns_spp.specs.Held.{StandsFor}
 use Rattle.xns_spp.specs.Item.{IsItem}
-use Rattle.xns_spp.specs.State.{State}
+use Rattle.xns_spp.specs.State.{State, IsState}
 use Rattle.xns_spp.specs.declared.item.Item.{Item}
-use Rattle.xns_world.specs.Serve.{first_fault}
+use Rattle.xns_world.specs.Serve.{first_fault, Served}
 use Rattle.xns_world.specs.Settling.{handed_by}
 use Rattle.xns_world.specs.declared.serving.ServingEnd.{ServingEnd}
+use Rattle.xns_spp.specs.Numbers.{most_items}
+use Rattle.xns_world.specs.CallLaws.{Answering}
+use Rattle.xns_world.specs.declared.serve.ServePlay.{ServePlay}
+use Rattle.xns_world.specs.declared.serve_trace.ServeTrace.{ServeTrace}
 
 -- the first of the session's items that the end has not yet accepted
 abbrev pub next_of : {S : Type 0} → Serving S → S → State → Option Item
@@ -39,3 +43,17 @@ abbrev pub noted : SessionFault → Option SessionFault → Option SessionFault 
 noted Failed before after = after ≡ before
 noted NoMemory before after = ⊥
 noted e before after = after ≡ Some e
+
+-- a server's end, and the packets that it sent
+pub record IsServePlaying {S : Type 0} (serving : Serving S) (s : S) (play : ServePlay S) (w : Served) : Type 0 where
+  pub b : IsServed serving s play.b w.end
+  pub replies : play.replies.items ≡ w.replies
+
+-- where it stood for w, it then stands for what f makes of w
+abbrev pub ServeStepsBy : {S : Type 0} → Serving S → ServePlay S → ServePlay S → (S → Served → Served) → Type 0
+ServeStepsBy {S} serving before after f = (s : S) (w : Served) → Answering serving s → IsServePlaying serving s before w → IsServePlaying serving s after (f s w)
+
+-- the end's numbers keep within their bounds: at most window items wait, and at most backlog are unacknowledged
+pub record IsWithin {S : Type 0} (t : ServeTrace S) (w : Served) : Type 0 where
+  pub end : IsState w.end
+  pub handed : length t.handed ≤ most_items

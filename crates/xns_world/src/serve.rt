@@ -4,8 +4,8 @@ ghost use Rattle.xns_idp.specs.Packet.{AreBytes};
 ghost use Rattle.courier_calls.specs.Table.{table_model, IsCheckedTable};
 ghost use Rattle.xns_spp.specs.Growth.{Begins};
 ghost use Rattle.xns_world.specs.Serve.{Served, serve, serve_start, serve_settles, serve_receives, serve_hears, IsServeTrace, IsHeard};
-ghost use Rattle.xns_world.specs.ServeBounds.{IsServedWithin};
-ghost use Rattle.xns_world.specs.ServePlay.{IsServePlaying, ServeStepsBy, IsWithin};
+ghost use Rattle.xns_world.specs.ServePromises.{IsServedWithin};
+ghost use Rattle.xns_world.specs.ServeEnd.{IsServePlaying, ServeStepsBy, IsWithin};
 ghost use Rattle.item_world.specs.Setup.{IsGood};
 
 use crate::laws::calls::server_laws_are_given;

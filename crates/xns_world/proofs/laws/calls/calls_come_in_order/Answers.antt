@@ -3,7 +3,7 @@ use Rattle.xns_world.specs.CallLaws.{LawsAreGiven}
 use Rattle.xns_world.specs.CallPromises.{CallsComeInOrder}
 use Rattle.xns_world.proofs.CallEntries.{in_order, step_entry}
 use Rattle.xns_world.proofs.CallRuns.{all_hold, always_between, start_between, quiet_between, settles_between, tick_between, meet_no_fault}
-use Rattle.xns_world.proofs.CallSettling.{settles_end}
+use Rattle.xns_world.proofs.CallCarries.{settles_end}
 use Rattle.xns_world.proofs.laws.calls.calls_come_in_order.Goals as goal
 
 come_in_order : {S : Type 0} (serving : Serving S) (IsServiceState : S → Type 0) → LawsAreGiven serving IsServiceState → CallsComeInOrder serving IsServiceState

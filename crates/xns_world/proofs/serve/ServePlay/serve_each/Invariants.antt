@@ -1,6 +1,6 @@
 use Rattle.std.proofs.Common.{take, fold}
 use Rattle.xns_world.specs.Serve.{serve_hears}
-use Rattle.xns_world.specs.ServePlay.{ServeStepsBy}
+use Rattle.xns_world.specs.ServeEnd.{ServeStepsBy}
 use Rattle.xns_world.proofs.serve.ServePlay.serve_each.Given as goal
 
 abbrev pub invariant-loop-packet : goal.invariant-loop-packet
