@@ -5,7 +5,7 @@ ghost use Rattle.courier_messages.specs.Message.{most_bytes, message_bytes, mess
 ghost use Rattle.courier_messages.specs.declared.fault.MessageFault.{MessageFault};
 ghost use Rattle.courier_messages.specs.declared.message.Message.{Message};
 ghost use Rattle.courier_messages.specs.Head.{words_in};
-ghost use Rattle.xns_c_parts.specs.Courier.{message_fault_number, message_given};
+ghost use Rattle.xns_c_parts.specs.Courier.{head_given, message_fault_number, message_given};
 ghost use Rattle.xns_c_parts.specs.Given.{IsPut};
 ghost use Rattle.xns_c_parts.specs.Results.{ok, bad_argument, no_memory, short_buffer, too_long};
 
@@ -16,7 +16,8 @@ use xns_c_parts::{XnsMessage, head_in, head_out, message_bytes, message_fault_nu
 
 /// Reads the message that the bytes are, its words to the front of a buffer (XSIS 038112, Courier, Message stream).
 ///
-/// The number of the first fault; `SHORT_BUFFER` where there are more words than the buffer has room for; `NO_MEMORY` where memory is refused.
+/// The number of the first fault; else `NO_MEMORY` where memory is refused for the words; else `SHORT_BUFFER` where there are more of them than the
+/// buffer has room for, and `count` is then their number.
 #[unsafe(no_mangle)]
 pub extern "C" fn xns_message_read(
     alloc: Global,
@@ -26,10 +27,10 @@ pub extern "C" fn xns_message_read(
     count: &mut usize,
 ) -> u32
     ensures read { (m : Message) → message_of bytes.now ≡ Ok m → result ≡ ok →
-        (message_given message.new (words_in m) ≡ Some m) × IsPut (words_in m) words.old words.new count.new }
+        (message.new ≡ head_given m) × IsPut (words_in m) words.old words.new count.new }
     ensures short { (m : Message) → message_of bytes.now ≡ Ok m → length words.old < length (words_in m) → result ≢ no_memory → (result ≡ short_buffer) × (count.new ≡ length (words_in m)) }
     ensures memory { (m : Message) → message_of bytes.now ≡ Ok m → length (words_in m) ≤ length words.old → result ≢ ok → result ≡ no_memory }
-    ensures fault { (f : MessageFault) → message_of bytes.now ≡ Err f → result ≢ no_memory → result ≡ message_fault_number f }
+    ensures fault { (f : MessageFault) → message_of bytes.now ≡ Err f → result ≡ message_fault_number f }
     ensures unchanged { result ≢ ok → (message.new ≡ message.old) × (words.new ≡ words.old) }
     ensures count { result ≢ ok → result ≢ short_buffer → count.new ≡ count.old }
 {

@@ -4,3 +4,4 @@ pub mod Sizes
 pub mod Arrivals
 pub mod Peers
 pub mod Sessions
+pub mod Given

@@ -27,10 +27,18 @@ message_given m words =
     else if m.kind == 3 then Some (Abort m.transaction m.number words)
     else None
 
+-- what stands before a message's words, as C is told it: a field that its kind does not have is 0
+abbrev pub head_given : Message → XnsMessage
+head_given (Call transaction program version procedure words) =
+    record { kind = 0; transaction = transaction; program = program; version = version; procedure = procedure; number = 0 }
+head_given (Reject transaction reason words) = record { kind = 1; transaction = transaction; program = 0; version = 0; procedure = 0; number = reason }
+head_given (Return transaction words) = record { kind = 2; transaction = transaction; program = 0; version = 0; procedure = 0; number = 0 }
+head_given (Abort transaction error words) = record { kind = 3; transaction = transaction; program = 0; version = 0; procedure = 0; number = error }
+
 -- what is answered where this message is to be given, its words to the front of a buffer: with no room for all of them none is put, and their number is told
 abbrev pub MessageIsGiven : Message → XnsMessage → List ℕ → List ℕ → ℕ → ℕ → Type 0
 MessageIsGiven m after old new count number =
-    (length (words_in m) ≤ length old → (number ≡ ok) × (message_given after (words_in m) ≡ Some m) × IsPut (words_in m) old new count)
+    (length (words_in m) ≤ length old → (number ≡ ok) × (after ≡ head_given m) × IsPut (words_in m) old new count)
     × (length old < length (words_in m) → (number ≡ short_buffer) × (count ≡ length (words_in m)))
 
 -- an item of another datastream: two of them close the connection (XSIS 028112, Sequenced Packet Protocol, Datastream Type)

@@ -7,7 +7,7 @@ ghost use Rattle.courier_messages.specs.declared.fault.SessionFault.{SessionFaul
 ghost use Rattle.courier_messages.specs.declared.fault.SessionFault.TheVariants.{NoMemory};
 ghost use Rattle.courier_messages.specs.declared.head.Head.TheVariants.{Call};
 ghost use Rattle.courier_messages.specs.Head.{with_words};
-ghost use Rattle.xns_c_parts.specs.Courier.{MessageIsGiven, message_fault_number, message_given, session_fault_number, stream_number};
+ghost use Rattle.xns_c_parts.specs.Courier.{MessageIsGiven, head_given, message_fault_number, message_given, session_fault_number, stream_number};
 ghost use Rattle.xns_c_parts.specs.Results.{ok, no_memory, too_long};
 
 use crate::message::XnsMessage;
@@ -81,7 +81,7 @@ pub fn procedure_of(head: Head) -> (u32, u16, u16)
 
 /// What comes before the words of a message.
 pub fn head_out(head: Head) -> XnsMessage
-    ensures { (words : List ℕ) → message_given result words ≡ Some (with_words head words) }
+    ensures { (words : List ℕ) → result ≡ head_given (with_words head words) }
 {
     match head {
         Head::Call { transaction, .. } => {

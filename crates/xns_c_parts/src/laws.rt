@@ -1,6 +1,9 @@
 //! What the definitions imply, each as the contract of a function that does nothing.
 
 ghost use Rattle.std.specs.Prelude.{◌≡◌, ◌≤◌, ℕ, Bool, List, All, length, Some};
+ghost use Rattle.courier_messages.specs.declared.message.Message.{Message};
+ghost use Rattle.courier_messages.specs.Head.{words_in};
+ghost use Rattle.xns_c_parts.specs.Courier.{head_given, message_given};
 ghost use Rattle.xns_idp.specs.Packet.{AreBytes, most_packet};
 ghost use Rattle.xns_spp.specs.Receiving.{receive_answer};
 ghost use Rattle.xns_spp.specs.Sending.{flush_answer, tick_answer};
@@ -21,3 +24,8 @@ pub fn packets_have_their_sizes()
     xns_spp::laws::accepted_items_go_out();
     xns_spp::laws::bounds_hold_after_each_step();
 }
+
+/// What C is told of a message is that message, where it is written again.
+pub fn a_message_that_is_given_is_written_again()
+    ensures { (m : Message) → message_given (head_given m) (words_in m) ≡ Some m }
+{}
