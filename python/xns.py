@@ -8,7 +8,8 @@ Bytes go in and come out as `bytes`, words as lists of numbers below 65,536. Whe
 exception of its name is raised: `NoMemory`, `TooLong`, `Full`, .. Each is an `XnsError`. That there is nothing of what was asked for is no error: such
 a call returns None.
 
-An object is used by one thread at a time. It gives its memory back when it is closed, by `close` or at the end of a `with`, or when Python lets it go.
+An object is used by the thread that made it alone. It gives its memory back when it is closed, by `close` or at the end of a `with`, or when Python lets
+it go in that thread; the memory of one that is let go in another thread stays taken.
 """
 import ctypes
 import ctypes.util
@@ -16,6 +17,7 @@ import enum
 import os
 import secrets
 import socket
+import threading
 import time
 from ctypes import POINTER, byref, c_bool, c_char, c_int16, c_int32, c_size_t, c_uint8, c_uint16, c_uint32, c_void_p
 from typing import Callable, Iterable, Iterator, List, NamedTuple, Optional, Tuple, Union
@@ -338,11 +340,14 @@ _CALLS = {
     "encode": [POINTER(_Packet), _BYTES, c_size_t, _BUFFER, c_size_t, _LENGTH],
     "checksum": [_BYTES, c_size_t, _WORDS],
     "echo_reply": [POINTER(_Address), _BYTES, c_size_t, _BUFFER, c_size_t, _LENGTH],
+    "echo_request": [POINTER(_Address), POINTER(_Address), _BYTES, c_size_t, _BUFFER, c_size_t, _LENGTH],
+    "echo_accept": [POINTER(_Address), _BYTES, c_size_t, _LENGTH, _LENGTH],
     "complain": [POINTER(_Address), c_uint16, c_uint16, _BYTES, c_size_t, _BUFFER, c_size_t, _LENGTH],
     "error_read": [_BYTES, c_size_t, _WORDS, _WORDS],
     "exchange_read": [_BYTES, c_size_t, POINTER(c_uint32), _WORDS],
     "exchange_write": [c_uint32, c_uint16, _BYTES, c_size_t, _BUFFER, c_size_t, _LENGTH],
     "exchange_request": [POINTER(_Address), POINTER(_Address), c_uint32, c_uint16, _BYTES, c_size_t, _BUFFER, c_size_t, _LENGTH],
+    "exchange_reply": [POINTER(_Address), _BYTES, c_size_t, _BYTES, c_size_t, _BUFFER, c_size_t, _LENGTH],
     "exchange_accept": [POINTER(_Address), c_uint32, _BYTES, c_size_t, _LENGTH, _LENGTH],
     "header_read": [_BYTES, c_size_t, POINTER(_Header)],
     "header_write": [POINTER(_Header), _BUFFER, c_size_t, _LENGTH],
@@ -445,6 +450,11 @@ def _number(number: int, bits: int) -> int:
     return number
 
 
+def _flag(flag: bool) -> int:
+    """Yes or no, as the library takes it."""
+    return 1 if flag else 0
+
+
 def _words(words: Iterable[int]) -> Tuple[ctypes.Array, int]:
     """An array of the words, which is there even for none, and their number."""
     listed = [_number(word, 16) for word in words]
@@ -455,6 +465,12 @@ def _written(name: str, room: int, *arguments) -> Optional[bytes]:
     """What a call writes into a buffer with that much room; None where there is nothing."""
     buffer, length = (c_uint8 * room)(), c_size_t()
     return bytes(buffer[: length.value]) if _done(_call(name, *arguments, buffer, room, byref(length))) else None
+
+
+def _part(name: str, packet: bytes, *arguments) -> Optional[bytes]:
+    """What a call finds in a packet; None where there is nothing."""
+    at, length = c_size_t(), c_size_t()
+    return packet[at.value : at.value + length.value] if _done(_call(name, *arguments, packet, len(packet), byref(at), byref(length))) else None
 
 
 def _message(name: str, room: int, *arguments) -> Optional[Message]:
@@ -491,7 +507,7 @@ def decode(data: bytes) -> Packet:
 def encode(packet: Packet) -> bytes:
     """The bytes of a packet; its `taken` is not looked at. `TooLong` for over 546 bytes of data."""
     told = _Packet(
-        summed=int(packet.summed), control=_number(packet.control, 8), kind=_number(packet.kind, 8),
+        summed=_flag(packet.summed), control=_number(packet.control, 8), kind=_number(packet.kind, 8),
         target=_Address.of(packet.target), source=_Address.of(packet.source),
     )
     return _written("encode", LONGEST_PACKET, byref(told), packet.body, len(packet.body))
@@ -500,6 +516,17 @@ def encode(packet: Packet) -> bytes:
 def echo_reply(own: Address, data: bytes) -> Optional[bytes]:
     """The packet that answers an Echo request to `own`; None where the bytes are no such request."""
     return _written("echo_reply", LONGEST_PACKET, byref(_Address.of(own)), data, len(data))
+
+
+def echo_request(own: Address, target: Address, data: bytes) -> bytes:
+    """The packet that asks `target`, an Echo socket, to send these bytes back. `TooLong` for over 544 bytes."""
+    return _written("echo_request", LONGEST_PACKET, byref(_Address.of(own)), byref(_Address.of(target)), data, len(data))
+
+
+def echo_accept(target: Address, packet: bytes) -> Optional[bytes]:
+    """The bytes that come back in an Echo reply from `target`, or from any host where it is the broadcast host; None where the packet is no such reply.
+    The program compares them with those that it sent."""
+    return _part("echo_accept", packet, byref(_Address.of(target)))
 
 
 def complain(own: Address, number: int, parameter: int, offending: bytes) -> Optional[bytes]:
@@ -536,10 +563,13 @@ def exchange_request(own: Address, target: Address, identifier: int, client: int
 
 def exchange_accept(target: Address, identifier: int, packet: bytes) -> Optional[bytes]:
     """The data of the response to what was asked of `target` under this identifier; None where the packet is not the response."""
-    at, length = c_size_t(), c_size_t()
-    if not _done(_call("exchange_accept", byref(_Address.of(target)), _number(identifier, 32), packet, len(packet), byref(at), byref(length))):
-        return None
-    return packet[at.value : at.value + length.value]
+    return _part("exchange_accept", packet, byref(_Address.of(target)), _number(identifier, 32))
+
+
+def exchange_reply(own: Address, request: bytes, data: bytes) -> Optional[bytes]:
+    """The response packet to the request packet of a packet exchange, with these data; None where the request is no such packet to `own`. What it asks
+    is read by `decode` and `exchange_read`. `TooLong` for over 540 bytes."""
+    return _written("exchange_reply", LONGEST_PACKET, byref(_Address.of(own)), request, len(request), data, len(data))
 
 
 def header_read(body: bytes) -> Tuple[Header, bytes]:
@@ -563,7 +593,7 @@ def message_read(data: bytes) -> Message:
 def message_write(message: Message) -> bytes:
     """The bytes of a message. `TooLong` where they would be over 131,072."""
     told = _Message(
-        kind=message.kind, transaction=_number(message.transaction, 16), program=_number(message.program, 32),
+        kind=_number(message.kind, 8), transaction=_number(message.transaction, 16), program=_number(message.program, 32),
         version=_number(message.version, 16), procedure=_number(message.procedure, 16), number=_number(message.number, 16),
     )
     return _written("message_write", _MOST_MESSAGE, byref(told), *_words(message.words))
@@ -589,7 +619,7 @@ class _Object:
     _family = ""
 
     def __init__(self) -> None:
-        self._handle = _Handle()
+        self._handle, self._thread = _Handle(), threading.get_ident()
 
     def close(self) -> None:
         """Gives the memory back. Each later call raises `NoEndpoint`, `NoCaller`, `NoServer` or `NoListener`, or answers as of none."""
@@ -602,7 +632,7 @@ class _Object:
         self.close()
 
     def __del__(self) -> None:
-        if hasattr(self, "_handle"):
+        if getattr(self, "_thread", None) == threading.get_ident():
             self.close()
 
     def _call(self, name: str, *arguments):
@@ -630,7 +660,8 @@ class Endpoint(_Object):
     def initiator(cls, own: Address, own_id: int, peer: Address, window: int = 8, backlog: int = 16) -> "Endpoint":
         """The end that begins a connection. Its identifier, not 0, is new for each connection. The first packet of `tick` opens it."""
         end = cls()
-        end._done("new_initiator", byref(_Address.of(own)), _number(own_id, 16), byref(_Address.of(peer)), window, backlog)
+        sizes = _number(window, 64), _number(backlog, 64)
+        end._done("new_initiator", byref(_Address.of(own)), _number(own_id, 16), byref(_Address.of(peer)), *sizes)
         return end
 
     @classmethod
@@ -638,7 +669,7 @@ class Endpoint(_Object):
         """The end that answers the opening packet of `peer`, which is then given to `receive` too."""
         end = cls()
         ids = _number(own_id, 16), byref(_Address.of(peer)), _number(peer_id, 16)
-        end._done("new_responder", byref(_Address.of(own)), *ids, window, backlog)
+        end._done("new_responder", byref(_Address.of(own)), *ids, _number(window, 64), _number(backlog, 64))
         return end
 
     @property
@@ -686,7 +717,7 @@ class Endpoint(_Object):
 
     def send(self, body: bytes, stream: int = Stream.COURIER, attention: bool = False, last: bool = True) -> None:
         """Accepts an item, which `flush` and `tick` then send. `TooLong` over 534 bytes, `AttentionSize`, `Exhausted`, `Full`: it is as it was."""
-        self._done("send", _number(stream, 8), int(attention), int(last), body, len(body))
+        self._done("send", _number(stream, 8), _flag(attention), _flag(last), body, len(body))
 
     def take(self) -> Optional[Item]:
         """The next item, which is handed up; None where none waits."""
@@ -713,7 +744,7 @@ class Endpoint(_Object):
 
     def system_packet(self, asks: bool = False) -> Optional[bytes]:
         """A packet that tells the peer what was taken and what there is room for, and asks for a reply or not; None while the peer is not known."""
-        return self._written("system_packet", _REPLY, int(asks))
+        return self._written("system_packet", _REPLY, _flag(asks))
 
     def resend_first(self) -> Optional[bytes]:
         """The first of the packets that `tick` would make; None where it would make none."""
@@ -736,7 +767,7 @@ class Listener(_Object):
         """At the socket of `own`, with room for so many. `BadArgument` for over 65,535."""
         super().__init__()
         self._own = own
-        self._done("new", byref(_Address.of(own)), most)
+        self._done("new", byref(_Address.of(own)), _number(most, 64))
 
     def find(self, packet: bytes) -> Union[int, Opening, None]:
         """The number of the connection that a packet belongs to; or who opens a new one by it; None where it is for none."""
@@ -770,7 +801,7 @@ class Listener(_Object):
 
     def remove(self, number: int) -> bool:
         """Takes a connection away; false where there is none with this number."""
-        return self._done("remove", number)
+        return self._done("remove", _number(number, 64))
 
 
 class _Session(_Object):
@@ -782,7 +813,7 @@ class _Session(_Object):
 
     def feed(self, item: Item) -> None:
         """Takes in an item that came. Over an endpoint `pump` feeds it."""
-        self._done("feed", _number(item.stream, 8), int(item.last), item.body, len(item.body))
+        self._done("feed", _number(item.stream, 8), _flag(item.last), item.body, len(item.body))
 
     def pump(self, endpoint: Endpoint) -> None:
         """Moves items both ways between the session and an endpoint until nothing moves. `Closing` where the peer closes: the item waits at the endpoint."""
@@ -904,6 +935,15 @@ def datagrams(udp: socket.socket, tick: float = 0.1) -> Iterator[Tuple[Optional[
             yield None, None
 
 
+def _send(udp: socket.socket, place: tuple, packets: Iterable[bytes]) -> None:
+    """Sends packets, one a datagram. One that can't be sent is as one that is lost."""
+    for packet in packets:
+        try:
+            udp.sendto(packet, place)
+        except OSError:
+            pass
+
+
 MOST_SILENT = 50  # ticks in which nothing came from the other side, and it is gone
 
 
@@ -942,8 +982,7 @@ class Client:
         self._send(self.connection.tick() if packet is None else self.connection.receive(packet))
 
     def _send(self, packets: List[bytes]) -> None:
-        for packet in packets:
-            self._udp.sendto(packet, self._place)
+        _send(self._udp, self._place, packets)
 
 
 class _Clients:
@@ -1016,8 +1055,7 @@ def serve(
         for number in clients.turns(packet, source):
             client, place = clients[number]
             packets = _served(client, packet, answer)
-            for one in packets or ():
-                udp.sendto(one, place)
+            _send(udp, place, packets or ())
             if packets is None or client.silent >= most_silent:
                 del clients[number]
 
@@ -1092,7 +1130,7 @@ class Writer:
         return self._value("write_long_integer", 2, _number(value + 0x80000000, 32) - 0x80000000)
 
     def boolean(self, value: bool) -> "Writer":
-        return self._value("write_boolean", 1, 1 if value else 0)
+        return self._value("write_boolean", 1, _flag(value))
 
     def count(self, elements: int, most: int = 65535) -> "Writer":
         """How many elements a sequence has, which are to be written then."""

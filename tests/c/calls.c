@@ -158,6 +158,46 @@ static void exchange(void) {
     CHECK(xns_exchange_accept(&other, 0x01020304, response, sizeof response, &body_at, &body_length) == XNS_NOTHING);
     CHECK(xns_exchange_accept(&at_a, 0x01020304, response, sizeof response, &body_at, &body_length) == XNS_NOTHING);
     CHECK(xns_exchange_accept(&at_a, 0x01020304, request, sizeof request, &body_at, &body_length) == XNS_NOTHING && body_at == 7 && body_length == 7);
+
+    memset(buffer, 0xee, sizeof buffer);
+    CHECK(xns_exchange_reply(&at_b, asking, sizeof asking, (const uint8_t *)"Hello", 5, buffer, 41, &written) == XNS_SHORT_BUFFER && written == 42 && is_left(buffer, 0, sizeof buffer));
+    CHECK(xns_exchange_reply(&at_b, asking, sizeof asking, (const uint8_t *)"Hello", 5, buffer, 42, &written) == XNS_OK && written == sizeof response);
+    CHECK(memcmp(buffer, response, sizeof response) == 0 && is_left(buffer, sizeof response, sizeof buffer));
+    CHECK(xns_exchange_reply(&at_b, asking, sizeof asking, large, 540, buffer, 576, &written) == XNS_OK && written == 576);
+    written = 7;
+    CHECK(xns_exchange_reply(&at_b, request, sizeof request, large, 541, buffer, sizeof buffer, &written) == XNS_TOO_LONG && written == 7);
+    CHECK(xns_exchange_reply(&at_b, request, sizeof request, large, 1, buffer, sizeof buffer, &written) == XNS_NOTHING && written == 7);
+    CHECK(xns_exchange_reply(&at_a, asking, sizeof asking, large, 1, buffer, sizeof buffer, &written) == XNS_NOTHING && written == 7);
+    CHECK(xns_exchange_request(&everyone, &at_b, 1, 5, large, 1, buffer, sizeof buffer, &written) == XNS_OK && xns_exchange_reply(&at_b, buffer, written, large, 1, buffer + 100, 100, &written) == XNS_NOTHING);
+}
+
+/* Asking by Echo, and the reply to it. */
+static void echo(void) {
+    const struct xns_address server = { 1, { 0, 0, 0xaa, 0, 1, 2 }, 2 }, everyone = { 0, { 255, 255, 255, 255, 255, 255 }, 2 };
+    struct xns_address other = server;
+    static const uint8_t large[545];
+    uint8_t buffer[600], damaged[sizeof echoed];
+    size_t written = 7, body_at = 7, body_length = 7;
+
+    memset(buffer, 0xee, sizeof buffer);
+    CHECK(xns_echo_request(&at_a, &server, (const uint8_t *)"Hi", 2, buffer, 33, &written) == XNS_SHORT_BUFFER && written == 34 && is_left(buffer, 0, sizeof buffer));
+    CHECK(xns_echo_request(&at_a, &server, (const uint8_t *)"Hi", 2, buffer, 34, &written) == XNS_OK && written == sizeof request);
+    CHECK(memcmp(buffer, request, sizeof request) == 0 && is_left(buffer, sizeof request, sizeof buffer));
+    CHECK(xns_echo_request(&at_a, &server, large, XNS_LONGEST_ECHO, buffer, XNS_LONGEST_PACKET, &written) == XNS_OK && written == XNS_LONGEST_PACKET);
+    written = 7;
+    CHECK(xns_echo_request(&at_a, &server, large, XNS_LONGEST_ECHO + 1, buffer, sizeof buffer, &written) == XNS_TOO_LONG && written == 7);
+
+    CHECK(xns_echo_accept(&server, echoed, sizeof echoed, &body_at, &body_length) == XNS_OK && body_at == 32 && body_length == 2);
+    CHECK(xns_echo_accept(&everyone, echoed, sizeof echoed, &body_at, &body_length) == XNS_OK && body_at == 32 && body_length == 2);
+    other.network = 9; /* networks are not compared */
+    CHECK(xns_echo_accept(&other, echoed, sizeof echoed, &body_at, &body_length) == XNS_OK);
+    body_at = body_length = 7;
+    memcpy(damaged, echoed, sizeof echoed);
+    damaged[33] ^= 1;
+    CHECK(xns_echo_accept(&server, damaged, sizeof damaged, &body_at, &body_length) == XNS_NOTHING && xns_echo_accept(&at_b, echoed, sizeof echoed, &body_at, &body_length) == XNS_NOTHING);
+    CHECK(xns_echo_accept(&at_a, request, sizeof request, &body_at, &body_length) == XNS_NOTHING && xns_echo_accept(&server, response, sizeof response, &body_at, &body_length) == XNS_NOTHING);
+    other.host[5] = 9;
+    CHECK(xns_echo_accept(&other, echoed, sizeof echoed, &body_at, &body_length) == XNS_NOTHING && body_at == 7 && body_length == 7);
 }
 
 static const uint8_t call[] = { 0, 0, 0, 1, 0, 0, 0, 7, 0, 2, 0, 1, 0, 5 }, reject[] = { 0, 1, 0, 1, 0, 1, 0, 1, 0, 2 };
@@ -315,6 +355,8 @@ static void refused_writers(void) {
     AGAIN(xns_complain(&own, 1, 9, request, 34, buffer, sizeof buffer, &written));
     AGAIN(xns_exchange_write(1, 5, request, 34, buffer, sizeof buffer, &written));
     AGAIN(xns_exchange_request(&at_a, &at_b, 7, 5, request, 34, buffer, sizeof buffer, &written));
+    AGAIN(xns_exchange_reply(&at_b, asking, sizeof asking, request, 34, buffer, sizeof buffer, &written));
+    AGAIN(xns_echo_request(&at_a, &own, request, 34, buffer, sizeof buffer, &written));
 }
 
 /* No caller, or one that was freed, answers as none. */
@@ -416,6 +458,7 @@ int main(void) {
     long most;
     formats();
     exchange();
+    echo();
     bad_messages();
     bad_conversations();
     for (refuse_at = 0, most = 1; refuse_at <= most; refuse_at++) {

@@ -33,6 +33,8 @@ int main(void) {
     refuse_at = 1; /* no answer needs memory */
     CHECK(xns_encode(&packet, closed, BYTES, buffer, sizeof buffer, &written) == XNS_TOO_LONG);
     CHECK(xns_exchange_write(1, 2, closed, BYTES, buffer, sizeof buffer, &written) == XNS_TOO_LONG);
+    CHECK(xns_exchange_reply(&here, closed, 576, closed, BYTES, buffer, sizeof buffer, &written) == XNS_TOO_LONG);
+    CHECK(xns_echo_request(&here, &there, closed, BYTES, buffer, sizeof buffer, &written) == XNS_TOO_LONG);
     for (message.kind = XNS_KIND_CALL; message.kind <= XNS_KIND_ABORT; message.kind++)
         CHECK(xns_message_write(&message, closed, WORDS, buffer, sizeof buffer, &written) == XNS_TOO_LONG);
     CHECK(xns_message_write(&message, closed, WORDS, buffer, sizeof buffer, &written) == XNS_BAD_ARGUMENT);

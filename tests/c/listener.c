@@ -33,7 +33,7 @@ static size_t packet_of(const struct xns_address *from, uint16_t source_id, uint
 }
 
 /* What the listener says of a packet is what the endpoints say. */
-static enum xns_result finds(const struct xns_listener *listener, uint16_t socket, uint16_t source_id, uint16_t target_id, size_t *number) {
+static enum xns_result finds(struct xns_listener *listener, uint16_t socket, uint16_t source_id, uint16_t target_id, size_t *number) {
     const struct xns_address from = client(socket);
     struct xns_address peer = XNS_ADDRESS_INIT;
     uint8_t packet[XNS_LONGEST_PACKET];

@@ -1,5 +1,5 @@
-/* What programs take from the header itself, as C and as C++: the initializers, the texts of the results, and the version, which it prints. Ends with 1 at the first that
- * is not so. */
+/* What programs take from the header itself, as C and as C++: the initializers, the texts of the results, null pointers with the length 0, and the version,
+ * which it prints. Ends with 1 at the first that is not so. */
 #include "xns.h"
 #include <stdio.h>
 #include <stdlib.h>
@@ -52,10 +52,91 @@ static void results(void) {
     CHECK((size_t)named == count);
 }
 
+/* So has each reason for which an item is not taken; and a cursor says its fault, or that it has one of the program's. */
+static void reasons(void) {
+    static const uint32_t all[] = { XNS_NOT_DROPPED, XNS_NOT_IDP, XNS_NOT_SPP, XNS_NOT_OURS, XNS_AHEAD_OF_US, XNS_OUT_OF_ORDER, XNS_NO_ROOM, XNS_REPEAT };
+    const size_t count = sizeof all / sizeof all[0];
+    const char *none = xns_dropped_text(127);
+    struct xns_cursor cursor = XNS_CURSOR_INIT;
+    uint16_t value;
+    uint32_t number, named = 0;
+    for (size_t i = 0; i < count; i++) {
+        CHECK(xns_dropped_text(all[i])[0] != 0);
+        for (size_t k = 0; k < i; k++) CHECK(strcmp(xns_dropped_text(all[i]), xns_dropped_text(all[k])) != 0);
+    }
+    for (number = 0; number < 127; number++) named += strcmp(xns_dropped_text(number), none) != 0;
+    CHECK(named == count);
+    CHECK(strcmp(xns_fault_text(&cursor), xns_result_text(XNS_OK)) == 0);
+    xns_read_cardinal(NULL, 0, &cursor, &value);
+    CHECK(strcmp(xns_fault_text(&cursor), xns_result_text(XNS_TRUNCATED)) == 0);
+    cursor.fault = 1000;
+    CHECK(strcmp(xns_fault_text(&cursor), xns_result_text((enum xns_result)127)) == 0);
+}
+
+/* A pointer with the length 0 may be null. */
+static void nulls(void) {
+    const struct xns_address here = { 1, { 0, 0, 0xaa, 0, 3, 4 }, 0x400 }, there = { 1, { 0, 0, 0xaa, 0, 1, 2 }, 2 };
+    struct xns_packet packet = XNS_PACKET_INIT;
+    struct xns_header header = XNS_HEADER_INIT;
+    struct xns_message message = XNS_MESSAGE_INIT;
+    struct xns_cursor cursor = XNS_CURSOR_INIT;
+    struct xns_endpoint end = XNS_ENDPOINT_INIT;
+    struct xns_listener listener = XNS_LISTENER_INIT;
+    struct xns_caller caller = XNS_CALLER_INIT;
+    struct xns_server server = XNS_SERVER_INIT;
+    struct xns_received received;
+    struct xns_address peer;
+    struct xns_item item;
+    uint8_t bytes[XNS_LONGEST_PACKET], reply[XNS_LONGEST_PACKET];
+    uint32_t id;
+    uint16_t sum, number, parameter, peer_id;
+    size_t size = 0, at = 0, count = 0;
+    enum xns_result (*address)(const uint8_t *, size_t, struct xns_packet *) = xns_decode; /* the address of a call is the library's */
+
+    CHECK(xns_checksum(NULL, 0, &sum) == XNS_OK && sum == 0 && xns_decode(NULL, 0, &packet) == XNS_SHORT);
+    CHECK(xns_encode(&packet, NULL, 0, NULL, 0, &size) == XNS_SHORT_BUFFER && size == 30 && xns_encode(&packet, NULL, 0, bytes, size, &size) == XNS_OK);
+    CHECK(address(bytes, size, &packet) == XNS_OK && packet.body_length == 0);
+    CHECK(xns_echo_reply(&there, NULL, 0, NULL, 0, &size) == XNS_NOTHING && xns_echo_accept(&there, NULL, 0, &at, &size) == XNS_NOTHING);
+    CHECK(xns_echo_request(&here, &there, NULL, 0, NULL, 0, &size) == XNS_SHORT_BUFFER && size == 32);
+    CHECK(xns_echo_request(&here, &there, NULL, 0, bytes, size, &size) == XNS_OK && xns_echo_reply(&there, bytes, size, NULL, 0, &count) == XNS_SHORT_BUFFER && count == 32);
+    CHECK(xns_echo_reply(&there, bytes, size, reply, count, &count) == XNS_OK && xns_echo_accept(&there, reply, count, &at, &size) == XNS_OK && at == 32 && size == 0);
+    CHECK(xns_complain(&here, 0, 0, NULL, 0, NULL, 0, &size) == XNS_NOTHING && xns_error_read(NULL, 0, &number, &parameter) == XNS_SHORT);
+    CHECK(xns_exchange_read(NULL, 0, &id, &number) == XNS_SHORT && xns_exchange_write(1, 2, NULL, 0, NULL, 0, &size) == XNS_SHORT_BUFFER && size == 6);
+    CHECK(xns_exchange_request(&here, &there, 1, 2, NULL, 0, NULL, 0, &size) == XNS_SHORT_BUFFER && size == 36);
+    CHECK(xns_exchange_request(&here, &there, 1, 2, NULL, 0, bytes, size, &size) == XNS_OK && xns_exchange_reply(&there, bytes, size, NULL, 0, NULL, 0, &count) == XNS_SHORT_BUFFER);
+    CHECK(xns_exchange_reply(&there, bytes, size, NULL, 0, reply, count, &count) == XNS_OK && xns_exchange_accept(&there, 1, reply, count, &at, &size) == XNS_OK && at == 36 && size == 0);
+    CHECK(xns_exchange_reply(&there, NULL, 0, NULL, 0, NULL, 0, &size) == XNS_NOTHING && xns_exchange_accept(&there, 1, NULL, 0, &at, &size) == XNS_NOTHING);
+    CHECK(xns_header_read(NULL, 0, &header) == XNS_SHORT && xns_header_write(&header, NULL, 0, &size) == XNS_SHORT_BUFFER && xns_opening(NULL, 0, &peer, &peer_id) == XNS_NOTHING);
+
+    message.kind = XNS_KIND_RETURN;
+    CHECK(xns_message_write(&message, NULL, 0, NULL, 0, &size) == XNS_SHORT_BUFFER && size == 4 && xns_message_write(&message, NULL, 0, bytes, size, &size) == XNS_OK);
+    CHECK(xns_message_read(bytes, size, &message, NULL, 0, &count) == XNS_OK && count == 0 && xns_message_read(NULL, 0, &message, NULL, 0, &count) == XNS_SHORT_MESSAGE);
+    CHECK(xns_read_end(NULL, 0, &cursor) == XNS_OK && xns_read_text(NULL, 0, &cursor, NULL, 0, &size) == XNS_TRUNCATED);
+    cursor = XNS_CURSOR_INIT;
+    CHECK(xns_write_cardinal(NULL, 0, &cursor, 1) == XNS_SHORT_BUFFER);
+
+    CHECK(xns_endpoint_take(&end, &item, NULL, 0) == XNS_SHORT_BUFFER && item.length == XNS_LONGEST_ITEM && !xns_endpoint_is_ours(&end, NULL, 0));
+    CHECK(xns_endpoint_new_initiator(&end, &here, 1, &there, 1, 1) == XNS_OK && xns_endpoint_receive(&end, NULL, 0, &received, NULL, 0) == XNS_SHORT_BUFFER && received.reply == XNS_REPLY);
+    CHECK(xns_endpoint_send(&end, XNS_STREAM_END, 0, 1, NULL, 0) == XNS_OK && xns_endpoint_tick(&end) == XNS_OK && xns_endpoint_next_packet(&end, NULL, 0, &size) == XNS_SHORT_BUFFER && size == 42);
+    CHECK(xns_endpoint_system_packet(&end, 0, NULL, 0, &size) == XNS_SHORT_BUFFER && xns_endpoint_resend_first(&end, NULL, 0, &size) == XNS_SHORT_BUFFER);
+    CHECK(xns_listener_new(&listener, &here, 1) == XNS_OK && xns_listener_find(&listener, NULL, 0, &count, &peer, &peer_id) == XNS_NOTHING);
+    CHECK(xns_caller_new(&caller) == XNS_OK && xns_caller_call(&caller, 7, 2, 1, NULL, 0) == XNS_OK && xns_caller_next_item(&caller, &item, NULL, 0) == XNS_SHORT_BUFFER && item.length == 4);
+    CHECK(xns_caller_outcome(&caller, &message, NULL, 0, &count) == XNS_NOTHING && xns_caller_feed(&caller, XNS_STREAM_END, 1, NULL, 0) == XNS_CLOSING);
+    CHECK(xns_server_new(&server, NULL, 0) == XNS_OK && xns_server_next_item(&server, &item, NULL, 0) == XNS_SHORT_BUFFER && xns_server_call(&server, &message, NULL, 0, &count) == XNS_NOTHING);
+    CHECK(xns_server_answer(&server, XNS_KIND_RETURN, 0, NULL, 0) == XNS_NOTHING && xns_server_next_item(&server, &item, bytes, sizeof bytes) == XNS_OK);
+    CHECK(xns_server_feed(&server, XNS_STREAM_END, 1, NULL, 0) == XNS_CLOSING);
+    xns_endpoint_free(&end);
+    xns_listener_free(&listener);
+    xns_caller_free(&caller);
+    xns_server_free(&server);
+}
+
 int main(void) {
     struct xns_version_text version = xns_version();
     initializers();
     results();
+    reasons();
+    nulls();
     xns_endpoint_free(NULL);
     xns_caller_free(NULL);
     xns_server_free(NULL);

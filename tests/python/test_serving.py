@@ -109,6 +109,12 @@ class Alone(unittest.TestCase):
         with self.assertRaises(TimeoutError):
             xns.Client(udp, nobody.getsockname(), CLIENT, SERVER, most_silent=2).call(7, 1, 1)
 
+    def test_a_send_that_fails_is_a_lost_packet(self):
+        udp = bound()
+        self.addCleanup(udp.close)
+        with self.assertRaises(TimeoutError):
+            xns.Client(udp, (LOCAL, 0), CLIENT, SERVER, most_silent=2).call(7, 1, 1)
+
 
 if __name__ == "__main__":
     unittest.main()

@@ -46,7 +46,8 @@ class HeaderTest(unittest.TestCase):
     def test_errors(self):
         self.assertEqual(xns.NoMemory.result, xns.Result.NO_MEMORY)
         self.assertTrue(issubclass(xns.WrongTransaction, xns.XnsError))
-        texts = dict(re.findall(r'case XNS_(\w+): return "(.*)";', HEADER))
+        body = re.search(r"\*xns_result_text\(.*?\n}", HEADER, re.S).group(0)
+        texts = dict(re.findall(r'case XNS_(\w+): return "(.*)";', body))
         self.assertEqual({"OK", "NOTHING"} | {one.name for one in xns._TEXTS}, set(texts))
         self.assertTrue(all(texts[one.name] == text for one, text in xns._TEXTS.items()))
 
@@ -107,6 +108,11 @@ class PacketTest(unittest.TestCase):
             xns.encode(xns.Packet(HERE, THERE, 256, b""))
         with self.assertRaises(ValueError):
             xns.encode(xns.Packet(xns.Address(1, b"short", 2), THERE, 2, b""))
+        with self.assertRaises(ValueError):
+            xns.message_write(xns.Message(256, []))
+        self.assertEqual(xns.encode(xns.Packet(HERE, THERE, 2, b"\0\1Hi", summed=256)), REQUEST)
+        with self.assertRaises(TypeError):
+            xns.decode(None)
 
     def test_checksum(self):
         self.assertEqual([xns.checksum(bytes.fromhex(data)) for data in ("", "8000", "ffff", "ffff0001")], [0, 1, 0, 2])
@@ -114,6 +120,14 @@ class PacketTest(unittest.TestCase):
     def test_echo(self):
         self.assertEqual(xns.echo_reply(HERE, REQUEST), REPLY)
         self.assertIsNone(xns.echo_reply(HERE, REPLY))
+        self.assertEqual(xns.echo_request(THERE, HERE, b"Hi"), REQUEST)
+        self.assertEqual(xns.echo_accept(HERE, REPLY), b"Hi")
+        self.assertEqual(xns.echo_accept(HERE._replace(host=b"\xff" * 6), REPLY), b"Hi")
+        self.assertIsNone(xns.echo_accept(THERE, REPLY))
+        self.assertIsNone(xns.echo_accept(HERE, REQUEST))
+        self.assertEqual(len(xns.echo_request(THERE, HERE, bytes(544))), 576)
+        with self.assertRaises(xns.TooLong):
+            xns.echo_request(THERE, HERE, bytes(545))
 
     def test_error(self):
         packet = xns.decode(xns.complain(HERE, 2, 9, REQUEST))
@@ -134,6 +148,11 @@ class PacketTest(unittest.TestCase):
         self.assertEqual(xns.exchange_accept(HERE._replace(socket=5), 0x01020304, response), b"Hello")
         self.assertIsNone(xns.exchange_accept(HERE._replace(socket=5), 0x01020305, response))
         self.assertIsNone(xns.exchange_accept(HERE._replace(socket=5), 0x01020304, request))
+        self.assertEqual(xns.exchange_reply(HERE._replace(socket=5), request, b"Hello"), response)
+        self.assertIsNone(xns.exchange_reply(HERE, request, b"Hello"))
+        self.assertIsNone(xns.exchange_reply(HERE._replace(socket=5), REQUEST, b"Hello"))
+        with self.assertRaises(xns.TooLong):
+            xns.exchange_reply(HERE._replace(socket=5), request, bytes(541))
         with self.assertRaises(xns.BadArgument):
             xns.exchange_request(THERE, xns.Address(1, b"\xff" * 6, 5), 1, 5, b"")
 
@@ -172,6 +191,21 @@ class ListenerTest(unittest.TestCase):
             listener.find(OPENING)
         with self.assertRaises(xns.BadArgument):
             xns.Listener(own, 65536)
+
+    def test_numbers_are_not_cut(self):
+        own = HERE._replace(socket=5)
+        with xns.Listener(own, 2) as listener:
+            listener.add(THERE, 1, 1)
+            for number in (-1, 2**64):
+                with self.assertRaises(ValueError):
+                    listener.remove(number)
+                with self.assertRaises(ValueError):
+                    xns.Listener(own, number)
+                with self.assertRaises(ValueError):
+                    xns.Endpoint.initiator(HERE, 1, THERE, window=number)
+                with self.assertRaises(ValueError):
+                    xns.Endpoint.responder(HERE, 1, THERE, 2, backlog=number)
+            self.assertTrue(listener.remove(0))
 
 
 def connected(window=8, backlog=16):

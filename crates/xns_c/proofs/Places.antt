@@ -1,9 +1,13 @@
 -- What is read, by the places where it stands.
-use Rattle.std.proofs.Common.{◌≡◌, ℕ, Bool, true, false, refl, ◌+◌, ◌-◌, List, take, drop, length, ap, sym, ◌∙◌, arith, Option, Some, None, Result, Ok, Err}
-use Rattle.std.proofs.lemmas.List.{drop-drop, drop-take, length-take, take_min}
+use Rattle.std.proofs.Common.{◌≡◌, ◌≤◌, ℕ, Bool, true, false, cond, ltb, refl, ◌+◌, ◌-◌, List, take, drop, length, ap, sym, ◌∙◌, arith, Option, Some, None, Result, Ok, Err}
+use Rattle.std.proofs.Math.Nat.{min-le_right}
+use Rattle.std.proofs.lemmas.Bool.{ltb-false}
+use Rattle.std.proofs.lemmas.List.{drop-drop, drop-take, length-drop, length-take, take_min}
 use Rattle.std.specs.Prelude.{slice_range}
 use Rattle.xns_idp.specs.Packet.{PacketModel}
 use Rattle.xns_idp.specs.Reading.{packet_of, packet_fault, packet_fields, word_at, made_even, unless}
+use Rattle.xns_idp.specs.declared.fault.IdpFault.{IdpFault}
+use Rattle.xns_idp.specs.declared.fault.IdpFault.TheVariants.{Short}
 use Rattle.xns_c_parts.specs.declared.address.XnsAddress.{XnsAddress}
 use Rattle.xns_c_parts.specs.Given.{is_yes, as_byte}
 use Rattle.xns_c_parts.specs.Views.{address_in}
@@ -36,18 +40,51 @@ placed b x e =
     let counts : 30 + length x.0.body - 30 ≡ length x.0.body = omega arith in
     sym (ap (λ (m : ℕ). take m xs) (counts ∙ sym (ap length is) ∙ length-take n xs) ∙ take_min n xs ∙ is)
 
--- those of a packet exchange stand six bytes further
-pub exchanged : (b : List ℕ) (x : PacketModel × ℕ) (n : ℕ) → packet_of b ≡ Ok x → 6 + n ≡ length x.0.body → slice_range b 36 (36 + n) ≡ drop 6 x.0.body
-exchanged b x n e size =
+-- what stands behind the first of the data
+pub behind : (b : List ℕ) (x : PacketModel × ℕ) (k n : ℕ) → packet_of b ≡ Ok x → k + n ≡ length x.0.body → slice_range b (30 + k) (30 + k + n) ≡ drop k x.0.body
+behind b x k n e size =
     let xs : List ℕ = drop 30 b in
-    let counts : 30 + length x.0.body - 30 ≡ 6 + n = omega arith in
-    let is : x.0.body ≡ take (6 + n) xs = placed b x e ∙ ap (λ (m : ℕ). take m xs) counts in
-    let left : 36 + n - 36 ≡ n = omega arith in
-    ap (λ (m : ℕ). take m (drop 36 b)) left ∙ ap (λ (l : List ℕ). take n l) (sym (drop-drop 6 30 b)) ∙ sym (drop-take 6 n xs) ∙ ap (λ (l : List ℕ). drop 6 l) (sym is)
+    let counts : 30 + length x.0.body - 30 ≡ k + n = omega (arith, size) in
+    let is : x.0.body ≡ take (k + n) xs = placed b x e ∙ ap (λ (m : ℕ). take m xs) counts in
+    let left : 30 + k + n - (30 + k) ≡ n = omega arith in
+    ap (λ (m : ℕ). take m (drop (30 + k) b)) left ∙ ap (λ (l : List ℕ). take n l) (sym (drop-drop k 30 b)) ∙ sym (drop-take k n xs) ∙ ap (λ (l : List ℕ). drop k l) (sym is)
+
+not_short : (t : Bool) (f : IdpFault) (rest : Option IdpFault) → cond t (Some f) rest ≡ None → t ≡ false
+not_short true f rest e = absurd cc
+not_short false f rest e = refl
+
+no_fault : {X F : Type 0} (o : Option F) (x y : X) → unless o x ≡ Ok y → o ≡ None
+no_fault None x y e = refl
+no_fault (Some f) x y e = absurd cc
+
+has_header : (b : List ℕ) → packet_fault b ≡ None → 30 ≤ length b
+unfolding packet_fault
+has_header b e = ltb-false _ _ (not_short (ltb (length b) 30) (Short (length b)) _ e)
+
+-- a packet's header and its data lie within the bytes
+pub within : (b : List ℕ) (x : PacketModel × ℕ) → packet_of b ≡ Ok x → 30 + length x.0.body ≤ length b
+unfolding packet_of
+within b x e =
+    let xs : List ℕ = drop 30 b in
+    let n : ℕ = word_at b 2 - 30 in
+    let is : take n xs ≡ x.0.body = body_of b x e in
+    let header = has_header b (no_fault (packet_fault b) (packet_fields b, made_even (word_at b 2)) x e) in
+    let size : length (take n xs) ≡ length x.0.body = ap length is in
+    let cut = length-take n xs in
+    let most = min-le_right n (length xs) in
+    let left = length-drop 30 b in
+    omega (arith, header, size, cut, most, left)
 
 flag_again : (x : Bool) → is_yes (as_byte x) ≡ x
 flag_again true = refl
 flag_again false = refl
+
+small : (x : Bool) → as_byte x ≤ 1
+small true = omega arith
+small false = omega arith
+
+pub byte_of_flag : (x : Bool) (f : ℕ) → f ≡ as_byte x → f ≤ 1
+byte_of_flag x f e = let most = small x in omega (arith, e, most)
 
 pub read_at : (b : List ℕ) (p : PacketModel) (n f : ℕ) (t s : XnsAddress) → Ok (p, n) ≡ packet_of b → f ≡ as_byte p.summed → address_in t ≡ p.target → address_in s ≡ p.source
     → packet_of b ≡ Ok (record p { summed = is_yes f; target = address_in t; source = address_in s; body = slice_range b 30 (30 + length p.body) }, n)

@@ -1,8 +1,8 @@
 //! Internet packets.
 
-ghost use Rattle.std.specs.Prelude.{◌≡◌, ◌≢◌, ◌+◌, ◌<◌, ◌≤◌, ◌%◌, length, Ok, Err};
+ghost use Rattle.std.specs.Prelude.{◌≡◌, ◌≢◌, ◌+◌, ◌<◌, ◌≤◌, ◌%◌, ℕ, length, Ok, Err};
 ghost use Rattle.xns_idp.specs.Checksum.{words, cycle_checksum};
-ghost use Rattle.xns_idp.specs.Packet.{most_data, packet_spelling};
+ghost use Rattle.xns_idp.specs.Packet.{PacketModel, most_data, packet_spelling};
 ghost use Rattle.xns_idp.specs.Reading.{made_even, packet_of};
 ghost use Rattle.xns_idp.specs.declared.fault.IdpFault.{IdpFault};
 ghost use Rattle.xns_c_parts.specs.Given.{IsPut};
@@ -33,6 +33,10 @@ pub extern "C" fn xns_checksum(bytes: &[u8], sum: &mut u16) -> u32
 #[unsafe(no_mangle)]
 pub extern "C" fn xns_decode(bytes: &[u8], packet: &mut XnsPacket) -> u32
     ensures read { result ≡ ok → packet_of bytes.now ≡ Ok (packet_in packet.new bytes.now, packet.new.taken) }
+    ensures good { (x : PacketModel × ℕ) → packet_of bytes.now ≡ Ok x → result ≡ ok }
+    // The data begin at byte 30, and end within the bytes.
+    ensures within { result ≡ ok → (packet.new.body_at ≡ 30) × (30 + packet.new.body_length ≤ length bytes.now) }
+    ensures flag { result ≡ ok → packet.new.summed ≤ 1 }
     ensures fault { (f : IdpFault) → packet_of bytes.now ≡ Err f → result ≡ idp_fault_number f }
     ensures unchanged { result ≢ ok → packet.new ≡ packet.old }
 {

@@ -2,28 +2,26 @@
 
 ghost use Rattle.std.specs.Prelude.{◌≡◌, ◌≢◌, ◌<◌, ◌≤◌, ◌+◌, ℕ, length, MatchOption, Ok};
 ghost use Rattle.xns_idp.specs.Packet.{PacketModel, broadcast, packet_model};
-ghost use Rattle.xns_idp.specs.Reading.{packet_of};
+ghost use Rattle.xns_idp.specs.Reading.{made_even, packet_of};
 ghost use Rattle.xns_small.specs.Exchange.{IsResponse, asking_packet};
 ghost use Rattle.xns_c.specs.Exchange.{IsResponseIn, asker};
 ghost use Rattle.xns_c_parts.specs.Given.{IsPut};
 ghost use Rattle.xns_c_parts.specs.Results.{ok, nothing, no_memory, short_buffer, bad_argument, too_long};
 ghost use Rattle.xns_c_parts.specs.Views.{address_in};
 
+use crate::sending::{BEFORE_EXCHANGED, MOST_EXCHANGED, put_exchange};
 use std::alloc::Global;
-use xns_c_parts::results::{BAD_ARGUMENT, NO_MEMORY, NOTHING, OK, TOO_LONG};
-use xns_c_parts::{XnsAddress, put_front};
+use xns_c_parts::XnsAddress;
+use xns_c_parts::results::{BAD_ARGUMENT, NOTHING, OK, TOO_LONG};
 use xns_idp::packet_type::PACKET_EXCHANGE;
 use xns_idp::{HEADER_BYTES, Packet, decode};
-use xns_small::{Requester, read_exchange};
-
-/// A Packet Exchange packet has so many bytes before its own data.
-const BEFORE_DATA: usize = 6;
+use xns_small::{Exchange, read_exchange};
 
 /// Puts the request packet of a packet exchange to the front of the buffer: to be sent, and sent again until the response comes
 /// (XSIS 028112, Packet Exchange Protocol).
 ///
-/// `TOO_LONG` for more than 540 bytes; else `BAD_ARGUMENT` where the target is the broadcast host; else `NO_MEMORY` where memory is refused; else
-/// `SHORT_BUFFER`, and `written` is then how many bytes are needed.
+/// `TOO_LONG` for more than 540 bytes; else `BAD_ARGUMENT` where the target is the broadcast host; else `SHORT_BUFFER`, and `written` is then how many
+/// bytes are needed; else `NO_MEMORY` where memory is refused.
 #[unsafe(no_mangle)]
 pub extern "C" fn xns_exchange_request(
     alloc: Global,
@@ -38,30 +36,32 @@ pub extern "C" fn xns_exchange_request(
     ensures written { result ≡ ok → IsPut (asking_packet (address_in own.now) (address_in target.now) id client bytes.now) buffer.old buffer.new written.new }
     ensures long { 540 < length bytes.now → result ≡ too_long }
     ensures everyone { length bytes.now ≤ 540 → target.now.host ≡ broadcast → result ≡ bad_argument }
-    ensures short { result ≡ short_buffer → (length buffer.old < length (asking_packet (address_in own.now) (address_in target.now) id client bytes.now)) ×
-        (written.new ≡ length (asking_packet (address_in own.now) (address_in target.now) id client bytes.now)) }
-    ensures memory { length bytes.now ≤ 540 → target.now.host ≢ broadcast → result ≢ ok → result ≢ short_buffer → result ≡ no_memory }
+    ensures short { length bytes.now ≤ 540 → target.now.host ≢ broadcast → length buffer.old < made_even (36 + length bytes.now) →
+        (result ≡ short_buffer) × (written.new ≡ made_even (36 + length bytes.now)) }
+    ensures memory { length bytes.now ≤ 540 → target.now.host ≢ broadcast → made_even (36 + length bytes.now) ≤ length buffer.old → result ≢ ok → result ≡ no_memory }
     ensures unchanged { result ≢ ok → buffer.new ≡ buffer.old }
     ensures untold { result ≢ ok → result ≢ short_buffer → written.new ≡ written.old }
 {
-    if bytes.len() > 540 {
+    if bytes.len() > MOST_EXCHANGED {
         return TOO_LONG;
     }
-    let (own, target) = (own.address(), target.address());
+    let target = target.address();
     if target.is_broadcast() {
         return BAD_ARGUMENT;
     }
-    match Requester::request(alloc, own, target, id, client, bytes) {
-        Ok(requester) => put_front(requester.try_again(), buffer, written),
-        Err(_) => NO_MEMORY,
-    }
+    let exchange = Exchange {
+        id,
+        client,
+        body: bytes,
+    };
+    put_exchange(alloc, own.address(), target, &exchange, buffer, written)
 }
 
 /// How many bytes the data of a response have, if the packet is the response to what was asked of `target` under this identifier.
 #[tactic(auto, unfolding(xns_small::specs::Exchange::exchange_of))]
 fn response_length(target: &XnsAddress, id: u32, packet: &Packet<'_>) -> Option<usize>
     ensures { MatchOption result (IsResponse (asker (address_in target.now) id) (packet_model packet.now) → ⊥)
-        (λ n. IsResponse (asker (address_in target.now) id) (packet_model packet.now) × (BEFORE_DATA + n ≡ length packet.now.body.now)) }
+        (λ n. IsResponse (asker (address_in target.now) id) (packet_model packet.now) × (BEFORE_EXCHANGED + n ≡ length packet.now.body.now)) }
 {
     let source = packet.source;
     if packet.kind != PACKET_EXCHANGE
@@ -100,7 +100,7 @@ pub extern "C" fn xns_exchange_accept(
     let Some(length) = response_length(target, id, &packet) else {
         return NOTHING;
     };
-    *body_at = HEADER_BYTES + BEFORE_DATA;
+    *body_at = HEADER_BYTES + BEFORE_EXCHANGED;
     *body_length = length;
     OK
 }
