@@ -22,9 +22,9 @@ static void turn(void) {
     uint8_t body[XNS_LONGEST_ITEM];
     uint32_t told = xns_caller_pump(&caller, &end);
     if (told == XNS_CLOSING) is_closed = owes_reply = 1;
-    if (told == XNS_CLOSING || told == XNS_STOPPED) xns_endpoint_take(&end, &item, body, sizeof body);
+    if (told == XNS_CLOSING || told == XNS_STOPPED) check(xns_endpoint_take(&end, &item, body, sizeof body));
     else if (told != XNS_NO_MEMORY) check(told);
-    if (owes_reply && xns_endpoint_send(&end, XNS_STREAM_END_REPLY, 0, 1, body, 0) == XNS_OK) owes_reply = 0;
+    if (owes_reply && xns_endpoint_send(&end, XNS_STREAM_END_REPLY, 0, 1, NULL, 0) == XNS_OK) owes_reply = 0;
     if (xns_endpoint_flush(&end) == XNS_OK) udp_send_packets(udp, &end, &place);
 }
 
@@ -69,7 +69,6 @@ static void add(uint16_t number) {
 }
 
 int main(int count, char **words) {
-    const uint8_t none = 0;
     if (count < 2) return 2;
     udp = udp_open("0");
     place = udp_place(words[1]);
@@ -77,7 +76,7 @@ int main(int count, char **words) {
     check(xns_endpoint_new_initiator(&end, &HERE, new_identifier(), &SERVER, 8, 16));
     if (xns_endpoint_tick(&end) == XNS_OK) udp_send_packets(udp, &end, &place);
     for (int i = 2; i < count; i++) add((uint16_t)atoi(words[i]));
-    while (xns_endpoint_send(&end, XNS_STREAM_END, 0, 1, &none, 0) != XNS_OK) wait_a_turn();
+    while (xns_endpoint_send(&end, XNS_STREAM_END, 0, 1, NULL, 0) != XNS_OK) wait_a_turn();
     turn();
     while (!is_closed || owes_reply || xns_endpoint_unacknowledged(&end) > 0) wait_a_turn();
     xns_caller_free(&caller);

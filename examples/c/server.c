@@ -69,8 +69,8 @@ static void answer(struct xns_server *server, const struct xns_message *call, co
     xns_read_end(words, count, &in);
     xns_write_long_cardinal(results, 2, &out, total + number);
     do {
-        if (call->procedure != 1) told = xns_server_answer(server, XNS_KIND_REJECT, XNS_REJECT_NO_SUCH_PROCEDURE, words, 0);
-        else if (in.fault != XNS_OK) told = xns_server_answer(server, XNS_KIND_REJECT, XNS_REJECT_INVALID_ARGUMENTS, words, 0);
+        if (call->procedure != 1) told = xns_server_answer(server, XNS_KIND_REJECT, XNS_REJECT_NO_SUCH_PROCEDURE, NULL, 0);
+        else if (in.fault != XNS_OK) told = xns_server_answer(server, XNS_KIND_REJECT, XNS_REJECT_INVALID_ARGUMENTS, NULL, 0);
         else {
             told = xns_server_answer(server, XNS_KIND_RETURN, 0, results, out.place);
             if (told == XNS_OK) total += number;
@@ -78,23 +78,28 @@ static void answer(struct xns_server *server, const struct xns_message *call, co
     } while (told == XNS_NO_MEMORY);
 }
 
-/* Items move, a call is answered, and packets go out. The item by which the client closes is answered. */
+/* Items move. The item by which the client closes is taken, and is to be answered. Whether the connection goes on: it is dropped where what the client
+ * says is against the protocol. */
+static int move(struct connection *one) {
+    struct xns_item item;
+    uint8_t body[XNS_LONGEST_ITEM];
+    uint32_t told = xns_server_pump(&one->server, &one->end);
+    if (told == XNS_OK || told == XNS_NO_MEMORY) return 1;
+    if (told == XNS_CLOSING) one->owes_reply = 1;
+    if ((told == XNS_CLOSING || told == XNS_STOPPED) && xns_endpoint_take(&one->end, &item, body, sizeof body) == XNS_OK) return 1;
+    drop(one);
+    return 0;
+}
+
+/* Items move, a call is answered, and packets go out. */
 static void turn(struct connection *one) {
     static uint16_t words[XNS_MOST_CALL_WORDS];
     struct xns_message call;
-    struct xns_item item;
-    uint8_t body[XNS_LONGEST_ITEM];
     size_t count;
-    uint32_t told = xns_server_pump(&one->server, &one->end);
-    if (told == XNS_CLOSING) one->owes_reply = 1;
-    if (told == XNS_CLOSING || told == XNS_STOPPED) xns_endpoint_take(&one->end, &item, body, sizeof body);
-    else if (told != XNS_OK && told != XNS_NO_MEMORY) { /* what the client says is against the protocol */
-        drop(one);
-        return;
-    }
+    if (!move(one)) return;
     if (xns_server_call(&one->server, &call, words, XNS_MOST_CALL_WORDS, &count) == XNS_OK) answer(&one->server, &call, words, count);
-    if (told == XNS_OK) xns_server_pump(&one->server, &one->end);
-    if (one->owes_reply && xns_endpoint_send(&one->end, XNS_STREAM_END_REPLY, 0, 1, body, 0) == XNS_OK) one->owes_reply = 0;
+    if (!move(one)) return;
+    if (one->owes_reply && xns_endpoint_send(&one->end, XNS_STREAM_END_REPLY, 0, 1, NULL, 0) == XNS_OK) one->owes_reply = 0;
     if (xns_endpoint_flush(&one->end) == XNS_OK) udp_send_packets(udp, &one->end, &one->place);
 }
 

@@ -39,9 +39,9 @@ static size_t udp_receive(int udp, uint8_t *bytes, struct sockaddr_in *from) {
     return length > 0 ? (size_t)length : 0;
 }
 
-/* A datagram that can't be sent is as one that is lost. */
+/* Sends a packet as a datagram. One that can't be sent is as one that is lost; of no bytes, as where there is no reply, none is sent. */
 static void udp_send(int udp, const uint8_t *bytes, size_t length, const struct sockaddr_in *to) {
-    (void)!sendto(udp, bytes, length, 0, (const struct sockaddr *)to, sizeof *to);
+    if (length > 0) (void)!sendto(udp, bytes, length, 0, (const struct sockaddr *)to, sizeof *to);
 }
 
 /* Sends the packets that an end has made. */
