@@ -14,6 +14,8 @@ import threading
 import time
 import unittest
 
+import xns
+
 LOCAL = "127.0.0.1"
 TALLY = [sys.executable, str(pathlib.Path(__file__).resolve().parents[2] / "examples" / "python" / "tally.py")]
 PYTHON = [*TALLY, "serve"], [*TALLY, "add"]
@@ -118,6 +120,24 @@ class TallyTest(unittest.TestCase):
             with Serving(server, 0) as serving:
                 answers = serving.client(client, [65535, 65535, 2]).communicate(timeout=60)
             self.assertEqual(answers, ("return 0 65535\nreturn 1 65534\nreturn 2 0\n", ""))
+
+    def test_the_end_before_its_call(self):
+        """A call and the end behind it that come the other way round are answered both."""
+        here, there = (xns.Address(1, bytes.fromhex(host), number) for host, number in (("0000aa000304", 1024), ("0000aa000102", 5)))
+        for server in [PYTHON[0], *([C[0]] if C else [])]:
+            with Serving(server, 0) as serving, bound() as udp:
+                place = serving.relay.clients.getsockname()
+                client = xns.Client(udp, place, here, there)
+                self.assertEqual(client.call(7, 1, 1, [1]).words, [0, 1])
+                session, endpoint = client.connection.session, client.connection.endpoint
+                session.call(7, 1, 1, [2])
+                session.pump(endpoint)
+                endpoint.send(b"", stream=xns.Stream.END)
+                for packet in reversed(endpoint.flush()):
+                    udp.sendto(packet, place)
+                while not client.connection.is_closed or endpoint.unacknowledged:
+                    client._wait()
+                self.assertEqual(session.outcome().words, [0, 3])
 
     @unittest.skipUnless(C and shutil.which("valgrind"), "no programs of C, or no valgrind")
     def test_valgrind(self):
