@@ -84,12 +84,12 @@ words_dropped skipped bytes n (inr h) =
     let k : suc (suc n) ≡ skipped / 2 + n = omega (arith, e) in
     ap (λ (s : ℕ). drop n (words_of (drop s bytes))) e ∙ range_dropped bytes n (omega (arith, h.1)) ∙ ap (λ (i : ℕ). drop i (words_of bytes)) k
 
-length_behind : (n : ℕ) (bytes : List ℕ) → n ≤ length bytes → length (drop n bytes) + n ≡ length bytes
+pub length_behind : (n : ℕ) (bytes : List ℕ) → n ≤ length bytes → length (drop n bytes) + n ≡ length bytes
 length_behind zero bytes h = omega arith
 length_behind (suc n) [] h = absurd (omega arith)
 length_behind (suc n) (b ∷ bytes) h = let k = length_behind n bytes (omega arith) in omega (arith, k)
 
-skipped_within : (skipped : ℕ) (bytes : List ℕ) → IsSkipped skipped bytes → skipped ≤ length bytes
+pub skipped_within : (skipped : ℕ) (bytes : List ℕ) → IsSkipped skipped bytes → skipped ≤ length bytes
 skipped_within skipped bytes h = grind arith
 
 pub even_message : (bytes : List ℕ) → (length bytes % 2 ≡ 1 → ⊥) → message_of bytes ≡ unless_long bytes (message_in (words_of bytes))

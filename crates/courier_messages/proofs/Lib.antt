@@ -16,3 +16,5 @@ pub mod More
 pub mod Lists
 pub mod Numbered
 pub mod Called
+mod Fronts
+mod Foreseen

@@ -53,7 +53,7 @@ pub said_mark : (p : Phase) → said p (mark ∷ []) ≡ ended p mark
 unfolding said
 said_mark p = ap (λ (ms : List Message). ended p mark ++ ms) (no_more (step p mark) (λ q. []) (λ q. refl)) ∙ append-nil (ended p mark)
 
-signs_open : (x : Item) → x.stream ≡ 0 → signs x ≡ map byte x.body ++ end_of x.last
+pub signs_open : (x : Item) → x.stream ≡ 0 → signs x ≡ map byte x.body ++ end_of x.last
 signs_open x h = rw h refl
 
 signs_other : (x : Item) → x.stream ≢ 0 → signs x ≡ foreign x.stream ∷ []

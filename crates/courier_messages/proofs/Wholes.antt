@@ -11,7 +11,7 @@ use Rattle.courier_types.specs.Spelling.{SpellsValue, AreWords}
 use Rattle.courier_types.specs.Front.{IsValueAtFront, value_of}
 use Rattle.courier_messages.specs.Whole.{all_taken, whole}
 
-half : (bytes : List ℕ) → length (words_of bytes) ≡ length bytes / 2
+pub half : (bytes : List ℕ) → length (words_of bytes) ≡ length bytes / 2
 half [] = refl
 half (b ∷ []) = refl
 half (b ∷ c ∷ bytes) = let h = half bytes in omega (arith, h)

@@ -13,6 +13,16 @@ with_words (Reject transaction reason) words = messages.Reject transaction reaso
 with_words (Return transaction) words = messages.Return transaction words
 with_words (Abort transaction error) words = messages.Abort transaction error words
 
+abbrev pub head_in : Message → Head
+head_in (messages.Call transaction program version procedure words) = Call transaction program version procedure
+head_in (messages.Reject transaction reason words) = Reject transaction reason
+head_in (messages.Return transaction words) = Return transaction
+head_in (messages.Abort transaction error words) = Abort transaction error
+
+abbrev pub heads_in : Result Message MessageFault → Result Head MessageFault
+heads_in (Ok m) = Ok (head_in m)
+heads_in (Err e) = Err e
+
 -- what was read, with the words that are left
 abbrev pub ReadsHead : Result Head MessageFault → List ℕ → Result Message MessageFault → Type 0
 ReadsHead (Ok head) left read = read ≡ Ok (with_words head left)

@@ -31,3 +31,9 @@ abbrev pub IsHeld : Stage → ℕ → List ℕ → Type 0
 IsHeld Opening skipped bytes = (skipped ≡ 0) × (length bytes < range_bytes)
 IsHeld Fresh skipped bytes = (skipped ≡ 0) × (bytes ≡ [])
 IsHeld Inside skipped bytes = IsSkipped skipped bytes × (length bytes ≤ most_bytes + skipped)
+
+-- what is kept there of the bytes that came
+abbrev pub kept_at : Stage → List ℕ → List ℕ
+kept_at Opening bytes = bytes
+kept_at Fresh bytes = []
+kept_at Inside bytes = bytes

@@ -1,5 +1,5 @@
 -- Faults, and wants of memory in their stead.
-use Rattle.std.specs.Prelude.{◌≡◌, ◌≢◌, ◌+◌, ◌<◌, ℕ, List, [], length, map, Option, Result, Ok, Err}
+use Rattle.std.specs.Prelude.{◌≡◌, ◌≢◌, ◌+◌, ◌<◌, ℕ, List, [], length, map, Option, Result, Ok, Err, IsOk}
 use Rattle.std.specs.Option.{option_to_list}
 use Rattle.xns_spp.specs.declared.item.Item.{Item}
 use Rattle.courier_messages.specs.declared.fault.MessageFault.{MessageFault}
@@ -8,7 +8,8 @@ use Rattle.courier_messages.specs.declared.fault.MessageRefusal.TheVariants as r
 use Rattle.courier_messages.specs.declared.fault.SessionFault.{SessionFault}
 use Rattle.courier_messages.specs.declared.fault.SessionFault.TheVariants.{NoCommonVersion, BadVersions, BadMessage, WrongTransaction, BadReply, Stream, NoMemory, Failed}
 use Rattle.courier_messages.specs.declared.message.Message.{Message}
-use Rattle.courier_messages.specs.Head.{words_in}
+use Rattle.courier_messages.specs.Head.{words_in, head_in}
+use Rattle.courier_messages.specs.declared.head.Head.{Head}
 use Rattle.courier_messages.specs.Text.{byte, signs}
 use Rattle.courier_messages.specs.Conversation.{range_bytes, Phase, opening, fresh, inside}
 use Rattle.courier_messages.specs.Phases.{run, said}
@@ -54,6 +55,11 @@ Follows (Err e) q new = UnlessMemory e (q ≡ Err e)
 abbrev pub Takes : {A : Type 0} → Result (Option Message) SessionFault → Result A SessionFault → List Message → A → Type 0
 Takes (Ok m) q ms new = (q ≡ Ok new) × (ms ≡ option_to_list m)
 Takes (Err e) q ms new = UnlessMemory e ((q ≡ Err e) × (ms ≡ []))
+
+-- what is told of an item before it is taken: the heads of the messages that it ends, of which there is at most one, or the fault that a peer makes
+abbrev pub Foresees : {A : Type 0} → Result (Option Head) SessionFault → Result A SessionFault → List Message → Type 0
+Foresees (Ok head) q ms = IsOk q × (map head_in ms ≡ option_to_list head)
+Foresees (Err e) q ms = Stops e ⊥ (q ≡ Err e)
 
 -- bytes with which nothing is wrong, where they come
 abbrev pub AreRight : Phase → List ℕ → Type 0

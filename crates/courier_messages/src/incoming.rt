@@ -1,22 +1,22 @@
 //! The message that is coming in.
-ghost use Rattle.std.specs.Prelude.{◌≡◌, ◌<◌, ◌≤◌, ◌+◌, ◌/◌, ◌++◌, Ok, Err, [], map, length, drop, slice_get, true, IfOk, IfErr, IfSome, MatchOption, OnOk, OnErr};
-ghost use Rattle.courier_messages.specs.declared.incoming.Stage.TheVariants.{Inside};
+ghost use Rattle.std.specs.Prelude.{◌≡◌, ◌<◌, ◌≤◌, ◌+◌, ◌*◌, ◌/◌, ◌++◌, Ok, Err, [], map, length, drop, slice_get, get_or, true, IfOk, IfErr, IfSome, MatchOption, OnOk, OnErr};
+ghost use Rattle.courier_messages.specs.declared.incoming.Stage.TheVariants.{Fresh, Inside};
 ghost use Rattle.courier_messages.specs.declared.fault.SessionFault.TheVariants.{NoMemory};
 ghost use Rattle.courier_types.specs.Pieces.{words_of};
-ghost use Rattle.courier_messages.specs.Text.{byte, mark, signs};
+ghost use Rattle.courier_messages.specs.Text.{byte, mark, signs, item_of};
 ghost use Rattle.courier_messages.specs.Conversation.{range_bytes, Phase, opening, fresh, inside};
 ghost use Rattle.courier_messages.specs.Message.{most_bytes, message_of};
 ghost use Rattle.courier_messages.specs.Phases.{step, ended, run, said, agreement, opened};
 ghost use Rattle.courier_messages.specs.Bounds.{IsBounded};
-ghost use Rattle.courier_messages.specs.Inside.{phase_in, IsHeld, IsSkipped};
-ghost use Rattle.courier_messages.specs.Refusal.{Follows, Takes, UnlessMemory, AreRight, MayBeKept};
-ghost use Rattle.courier_messages.specs.Head.{ReadsHead, size_of};
+ghost use Rattle.courier_messages.specs.Inside.{phase_in, kept_at, IsHeld, IsSkipped};
+ghost use Rattle.courier_messages.specs.Refusal.{Follows, Takes, Foresees, Stops, UnlessMemory, AreRight, MayBeKept};
+ghost use Rattle.courier_messages.specs.Head.{ReadsHead, size_of, heads_in};
 
 use crate::fault::{MessageFault, SessionFault};
 use crate::head::Head;
 use crate::pieced_message::PiecedMessage;
 use crate::pieces::Pieces;
-use crate::reading::{MOST_BYTES, read_head, take_word};
+use crate::reading::{MOST_BYTES, head_of, read_head, take_word};
 use courier_types::PieceWords;
 use std::alloc::Global;
 use std::marker::Model;
@@ -124,19 +124,16 @@ fn read_head_in(pieces: &Pieces, skipped: usize) -> Result<Head, MessageFault>
     read_head(&mut words)
 }
 
-/// More bytes of the version range, and of what comes behind it: where one is then, and how much is to be skipped. What is wrong with them is told before
-/// memory is wanted.
+/// Where one is behind more bytes of the version range and what comes behind it, and how much is to be skipped; or what is wrong with them.
 #[tactic(auto, using(crate::proofs::Ranges::still_opening, crate::proofs::Ranges::range_faulty, crate::proofs::Ranges::range_alone, crate::proofs::Ranges::range_and_more, crate::proofs::Ranges::range_and_too_much))]
-fn take_range(pieces: &mut Pieces, body: Vec<u8>) -> Result<(Stage, usize), SessionFault>
-    requires { length pieces.old < range_bytes }
-    ensures runs { IfOk result (λ x. run (opening pieces.old) (map byte body.items) ≡ Ok (phase_in x.0 (drop x.1 pieces.new))) }
-    ensures held { IfOk result (λ x. IsHeld x.0 x.1 pieces.new) }
-    ensures stops { IfErr result (λ e. UnlessMemory e (run (opening pieces.old) (map byte body.items) ≡ Err e)) }
-    ensures same { OnErr result (pieces.new ≡ pieces.old) }
-    ensures memory { result ≡ Err NoMemory → MayBeKept (opening pieces.old) body.items }
+fn behind_range(pieces: &Pieces, body: &[u8]) -> Result<(Stage, usize), SessionFault>
+    requires { length pieces.now < range_bytes }
+    ensures runs { IfOk result (λ x. run (opening pieces.now) (map byte body.now) ≡ Ok (phase_in x.0 (drop x.1 (kept_at x.0 (pieces.now ++ body.now))))) }
+    ensures held { IfOk result (λ x. IsHeld x.0 x.1 (kept_at x.0 (pieces.now ++ body.now))) }
+    ensures whole { IfOk result (λ x. length pieces.now + length body.now ≡ range_bytes → x.0 ≡ Fresh) }
+    ensures stops { IfErr result (λ e. Stops e ⊥ (run (opening pieces.now) (map byte body.now) ≡ Err e)) }
 {
-    let Some((low, high)) = range_in(pieces, body.as_slice()) else {
-        pieces.push(body)?;
+    let Some((low, high)) = range_in(pieces, body) else {
         return Ok((Stage::Opening, 0));
     };
     agree(low, high)?;
@@ -145,15 +142,45 @@ fn take_range(pieces: &mut Pieces, body: Vec<u8>) -> Result<(Stage, usize), Sess
         return Err(SessionFault::BadMessage(MessageFault::TooLong));
     }
     if behind == 0 {
-        pieces.clear();
         return Ok((Stage::Fresh, 0));
     }
-    pieces.push(body)?;
     Ok((Stage::Inside, RANGE_BYTES))
 }
 
-/// More bytes of a message.
+/// More bytes of the version range, and of what comes behind it: where one is then, and how much is to be skipped.
+fn take_range(pieces: &mut Pieces, body: Vec<u8>) -> Result<(Stage, usize), SessionFault>
+    requires { length pieces.old < range_bytes }
+    ensures runs { IfOk result (λ x. run (opening pieces.old) (map byte body.items) ≡ Ok (phase_in x.0 (drop x.1 pieces.new))) }
+    ensures held { IfOk result (λ x. IsHeld x.0 x.1 pieces.new) }
+    ensures stops { IfErr result (λ e. UnlessMemory e (run (opening pieces.old) (map byte body.items) ≡ Err e)) }
+    ensures same { OnErr result (pieces.new ≡ pieces.old) }
+    ensures memory { result ≡ Err NoMemory → MayBeKept (opening pieces.old) body.items }
+{
+    let (stage, skipped) = behind_range(pieces, body.as_slice())?;
+    match stage {
+        Stage::Fresh => pieces.clear(),
+        Stage::Opening | Stage::Inside => pieces.push(body)?,
+    }
+    Ok((stage, skipped))
+}
+
+/// Whether a message has room for more bytes, or else what is wrong.
 #[tactic(auto, using(crate::proofs::Ranges::more_bytes, crate::proofs::Ranges::too_many_bytes))]
+#[inline(always)]
+fn behind_more(pieces: &Pieces, skipped: usize, body: &[u8]) -> Result<(), SessionFault>
+    requires skipped { IsSkipped skipped pieces.now }
+    requires size { length pieces.now ≤ most_bytes + skipped }
+    ensures runs { OnOk result (run (inside (drop skipped pieces.now)) (map byte body.now) ≡ Ok (inside (drop skipped (pieces.now ++ body.now)))) }
+    ensures held { OnOk result (IsHeld Inside skipped (pieces.now ++ body.now)) }
+    ensures stops { IfErr result (λ e. Stops e ⊥ (run (inside (drop skipped pieces.now)) (map byte body.now) ≡ Err e)) }
+{
+    if body.len() > MOST_BYTES + skipped - pieces.len() {
+        return Err(SessionFault::BadMessage(MessageFault::TooLong));
+    }
+    Ok(())
+}
+
+/// More bytes of a message.
 #[inline(always)]
 fn take_more(pieces: &mut Pieces, skipped: usize, body: Vec<u8>) -> Result<(), SessionFault>
     requires skipped { IsSkipped skipped pieces.old }
@@ -164,9 +191,7 @@ fn take_more(pieces: &mut Pieces, skipped: usize, body: Vec<u8>) -> Result<(), S
     ensures same { OnErr result (pieces.new ≡ pieces.old) }
     ensures memory { result ≡ Err NoMemory → MayBeKept (inside (drop skipped pieces.old)) body.items }
 {
-    if body.len() > MOST_BYTES + skipped - pieces.len() {
-        return Err(SessionFault::BadMessage(MessageFault::TooLong));
-    }
+    behind_more(pieces, skipped, body.as_slice())?;
     pieces.push(body)?;
     Ok(())
 }
@@ -188,6 +213,94 @@ fn take_first(pieces: &mut Pieces, body: Vec<u8>) -> Result<Stage, SessionFault>
     }
     take_more(pieces, 0, body)?;
     Ok(Stage::Inside)
+}
+
+/// The word at a place behind the bytes that are skipped, of what is kept and of what comes behind it; 0 behind the last.
+#[tactic(auto, using(crate::proofs::Fronts::word_is, crate::proofs::Fronts::no_word, crate::proofs::Fronts::no_high))]
+fn word_at(pieces: &Pieces, skipped: usize, body: &[u8], place: usize) -> u16
+    requires { skipped + 2 * place < 256 }
+    ensures { result ≡ get_or (words_of (drop skipped (pieces.now ++ body.now))) place 0 }
+{
+    let Some(high) = byte_at(pieces, body, skipped + 2 * place) else {
+        return 0;
+    };
+    let Some(low) = byte_at(pieces, body, skipped + 2 * place + 1) else {
+        return 0;
+    };
+    u16::from(high) * 256 + u16::from(low)
+}
+
+/// What a message begins with whose bytes are kept, and come, behind those that are skipped.
+#[tactic(auto, using(crate::proofs::Fronts::front_taken, crate::proofs::Fronts::front_head, crate::proofs::Fronts::even_head, crate::proofs::Heads::odd_message, crate::proofs::Wholes::half, crate::proofs::Fronts::dropped_length))]
+fn head_behind(pieces: &Pieces, skipped: usize, body: &[u8]) -> Result<Head, MessageFault>
+    requires skipped { IsSkipped skipped (pieces.now ++ body.now) }
+    requires size { length pieces.now + length body.now ≤ most_bytes + skipped }
+    ensures { result ≡ heads_in (message_of (drop skipped (pieces.now ++ body.now))) }
+{
+    let behind = pieces.len() + body.len() - skipped;
+    if behind % 2 == 1 {
+        return Err(MessageFault::OddLength);
+    }
+    let count = behind / 2;
+    let front = [
+        word_at(pieces, skipped, body, 0),
+        word_at(pieces, skipped, body, 1),
+        word_at(pieces, skipped, body, 2),
+        word_at(pieces, skipped, body, 3),
+        word_at(pieces, skipped, body, 4),
+        word_at(pieces, skipped, body, 5),
+    ];
+    if count < 6 {
+        return head_of(&front[..count]);
+    }
+    head_of(&front)
+}
+
+/// Where one is behind more bytes, and how much is to be skipped; or what is wrong with them.
+#[tactic(auto, using(crate::proofs::Ranges::fresh_bytes, crate::proofs::Ranges::no_more_bytes))]
+fn behind(
+    stage: Stage,
+    pieces: &Pieces,
+    skipped: usize,
+    body: &[u8],
+) -> Result<(Stage, usize), SessionFault>
+    requires { IsHeld stage skipped pieces.now }
+    ensures runs { IfOk result (λ x. run (phase_in stage (drop skipped pieces.now)) (map byte body.now) ≡ Ok (phase_in x.0 (drop x.1 (kept_at x.0 (pieces.now ++ body.now))))) }
+    ensures held { IfOk result (λ x. IsHeld x.0 x.1 (kept_at x.0 (pieces.now ++ body.now))) }
+    ensures stops { IfErr result (λ e. Stops e ⊥ (run (phase_in stage (drop skipped pieces.now)) (map byte body.now) ≡ Err e)) }
+{
+    match stage {
+        Stage::Opening => behind_range(pieces, body),
+        Stage::Fresh if body.is_empty() => Ok((Stage::Fresh, 0)),
+        Stage::Fresh => {
+            behind_more(pieces, 0, body)?;
+            Ok((Stage::Inside, 0))
+        }
+        Stage::Inside => {
+            behind_more(pieces, skipped, body)?;
+            Ok((Stage::Inside, skipped))
+        }
+    }
+}
+
+/// What a mark would end behind these bytes.
+fn look_at_mark(
+    stage: Stage,
+    pieces: &Pieces,
+    skipped: usize,
+    body: &[u8],
+) -> Result<Option<Head>, SessionFault>
+    requires { IsHeld stage skipped (kept_at stage (pieces.now ++ body.now)) }
+    ensures { Foresees result (step (phase_in stage (drop skipped (kept_at stage (pieces.now ++ body.now)))) mark) (ended (phase_in stage (drop skipped (kept_at stage (pieces.now ++ body.now)))) mark) }
+{
+    match stage {
+        Stage::Opening => Err(SessionFault::BadVersions),
+        Stage::Fresh => Ok(None),
+        Stage::Inside => match head_behind(pieces, skipped, body) {
+            Ok(head) => Ok(Some(head)),
+            Err(fault) => Err(SessionFault::BadMessage(fault)),
+        },
+    }
 }
 
 impl Incoming {
@@ -239,6 +352,21 @@ impl Incoming {
                 Ok(())
             }
             Stage::Inside => take_more(&mut self.pieces, self.skipped, body),
+        }
+    }
+
+    /// What an item of these parts would bring, of which nothing is kept: the head of the message that it would end, or what is wrong.
+    pub fn look(&self, stream: u8, last: bool, body: &[u8]) -> Result<Option<Head>, SessionFault>
+        ensures { Foresees result (run self.now (signs (item_of stream last body.now))) (said self.now (signs (item_of stream last body.now))) }
+    {
+        if stream != 0 {
+            return Err(SessionFault::Stream { kind: stream });
+        }
+        let (stage, skipped) = behind(self.stage, &self.pieces, self.skipped, body)?;
+        if last {
+            look_at_mark(stage, &self.pieces, skipped, body)
+        } else {
+            Ok(None)
         }
     }
 

@@ -1,7 +1,7 @@
 //! Reading messages, from words wherever they lie.
 ghost use Rattle.std.specs.Prelude.{◌≡◌, ◌<◌, ◌≤◌, ◌∷◌, ◌++◌, drop, length, IfOk, OnErr, MatchResult, Ok, Err};
 ghost use Rattle.courier_types.specs.Pieces.{words_of};
-ghost use Rattle.courier_messages.specs.Head.{ReadsHead};
+ghost use Rattle.courier_messages.specs.Head.{ReadsHead, heads_in};
 ghost use Rattle.courier_messages.specs.Message.{message_in, call_in, reject_in, abort_in, message_of, SpellsMessage};
 ghost use Rattle.courier_messages.specs.Refusal.{Reads, IfNoMemory, HasOwnWords};
 
@@ -85,6 +85,33 @@ pub fn read_head<S: WordSource>(source: &mut S) -> Result<Head, MessageFault>
         RETURN => Ok(Head::Return { transaction }),
         ABORT => read_abort_head(transaction, source),
         found => Err(MessageFault::UnknownKind { found }),
+    }
+}
+
+/// What comes before the words of a message that begins with these, six of them or all that it has.
+pub fn head_of(words: &[u16]) -> Result<Head, MessageFault>
+    ensures { result ≡ heads_in (message_in words.now) }
+{
+    match words {
+        [CALL, transaction, high, low, version, procedure, ..] => Ok(Head::Call {
+            transaction: *transaction,
+            program: u32::from(*high) * 65536 + u32::from(*low),
+            version: *version,
+            procedure: *procedure,
+        }),
+        [REJECT, transaction, reason, ..] => Ok(Head::Reject {
+            transaction: *transaction,
+            reason: *reason,
+        }),
+        [RETURN, transaction, ..] => Ok(Head::Return {
+            transaction: *transaction,
+        }),
+        [ABORT, transaction, error, ..] => Ok(Head::Abort {
+            transaction: *transaction,
+            error: *error,
+        }),
+        [] | [_] | [CALL | REJECT | ABORT, ..] => Err(MessageFault::ShortMessage),
+        [found, ..] => Err(MessageFault::UnknownKind { found: *found }),
     }
 }
 
