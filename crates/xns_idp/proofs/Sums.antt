@@ -1,9 +1,8 @@
 -- The sum, word by word from the left.
-use Rattle.std.proofs.Common.{◌≡◌, ℕ, ◌+◌, ◌-◌, ◌*◌, ◌%◌, ◌<◌, ◌≤◌, List, [], ◌∷◌, ◌++◌, length, get_or, take, drop, refl, sym, ap, ◌∙◌, arith, inl, inr}
+use Rattle.std.proofs.Common.{◌≡◌, ℕ, ◌+◌, ◌-◌, ◌*◌, ◌%◌, ◌<◌, List, [], ◌∷◌, ◌++◌, length, refl, sym, ap, ◌∙◌, arith, inl, inr}
 use Rattle.std.specs.Prelude.{◌↔◌}
 use Rattle.std.proofs.lemmas.Bool.{cases_order}
 use Rattle.std.proofs.Math.Nat.{pow-suc}
-use Rattle.std.proofs.lemmas.List.{take_all}
 use Rattle.xns_idp.specs.Checksum.{words, sum_from, cycle_checksum, AreAlike}
 
 -- no words
@@ -21,13 +20,6 @@ pub sum_from-mod : (a b : ℕ) (ws : List ℕ) → a % 65535 ≡ b % 65535 → s
 sum_from-mod a b [] e = unfold sum_from in omega arith
 sum_from-mod a b (w ∷ ws) e =
     ap (λ (n : ℕ). n % 65535) (sum_from-cons a w ws) ∙ sum_from-mod (2 * (a + w)) (2 * (b + w)) ws (omega arith) ∙ ap (λ (n : ℕ). n % 65535) (sym (sum_from-cons b w ws))
-
-pub words-two : (n : ℕ) (bytes : List ℕ) → n ≡ length bytes → 2 ≤ length bytes → words bytes ≡ (256 * get_or bytes 0 0 + get_or bytes 1 0) ∷ words (take (n - 2) (drop 2 bytes))
-words-two n [] e h = absurd (omega (arith, h))
-words-two n (a ∷ []) e h = absurd (omega (arith, h))
-words-two n (a ∷ b ∷ bytes) e h =
-    let len : n - 2 ≡ length bytes = omega (arith, e) in
-    ap (λ (ws : List ℕ). (256 * a + b) ∷ words ws) (sym (rw len (take_all (length bytes) bytes (omega arith))))
 
 -- the words of one list, and then those of another
 pub sum_from-append : (start : ℕ) (xs ys : List ℕ) → sum_from start (xs ++ ys) ≡ sum_from (sum_from start xs) ys

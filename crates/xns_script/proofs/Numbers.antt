@@ -8,7 +8,7 @@ use Rattle.std.proofs.lemmas.Bool.Decides.{nat_tests}
 use Rattle.std.proofs.lemmas.Fmt.{decimal-digits_value, decimal_digit, decimal_nonempty, digits_decimal, first_decimal, length-decimal-le}
 use Rattle.std.proofs.lemmas.Slice.Eq.{bytes_eq-Decides}
 use Rattle.std.proofs.lemmas.Str.Parse.{IsNumeralModel, digits_value_short, numerals_by_fold, tells_by_index}
-use Rattle.std.proofs.lemmas.List.{get_or-take, length-take, length-take-le, take_all, take_more}
+use Rattle.std.proofs.lemmas.List.{get_or-take, length-take, length-take-le, take_more}
 use Rattle.xns_script.specs.Word.{AreDigits, MayBeDecimal, digits_from, number_of}
 
 pub own : IsNumeralModel AreDigits (digits_from 0)
@@ -93,7 +93,3 @@ small word i n few digits e =
     let below : digits_from 0 (take i word) < 10 ^ 10 = digits_value_short own (take i word) 10 digits short in
     subst (λ m. m < 10 ^ 10) (sym e) below
 
-pub all_read : (word : List ℕ) (i n : ℕ) → length word ≤ i → AreDigits (take i word) → n ≡ digits_from 0 (take i word) → AreDigits word × (n ≡ digits_from 0 word)
-all_read word i n le digits e =
-    let same : take i word ≡ word = take_all i word le in
-    (subst AreDigits same digits, subst (λ w. n ≡ digits_from 0 w) same e)
