@@ -1,3 +1,4 @@
+mod Agendas
 mod Ordered
 mod Serving
 mod Silent

@@ -1,3 +1,4 @@
+pub mod Agenda
 pub mod Identifiers
 pub mod Register
 pub mod Services

@@ -1,16 +1,32 @@
 -- Which connections have a turn, and whose is first.
-use Rattle.std.specs.Prelude.{◌≡◌, ℕ, Bool, true, List, Option, None, slice_index_or}
+use Rattle.std.specs.Prelude.{◌≡◌, ℕ, ◌+◌, Bool, true, false, min, List, if◌then◌else◌, Option, Some, None, replicate, slice_index_or, slice_set}
 use Rattle.std.specs.Option.{is_some}
 use Rattle.xns_host.specs.Times.{HasEarliest}
+use Rattle.xns_host.specs.Waiting.{last_time}
 
--- a turn is a ticket; the lower one is first
-abbrev pub ticket_of : List (Option ℕ) → ℕ → Option ℕ
-ticket_of tickets number = slice_index_or tickets number None
+-- by number the ticket of who has a turn, and the next ticket; the lowest one is first
+pub record Line : Type 0 where
+  pub tickets : List (Option ℕ)
+  pub next : ℕ
 
-abbrev pub has_turn : List (Option ℕ) → ℕ → Bool
-has_turn tickets number = is_some (ticket_of tickets number)
+abbrev pub empty_line : ℕ → Line
+empty_line most = record { tickets = replicate most None; next = 0 }
+
+abbrev pub ticket_of : Line → ℕ → Option ℕ
+ticket_of line number = slice_index_or line.tickets number None
+
+abbrev pub has_turn : Line → ℕ → Bool
+has_turn line number = is_some (ticket_of line number)
 
 -- the number has a turn, and nobody's is earlier
-pub record IsFirst (tickets : List (Option ℕ)) (number : ℕ) : Type 0 where
-  pub has : has_turn tickets number ≡ true
-  pub first : HasEarliest tickets (ticket_of tickets number)
+pub record IsFirst (line : Line) (number : ℕ) : Type 0 where
+  pub has : has_turn line number ≡ true
+  pub first : HasEarliest line.tickets (ticket_of line number)
+
+abbrev pub with_last : Line → ℕ → Line
+with_last line number = record { tickets = slice_set line.tickets number (Some line.next); next = min (line.next + 1) last_time }
+
+-- who has a turn keeps it; who gets one is behind the others
+abbrev pub with_turn : Line → ℕ → Bool → Line
+with_turn line number false = record line { tickets = slice_set line.tickets number None }
+with_turn line number true = if has_turn line number then line else with_last line number

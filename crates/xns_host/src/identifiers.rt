@@ -13,8 +13,8 @@ use std::marker::Model;
 /// The greatest identifier.
 const MOST_ID: u16 = 65_535;
 
-/// The identifiers from 1 to 65,535, in an order that a secret gives, and which connection has each. None comes again before all
-/// others have come, but those that are in use are passed over. A connection is found by its identifier without a walk.
+/// The identifiers from 1 to 65,535, in an order that a secret gives, and which connection has each. The first that is not in use is
+/// given, and stands behind all others then, with those before it, which are in use. A connection is found by its identifier without a walk.
 #[derive(Drop)]
 pub struct Identifiers {
     /// All of them, in the order in which they come next.

@@ -2,9 +2,11 @@
 #![tactic(auto)]
 
 mod act;
+mod agenda;
 mod clock;
 mod due;
 mod event;
+mod facts;
 mod host_fault;
 mod identifiers;
 pub mod laws;
@@ -24,9 +26,11 @@ mod way;
 mod why;
 
 pub use act::Act;
+pub use agenda::Agenda;
 pub use clock::Clock;
 pub use due::Due;
 pub use event::Event;
+pub use facts::Facts;
 pub use host_fault::HostFault;
 pub use identifiers::Identifiers;
 pub use pace::Pace;

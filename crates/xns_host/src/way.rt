@@ -1,3 +1,5 @@
+ghost use Rattle.std.specs.Prelude.{◌≡◌};
+
 /// Who gives way to a new connection.
 #[derive(Clone, Copy, Debug, PartialEq, Eq)]
 pub enum Way {
@@ -7,4 +9,18 @@ pub enum Way {
     Stranger(usize, u64),
     /// None.
     Nobody,
+}
+
+impl Way {
+    ghost use Rattle.xns_host.specs.Agenda.{number_in};
+
+    /// The number of the connection that gives way. `None`: none does.
+    pub fn number(self) -> Option<usize>
+        ensures { result ≡ number_in self }
+    {
+        match self {
+            Way::Lingers(number, _) | Way::Stranger(number, _) => Some(number),
+            Way::Nobody => None,
+        }
+    }
 }

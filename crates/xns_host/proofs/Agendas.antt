@@ -1,0 +1,31 @@
+-- Where nobody has a turn, and where the earliest time stands.
+use Rattle.std.proofs.Common.{◌≡◌, ◌∙◌, ap, refl, subst, ℕ, zero, suc, ◌<◌, ◌+◌, true, false, List, [], ◌∷◌, length, get_or, Option, Some, None, arith}
+use Rattle.std.specs.Prelude.{IfSome}
+use Rattle.std.specs.Option.{is_some}
+use Rattle.std.proofs.lemmas.Option.{slice_get-get_or, slice_get_within}
+use Rattle.xns_host.specs.Times.{HasEarliest, IsEarliest}
+use Rattle.xns_host.specs.Agenda.{number_in}
+use Rattle.xns_host.specs.Turns.{Line, has_turn}
+use Rattle.xns_host.specs.declared.way.Way.{Way}
+use Rattle.xns_host.specs.declared.way.Way.TheVariants.{Lingers, Stranger, Nobody}
+
+within : (xs : List (Option ℕ)) (k : ℕ) → is_some (get_or xs k None) ≡ true → k < length xs
+within [] k has = absurd (cc)
+within (x ∷ xs) zero has = omega arith
+within (x ∷ xs) (suc k) has = let less = within xs k has in omega (arith, less)
+
+nobody_at : (xs : List (Option ℕ)) (k : ℕ) (o : Option ℕ) → HasEarliest xs None → get_or xs k None ≡ o → k < length xs → is_some o ≡ true → ⊥
+nobody_at xs k None none is less has = absurd (cc)
+nobody_at xs k (Some t) none is less has = none.least k t (slice_get-get_or xs k None less ∙ ap Some is)
+
+pub nobody : (line : Line) (k : ℕ) → HasEarliest line.tickets None → has_turn line k ≡ true → ⊥
+nobody line k none has = nobody_at line.tickets k (get_or line.tickets k None) none refl (within line.tickets k has) has
+
+pub earliest_within : (times : List (Option ℕ)) (k t : ℕ) → IsEarliest times k t → k < length times
+earliest_within times k t e = slice_get_within times k (Some t) e.there
+
+pub giver_within : (closed strangers : List (Option ℕ)) (way : Way) → ((k t : ℕ) → way ≡ Lingers k t → IsEarliest closed k t)
+    → ((k t : ℕ) → way ≡ Stranger k t → HasEarliest closed None × IsEarliest strangers k t) → length strangers ≡ length closed → IfSome (number_in way) (λ k. k < length closed)
+giver_within closed strangers (Lingers k t) lingers silent same = earliest_within closed k t (lingers k t refl)
+giver_within closed strangers (Stranger k t) lingers silent same = subst (λ (m : ℕ). k < m) same (earliest_within strangers k t (silent k t refl).1)
+giver_within closed strangers Nobody lingers silent same = tt
