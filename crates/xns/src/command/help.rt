@@ -59,7 +59,7 @@ Each line of standard input is one packet in hex, as for dump. The hex begins at
 checksum of the internet packet, right after the Ethernet header.
 A line is printed for each flow of items that begins; for each Courier call, return,
 reject and abort once it is complete, in however many packets it came; for items that
-the capture lacks; and for what is refused.
+had not come by that line, which are repeats if they come later; and for what is refused.
 Each begins with the number of the input line, and then, but for a line that is no
 packet, with the name of the flow: `1a` and `1b` are the two flows of the first
 connection. A return, a reject and an abort name the line of their call.
