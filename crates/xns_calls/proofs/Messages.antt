@@ -1,5 +1,5 @@
 -- What is printed of what is heard.
-use Rattle.std.proofs.Common.{◌≡◌, ◌∙◌, ap, sym, refl, ℕ, false, List, [], ◌∷◌, ◌++◌, append_assoc, append-nil}
+use Rattle.std.proofs.Common.{◌≡◌, ◌∙◌, ap, sym, refl, false, List, [], ◌∷◌, ◌++◌, append_assoc, append-nil}
 use Rattle.std.specs.Prelude.{map}
 use Rattle.xns_spp.specs.declared.item.Item.{Item}
 use Rattle.courier_messages.specs.declared.message.Message.{Message}

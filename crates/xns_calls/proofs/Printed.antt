@@ -1,5 +1,5 @@
 -- A line more, or a part of the end, is printed.
-use Rattle.std.proofs.Common.{◌≡◌, ◌∙◌, ap, sym, arith, subst, ℕ, suc, ◌+◌, Bool, List, [], ◌∷◌, ◌++◌, length, length-append}
+use Rattle.std.proofs.Common.{◌≡◌, ◌∙◌, ap, sym, arith, subst, ℕ, suc, ◌+◌, List, [], ◌∷◌, ◌++◌, length, length-append}
 use Rattle.xns_lines.specs.Printing.{IsBegun, IsEndPrinted, IsPrinted}
 use Rattle.xns_lines.specs.declared.page.Page.{Page}
 use Rattle.xns_calls.specs.Calls.{HasPrinted, after_line, has_refused, known_of, known_with_end, line_taken, text_of, text_with_end}

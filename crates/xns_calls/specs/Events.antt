@@ -13,7 +13,8 @@ use Rattle.xns_calls.specs.declared.heading.Heading.{Heading}
 use Rattle.xns_calls.specs.declared.track.Track.{Track}
 use Rattle.xns_calls.specs.declared.unanswered.Calls.{Calls}
 
--- an item of the flow is captured, or a packet that acknowledges all its items below a number; or what other packets and lines do meanwhile,
+-- an item of the flow is captured, or a packet that acknowledges all its items below a number; or what other packets and lines do
+-- meanwhile,
 -- by which the calls without an answer, the text of the line, and whether something was refused, are others
 pub data Event : Type 0 where
   captured : Heading → ℕ → Item → Event
@@ -90,7 +91,8 @@ abbrev pub captured_in : List Event → List ℕ → List ℕ
 captured_in [] before = before
 captured_in (e ∷ more) before = captured_in more (with_captured e before)
 
--- the items from `first` on which were sent so long before the event that they have to be captured by then: they lie 64 or more before an item,
+-- the items from `first` on which were sent so long before the event that they have to be captured by then: they lie 64 or more before an
+-- item,
 -- or they are acknowledged
 abbrev pub IsLate : Event → ℕ → Type 0
 IsLate (captured heading number item) n = n + most_early < number
@@ -100,4 +102,5 @@ IsLate (meanwhile calls text is_refused) n = ⊥
 -- each item from `first` on is captured within 63 numbers of its place, and before it is acknowledged
 abbrev pub AreWithinReach : ℕ → List ℕ → List Event → Type 0
 AreWithinReach first before [] = Unit {0}
-AreWithinReach first before (e ∷ more) = ((n : ℕ) → first ≤ n → IsLate e n → IsAmong n before) × AreWithinReach first (with_captured e before) more
+AreWithinReach first before (e ∷ more) = ((n : ℕ) → first ≤ n → IsLate e n → IsAmong n before)
+    × AreWithinReach first (with_captured e before) more

@@ -77,7 +77,8 @@ advance_other heading (Some number) s = seen_from_other (advanced (of_other head
 unfoldable pub after_acknowledge : Heading → ℕ → Scene → Scene
 after_acknowledge heading field s = advance_other heading (acknowledged s.other field) s
 
--- a flow whose first field a window that begins with number 0 can hold begins with that number and its version range, and another one in the middle
+-- a flow whose first field a window that begins with number 0 can hold begins with that number and its version range, and another one in
+-- the middle
 abbrev pub first_track : ℕ → Track
 first_track field =
     if nat_lt field most_pending then record { next = 0; early = []; speech = Hearing (opening []) }
@@ -85,7 +86,11 @@ first_track field =
 
 abbrev pub begin_track : Heading → PacketModel → Header → Option Track → Scene → Scene
 begin_track heading packet f (Some track) s = s
-begin_track heading packet f None s = record s { own = record s.own { track = Some (first_track f.sequence) }; text = s.text ++ flow_line heading packet f }
+begin_track heading packet f None s = record s {
+  own = record s.own { track = Some (first_track f.sequence) };
+  text = s.text
+      ++ flow_line heading packet f;
+}
 
 -- the flow begins, if it has not begun
 unfoldable pub begun : Heading → PacketModel → Header → Scene → Scene

@@ -1,5 +1,5 @@
 -- What is heard of items, one after the other.
-use Rattle.std.specs.Prelude.{◌≡◌, ℕ, false, List, [], ◌∷◌, ◌++◌, map}
+use Rattle.std.specs.Prelude.{◌≡◌, ℕ, false, List, [], ◌∷◌, ◌++◌}
 use Rattle.xns_spp.specs.declared.item.Item.{Item}
 use Rattle.courier_messages.specs.declared.message.Message.{Message}
 use Rattle.xns_calls.specs.declared.heard.Heard.{Heard}

@@ -28,11 +28,13 @@ abbrev pub message_line : Heading → Calls → Message → List ℕ
 message_line heading calls (Call transaction program version procedure words) =
     call_text heading transaction program version procedure ++ words_end (codes " args ") words
 message_line heading calls (Reject transaction reason words) =
-    answer_text heading (codes " reject ") transaction (line_of_call calls.asked transaction) ++ (codes " reason " ++ decimal reason) ++ words_end (codes " words ") words
+    answer_text heading (codes " reject ") transaction (line_of_call calls.asked transaction) ++ (codes " reason " ++ decimal reason)
+    ++ words_end (codes " words ") words
 message_line heading calls (Return transaction words) =
     answer_text heading (codes " return ") transaction (line_of_call calls.asked transaction) ++ words_end (codes " results ") words
 message_line heading calls (Abort transaction error words) =
-    answer_text heading (codes " abort ") transaction (line_of_call calls.asked transaction) ++ (codes " error " ++ decimal error) ++ words_end (codes " args ") words
+    answer_text heading (codes " abort ") transaction (line_of_call calls.asked transaction) ++ (codes " error " ++ decimal error)
+    ++ words_end (codes " args ") words
 
 abbrev pub after_answer : Calls → ℕ → Calls
 after_answer calls transaction = record calls { asked = call_left calls.asked transaction }

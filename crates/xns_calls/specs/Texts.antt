@@ -27,11 +27,13 @@ end_text name address identifier = name ++ address_text address ++ codes " id " 
 -- a flow begins
 unfoldable pub flow_line : Heading → PacketModel → Header → List ℕ
 flow_line heading packet f =
-    heading_text heading ++ end_text (codes " flow to ") packet.target f.target_id ++ end_text (codes " from ") packet.source f.source_id ++ codes "\n"
+    heading_text heading ++ end_text (codes " flow to ") packet.target f.target_id ++ end_text (codes " from ") packet.source f.source_id
+    ++ codes "\n"
 
--- the capture lacks the items from the first number up to that before the second
+-- the items from the first number up to that before the second had not come by then
 unfoldable pub missing_line : Heading → ℕ → ℕ → List ℕ
-missing_line heading first behind = heading_text heading ++ (codes " missing " ++ decimal first) ++ (codes " to " ++ decimal (behind - 1)) ++ codes "\n"
+missing_line heading first behind = heading_text heading ++ (codes " missing " ++ decimal first) ++ (codes " to " ++ decimal (behind - 1))
+    ++ codes "\n"
 
 -- words behind what they are, at the end of a line
 unfoldable pub words_end : List ℕ → List ℕ → List ℕ
@@ -39,7 +41,8 @@ words_end name words = name ++ words_text words ++ codes "\n"
 
 -- the front of a call
 unfoldable pub call_text : Heading → ℕ → ℕ → ℕ → ℕ → List ℕ
-call_text heading transaction program version procedure = heading_text heading ++ (codes " call " ++ decimal transaction) ++ callee_text program version procedure
+call_text heading transaction program version procedure = heading_text heading ++ (codes " call " ++ decimal transaction)
+    ++ callee_text program version procedure
 
 -- the number of the line of a call, or a dash
 abbrev pub line_or_dash : Option ℕ → List ℕ

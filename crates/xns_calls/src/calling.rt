@@ -7,6 +7,7 @@ ghost use Rattle.xns_calls.specs.Calls.{StopsIn, calls_text, has_refusal, most_n
 use crate::printer::CallsPrinter;
 use std::alloc::Global;
 use std::io::{Read, Write};
+use xns_lines::laws::nothing_is_printed_at_first;
 use xns_lines::{RunFault, print_lines};
 
 /// Line numbers have 64 bits; there is no other limit on the number of lines.
@@ -15,15 +16,16 @@ const MOST_LINES: usize = 18_446_744_073_709_551_615;
 /// Reads lines of hex, each an internet packet, and prints the Courier calls that they carry, and what came back. The
 /// answer is whether something was refused: whether the output has the word `refused`.
 ///
-/// Lines and limits are those of `xns_dump::dump`, but that the number of lines is not limited. A flow is the data packets with equal hosts, sockets and identifiers of
-/// source and target, of which the target's identifier is not 0. Its items are read in the order of their numbers
-/// (XSIS 028112, Sequenced Packet Protocol): those that come early, with numbers up to 63 above the next, are kept until
-/// those before them come, and repeats are passed over. What the items of datastream 0 say is read as the messages of a
-/// session (XSIS 038112, Courier, Message stream), however it is cut.
+/// Lines and limits are those of `xns_dump::dump`, but that the number of lines is not limited. A flow is the data packets
+/// with equal hosts, sockets and identifiers of source and target, of which the target's identifier is not 0. Its items
+/// are read in the order of their numbers (XSIS 028112, Sequenced Packet Protocol): those that come early, with numbers up
+/// to 63 above the next, are kept until those before them come, and repeats are passed over. What the items of datastream
+/// 0 say is read as the messages of a session (XSIS 038112, Courier, Message stream), however it is cut.
 ///
-/// A line is printed of each flow that begins, each message that is whole, each stretch of items that the capture lacks,
-/// each text that is no message or no version range, and each line of the input that is no packet. Of an answer it says at
-/// which line its call was whole. `docs/FORMATS.md` has the lines.
+/// A line is printed of each flow that begins, each message that is whole, each stretch of items that had not come by
+/// that line, each text that is no message or no version range, and each line of the input that is no packet. Items that
+/// had not come are repeats if they come later. Of an answer it says at which line its call was whole. `docs/FORMATS.md`
+/// has the lines.
 ///
 /// # Errors
 /// `Read` where a read fails, for whatever reason; `Write` where a write fails or takes no byte; `LineTooLong` where a
@@ -49,5 +51,9 @@ pub fn calls<R: Read, W: Write>(
     ensures fault { IfErr result (λ fault. IfSome (R.remaining reader.old) (λ input.
         StopsIn input (R.remaining reader.new) (W.contents writer.old) (W.contents writer.new) fault)) }
 {
-    print_lines(alloc, MOST_LINES, reader, writer, CallsPrinter::new(alloc))
+    nothing_is_printed_at_first();
+    let Ok(printer) = CallsPrinter::new(alloc) else {
+        return Err(RunFault::NoMemory);
+    };
+    print_lines(alloc, MOST_LINES, reader, writer, printer)
 }

@@ -87,7 +87,8 @@ fn begin(
     header: &Header,
 ) -> Result<(), AllocError>
     ensures front { page.new.text.front ≡ page.old.text.front }
-    ensures scene { OnOk result ((other : Side) → scene own.new other page.new ≡ begun_of heading (packet_model packet.now) header.now (scene own.old other page.old)) }
+    ensures scene { OnOk result ((other : Side) → scene own.new other page.new
+        ≡ begun_of heading (packet_model packet.now) header.now (scene own.old other page.old)) }
 {
     if own.track.is_none() {
         append_flow_line(&mut page.text, heading, packet, header)?;
@@ -169,7 +170,8 @@ pub fn take_packet(
     content: &[u8],
 ) -> Result<(), AllocError>
     ensures front { page.new.text.front ≡ page.old.text.front }
-    ensures scene { OnOk result (scene own.new other.new page.new ≡ after_packet heading (packet_model packet.now) header.now content.now (scene own.old other.old page.old)) }
+    ensures scene { OnOk result (scene own.new other.new page.new
+        ≡ after_packet heading (packet_model packet.now) header.now content.now (scene own.old other.old page.old)) }
 {
     take_acknowledge(scratch, page, heading, own, other, header.acknowledge)?;
     if header.control & SYSTEM != 0 {

@@ -63,7 +63,7 @@ pub fn append_flow_line(
     report.append(b"\n")
 }
 
-/// Appends the line of items that the capture hasn't.
+/// Appends the line of items that had not come by then.
 #[tactic(auto, unfolding(crate::specs::Texts::missing_line))]
 pub fn append_missing_line(
     report: &mut Report,

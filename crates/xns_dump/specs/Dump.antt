@@ -1,7 +1,7 @@
 -- What `dump` prints, as a function of the bytes read, and what stands after a fault.
 pub mod Digits
 pub mod Line
-use Rattle.std.specs.Prelude.{◌≡◌, ℕ, ◌+◌, Bool, List, [], ◌∷◌, ◌++◌, Option, Some}
+use Rattle.std.specs.Prelude.{ℕ, ◌+◌, Bool, List, [], ◌∷◌, ◌++◌, Option}
 use Rattle.std.specs.List.{flat_map, list_any}
 use Rattle.std.specs.Option.{option_to_list}
 use Rattle.xns_dump.specs.Dump.Line.{is_refused, item_of_line, text_of_line}

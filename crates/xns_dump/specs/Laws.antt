@@ -59,4 +59,5 @@ pub record FlowsAreToldApart : Type 0 where
 
 -- places are ordered by host and socket as one number, and then by their identifiers
 abbrev pub PlacesAreOrderedByNumbers : Type 0
-PlacesAreOrderedByNumbers = (a b : Place) → IsPlace a → IsPlace b → ordering_then (nat_cmp (host_and_socket a) (host_and_socket b)) (nat_cmp a.identifier b.identifier) ≡ place_cmp a b
+PlacesAreOrderedByNumbers = (a b : Place) → IsPlace a → IsPlace b
+    → ordering_then (nat_cmp (host_and_socket a) (host_and_socket b)) (nat_cmp a.identifier b.identifier) ≡ place_cmp a b

@@ -7,6 +7,7 @@ ghost use Rattle.xns_lines.specs.Lines.{IsWithinLimits, most_lines};
 use crate::printer::DumpPrinter;
 use std::alloc::Global;
 use std::io::{Read, Write};
+use xns_lines::laws::nothing_is_printed_at_first;
 use xns_lines::{MOST_LINES, RunFault, print_lines};
 
 /// Reads lines of hex and prints what each says. The answer is whether a line was refused.
@@ -27,8 +28,8 @@ use xns_lines::{MOST_LINES, RunFault, print_lines};
 /// lines; `NoMemory` where a growth is refused. Of the limits' faults the one that comes first in the input is
 /// answered. The text of all lines before the fault is written first, but for a write that fails.
 ///
-/// It holds one piece of 65,536 bytes of the input, one line of at most 4,096 bytes, its digits without blanks, their
-/// values and the bytes that they spell, the words of a message, the text that isn't written yet, which is less than
+/// It holds one piece of 65,536 bytes of the input, one line of at most 4,096 bytes, room for the digits of the longest line,
+/// for their values and for the bytes that they spell, the words of a message, the text that isn't written yet, which is less than
 /// 65,536 bytes and the text of one line, and the number of the last item of each flow. A line begins at most one flow.
 pub fn dump<R: Read, W: Write>(
     alloc: Global,
@@ -45,5 +46,9 @@ pub fn dump<R: Read, W: Write>(
     ensures fault { IfErr result (λ fault. IfSome (R.remaining reader.old) (λ input.
         StopsIn input (R.remaining reader.new) (W.contents writer.old) (W.contents writer.new) fault)) }
 {
-    print_lines(alloc, MOST_LINES, reader, writer, DumpPrinter::new(alloc))
+    nothing_is_printed_at_first();
+    let Ok(printer) = DumpPrinter::new(alloc) else {
+        return Err(RunFault::NoMemory);
+    };
+    print_lines(alloc, MOST_LINES, reader, writer, printer)
 }

@@ -1,5 +1,5 @@
 //! What `dump` makes of the lines of its input.
-ghost use Rattle.std.specs.Prelude.{[]};
+ghost use Rattle.std.specs.Prelude.{[], IfOk};
 ghost use Rattle.std.specs.List.{list_any};
 ghost use Rattle.xns_dump.specs.Dump.{end_count as no_ends, items_in, text_with_end};
 ghost use Rattle.xns_dump.specs.Dump.Line.{is_refused};
@@ -21,14 +21,15 @@ pub(crate) struct DumpPrinter {
 }
 
 impl DumpPrinter {
-    /// A printer that has printed nothing.
-    pub(crate) fn new(alloc: Global) -> Self
-        ensures { StandsFor result.numbers.last [] }
+    /// A printer that has printed nothing. The only error is want of memory.
+    pub(crate) fn new(alloc: Global) -> Result<Self, AllocError>
+        ensures { IfOk result (λ printer. StandsFor printer.numbers.last []) }
     {
-        DumpPrinter {
-            appender: LineAppender::new(alloc),
+        let appender = LineAppender::new(alloc)?;
+        Ok(DumpPrinter {
+            appender,
             numbers: FlowNumbers::new(alloc),
-        }
+        })
     }
 }
 

@@ -1,3 +1,4 @@
+pub mod AtFirst
 pub mod Cuts
 pub mod Cutting
 pub mod Joined

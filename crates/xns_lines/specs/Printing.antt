@@ -54,7 +54,8 @@ pub record IsEndPrinted (has_printed : ℕ → Type 0) (text_of : ℕ → List �
 abbrev pub IsWritten : Option (List ℕ) → Option (List ℕ) → List ℕ → List ℕ → Type 0
 IsWritten before after pending text = (out : List ℕ) × Appends before after out × (out ++ pending ≡ text)
 
--- the writer, which held `before`, has the text of these lines but for what is on the page; the printer has printed them, until memory is refused
+-- the writer, which held `before`, has the text of these lines but for what is on the page; the printer has printed them, until memory is
+-- refused
 pub record StandsFor (has_printed : Says) (text_of : TextOf) (has_refused : HasRefused) (page : Page) (is_lost : Bool) (before after : Option (List ℕ)) (lines : List (List ℕ)) : Type 0 where
   pub refused : page.is_refused ≡ has_refused lines
   pub written : IsWritten before after (whole page.text) (text_of lines)
@@ -73,7 +74,8 @@ StandsInEnd fault.Write stands fails part lines = fails part lines
 StandsInEnd _ stands fails part lines = ⊥
 
 -- so it is behind some part of the end, and at most behind so many
-abbrev pub StopsInEnd : RunFault → (List (List ℕ) → ℕ → Type 0) → TextWithEnd → (List (List ℕ) → ℕ → Bool) → Page → Bool → Option (List ℕ) → Option (List ℕ) → List (List ℕ) → ℕ → Type 0
+abbrev pub StopsInEnd : RunFault → (List (List ℕ) → ℕ → Type 0) → TextWithEnd → (List (List ℕ) → ℕ → Bool) → Page → Bool → Option (List ℕ)
+    → Option (List ℕ) → List (List ℕ) → ℕ → Type 0
 StopsInEnd f has_printed text_of has_refused page is_lost before after lines most = (part : ℕ) × (part ≤ most)
     × StandsInEnd f (λ k xs. StandsFor (λ ys. has_printed ys k) (λ ys. text_of ys k) (λ ys. has_refused ys k) page is_lost before after xs)
     (λ k xs. HasFailed (λ ys. text_of ys k) page before after xs) part lines
@@ -84,7 +86,8 @@ IsAtEnd fault.Write input read next = (read ≡ input) × (next ≡ [])
 IsAtEnd fault.NoMemory input read next = (read ≡ input) × (next ≡ [])
 IsAtEnd _ input read next = ⊥
 
--- of the lines of what was read these are good, of which with so many parts of the end this is so, and those come next; none of the end but where all was read
+-- of the lines of what was read these are good, of which with so many parts of the end this is so, and those come next; none of the end
+-- but where all was read
 pub record StopsAt (most : ℕ) (end_count : EndCount) (f : RunFault) (input read : List ℕ) (left : ℕ → Says) : Type 0 where
   pub good : List (List ℕ)
   pub next : List (List ℕ)
@@ -96,8 +99,8 @@ pub record StopsAt (most : ℕ) (end_count : EndCount) (f : RunFault) (input rea
   pub place : (part ≡ 0) ⊎ IsAtEnd f input read next
   pub is_left : left part good
 
--- a prefix of the text of what was read is written, and that is the text of all lines before the one at which it stopped; what was read is the prefix of the
--- input that is no longer left
+-- a prefix of the text of what was read is written, and that is the text of all lines before the one at which it stopped; what was read
+-- is the prefix of the input that is no longer left
 pub record StopsIn (most : ℕ) (text_of : TextWithEnd) (end_count : EndCount) (input : List ℕ) (left before after : Option (List ℕ)) (f : RunFault) : Type 0 where
   pub read : List ℕ
   pub consumed : Consumes (Some input) left read
@@ -107,14 +110,18 @@ pub record StopsIn (most : ℕ) (text_of : TextWithEnd) (end_count : EndCount) (
 -- ---- what was taken of an input, of which this holds at first
 
 -- the lines were taken to the end, and its end
-abbrev pub TakesAll : ℕ → (List (List ℕ) → ℕ → Type 0) → TextWithEnd → (List (List ℕ) → ℕ → Bool) → EndCount → Page → Bool → (Option (List ℕ) → Type 0) → Option (List ℕ) → Option (List ℕ) → List ℕ → Type 0
-TakesAll most has_printed text_of has_refused end_count page is_lost begun left after input = Consumes (Some input) left input × IsWithinLimits most input
+abbrev pub TakesAll : ℕ → (List (List ℕ) → ℕ → Type 0) → TextWithEnd → (List (List ℕ) → ℕ → Bool) → EndCount → Page → Bool
+    → (Option (List ℕ) → Type 0) → Option (List ℕ) → Option (List ℕ) → List ℕ → Type 0
+TakesAll most has_printed text_of has_refused end_count page is_lost begun left after input = Consumes (Some input) left input
+    × IsWithinLimits most input
     × ((before : Option (List ℕ)) → begun before
     → StandsFor (λ xs. has_printed xs (end_count (lines_of input))) (λ xs. text_of xs (end_count (lines_of input))) (λ xs. has_refused xs (end_count (lines_of input))) page is_lost before after (lines_of input))
 
 -- or up to a fault
-abbrev pub TakesSome : ℕ → (List (List ℕ) → ℕ → Type 0) → TextWithEnd → (List (List ℕ) → ℕ → Bool) → EndCount → Page → Bool → (Option (List ℕ) → Type 0) → Option (List ℕ) → Option (List ℕ) → RunFault → List ℕ → Type 0
-TakesSome most has_printed text_of has_refused end_count page is_lost begun left after f input = (read : List ℕ) × Consumes (Some input) left read
+abbrev pub TakesSome : ℕ → (List (List ℕ) → ℕ → Type 0) → TextWithEnd → (List (List ℕ) → ℕ → Bool) → EndCount → Page → Bool
+    → (Option (List ℕ) → Type 0) → Option (List ℕ) → Option (List ℕ) → RunFault → List ℕ → Type 0
+TakesSome most has_printed text_of has_refused end_count page is_lost begun left after f input = (read : List ℕ)
+    × Consumes (Some input) left read
     × ((before : Option (List ℕ)) → begun before
     → StopsAt most end_count f input read (λ part.
     StandsAfter f (StandsFor (λ xs. has_printed xs part) (λ xs. text_of xs part) (λ xs. has_refused xs part) page is_lost before after) (HasFailed (λ xs. text_of xs part) page before after)))

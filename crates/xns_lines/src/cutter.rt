@@ -50,9 +50,11 @@ impl Cutter {
         requires few { self.old.most ≤ T.limit }
         ensures limit { self.new.most ≡ self.old.most }
         ensures cut { OnOk result ((most : ℕ) (taken : List ℕ) → HasCut most self.old taken → HasCut most self.new (taken ++ piece.now)) }
-        ensures ok { OnOk result ((most : ℕ) (taken : List ℕ) (before : Option (List ℕ)) → HasTaken most self.old (T.stands taker.old before (W.contents writer.old)) taken
+        ensures ok { OnOk result ((most : ℕ) (taken : List ℕ) (before : Option (List ℕ))
+            → HasTaken most self.old (T.stands taker.old before (W.contents writer.old)) taken
             → HasTaken most self.new (T.stands taker.new before (W.contents writer.new)) (taken ++ piece.now)) }
-        ensures err { IfErr result (λ fault. (most : ℕ) (taken : List ℕ) (before : Option (List ℕ)) → HasTaken most self.old (T.stands taker.old before (W.contents writer.old)) taken
+        ensures err { IfErr result (λ fault. (most : ℕ) (taken : List ℕ) (before : Option (List ℕ))
+            → HasTaken most self.old (T.stands taker.old before (W.contents writer.old)) taken
             → IsCutShort most fault (taken ++ piece.now) (StandsAfter fault (T.stands taker.new before (W.contents writer.new)) (T.fails taker.new before (W.contents writer.new)))) }
         ensures room { OnOk result (room_of self.new + length piece.now ≤ room_of self.old) }
     {
@@ -75,10 +77,13 @@ impl Cutter {
         requires plain { HasNoNewline run.now }
         requires few { self.old.most ≤ T.limit }
         ensures limit { self.new.most ≡ self.old.most }
-        ensures cut { OnOk result ((most : ℕ) (taken : List ℕ) → HasCut most self.old taken → HasCut most self.new ((taken ++ run.now) ++ 10 ∷ [])) }
-        ensures ok { OnOk result ((most : ℕ) (taken : List ℕ) (before : Option (List ℕ)) → HasTaken most self.old (T.stands taker.old before (W.contents writer.old)) taken
+        ensures cut { OnOk result ((most : ℕ) (taken : List ℕ) → HasCut most self.old taken
+            → HasCut most self.new ((taken ++ run.now) ++ 10 ∷ [])) }
+        ensures ok { OnOk result ((most : ℕ) (taken : List ℕ) (before : Option (List ℕ))
+            → HasTaken most self.old (T.stands taker.old before (W.contents writer.old)) taken
             → HasTaken most self.new (T.stands taker.new before (W.contents writer.new)) ((taken ++ run.now) ++ 10 ∷ [])) }
-        ensures err { IfErr result (λ fault. (most : ℕ) (taken : List ℕ) (before : Option (List ℕ)) → HasTaken most self.old (T.stands taker.old before (W.contents writer.old)) taken
+        ensures err { IfErr result (λ fault. (most : ℕ) (taken : List ℕ) (before : Option (List ℕ))
+            → HasTaken most self.old (T.stands taker.old before (W.contents writer.old)) taken
             → IsCutShort most fault ((taken ++ run.now) ++ 10 ∷ []) (StandsAfter fault (T.stands taker.new before (W.contents writer.new)) (T.fails taker.new before (W.contents writer.new)))) }
         ensures room { OnOk result (room_of self.new + length run.now < room_of self.old) }
     {
@@ -99,7 +104,8 @@ impl Cutter {
     fn take_run(&mut self, run: &[u8]) -> Result<(), RunFault>
         requires { HasNoNewline run.now }
         ensures limit { self.new.most ≡ self.old.most }
-        ensures ok { OnOk result ((most : ℕ) (taken : List ℕ) → HasCut most self.old taken → HasCut most self.new (taken ++ run.now) × (closed_lines (taken ++ run.now) ≡ closed_lines taken)) }
+        ensures ok { OnOk result ((most : ℕ) (taken : List ℕ) → HasCut most self.old taken → HasCut most self.new (taken ++ run.now)
+            × (closed_lines (taken ++ run.now) ≡ closed_lines taken)) }
         ensures err { IfErr result (λ fault. (most : ℕ) (taken : List ℕ) → HasCut most self.old taken
             → IsCutShort most fault (taken ++ run.now) (λ lines. IsOwn fault × (lines ≡ closed_lines taken))) }
         ensures room { OnOk result (room_of self.new + length run.now ≤ room_of self.old) }
@@ -126,9 +132,11 @@ impl Cutter {
         requires few { self.old.most ≤ T.limit }
         ensures limit { self.new.most ≡ self.old.most }
         ensures cut { OnOk result ((most : ℕ) (taken : List ℕ) → HasCut most self.old taken → HasCut most self.new (taken ++ 10 ∷ [])) }
-        ensures ok { OnOk result ((most : ℕ) (taken : List ℕ) (before : Option (List ℕ)) → HasTaken most self.old (T.stands taker.old before (W.contents writer.old)) taken
+        ensures ok { OnOk result ((most : ℕ) (taken : List ℕ) (before : Option (List ℕ))
+            → HasTaken most self.old (T.stands taker.old before (W.contents writer.old)) taken
             → HasTaken most self.new (T.stands taker.new before (W.contents writer.new)) (taken ++ 10 ∷ [])) }
-        ensures err { IfErr result (λ fault. (most : ℕ) (taken : List ℕ) (before : Option (List ℕ)) → HasTaken most self.old (T.stands taker.old before (W.contents writer.old)) taken
+        ensures err { IfErr result (λ fault. (most : ℕ) (taken : List ℕ) (before : Option (List ℕ))
+            → HasTaken most self.old (T.stands taker.old before (W.contents writer.old)) taken
             → IsCutShort most fault (taken ++ 10 ∷ []) (StandsAfter fault (T.stands taker.new before (W.contents writer.new)) (T.fails taker.new before (W.contents writer.new)))) }
         ensures room { OnOk result (room_of self.new < room_of self.old) }
     {
@@ -159,9 +167,11 @@ impl Cutter {
         requires room { 0 < length self.line.items → self.count < self.most }
         requires few { self.most ≤ T.limit }
         ensures limits { OnOk result ((most : ℕ) (taken : List ℕ) → HasCut most self taken → IsWithinLimits most taken) }
-        ensures ok { OnOk result ((most : ℕ) (taken : List ℕ) (before : Option (List ℕ)) → HasTaken most self (T.stands taker.old before (W.contents writer.old)) taken
+        ensures ok { OnOk result ((most : ℕ) (taken : List ℕ) (before : Option (List ℕ))
+            → HasTaken most self (T.stands taker.old before (W.contents writer.old)) taken
             → T.stands taker.new before (W.contents writer.new) (lines_of taken)) }
-        ensures err { IfErr result (λ fault. (most : ℕ) (taken : List ℕ) (before : Option (List ℕ)) → HasTaken most self (T.stands taker.old before (W.contents writer.old)) taken
+        ensures err { IfErr result (λ fault. (most : ℕ) (taken : List ℕ) (before : Option (List ℕ))
+            → HasTaken most self (T.stands taker.old before (W.contents writer.old)) taken
             → StopsShort most fault taken (StandsAfter fault (T.stands taker.new before (W.contents writer.new)) (T.fails taker.new before (W.contents writer.new)))) }
     {
         if self.line.is_empty() {

@@ -10,6 +10,7 @@ use std::alloc::AllocError;
 pub trait LinePrinter {
     ghost use Rattle.std.specs.Prelude.{◌≡◌, ◌≤◌, ◌<◌, ◌+◌, ◌++◌, ℕ, Bool, List, [], false, OnOk, length};
     ghost use Rattle.xns_lines.specs.Faults.{Begins};
+    ghost use Rattle.xns_lines.specs.Lines.{most_line_bytes};
     ghost use Rattle.xns_lines.specs.Printing.{IsBegun, IsEndPrinted, IsPrinted};
 
     // The printer has printed these lines, and so many parts of the end of the input behind them.
@@ -27,13 +28,16 @@ pub trait LinePrinter {
     // How many parts the end of the input has behind these lines.
     ghost end_count: { List (List ℕ) → ℕ };
 
-    /// Appends what the line of that number says to the page's latest line, and sets `is_refused` where it is refused.
+    /// Appends what the line of that number says to the page's latest line, and sets `is_refused` where it is refused. The
+    /// line has at most 4,096 bytes.
     ///
     /// The only error is want of memory. What there is of the line is then dropped, and no more lines come.
     fn print_line(&mut self, page: &mut Page, number: usize, line: &[u8]) -> Result<(), AllocError>
         requires few { number ≤ limit }
+        requires short { length line.now ≤ most_line_bytes }
         ensures front { page.new.text.front ≡ page.old.text.front }
-        ensures ok { OnOk result ((lines : List (List ℕ)) → number ≡ length lines + 1 → IsBegun (λ xs. has_refused xs 0) page.old lines → has_printed self.old lines 0
+        ensures ok { OnOk result ((lines : List (List ℕ)) → number ≡ length lines + 1 → IsBegun (λ xs. has_refused xs 0) page.old lines
+            → has_printed self.old lines 0
             → IsPrinted (λ xs. has_printed self.new xs 0) (λ xs. text_of xs 0) (λ xs. has_refused xs 0) page.new lines line.now) };
 
     /// How many parts the end of the input has, behind the lines that were printed.
@@ -46,7 +50,8 @@ pub trait LinePrinter {
     /// The only error is want of memory. What there is of the part is then dropped, and no more parts come.
     fn print_end(&mut self, page: &mut Page, part: usize) -> Result<(), AllocError>
         ensures front { page.new.text.front ≡ page.old.text.front }
-        ensures ok { OnOk result ((lines : List (List ℕ)) → part < end_count lines → IsBegun (λ xs. has_refused xs part) page.old lines → has_printed self.old lines part
+        ensures ok { OnOk result ((lines : List (List ℕ)) → part < end_count lines → IsBegun (λ xs. has_refused xs part) page.old lines
+            → has_printed self.old lines part
             → IsEndPrinted (has_printed self.new lines) (text_of lines) (has_refused lines) page.new part) };
 
     /// A law, as a function that does nothing: the text of lines begins with that of the first of them, and the text with one

@@ -1,8 +1,9 @@
 //! Numbers, words and bytes as text, appended to the latest line of a report. The only error of each function is want of
 //! memory, after which the line may have a part of the text. The lines before it are always as they were.
+ghost use Rattle.std.specs.Prelude.{◌≤◌, OnErr};
 ghost use Rattle.std.specs.Fmt.{decimal};
 ghost use Rattle.hex.specs.Hex.{encode_lower};
-ghost use Rattle.xns_lines.specs.Report.{Adds};
+ghost use Rattle.xns_lines.specs.Report.{Adds, LacksRoom};
 ghost use Rattle.xns_lines.specs.Text.{bytes_or_dash as bytes_or_dash_of, hex_word, words_in_hex, words_or_dash, words_text};
 
 use crate::digits::write_digits;
@@ -12,14 +13,18 @@ use std::alloc::AllocError;
 
 /// Appends a number in decimal.
 pub fn append_decimal(report: &mut Report, number: usize) -> Result<(), AllocError>
-    ensures { Adds result report.old report.new (decimal number) }
+    ensures text { Adds result report.old report.new (decimal number) }
+    ensures memory { OnErr result (LacksRoom report.old (decimal number)) }
+    ensures room { report.old.room ≤ report.new.room }
 {
     append_decimal_u64(report, number as u64)
 }
 
 /// Appends a number of 64 bits in decimal.
 pub fn append_decimal_u64(report: &mut Report, number: u64) -> Result<(), AllocError>
-    ensures { Adds result report.old report.new (decimal number) }
+    ensures text { Adds result report.old report.new (decimal number) }
+    ensures memory { OnErr result (LacksRoom report.old (decimal number)) }
+    ensures room { report.old.room ≤ report.new.room }
 {
     let mut buffer = Buffer::new();
     report.append(buffer.format(number).as_bytes())

@@ -44,7 +44,8 @@ impl Page {
     /// The only error is `Write`, where a write fails or takes no byte: then something of the text isn't written.
     pub(crate) fn flush<W: Write>(&mut self, writer: &mut W) -> Result<(), RunFault>
         ensures ok { OnOk result (Appends (W.contents writer.old) (W.contents writer.new) (whole self.old.text)) }
-        ensures fault { IfErr result (λ fault. (fault ≡ RunFault.Write) × AppendsPart (W.contents writer.old) (W.contents writer.new) (whole self.old.text)) }
+        ensures fault { IfErr result (λ fault. (fault ≡ RunFault.Write)
+            × AppendsPart (W.contents writer.old) (W.contents writer.new) (whole self.old.text)) }
         ensures text { whole self.new.text ≡ [] }
         ensures refused { self.new.is_refused ≡ self.old.is_refused }
     {

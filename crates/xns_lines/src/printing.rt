@@ -35,7 +35,8 @@ pub fn print_lines<R: Read, W: Write, P: LinePrinter + Drop>(
     // Without a fault the text of the whole input is written, which is within the limits.
     ensures text { IfOk result (λ refused. IfSome (R.remaining reader.old) (λ input.
         Appends (W.contents writer.old) (W.contents writer.new) (text_to_end P.text_of P.end_count (lines_of input)))) }
-    ensures refused { IfOk result (λ refused. IfSome (R.remaining reader.old) (λ input. refused ≡ P.has_refused (lines_of input) (P.end_count (lines_of input)))) }
+    ensures refused { IfOk result (λ refused. IfSome (R.remaining reader.old) (λ input. refused
+        ≡ P.has_refused (lines_of input) (P.end_count (lines_of input)))) }
     ensures limits { OnOk result (IfSome (R.remaining reader.old) (IsWithinLimits most)) }
 
     // After a fault the text of the lines before it is written, and what was read shows a limit that was passed.

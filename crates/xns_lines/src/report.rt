@@ -1,15 +1,15 @@
 //! Text that grows line by line.
-ghost use Rattle.std.specs.Prelude.{◌≡◌, ◌%◌, [], length};
+ghost use Rattle.std.specs.Prelude.{◌≡◌, ◌≤◌, ◌%◌, [], OnErr, length};
 ghost use Rattle.hex.specs.Hex.{encode_lower};
-ghost use Rattle.xns_lines.specs.Report.{Adds, whole};
+ghost use Rattle.xns_lines.specs.Report.{Adds, LacksRoom, whole};
 ghost use Rattle.xns_lines.specs.Text.{spaced, words_behind_spaces};
 
 use crate::digits::{append_digits, append_spaced, append_words};
 use std::alloc::{AllocError, Global};
 use std::marker::Model;
 
-/// Text that grows line by line, of which the latest line can be dropped. Contracts see the lines before the latest, and
-/// what there is of the latest.
+/// Text that grows line by line, of which the latest line can be dropped. Contracts see the lines before the latest, what
+/// there is of the latest, and for how many bytes there is room.
 #[derive(Drop)]
 pub struct Report {
     /// All lines.
@@ -19,12 +19,12 @@ pub struct Report {
 }
 
 impl Model for Report {
-    ghost use Rattle.std.specs.Prelude.{◌≤◌, drop, length, take};
+    ghost use Rattle.std.specs.Prelude.{◌≤◌, drop, length, take, vec_capacity};
     ghost use Rattle.xns_lines.specs.Report.{ReportModel};
 
     ghost Value = { ReportModel };
 
-    ghost view = { λ r. record { front = take r.start r.text.items; line = drop r.start r.text.items } };
+    ghost view = { λ r. record { front = take r.start r.text.items; line = drop r.start r.text.items; room = vec_capacity r.text } };
 
     ghost invariant = { λ r. r.start ≤ length r.text.items };
 }
@@ -45,6 +45,7 @@ impl Report {
     pub fn begin_line(&mut self)
         ensures front { self.new.front ≡ whole self.old }
         ensures line { self.new.line ≡ [] }
+        ensures room { self.new.room ≡ self.old.room }
     {
         self.start = self.text.len();
     }
@@ -53,6 +54,7 @@ impl Report {
     pub fn drop_line(&mut self)
         ensures front { self.new.front ≡ self.old.front }
         ensures line { self.new.line ≡ [] }
+        ensures room { self.new.room ≡ self.old.room }
     {
         self.text.truncate(self.start);
     }
@@ -61,6 +63,7 @@ impl Report {
     pub fn clear(&mut self)
         ensures front { self.new.front ≡ [] }
         ensures line { self.new.line ≡ [] }
+        ensures room { self.new.room ≡ self.old.room }
     {
         self.text.clear();
         self.start = 0;
@@ -80,9 +83,11 @@ impl Report {
         self.text.as_slice()
     }
 
-    /// Appends bytes to the latest line. The only error is want of memory.
+    /// Appends bytes to the latest line. The only error is want of memory, where they are more than there is room for.
     pub fn append(&mut self, bytes: &[u8]) -> Result<(), AllocError>
-        ensures { Adds result self.old self.new bytes.now }
+        ensures text { Adds result self.old self.new bytes.now }
+        ensures memory { OnErr result (LacksRoom self.old bytes.now) }
+        ensures room { self.old.room ≤ self.new.room }
     {
         self.text.extend_from_slice(bytes)
     }

@@ -32,16 +32,20 @@ pub trait LineTaker {
     ) -> Result<(), RunFault>
         requires few { number ≤ limit }
         requires short { length line.now ≤ most_line_bytes }
-        ensures ok { OnOk result ((before : Option (List ℕ)) (lines : List (List ℕ)) → number ≡ length lines + 1 → stands self.old before (W.contents writer.old) lines
+        ensures ok { OnOk result ((before : Option (List ℕ)) (lines : List (List ℕ)) → number ≡ length lines + 1
+            → stands self.old before (W.contents writer.old) lines
             → stands self.new before (W.contents writer.new) (lines ++ line.now ∷ [])) }
-        ensures err { IfErr result (λ fault. (before : Option (List ℕ)) (lines : List (List ℕ)) → number ≡ length lines + 1 → stands self.old before (W.contents writer.old) lines
+        ensures err { IfErr result (λ fault. (before : Option (List ℕ)) (lines : List (List ℕ)) → number ≡ length lines + 1
+            → stands self.old before (W.contents writer.old) lines
             → StandsAfterLine fault (stands self.new before (W.contents writer.new)) (fails self.new before (W.contents writer.new)) lines line.now) };
 
     /// Does what is to be done before more of the input is awaited.
     ///
     /// The only error is `Write`, where a write fails.
     fn pause<W: Write>(&mut self, writer: &mut W) -> Result<(), RunFault>
-        ensures ok { OnOk result ((before : Option (List ℕ)) (lines : List (List ℕ)) → stands self.old before (W.contents writer.old) lines → stands self.new before (W.contents writer.new) lines) }
-        ensures err { IfErr result (λ fault. (fault ≡ RunFault.Write) × ((before : Option (List ℕ)) (lines : List (List ℕ)) → stands self.old before (W.contents writer.old) lines
+        ensures ok { OnOk result ((before : Option (List ℕ)) (lines : List (List ℕ))
+            → stands self.old before (W.contents writer.old) lines → stands self.new before (W.contents writer.new) lines) }
+        ensures err { IfErr result (λ fault. (fault ≡ RunFault.Write)
+            × ((before : Option (List ℕ)) (lines : List (List ℕ)) → stands self.old before (W.contents writer.old) lines
             → fails self.new before (W.contents writer.new) lines)) };
 }

@@ -33,9 +33,12 @@ pub fn take_lines<R: Read, T: LineTaker, W: Write>(
     writer: &mut W,
 ) -> Result<(), RunFault>
     requires few { most ≤ T.limit }
-    ensures ok { OnOk result (IfSome (R.remaining reader.old) (λ input. Consumes (Some input) (R.remaining reader.new) input × IsWithinLimits most input
-        × ((before : Option (List ℕ)) → T.stands taker.old before (W.contents writer.old) [] → T.stands taker.new before (W.contents writer.new) (lines_of input)))) }
-    ensures err { IfErr result (λ fault. IfSome (R.remaining reader.old) (λ input. (read : List ℕ) × Consumes (Some input) (R.remaining reader.new) read
+    ensures ok { OnOk result (IfSome (R.remaining reader.old) (λ input. Consumes (Some input) (R.remaining reader.new) input
+        × IsWithinLimits most input
+        × ((before : Option (List ℕ)) → T.stands taker.old before (W.contents writer.old) []
+        → T.stands taker.new before (W.contents writer.new) (lines_of input)))) }
+    ensures err { IfErr result (λ fault. IfSome (R.remaining reader.old) (λ input. (read : List ℕ)
+        × Consumes (Some input) (R.remaining reader.new) read
         × ((before : Option (List ℕ)) → T.stands taker.old before (W.contents writer.old) []
         → StopsShort most fault read (StandsAfter fault (T.stands taker.new before (W.contents writer.new)) (T.fails taker.new before (W.contents writer.new)))))) }
 {

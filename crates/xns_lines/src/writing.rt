@@ -11,7 +11,8 @@ use std::io::Write;
 /// The only error is `Write`, where a write fails or takes no byte: then a prefix of the text is written, and not all of it.
 pub fn write_whole<W: Write>(writer: &mut W, text: &[u8]) -> Result<(), RunFault>
     ensures ok { OnOk result (Appends (W.contents writer.old) (W.contents writer.new) text.now) }
-    ensures fault { IfErr result (λ fault. (fault ≡ RunFault.Write) × AppendsPart (W.contents writer.old) (W.contents writer.new) text.now) }
+    ensures fault { IfErr result (λ fault. (fault ≡ RunFault.Write)
+        × AppendsPart (W.contents writer.old) (W.contents writer.new) text.now) }
 {
     let mut rest = text;
     while !rest.is_empty() {

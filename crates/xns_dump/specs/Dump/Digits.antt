@@ -1,8 +1,15 @@
 -- The values of hex digits.
-use Rattle.std.specs.Prelude.{◌≡◌, ◌<◌, ℕ, List, length, slice_index, Some}
+use Rattle.std.specs.Prelude.{◌≡◌, ◌<◌, ◌≤◌, ◌/◌, ℕ, List, length, slice_index, Some}
 use Rattle.hex.specs.Hex.{hex_digit_value}
+use Rattle.xns_lines.specs.Lines.{most_line_bytes}
 
 -- each is a digit, and its value stands in its place
 abbrev pub HasValues : List ℕ → List ℕ → Type 0
 HasValues digits values =
     (i : ℕ) → i < length digits → (hex_digit_value (slice_index digits i) ≡ Some (slice_index values i)) × (slice_index values i < 16)
+
+-- there is room for the values and the bytes of the longest line, and so many bytes are within theirs
+pub record HasRoom (value_room byte_room : List ℕ) (used : ℕ) : Type 0 where
+  pub values : length value_room ≡ most_line_bytes
+  pub bytes : length byte_room ≡ most_line_bytes / 2
+  pub count : used ≤ most_line_bytes / 2

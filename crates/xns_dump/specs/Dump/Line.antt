@@ -30,7 +30,8 @@ hex_refusal_text _ = codes " hex refused OddLength"
 abbrev pub hex_refusal : ℕ → FromHexError → List ℕ
 hex_refusal n error = line_of n (hex_refusal_text error)
 
--- what a line says: why its digits spell no bytes, why the bytes are no packet, or the packet at their front, with its checksum field and what its body says
+-- what a line says: why its digits spell no bytes, why the bytes are no packet, or the packet at their front, with its checksum field and
+-- what its body says
 pub data Said : Type 0 where
   no_bytes : FromHexError → Said
   no_packet : IdpFault → Said

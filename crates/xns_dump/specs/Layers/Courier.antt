@@ -10,15 +10,18 @@ use Rattle.xns_lines.specs.Text.{words_text}
 
 -- what is called
 unfoldable pub callee_text : ℕ → ℕ → ℕ → List ℕ
-callee_text program version procedure = codes " program " ++ decimal program ++ (codes " version " ++ decimal version) ++ (codes " procedure " ++ decimal procedure)
+callee_text program version procedure = codes " program " ++ decimal program ++ (codes " version " ++ decimal version)
+    ++ (codes " procedure " ++ decimal procedure)
 
 -- the fields of a message, and its words
 unfoldable pub message_text : Message → List ℕ
 message_text (Call transaction program version procedure words) =
     codes " call " ++ decimal transaction ++ callee_text program version procedure ++ codes " args " ++ words_text words
-message_text (Reject transaction reason words) = codes " reject " ++ decimal transaction ++ codes " reason " ++ decimal reason ++ codes " words " ++ words_text words
+message_text (Reject transaction reason words) = codes " reject " ++ decimal transaction ++ codes " reason " ++ decimal reason
+    ++ codes " words " ++ words_text words
 message_text (Return transaction words) = codes " return " ++ decimal transaction ++ codes " results " ++ words_text words
-message_text (Abort transaction error words) = codes " abort " ++ decimal transaction ++ codes " error " ++ decimal error ++ codes " args " ++ words_text words
+message_text (Abort transaction error words) = codes " abort " ++ decimal transaction ++ codes " error " ++ decimal error
+    ++ codes " args " ++ words_text words
 
 abbrev pub message_line : ℕ → Message → List ℕ
 message_line n message = line_of n (message_text message)

@@ -17,9 +17,11 @@ use Rattle.xns_lines.specs.Text.{hex_word}
 -- the connection control, the datastream type, and the two connection identifiers
 unfoldable pub connection_text : Header → List ℕ
 connection_text f =
-    encode_lower (f.control ∷ []) ++ codes " stream " ++ decimal f.stream ++ codes " source " ++ hex_word f.source_id ++ codes " target " ++ hex_word f.target_id
+    encode_lower (f.control ∷ []) ++ codes " stream " ++ decimal f.stream ++ codes " source " ++ hex_word f.source_id ++ codes " target "
+    ++ hex_word f.target_id
 
--- the sequence, acknowledge and allocation numbers (XSIS 028112, Sequenced Packet Protocol, Sequence Number, Acknowledge Number and Allocation Number)
+-- the sequence, acknowledge and allocation numbers (XSIS 028112, Sequenced Packet Protocol, Sequence Number, Acknowledge Number and
+-- Allocation Number)
 unfoldable pub sequence_text : Header → List ℕ
 sequence_text f = codes " seq " ++ decimal f.sequence ++ codes " ack " ++ decimal f.acknowledge ++ codes " alloc " ++ decimal f.allocation
 

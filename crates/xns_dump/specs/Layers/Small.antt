@@ -28,12 +28,14 @@ echo_text echo = (if echo.reply then codes " echo reply " else codes " echo requ
 
 -- the error number, the parameter, and what is quoted (XSIS 028112, Error Protocol)
 unfoldable pub error_text : ErrorReportModel → List ℕ
-error_text report = codes " error " ++ decimal report.number ++ codes " parameter " ++ decimal report.parameter ++ codes " quoted " ++ bytes_or_dash report.quoted
+error_text report = codes " error " ++ decimal report.number ++ codes " parameter " ++ decimal report.parameter ++ codes " quoted "
+    ++ bytes_or_dash report.quoted
 
 -- the identifier, the client type, and the bytes (XSIS 028112, Packet Exchange Protocol)
 unfoldable pub exchange_fields : ExchangeModel → List ℕ
 exchange_fields exchange =
-    encode_lower (to_be_bytes w32 exchange.id) ++ codes " client " ++ decimal exchange.client ++ codes " body " ++ bytes_or_dash exchange.body
+    encode_lower (to_be_bytes w32 exchange.id) ++ codes " client " ++ decimal exchange.client ++ codes " body "
+    ++ bytes_or_dash exchange.body
 
 abbrev pub exchange_text : ExchangeModel → List ℕ
 exchange_text exchange = codes " exchange id " ++ exchange_fields exchange

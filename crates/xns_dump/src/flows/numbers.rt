@@ -40,7 +40,8 @@ impl FlowNumbers {
 
     /// Keeps the number of the next item of a flow. Where memory is refused, nothing has changed.
     pub(crate) fn note(&mut self, flow: Flow, sequence: u16, item: u64) -> Result<(), AllocError>
-        ensures after { OnOk result ((earlier : List DataPacket) → StandsFor self.old.last earlier → item ≡ item_number earlier (flow, sequence)
+        ensures after { OnOk result ((earlier : List DataPacket) → StandsFor self.old.last earlier → item
+            ≡ item_number earlier (flow, sequence)
             → StandsFor self.new.last (earlier ++ (flow, sequence) ∷ [])) }
         ensures unchanged { OnErr result (IsUnchanged self.old.last self.new.last) }
     {
@@ -54,7 +55,8 @@ impl FlowNumbers {
 
     /// Keeps the number of a data packet's item, if there is one. Where memory is refused, nothing has changed.
     pub(crate) fn note_item(&mut self, item: Option<Numbered>) -> Result<(), AllocError>
-        ensures after { OnOk result ((number : DataPacket → ℕ) (packet : Option DataPacket) (earlier : List DataPacket) → item ≡ numbered number packet → number ≡ item_number earlier
+        ensures after { OnOk result ((number : DataPacket → ℕ) (packet : Option DataPacket) (earlier : List DataPacket) → item
+            ≡ numbered number packet → number ≡ item_number earlier
             → StandsFor self.old.last earlier → StandsFor self.new.last (earlier ++ option_to_list packet)) }
         ensures unchanged { OnErr result (IsUnchanged self.old.last self.new.last) }
     {

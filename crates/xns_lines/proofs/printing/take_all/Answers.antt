@@ -1,4 +1,4 @@
-use Rattle.std.proofs.Common.{◌≡◌, List, ℕ, Option, []}
+use Rattle.std.proofs.Common.{List, ℕ, Option, []}
 use Rattle.std.proofs.lemmas.Result.{err_from_is_err_and}
 use Rattle.xns_lines.specs.Lines.{lines_of}
 use Rattle.xns_lines.specs.Printing.{StandsFor, TakesAll, TakesSome}

@@ -1,4 +1,4 @@
-use Rattle.std.proofs.Common.{◌≡◌, List, ℕ, Option}
+use Rattle.std.proofs.Common.{List, ℕ, Option}
 use Rattle.xns_lines.specs.Printing.{StandsFor}
 use Rattle.xns_lines.proofs.page_printer.PagePrinter.finish.Given as goal
 
