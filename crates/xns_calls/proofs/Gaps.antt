@@ -17,7 +17,7 @@ use Rattle.xns_calls.proofs.Steps.{early_of, passed_early, passed_same, read_ear
 
 -- ---- tests
 
-by_test : {A : Type 0} (P : A → Type 0) (p : Bool) (a b : A) → (p ≡ true → P a) → (p ≡ false → P b) → P (cond p a b)
+pub by_test : {A : Type 0} (P : A → Type 0) (p : Bool) (a b : A) → (p ≡ true → P a) → (p ≡ false → P b) → P (cond p a b)
 by_test P true a b f g = f refl
 by_test P false a b f g = g refl
 
@@ -161,7 +161,7 @@ brought_same h n t ordered le = same_over t.track.early ordered
 equal_false : (a b : ℕ) → b < a → (a == b) ≡ false
 equal_false a b lt = grind (arith, nat_tests)
 
-equal_tells : (a b : ℕ) → (a == b) ≡ true → a ≡ b
+pub equal_tells : (a b : ℕ) → (a == b) ≡ true → a ≡ b
 equal_tells a b e = grind (arith, nat_tests)
 
 equal_true : (a b : ℕ) → a ≡ b → (a == b) ≡ true
@@ -202,7 +202,7 @@ other_than a b other le = by_order (nat_lt b a) refl
 abbrev early : ℕ → Item → Early
 early k item = record { number = k; item = item }
 
-kept_cases : (p : Bool) (k : ℕ) (item : Item) (e : Early) (rest : List Early) → nat_lt e.number k ≡ p → kept k item (e ∷ rest) ≡ cond p (e ∷ kept k item rest) (early k item ∷ e ∷ rest)
+pub kept_cases : (p : Bool) (k : ℕ) (item : Item) (e : Early) (rest : List Early) → nat_lt e.number k ≡ p → kept k item (e ∷ rest) ≡ cond p (e ∷ kept k item rest) (early k item ∷ e ∷ rest)
 kept_cases true k item e rest test =
     let one : 1 + below k rest ≡ suc (below k rest) = omega arith in
     ap (λ (b : Bool). insert (e ∷ rest) (cond b (1 + below k rest) 0) (record { number = k; item = item })) test ∙ ap (λ n. insert (e ∷ rest) n (early k item)) one
@@ -261,7 +261,7 @@ not_known m t new known = no_both (is_repeat m t.track) new (repeat_known m t kn
     no_both true e f = (cc)
     no_both false e f = (cc)
 
-not_less : (a b : ℕ) → (a < b → ⊥) → b ≤ a
+pub not_less : (a b : ℕ) → (a < b → ⊥) → b ≤ a
 not_less a b never = by_order (nat_lt a b) refl
   where
     by_order : (p : Bool) → nat_lt a b ≡ p → b ≤ a
@@ -332,7 +332,7 @@ brought_if_ordered : (h : Heading) (o : Option ℕ) (t : Told) → IsOrdered t �
 brought_if_ordered h None t ordered = ordered
 brought_if_ordered h (Some n) t ordered = brought_ordered h n t (from_ordered t ordered)
 
-event_ordered : (e : Event) (t : Told) → IsOrdered t → IsOrdered (after_event e t)
+pub event_ordered : (e : Event) (t : Told) → IsOrdered t → IsOrdered (after_event e t)
 event_ordered (captured h k item) t ordered =
     by_test IsOrdered (is_repeat k t.track) t (brought h 0 (with_item k item (brought h (k - most_early) t))) (λ old. ordered)
     (λ new. brought_ordered h 0 (with_item k item (brought h (k - most_early) t)) (kept_ready k item (brought h (k - most_early) t) (ready h k t ordered new)))
@@ -350,7 +350,7 @@ kept_known : (m k : ℕ) (item : Item) (t : Told) → IsKnown m t → IsKnown m 
 kept_known m k item t (inl lt) = inl lt
 kept_known m k item t (inr old) = inr (kept_has m k item (early_of t) (inr old))
 
-event_known : (m : ℕ) (e : Event) (t : Told) → IsOrdered t → IsKnown m t → IsKnown m (after_event e t)
+pub event_known : (m : ℕ) (e : Event) (t : Told) → IsOrdered t → IsKnown m t → IsKnown m (after_event e t)
 event_known m (captured h k item) t ordered known =
     by_test (IsKnown m) (is_repeat k t.track) t (brought h 0 (with_item k item (brought h (k - most_early) t))) (λ old. known)
     (λ new. brought_known m h 0 (with_item k item (brought h (k - most_early) t)) (kept_ready k item (brought h (k - most_early) t) (ready h k t ordered new))
@@ -365,19 +365,19 @@ captured_known h k item t ordered =
     (λ new. brought_known k h 0 (with_item k item (brought h (k - most_early) t)) (kept_ready k item (brought h (k - most_early) t) (ready h k t ordered new))
     (inr (kept_has k k item (early_of (brought h (k - most_early) t)) (inl refl))))
 
-no_known_next : (t : Told) → IsOrdered t → IsKnown (next_of t) t → ⊥
+pub no_known_next : (t : Told) → IsOrdered t → IsKnown (next_of t) t → ⊥
 no_known_next t ordered (inl lt) = omega (arith, lt)
 no_known_next t ordered (inr k) = none_below (next_of t + 1) (next_of t) (early_of t) ordered (omega arith) k
 
 -- ---- what is captured is known
 
-known_step : (before : List ℕ) (e : Event) (t : Told) → IsOrdered t → ((n : ℕ) → IsAmong n before → IsKnown n t) → (n : ℕ) → IsAmong n (with_captured e before) → IsKnown n (after_event e t)
+pub known_step : (before : List ℕ) (e : Event) (t : Told) → IsOrdered t → ((n : ℕ) → IsAmong n before → IsKnown n t) → (n : ℕ) → IsAmong n (with_captured e before) → IsKnown n (after_event e t)
 known_step before (captured h k item) t ordered known n (inl is) = subst (λ m. IsKnown m (after_event (captured h k item) t)) (sym is) (captured_known h k item t ordered)
 known_step before (captured h k item) t ordered known n (inr old) = event_known n (captured h k item) t ordered (known n old)
 known_step before (acknowledged h k) t ordered known n old = event_known n (acknowledged h k) t ordered (known n old)
 known_step before (meanwhile calls text is_refused) t ordered known n old = known n old
 
-events_ordered : (events : List Event) (t : Told) → IsOrdered t → IsOrdered (after_events events t)
+pub events_ordered : (events : List Event) (t : Told) → IsOrdered t → IsOrdered (after_events events t)
 events_ordered [] t ordered = ordered
 events_ordered (e ∷ more) t ordered = events_ordered more (after_event e t) (event_ordered e t ordered)
 
@@ -385,12 +385,12 @@ events_known : (n : ℕ) (events : List Event) (t : Told) → IsOrdered t → Is
 events_known n [] t ordered known = known
 events_known n (e ∷ more) t ordered known = events_known n more (after_event e t) (event_ordered e t ordered) (event_known n e t ordered known)
 
-captured_in_known : (before : List ℕ) (events : List Event) (t : Told) → IsOrdered t → ((n : ℕ) → IsAmong n before → IsKnown n t) → (n : ℕ) → IsAmong n (captured_in events before) → IsKnown n (after_events events t)
+pub captured_in_known : (before : List ℕ) (events : List Event) (t : Told) → IsOrdered t → ((n : ℕ) → IsAmong n before → IsKnown n t) → (n : ℕ) → IsAmong n (captured_in events before) → IsKnown n (after_events events t)
 captured_in_known before [] t ordered known n among = known n among
 captured_in_known before (e ∷ more) t ordered known n among =
     captured_in_known (with_captured e before) more (after_event e t) (event_ordered e t ordered) (known_step before e t ordered known) n among
 
-new_ordered : (t : Told) → t.track.early ≡ [] → IsOrdered t
+pub new_ordered : (t : Told) → t.track.early ≡ [] → IsOrdered t
 new_ordered t none = subst (AreFrom (next_of t + 1)) (sym none) tt
 
 -- an item that was captured before changes nothing
@@ -433,7 +433,7 @@ acknowledged_same : (h : Heading) (o : Option ℕ) (n : ℕ) (t : Told) → IsOr
 acknowledged_same h None n t ordered le = refl
 acknowledged_same h (Some last) n t ordered le = brought_same h (min n (last + 1)) t ordered (omega (arith, le))
 
-event_whole : (first : ℕ) (before : List ℕ) (e : Event) (t : Told) → IsOrdered t → ((n : ℕ) → n < first → IsKnown n t) → ((n : ℕ) → IsAmong n before → IsKnown n t) → ((n : ℕ) → first ≤ n → IsLate e n → IsAmong n before)
+pub event_whole : (first : ℕ) (before : List ℕ) (e : Event) (t : Told) → IsOrdered t → ((n : ℕ) → n < first → IsKnown n t) → ((n : ℕ) → IsAmong n before → IsKnown n t) → ((n : ℕ) → first ≤ n → IsLate e n → IsAmong n before)
     → after_event e t ≡ after_whole_event e t
 event_whole first before (captured h k item) t ordered low known late =
     let near : k ≤ next_of t + most_early = not_less (next_of t + most_early) k (in_time first before t ordered low known (λ n. n + most_early < k) late) in

@@ -1,6 +1,7 @@
--- What the laws say: of what is heard, and of items that the capture lacks.
-use Rattle.std.specs.Prelude.{◌≡◌, ℕ, ◌+◌, ◌%◌, ◌≤◌, ◌<◌, ◌⊎◌, List, [], ◌++◌, map, IfOk, codes, Some}
+-- What the laws say: of what is heard, and of items that had not come.
+use Rattle.std.specs.Prelude.{◌≡◌, ◌≢◌, ℕ, ◌+◌, ◌%◌, ◌≤◌, ◌<◌, ◌⊎◌, List, [], ◌++◌, length, map, slice_get, IfOk, codes, Some}
 use Rattle.xns_idp.specs.Packet.{PacketModel}
+use Rattle.xns_spp.specs.Ends.{most_pending}
 use Rattle.xns_spp.specs.Nearest.{field_round, half_round}
 use Rattle.xns_spp.specs.Numbers.{most_items}
 use Rattle.xns_spp.specs.declared.item.Item.{Item}
@@ -8,12 +9,15 @@ use Rattle.xns_spp.specs.declared.header.Header.{Header}
 use Rattle.courier_messages.specs.Conversation.{conversation, ending, opening}
 use Rattle.courier_messages.specs.declared.message.Message.{Message}
 use Rattle.xns_dump.specs.Dump.Line.{has_word}
+use Rattle.xns_dump.specs.Flows.{flow_of}
 use Rattle.xns_calls.specs.Calls.{calls_text, has_refusal}
+use Rattle.xns_calls.specs.Capture.{Known, after_sequenced, flow_behind, place_of}
 use Rattle.xns_calls.specs.Events.{AreWithinReach, Event, IsAmong, acknowledged_event, after_event, after_events, after_whole_event, after_whole_events, captured, captured_in, own_events, with_captured}
-use Rattle.xns_calls.specs.Exchange.{Scene, after_acknowledge, after_packet, after_told, of_other, seen_from_other, take_number, told_of}
+use Rattle.xns_calls.specs.Exchange.{Scene, after_acknowledge, after_packet, after_told, first_track, of_other, seen_from_other, take_number, told_of}
 use Rattle.xns_calls.specs.Listening.{AreFaultless, heard_at_lines, message_lines, messages_heard, said_items}
 use Rattle.xns_calls.specs.Numbers.{near}
 use Rattle.xns_calls.specs.Reading.{Told}
+use Rattle.xns_calls.specs.Whole.{IsWhole, SaysConversation, flow_text, of_courier}
 use Rattle.xns_calls.specs.declared.heading.Heading.{Heading}
 use Rattle.xns_calls.specs.declared.speech.Speech.{Speech}
 use Rattle.xns_calls.specs.declared.speech.Speech.TheVariants.{Hearing}
@@ -26,8 +30,10 @@ pub record WhatIsHeardIsTheConversation : Type 0 where
 
 -- what is printed of items without a fault are the lines of the messages that are heard, in order, and nothing else
 pub record HeardMessagesArePrinted : Type 0 where
-  pub text : (items : List (Heading × Item)) (t : Told) → AreFaultless t.track.speech items → (said_items items t).text ≡ t.text ++ message_lines t.calls (heard_at_lines t.track.speech items)
-  pub messages : (items : List (Heading × Item)) (speech : Speech) → map (λ x. x.1) (heard_at_lines speech items) ≡ messages_heard speech (map (λ x. x.1) items)
+  pub text : (items : List (Heading × Item)) (t : Told) → AreFaultless t.track.speech items
+      → (said_items items t).text ≡ t.text ++ message_lines t.calls (heard_at_lines t.track.speech items)
+  pub messages : (items : List (Heading × Item)) (speech : Speech)
+      → map (λ x. x.1) (heard_at_lines speech items) ≡ messages_heard speech (map (λ x. x.1) items)
 
 -- the answer of `calls` is true exactly where its text has the word `refused`
 abbrev pub TheAnswerSaysRefused : Type 0
@@ -35,7 +41,8 @@ TheAnswerSaysRefused = (input : List ℕ) → has_word (codes "refused") (calls_
 
 -- what a data packet does to its flow is the event of its item, with the number that its field stands for
 abbrev pub AnItemIsAnEvent : Type 0
-AnItemIsAnEvent = (h : Heading) (f : Header) (item : Item) (s : Scene) (track : Track) (number : ℕ) → s.own.track ≡ Some track → near track.next f.sequence ≡ Some number
+AnItemIsAnEvent = (h : Heading) (f : Header) (item : Item) (s : Scene) (track : Track) (number : ℕ) → s.own.track ≡ Some track
+    → near track.next f.sequence ≡ Some number
     → take_number h f item s ≡ after_told (after_event (captured h number item) (told_of track s)) s
 
 -- what a packet does to a flow are its events: one of the flow itself, and one of the flow behind, of which nothing else changes the flow
@@ -51,22 +58,42 @@ pub record PacketsAreEvents : Type 0 where
 
 -- the field of an item within half a round of the next one is read as the item's number
 abbrev pub NumbersAreReadBack : Type 0
-NumbersAreReadBack = (next number : ℕ) → next ≤ most_items → next ≤ number + half_round → number < next + half_round → near next (number % field_round) ≡ Some number
+NumbersAreReadBack = (next number : ℕ) → next ≤ most_items → next ≤ number + half_round → number < next + half_round
+    → near next (number % field_round) ≡ Some number
 
--- where each item of a flow is captured within 63 numbers of its place, and before it is acknowledged, none is missing: what is said is what is said without the line of missing items
+-- where each item of a flow is captured within 63 numbers of its place, and before it is acknowledged, none is missing: what is said is
+-- what is said without the line of missing items
 abbrev pub NothingIsMissing : Type 0
-NothingIsMissing = (events : List Event) (t : Told) → t.track.early ≡ [] → AreWithinReach t.track.next [] events → after_events events t ≡ after_whole_events events t
+NothingIsMissing = (events : List Event) (t : Told) → t.track.early ≡ [] → AreWithinReach t.track.next [] events
+    → after_events events t ≡ after_whole_events events t
 
 -- an item that was captured before changes nothing and says nothing
 abbrev pub RepeatsSayNothing : Type 0
-RepeatsSayNothing = (events : List Event) (h : Heading) (number : ℕ) (item : Item) (t : Told) → t.track.early ≡ [] → (number < t.track.next) ⊎ IsAmong number (captured_in events [])
+RepeatsSayNothing = (events : List Event) (h : Heading) (number : ℕ) (item : Item) (t : Told) → t.track.early ≡ []
+    → (number < t.track.next) ⊎ IsAmong number (captured_in events [])
     → after_event (captured h number item) (after_events events t) ≡ after_events events t
 
--- no item is passed over but before one that is captured: the next item is never more than one behind the last that is, and where no item behind the
+-- no item is passed over but before one that is captured: the next item is never more than one behind the last that is, and where no item
+-- behind the
 -- next one is captured, an event says what it says without the line of missing items
 pub record MissingItemsAreBeforeCapturedOnes : Type 0 where
-  pub next : (events : List Event) (t : Told) (most : ℕ) → t.track.early ≡ [] → t.track.next ≤ most + 1 → ((n : ℕ) → IsAmong n (captured_in events []) → n ≤ most)
+  pub next : (events : List Event) (t : Told) (most : ℕ) → t.track.early ≡ [] → t.track.next ≤ most + 1
+      → ((n : ℕ) → IsAmong n (captured_in events []) → n ≤ most)
       → (after_events events t).track.next ≤ most + 1
   pub none : (events : List Event) (e : Event) (t : Told) → t.track.early ≡ []
       → ((n : ℕ) → IsAmong n (with_captured e (captured_in events [])) → n ≤ (after_events events t).track.next)
       → after_event e (after_events events t) ≡ after_whole_event e (after_events events t)
+
+-- of a flow that begins with item 0, of which each item is captured, in whatever order within 63 numbers and before it is acknowledged,
+-- the lines of the
+-- messages of its conversation are printed, and nothing else up to the first fault
+abbrev pub WholeFlowsSayTheirConversation : Type 0
+WholeFlowsSayTheirConversation = (items : List Item) (events : List Event) (field : ℕ) (t : Told) → field < most_pending
+    → t.track ≡ first_track field → IsWhole items events
+    → SaysConversation (of_courier items) (flow_text events t)
+
+-- a packet to a known identifier changes no connection but that of its flow or of the flow behind it
+abbrev pub OtherConnectionsStay : Type 0
+OtherConnectionsStay = (n : ℕ) (packet : PacketModel) (f : Header) (content : List ℕ) (k : Known) (i : ℕ) → i < length k.connections
+    → place_of (flow_of packet f) k.connections ≢ Some i → place_of (flow_behind (flow_of packet f)) k.connections ≢ Some i
+    → slice_get (after_sequenced n packet f content k).connections i ≡ slice_get k.connections i

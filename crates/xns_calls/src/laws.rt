@@ -1,5 +1,5 @@
 //! Laws of the definitions, as functions that do nothing.
-ghost use Rattle.xns_calls.specs.Laws.{AnItemIsAnEvent, HeardMessagesArePrinted, MissingItemsAreBeforeCapturedOnes, NothingIsMissing, NumbersAreReadBack, PacketsAreEvents, RepeatsSayNothing, TheAnswerSaysRefused, WhatIsHeardIsTheConversation};
+ghost use Rattle.xns_calls.specs.Laws.{AnItemIsAnEvent, HeardMessagesArePrinted, MissingItemsAreBeforeCapturedOnes, NothingIsMissing, NumbersAreReadBack, OtherConnectionsStay, PacketsAreEvents, RepeatsSayNothing, TheAnswerSaysRefused, WhatIsHeardIsTheConversation, WholeFlowsSayTheirConversation};
 
 use courier_messages::laws::{conversation_is_read_sign_by_sign, one_item_more, signs_run_on};
 use xns_dump::laws::{joined_texts_say_refused, only_refusals_say_refused};
@@ -33,8 +33,8 @@ pub fn an_item_is_an_event()
     ensures { AnItemIsAnEvent }
 {}
 
-/// What a packet does to a flow are its events: to its own flow and to the flow behind. Of the flow behind it changes nothing else but
-/// its call without an answer.
+/// What a packet does to a flow are its events: to its own flow and to the flow behind. Of the flow behind it changes
+/// nothing else but its call without an answer.
 pub fn packets_are_events()
     ensures { PacketsAreEvents }
 {}
@@ -61,4 +61,20 @@ pub fn repeats_say_nothing()
 /// Items are said to be missing only where a later one was captured.
 pub fn missing_items_are_before_captured_ones()
     ensures { MissingItemsAreBeforeCapturedOnes }
+{}
+
+/// Of a flow from item 0 on whose items are captured, all of them, in whatever order within 63 numbers and before they are
+/// acknowledged, the lines of the messages of its conversation are printed, in order, up to the first fault. Without a fault
+/// nothing else is printed of it, but the line with which it begins.
+pub fn whole_flows_say_their_conversation()
+    ensures { WholeFlowsSayTheirConversation }
+{
+    conversation_is_read_sign_by_sign();
+    signs_run_on();
+    one_item_more();
+}
+
+/// A packet changes no connection but that of its flow, or of the flow behind it.
+pub fn other_connections_stay()
+    ensures { OtherConnectionsStay }
 {}
