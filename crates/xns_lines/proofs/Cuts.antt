@@ -5,7 +5,7 @@ use Rattle.std.specs.Prelude.{nat_lt}
 use Rattle.std.proofs.Math.Seq.{drop-cons}
 use Rattle.std.proofs.lemmas.Bool.{eqb-true}
 use Rattle.std.proofs.lemmas.Bool.Decides.{nat_tests}
-use Rattle.std.proofs.lemmas.List.{take-append-drop, length-take, get_or-take}
+use Rattle.std.proofs.lemmas.List.{take-append-drop}
 use Rattle.std.proofs.lemmas.List.Folds.{list_any-append}
 use Rattle.memchr.specs.Find.{Passes, is_byte}
 use Rattle.xns_lines.specs.Lines.Cutter.{HasNoNewline}
@@ -63,11 +63,6 @@ long_if_any (b ∷ rest) = search rules
 count_if_any : (rest : List ℕ) → length (line_if_any rest) ≤ 1
 count_if_any [] = omega arith
 count_if_any (b ∷ rest) = omega arith
-
-pub count_if_any-run : (rest run : List ℕ) → 0 < length run → length (line_if_any (rest ++ run)) ≡ 1
-count_if_any-run [] [] lt = absurd (omega arith)
-count_if_any-run [] (x ∷ run) lt = refl
-count_if_any-run (y ∷ rest) run lt = refl
 
 -- the lines are those that are over and at most one more
 pub line_count-parts : (xs : List ℕ) → length (lines_of xs) ≡ length (closed_lines xs) + length (line_if_any (open_line xs))
@@ -218,17 +213,6 @@ open-run xs (b ∷ run) h =
     ∙ ap (λ l. l ++ run) (open-byte xs b (run_head b run h)) ∙ append_assoc (open_line xs) (b ∷ []) run
 
 -- ---- a piece, run by run
-
--- a run from the front of the rest
-pub front_run : (k : ℕ) (rest run : List ℕ) → run ≡ take k rest → k ≤ length rest → ((j : ℕ) → 0 ≤ j → j < k → Passes (is_byte 10) rest j → ⊥) → HasNoNewline run
-front_run k rest run e le none = rw e (λ j low high passes.
-    let lt : j < k = omega (arith, high, length-take k rest) in
-    none j low lt (subst (λ x. (x == 10) ≡ true) (get_or-take k rest j 0 lt) passes))
-
-pub run_split : (taken front rest piece : List ℕ) (k : ℕ) → front ++ rest ≡ piece → ((taken ++ front) ++ take k rest) ++ drop k rest ≡ taken ++ piece
-run_split taken front rest piece k e =
-    append_assoc (taken ++ front) (take k rest) (drop k rest) ∙ ap (λ t. (taken ++ front) ++ t) (take-append-drop k rest)
-    ∙ append_assoc taken front rest ∙ ap (λ t. taken ++ t) e
 
 pub newline_split : (taken front rest piece : List ℕ) (k : ℕ) → front ++ rest ≡ piece → k < length rest → Passes (is_byte 10) rest k
     → (((taken ++ front) ++ take k rest) ++ 10 ∷ []) ++ drop (k + 1) rest ≡ taken ++ piece

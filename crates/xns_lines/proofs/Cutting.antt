@@ -134,26 +134,6 @@ module _ (most : ℕ) where
         is_left = (tt, closed);
       }
 
-  pub short_many : (c : Cutter) (taken run : List ℕ) → c.most ≤ c.count → 0 < length run → HasCut most c taken → IsCutShort most fault.TooManyLines (taken ++ run) (IsStill fault.TooManyLines taken)
-  short_many c taken run many some h = record {
-    front = taken;
-    more = run;
-    parts = refl;
-    within = closed_within c taken h;
-    found = (omega (arith, h.count, h.limit, many, few_closed most taken h.few), some);
-    is_left = (tt, refl);
-  }
-
-  pub short_memory : (c : Cutter) (taken run : List ℕ) → HasCut most c taken → IsCutShort most fault.NoMemory (taken ++ run) (IsStill fault.NoMemory taken)
-  short_memory c taken run h = record {
-    front = taken;
-    more = run;
-    parts = refl;
-    within = closed_within c taken h;
-    found = tt;
-    is_left = (tt, refl);
-  }
-
   own_left : (f : RunFault) (stands fails : Says) (lines : List (List ℕ)) → IsOwn f → stands lines → StandsAfter f stands fails lines
   own_left fault.Read stands fails lines own h = absurd own
   own_left fault.Write stands fails lines own h = absurd own
@@ -298,18 +278,10 @@ module _ (most : ℕ) where
 
   -- ---- the end of the input
 
-  pub cut_within : (c : Cutter) (taken : List ℕ) → HasCut most c taken → IsWithinLimits most taken
-  cut_within c taken h = all_within most taken h.closed_short h.open_short h.few
-
   pub finished_open : (c : Cutter) (said : Says) (taken line : List ℕ) → 0 < length c.line.items → line ≡ c.line.items → HasCut most c taken → said (closed_lines taken ++ line ∷ []) → said (lines_of taken)
   finished_open c said taken line some e h at =
       let lt : 0 < length (open_line taken) = omega (arith, ap length h.line) in
       subst said (ap (λ l. closed_lines taken ++ l) (ap (λ l. l ∷ []) (e ∙ h.line) ∙ sym (one_line (open_line taken) lt))) at
-
-  pub finished_closed : (c : Cutter) (said : Says) (taken : List ℕ) → length c.line.items ≡ 0 → HasTaken most c said taken → said (lines_of taken)
-  finished_closed c said taken none h =
-      let rest : open_line taken ≡ [] = sym h.0.line ∙ no_line c.line.items none in
-      subst said (sym (ap (λ r. closed_lines taken ++ line_if_any r) rest ∙ append-nil (closed_lines taken))) h.1
 
   pub takes_newline : (c c' : Cutter) (said : Says) (taken line : List ℕ) → c.count < c.most → c'.most ≡ c.most → c'.line.items ≡ [] → c'.count ≡ c.count + 1 → line ≡ c.line.items → HasCut most c taken
       → said (closed_lines taken ++ line ∷ []) → HasTaken most c' said (taken ++ 10 ∷ [])

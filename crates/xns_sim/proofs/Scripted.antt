@@ -1,14 +1,14 @@
 -- What stands once a script has read an input, after a fault and without one.
-use Rattle.std.proofs.Common.{◌≡◌, ◌∙◌, ap, sym, refl, subst, ℕ, Bool, List, [], append-nil, Option, Some, None}
-use Rattle.std.specs.Prelude.{IfSome, is_some}
+use Rattle.std.proofs.Common.{◌≡◌, sym, refl, subst, ℕ, List, [], append-nil, Option, Some, None}
+use Rattle.std.specs.Prelude.{IfSome}
 use Rattle.std.specs.Io.KnownBytes.{Appends, Consumes}
 use Rattle.xns_script.specs.Reading.{HasRead}
 use Rattle.xns_script.specs.declared.script.Script.{Script}
 use Rattle.xns_sim.specs.declared.script_taker.ScriptTaker.{ScriptTaker}
 use Rattle.xns_lines.specs.Faults.{AppendsPart, IsJustified}
-use Rattle.xns_lines.specs.Lines.{IsWithinLimits, lines_of, most_lines}
+use Rattle.xns_lines.specs.Lines.{lines_of, most_lines}
 use Rattle.xns_lines.specs.Lines.Cutter.{StandsAfter, StopsShort}
-use Rattle.xns_sim.specs.Sim.{HasLeft, SimStopsIn, is_script_refused, script_lines, script_text, sim_text}
+use Rattle.xns_sim.specs.Sim.{HasLeft, SimStopsIn, script_lines, script_text, sim_text}
 use Rattle.xns_sim.specs.Sim.Script.{HasReadAll, never, stands_for}
 use Rattle.xns_lines.specs.declared.fault.RunFault.{RunFault}
 use Rattle.xns_lines.specs.declared.fault.RunFault.TheVariants as fault
@@ -19,19 +19,10 @@ if_some P X (Some input) p f = f input p
 
 -- ---- reading
 
--- the lines were taken to the end
-abbrev pub TakesAll : Option (List ℕ) → Option (List ℕ) → Option (List ℕ) → ScriptTaker → ScriptTaker → List ℕ → Type 0
-TakesAll left first mid t0 t input = Consumes (Some input) left input × IsWithinLimits most_lines input × ((before : Option (List ℕ)) → stands_for t0 before first [] → stands_for t before mid (lines_of input))
-
 -- or up to a fault
 abbrev pub TakesSome : Option (List ℕ) → Option (List ℕ) → Option (List ℕ) → ScriptTaker → ScriptTaker → RunFault → List ℕ → Type 0
 TakesSome left first mid t0 t f input = (read : List ℕ) × Consumes (Some input) left read
     × ((before : Option (List ℕ)) → stands_for t0 before first [] → StopsShort most_lines f read (StandsAfter f (stands_for t before mid) (never t before mid)))
-
-pub all_read : (start left first mid : Option (List ℕ)) (t0 t : ScriptTaker) → HasRead t0.script [] → IfSome start (TakesAll left first mid t0 t) → IfSome start (λ input. HasReadAll t.script input left first mid)
-all_read start left first mid t0 t new all = if_some _ _ start all (λ input h.
-    let said = h.2 first (new, refl) in
-    record { consumed = h.0; within = h.1; read = said.0; unwritten = said.1 })
 
 nothing_left : (f : RunFault) (t : ScriptTaker) (input : List ℕ) (first mid : Option (List ℕ)) (lines : List (List ℕ)) → StandsAfter f (stands_for t first mid) (never t first mid) lines → HasLeft f input first mid
 nothing_left fault.Read t input first mid lines h = h.1
@@ -73,10 +64,6 @@ stops_behind input left first mid after s f h shown written = record {
   written = written;
 }
 
--- memory was refused once the whole input was read
-pub unmade : (start left first mid : Option (List ℕ)) (s : Script) → IfSome start (λ input. HasReadAll s input left first mid) → IfSome start (λ input. SimStopsIn input left first mid fault.NoMemory)
-unmade start left first mid s all = if_some _ _ start all (λ input h. stops_behind input left first mid mid s fault.NoMemory h tt h.unwritten)
-
 -- a write failed
 pub unwritten : (start left first mid after : Option (List ℕ)) (s : Script) (text : List ℕ) (f : RunFault) → (f ≡ fault.Write) × AppendsPart mid after text → Makes s text
     → IfSome start (λ input. HasReadAll s input left first mid) → IfSome start (λ input. SimStopsIn input left first after f)
@@ -87,10 +74,3 @@ pub written : (start left first mid after : Option (List ℕ)) (s : Script) (tex
     → IfSome start (λ input. HasReadAll s input left first mid) → IfSome start (λ input. Appends first after (sim_text input))
 written start left first mid after s text made whole all = if_some _ _ start all (λ input h.
     subst (λ (t : List ℕ). Appends first after t) (made (script_lines input) h.read) (subst (λ (m : Option (List ℕ)). Appends m after text) h.unwritten whole))
-
-pub refused : (start left first mid : Option (List ℕ)) (s : Script) (b : Bool) → b ≡ is_some s.refused
-    → IfSome start (λ input. HasReadAll s input left first mid) → IfSome start (λ input. b ≡ is_script_refused input)
-refused start left first mid s b is all = if_some _ _ start all (λ input h. is ∙ ap is_some h.read.refused)
-
-pub limits : (start left first mid : Option (List ℕ)) (s : Script) → IfSome start (λ input. HasReadAll s input left first mid) → IfSome start (IsWithinLimits most_lines)
-limits start left first mid s all = if_some _ _ start all (λ input h. h.within)
