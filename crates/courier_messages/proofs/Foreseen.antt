@@ -35,10 +35,16 @@ foreseen_mark seen p q x h l r f =
 
 pub foreseen_fault : (e : SessionFault) (p : Phase) (x : Item) → x.stream ≡ 0 → Stops e ⊥ (run p (map byte x.body) ≡ Err e) → Foresees (Err e) (run p (signs x)) (said p (signs x))
 foreseen_fault e p x h stops = on e stops where
-  on_fault : (f : SessionFault) → run p (map byte x.body) ≡ Err f → run p (signs x) ≡ Err f
-  on_fault f r = ap (run p) (signs_open x h) ∙ run_append p (map byte x.body) (end_of x.last) ∙ ap (λ (t : Result Phase SessionFault). t then λ q. run q (end_of x.last)) r
+  bytes : List Sign
+  bytes = map byte x.body
 
-  on : (f : SessionFault) → Stops f ⊥ (run p (map byte x.body) ≡ Err f) → Stops f ⊥ (run p (signs x) ≡ Err f)
+  on_fault : (f : SessionFault) → run p bytes ≡ Err f → (run p (signs x) ≡ Err f) × (said p (signs x) ≡ [])
+  on_fault f r =
+      (ap (run p) (signs_open x h) ∙ run_append p bytes (end_of x.last) ∙ ap (λ (t : Result Phase SessionFault). t then λ q. run q (end_of x.last)) r,
+      ap (said p) (signs_open x h) ∙ said_append p bytes (end_of x.last) ∙ ap (λ (ms : List Message). ms ++ onwards (run p bytes) (λ q. said q (end_of x.last))) (said_bytes p x.body)
+      ∙ ap (λ (t : Result Phase SessionFault). onwards t (λ q. said q (end_of x.last))) r)
+
+  on : (f : SessionFault) → Stops f ⊥ (run p bytes ≡ Err f) → Stops f ⊥ ((run p (signs x) ≡ Err f) × (said p (signs x) ≡ []))
   on NoMemory w = w
   on NoCommonVersion w = on_fault NoCommonVersion w
   on BadVersions w = on_fault BadVersions w

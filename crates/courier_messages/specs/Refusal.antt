@@ -59,7 +59,7 @@ Takes (Err e) q ms new = UnlessMemory e ((q ≡ Err e) × (ms ≡ []))
 -- what is told of an item before it is taken: the heads of the messages that it ends, of which there is at most one, or the fault that a peer makes
 abbrev pub Foresees : {A : Type 0} → Result (Option Head) SessionFault → Result A SessionFault → List Message → Type 0
 Foresees (Ok head) q ms = IsOk q × (map head_in ms ≡ option_to_list head)
-Foresees (Err e) q ms = Stops e ⊥ (q ≡ Err e)
+Foresees (Err e) q ms = Stops e ⊥ ((q ≡ Err e) × (ms ≡ []))
 
 -- bytes with which nothing is wrong, where they come
 abbrev pub AreRight : Phase → List ℕ → Type 0

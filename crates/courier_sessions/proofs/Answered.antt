@@ -1,6 +1,6 @@
 -- What a session that answers calls has done with one step more.
 use Rattle.std.proofs.Common.{◌≡◌, ◌∙◌, ap, sym, refl, subst, ℕ, List, [], ◌∷◌, ◌++◌, map, append_assoc, append-nil, length, arith, Bool, true, false, Ok, Err}
-use Rattle.std.specs.Prelude.{Result, Option, Some, None, IfSome, not, cond, nat_lt, ◌==◌, ◌||◌, if◌then◌else◌}
+use Rattle.std.specs.Prelude.{Result, Option, Some, None, IfSome, not, cond, nat_lt, ◌||◌, if◌then◌else◌}
 use Rattle.std.specs.List.{flat_map, filter}
 use Rattle.std.specs.Option.{option_to_list}
 use Rattle.std.proofs.lemmas.Bool.{ltb-false}
@@ -10,7 +10,6 @@ use Rattle.std.proofs.lemmas.List.Elements.{filter-append}
 use Rattle.xns_spp.specs.declared.item.Item.{Item}
 use Rattle.courier_messages.specs.declared.fault.SessionFault.{SessionFault}
 use Rattle.courier_messages.specs.declared.message.Message.{Message}
-use Rattle.courier_messages.specs.declared.message.Message.TheVariants.{Reject, Return, Abort}
 use Rattle.courier_messages.specs.Conversation.{Phase, conversation, conversation_fault, ending}
 use Rattle.courier_messages.specs.Cutting.{cut, versions_item}
 use Rattle.courier_messages.specs.Laws.{IsShort, OneItemMore, AServerHearsOneItemMore}
@@ -22,10 +21,9 @@ use Rattle.courier_sessions.proofs.Done.{two_are_no_one, all_more}
 use Rattle.courier_sessions.specs.declared.program.Program.{Program}
 use Rattle.courier_sessions.specs.declared.unlisted.Unlisted.{Unlisted}
 use Rattle.courier_sessions.specs.declared.unlisted.Unlisted.TheVariants as unlisted
-use Rattle.courier_sessions.specs.Answering.{Answering, new_answering, is_there, has_items, is_busy, with_call, after_item, transaction_in, is_a_call, after_call, why_unlisted, reject_message, after_reject, answer_message, length_refusal, answer_refusal, answered}
+use Rattle.courier_sessions.specs.Answering.{Answering, new_answering, is_there, has_items, is_busy, with_call, after_item, transaction_in, is_a_call, after_call, why_unlisted, reject_message, after_reject, answer_message, answer_refusal, answered}
 use Rattle.courier_sessions.specs.declared.answer.Answer.{Answer}
 use Rattle.courier_sessions.specs.declared.answer.Answer.TheVariants as kinds
-use Rattle.courier_sessions.specs.declared.answer_refusal.AnswerRefusal.{AnswerRefusal}
 use Rattle.courier_sessions.specs.declared.answer_refusal.AnswerRefusal.TheVariants as refusals
 use Rattle.courier_sessions.specs.Answerings.{HasAnswered, IsAnswer, is_listed}
 

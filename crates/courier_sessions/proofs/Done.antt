@@ -16,7 +16,6 @@ use Rattle.courier_messages.specs.Text.{signs}
 use Rattle.courier_messages.specs.Laws.{MoreCallsGoOut, OneItemMore}
 use Rattle.std.proofs.lemmas.Bool.{eqb-true, ltb-false}
 use Rattle.std.specs.List.{AllByRecursion}
-use Rattle.courier_sessions.specs.declared.call_refusal.CallRefusal.{CallRefusal}
 use Rattle.courier_sessions.specs.declared.call_refusal.CallRefusal.TheVariants.{Stopped, Busy, TooLong}
 use Rattle.courier_sessions.specs.Talk.{Talk, new_talk, next_transaction, called, is_there, call_refusal, wrong_unless, reply_fault, answered_unless, answered, after_item}
 use Rattle.courier_sessions.specs.Talks.{HasDone, AreAnswers, answered_call, count_if, Refuses}

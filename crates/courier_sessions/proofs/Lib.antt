@@ -1,4 +1,4 @@
-pub mod Told
+pub mod Judging
 pub mod Done
 pub mod Hearing
 pub mod Answered

@@ -77,7 +77,7 @@ fed a x =
 
 -- stopped
 abbrev pub IsStopped : Answering → Answering → Type 0
-IsStopped old new = new ≡ record old { failed = true; phase = new.phase }
+IsStopped old new = new ≡ record old { failed = true }
 
 -- a call that is handed
 

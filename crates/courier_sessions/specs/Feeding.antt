@@ -1,5 +1,7 @@
 -- What is told of an item that is fed to a side of a conversation.
-use Rattle.std.specs.Prelude.{ℕ, ◌+◌, ◌≡◌, Result, Ok, Err}
+use Rattle.std.specs.Prelude.{ℕ, ◌+◌, ◌<◌, ◌≡◌, length, Result, Ok, Err, IsOk}
+use Rattle.xns_spp.specs.declared.item.Item.{Item}
+use Rattle.courier_messages.specs.Refusal.{Stops}
 use Rattle.courier_messages.specs.Message.{most_bytes}
 use Rattle.courier_messages.specs.declared.fault.SessionFault.{SessionFault}
 use Rattle.courier_messages.specs.declared.fault.SessionFault.TheVariants as faults
@@ -27,3 +29,12 @@ told (Err WrongTransaction) = Err (Fault WrongTransaction)
 told (Err BadReply) = Err (Fault BadReply)
 told (Err (Stream kind)) = Err (Fault (Stream kind))
 told (Err Failed) = Err (Fault Failed)
+
+-- what is told of an item before it is taken, which leads to q: the fault that a peer makes, or that there is none
+abbrev pub Judges : {S : Type 0} → Result (Unit {0}) SessionFault → Result S SessionFault → Type 0
+Judges (Ok u) q = IsOk q
+Judges (Err e) q = Stops e ⊥ (q ≡ Err e)
+
+-- an item at which memory may be refused: it would be taken, and has bytes
+abbrev pub MayGrow : {S : Type 0} → Result S FeedRefusal → Item → Type 0
+MayGrow fed x = IsOk fed × (0 < length x.body)

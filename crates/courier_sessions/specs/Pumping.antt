@@ -1,6 +1,6 @@
 -- Items that move between a side of a conversation and an end until nothing moves: what is out is sent as far as the end accepts it; once nothing is
 -- out, what waits is handed up to the side, as far as that takes it.
-use Rattle.std.specs.Prelude.{◌≡◌, ◌<◌, ◌≤◌, ℕ, List, [], ◌∷◌, length, Bool, false, Option, Some, None, Result, Ok, Err, IfSome}
+use Rattle.std.specs.Prelude.{◌≡◌, List, [], ◌∷◌, Option, Some, None, Result, Ok, Err}
 use Rattle.courier_messages.specs.Refusal.{Stops}
 use Rattle.xns_spp.specs.Held.{Held, StandsFor}
 use Rattle.xns_spp.specs.Sending.{send_fault, after_send, take_answer, after_take}
@@ -8,8 +8,8 @@ use Rattle.xns_spp.specs.State.{State}
 use Rattle.xns_spp.specs.declared.item.Item.{Item}
 use Rattle.xns_spp.specs.declared.send_fault.SendFault.{SendFault}
 use Rattle.courier_sessions.specs.Answering as answering
-use Rattle.courier_sessions.specs.Answering.{Answering, is_busy}
-use Rattle.courier_sessions.specs.Feeding.{longest_item}
+use Rattle.courier_sessions.specs.Answering.{Answering}
+use Rattle.courier_sessions.specs.Feeding.{MayGrow}
 use Rattle.courier_sessions.specs.Talk as talk
 use Rattle.courier_sessions.specs.Talk.{Talk}
 use Rattle.courier_sessions.specs.declared.feed_refusal.FeedRefusal.{FeedRefusal}
@@ -74,19 +74,13 @@ one_step side y = moving side y.0 y.1 (side.out y.0)
 
 -- ---- the side that calls
 
-abbrev pub caller_grows : Talk → Item → Type 0
-caller_grows t x = (t.failed ≡ false) × (x.attention ≡ false) × (length x.body ≤ longest_item) × (0 < length x.body)
-
 abbrev pub caller_side : Side Talk
-caller_side = record { out = λ t. t.out; with_out = λ t xs. record t { out = xs }; fed = talk.fed; stops = talk.IsStopped; grows = caller_grows }
+caller_side = record { out = λ t. t.out; with_out = λ t xs. record t { out = xs }; fed = talk.fed; stops = talk.IsStopped; grows = λ t x. MayGrow (talk.fed t x) x }
 
 -- ---- the side that is called
 
-abbrev pub server_grows : Answering → Item → Type 0
-server_grows a x = (a.failed ≡ false) × (is_busy a ≡ false) × (x.attention ≡ false) × (length x.body ≤ longest_item) × (0 < length x.body)
-
 abbrev pub server_side : Side Answering
-server_side = record { out = λ a. a.out; with_out = λ a xs. record a { out = xs }; fed = answering.fed; stops = answering.IsStopped; grows = server_grows }
+server_side = record { out = λ a. a.out; with_out = λ a xs. record a { out = xs }; fed = answering.fed; stops = answering.IsStopped; grows = λ a x. MayGrow (answering.fed a x) x }
 
 -- ---- steps that are taken
 

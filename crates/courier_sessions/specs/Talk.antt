@@ -94,4 +94,4 @@ fed t x =
 
 -- stopped: what is out and the answer that is there stay
 abbrev pub IsStopped : Talk → Talk → Type 0
-IsStopped old new = new ≡ record old { failed = true; phase = new.phase }
+IsStopped old new = new ≡ record old { failed = true }

@@ -1,10 +1,12 @@
 //! The side of a Courier conversation that calls. It reads no shapes: a call goes out with its words, and its answer comes as a message.
 
-ghost use Rattle.std.specs.Prelude.{◌≡◌, ◌<◌, ℕ, List, length, false, OnErr, IfOk, Some, None, Ok, Err, option_copied};
+ghost use Rattle.std.specs.Prelude.{◌≡◌, ◌<◌, ℕ, List, length, false, OnErr, IfOk, IsOk, Some, None, Ok, Err, option_copied};
 ghost use Rattle.courier_messages.specs.declared.fault.SessionFault.TheVariants.{NoMemory};
 ghost use Rattle.courier_messages.specs.RawCalls.{words_call};
 ghost use Rattle.courier_messages.specs.Head.{with_words};
 ghost use Rattle.courier_messages.specs.Refusal.{Follows};
+ghost use Rattle.courier_messages.specs.Text.{item_of};
+ghost use Rattle.courier_sessions.specs.Feeding.{Judges};
 ghost use Rattle.courier_sessions.specs.declared.call_refusal.CallRefusal.TheVariants as refusals;
 ghost use Rattle.courier_sessions.specs.Pumping.{caller_side, IsFed};
 ghost use Rattle.courier_sessions.specs.Talk.{Talk, new_talk, called, call_refusal, CallAnswers, reply_fault, after_item};
@@ -151,11 +153,22 @@ impl WordCaller {
         Ok(())
     }
 
+    /// What is wrong with an item of these parts, if anything is: it is told before the item is taken.
+    fn judge(&self, stream: u8, last: bool, body: &[u8]) -> Result<(), SessionFault>
+        ensures { Judges result (after_item self.now (item_of stream last body.now)) }
+    {
+        let Some(head) = self.incoming.look(stream, last, body)? else {
+            return Ok(());
+        };
+        match reply_fault(head, self.waiting, self.transaction) {
+            Some(fault) => Err(fault),
+            None => Ok(()),
+        }
+    }
+
     /// Takes in one more item, and keeps the answer that it ends.
     fn take_item(&mut self, alloc: Global, item: Item) -> Result<(), SessionFault>
         ensures hears { Follows result (after_item self.old item) self.new }
-        ensures beside { self.new ≡ record self.old { phase = self.new.phase; waiting = self.new.waiting; outcome = self.new.outcome } }
-        ensures same { OnErr result ((self.new.waiting ≡ self.old.waiting) × (self.new.outcome ≡ self.old.outcome)) }
         ensures memory { result ≡ Err NoMemory → (self.new ≡ self.old) × (0 < length item.body) }
     {
         let Some(message) = self.incoming.take(alloc, item)? else {
@@ -169,7 +182,7 @@ impl WordCaller {
         Ok(())
     }
 
-    /// Looks at an item of these parts, whose bytes are copied.
+    /// Takes in an item of these parts, whose bytes are copied once nothing is wrong with them.
     fn hear(
         &mut self,
         alloc: Global,
@@ -177,11 +190,11 @@ impl WordCaller {
         last: bool,
         body: &[u8],
     ) -> Result<(), SessionFault>
-        ensures hears { Follows result (after_item self.old (record { stream = stream; attention = false; last = last; body = body.now })) self.new }
-        ensures beside { self.new ≡ record self.old { phase = self.new.phase; waiting = self.new.waiting; outcome = self.new.outcome } }
-        ensures same { OnErr result ((self.new.waiting ≡ self.old.waiting) × (self.new.outcome ≡ self.old.outcome)) }
-        ensures memory { result ≡ Err NoMemory → (self.new ≡ self.old) × (0 < length body.now) }
+        ensures hears { Follows result (after_item self.old (item_of stream last body.now)) self.new }
+        ensures same { OnErr result (self.new ≡ self.old) }
+        ensures memory { result ≡ Err NoMemory → IsOk (after_item self.old (item_of stream last body.now)) × (0 < length body.now) }
     {
+        self.judge(stream, last, body)?;
         let item = copied_item(alloc, stream, last, body)?;
         self.take_item(alloc, item)
     }

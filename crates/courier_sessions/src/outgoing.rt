@@ -4,6 +4,7 @@ ghost use Rattle.std.specs.Prelude.{◌≡◌, ◌<◌, ℕ, List, ◌++◌, len
 ghost use Rattle.courier_messages.specs.Cutting.{cut};
 ghost use Rattle.courier_messages.specs.Head.{with_words};
 ghost use Rattle.courier_messages.specs.Message.{message_words};
+ghost use Rattle.courier_messages.specs.Text.{item_of};
 ghost use Rattle.courier_messages.specs.declared.head.Head.TheVariants.{Call};
 
 use courier_messages::{Head, MOST_BYTES, put_out};
@@ -16,7 +17,7 @@ pub const LONGEST_ITEM: usize = 4 + MOST_BYTES;
 
 /// An item of datastream 0 or another, which is no attention item, whose bytes are copied. It is refused memory only where there are some.
 pub fn copied_item(alloc: Global, stream: u8, last: bool, body: &[u8]) -> Result<Item, AllocError>
-    ensures copied { IfOk result (λ x. x ≡ record { stream = stream; attention = false; last = last; body = body.now }) }
+    ensures copied { IfOk result (λ x. x ≡ item_of stream last body.now) }
     ensures memory { OnErr result (0 < length body.now) }
 {
     let mut bytes = Vec::new(alloc);

@@ -1,12 +1,14 @@
 //! The side of a Courier conversation that is called. It reads no shapes: a call is handed as a message, and its answer goes out with its words.
 
-ghost use Rattle.std.specs.Prelude.{◌≡◌, ◌≢◌, ◌<◌, ◌++◌, ℕ, List, length, true, false, OnErr, IfOk, Some, None, Ok, Err, option_map, option_copied, nat_lt};
+ghost use Rattle.std.specs.Prelude.{◌≡◌, ◌≢◌, ◌<◌, ◌++◌, ℕ, List, length, true, false, OnErr, IfOk, IsOk, Some, None, Ok, Err, option_map, option_copied, nat_lt};
 ghost use Rattle.courier_messages.specs.declared.fault.SessionFault.TheVariants.{NoMemory};
 ghost use Rattle.courier_messages.specs.declared.message.Message.{Message};
 ghost use Rattle.courier_messages.specs.Cutting.{cut};
 ghost use Rattle.courier_messages.specs.Head.{with_words};
 ghost use Rattle.courier_messages.specs.Message.{message_words, most_words};
 ghost use Rattle.courier_messages.specs.Refusal.{Follows};
+ghost use Rattle.courier_messages.specs.Text.{item_of};
+ghost use Rattle.courier_sessions.specs.Feeding.{Judges};
 ghost use Rattle.courier_sessions.specs.Answering.{Answering, new_answering, is_busy, is_there, after_item, is_a_call, transaction_in, after_call, why_unlisted, reject_message, after_reject, answer_message, answers_to, is_reject, answer_refusal, AnswerAnswers, answered};
 ghost use Rattle.courier_sessions.specs.Pumping.{server_side, IsFed};
 ghost use Rattle.courier_sessions.specs.declared.unlisted.Unlisted.{Unlisted};
@@ -117,11 +119,23 @@ impl WordServer {
         self.call.is_some() || self.asked.is_some() || !self.out.is_empty()
     }
 
+    /// What is wrong with an item of these parts, if anything is: it is told before the item is taken.
+    fn judge(&self, stream: u8, last: bool, body: &[u8]) -> Result<(), SessionFault>
+        ensures { Judges result (after_item self.now (item_of stream last body.now)) }
+    {
+        let Some(head) = self.incoming.look(stream, last, body)? else {
+            return Ok(());
+        };
+        if is_call(head) {
+            Ok(())
+        } else {
+            Err(SessionFault::BadReply)
+        }
+    }
+
     /// Takes in one more item, and keeps the call that it ends.
     fn take_item(&mut self, alloc: Global, item: Item) -> Result<(), SessionFault>
         ensures hears { Follows result (after_item self.old item) self.new }
-        ensures beside { self.new ≡ record self.old { phase = self.new.phase; call = self.new.call } }
-        ensures same { OnErr result (self.new.call ≡ self.old.call) }
         ensures memory { result ≡ Err NoMemory → (self.new ≡ self.old) × (0 < length item.body) }
     {
         let Some(message) = self.incoming.take(alloc, item)? else {
@@ -134,7 +148,7 @@ impl WordServer {
         Ok(())
     }
 
-    /// Looks at an item of these parts, whose bytes are copied.
+    /// Takes in an item of these parts, whose bytes are copied once nothing is wrong with them.
     fn hear(
         &mut self,
         alloc: Global,
@@ -142,11 +156,11 @@ impl WordServer {
         last: bool,
         body: &[u8],
     ) -> Result<(), SessionFault>
-        ensures hears { Follows result (after_item self.old (record { stream = stream; attention = false; last = last; body = body.now })) self.new }
-        ensures beside { self.new ≡ record self.old { phase = self.new.phase; call = self.new.call } }
-        ensures same { OnErr result (self.new.call ≡ self.old.call) }
-        ensures memory { result ≡ Err NoMemory → (self.new ≡ self.old) × (0 < length body.now) }
+        ensures hears { Follows result (after_item self.old (item_of stream last body.now)) self.new }
+        ensures same { OnErr result (self.new ≡ self.old) }
+        ensures memory { result ≡ Err NoMemory → IsOk (after_item self.old (item_of stream last body.now)) × (0 < length body.now) }
     {
+        self.judge(stream, last, body)?;
         let item = copied_item(alloc, stream, last, body)?;
         self.take_item(alloc, item)
     }

@@ -9,7 +9,7 @@ use Rattle.courier_messages.proofs.Runs.{other_stream}
 use Rattle.courier_messages.proofs.incoming.Incoming.look.Goals as goal
 
 pub returns-then-stream-ne0 : goal.returns-then-stream-ne0
-returns-then-stream-ne0 c = (other_stream c.args.self.now (item_of c.args.stream c.args.last c.args.body.now) c.if-stream-ne0.true).0
+returns-then-stream-ne0 c = other_stream c.args.self.now (item_of c.args.stream c.args.last c.args.body.now) c.if-stream-ne0.true
 
 pub returns-in_err-stage : goal.returns-in_err-stage
 returns-in_err-stage c =
