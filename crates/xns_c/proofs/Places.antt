@@ -8,7 +8,8 @@ use Rattle.xns_idp.specs.Packet.{PacketModel}
 use Rattle.xns_idp.specs.Reading.{packet_of, packet_fault, packet_fields, word_at, made_even, unless}
 use Rattle.xns_idp.specs.declared.fault.IdpFault.{IdpFault}
 use Rattle.xns_idp.specs.declared.fault.IdpFault.TheVariants.{Short}
-use Rattle.xns_c_parts.specs.declared.address.XnsAddress.{XnsAddress}
+use Rattle.xns_c.specs.declared.packet.XnsPacket.{XnsPacket}
+use Rattle.xns_c.specs.Views.{packet_in}
 use Rattle.xns_c_parts.specs.Given.{is_yes, as_byte}
 use Rattle.xns_c_parts.specs.Views.{address_in}
 use Rattle.xns_spp.specs.declared.header.Header.{Header}
@@ -86,8 +87,11 @@ small false = omega arith
 pub byte_of_flag : (x : Bool) (f : ℕ) → f ≡ as_byte x → f ≤ 1
 byte_of_flag x f e = let most = small x in omega (arith, e, most)
 
-pub read_at : (b : List ℕ) (p : PacketModel) (n f : ℕ) (t s : XnsAddress) → Ok (p, n) ≡ packet_of b → f ≡ as_byte p.summed → address_in t ≡ p.target → address_in s ≡ p.source
-    → packet_of b ≡ Ok (record p { summed = is_yes f; target = address_in t; source = address_in s; body = slice_range b 30 (30 + length p.body) }, n)
-read_at b p n f t s e ef et es =
-    let flag : p.summed ≡ is_yes f = sym (ap is_yes ef ∙ flag_again p.summed) in
-    sym e ∙ (λ i. Ok (record p { summed = flag i; target = sym et i; source = sym es i; body = placed b (p, n) (sym e) i }, n))
+-- what is told of a packet says which it is
+pub read_as : (b : List ℕ) (p : PacketModel) (n : ℕ) (r : XnsPacket) → Ok (p, n) ≡ packet_of b → r.summed ≡ as_byte p.summed
+    → (r.control ≡ p.control) × (r.kind ≡ p.kind) → (address_in r.target ≡ p.target) × (address_in r.source ≡ p.source)
+    → (r.body_at ≡ 30) × (r.body_length ≡ length p.body) × (r.taken ≡ n) → packet_of b ≡ Ok (packet_in r b, r.taken)
+read_as b p n r e flag fields ends (at, size, whole) =
+    let summed : p.summed ≡ is_yes r.summed = sym (ap is_yes flag ∙ flag_again p.summed) in
+    let body : p.body ≡ slice_range b r.body_at (r.body_at + r.body_length) = placed b (p, n) (sym e) ∙ (λ i. slice_range b (sym at i) (sym at i + sym size i)) in
+    sym e ∙ (λ i. Ok (record { summed = summed i; control = sym fields.0 i; kind = sym fields.1 i; target = sym ends.0 i; source = sym ends.1 i; body = body i }, sym whole i))

@@ -5,14 +5,15 @@ ghost use Rattle.xns_idp.specs.Checksum.{words, cycle_checksum};
 ghost use Rattle.xns_idp.specs.Packet.{PacketModel, most_data, packet_spelling};
 ghost use Rattle.xns_idp.specs.Reading.{made_even, packet_of};
 ghost use Rattle.xns_idp.specs.declared.fault.IdpFault.{IdpFault};
-ghost use Rattle.xns_c_parts.specs.Given.{IsPut};
+ghost use Rattle.xns_c_parts.specs.Given.{IsPut, as_byte};
 ghost use Rattle.xns_c_parts.specs.Results.{ok, bad_argument, short_buffer, too_long, idp_fault_number};
+ghost use Rattle.xns_c_parts.specs.Views.{address_in};
 ghost use Rattle.xns_c.specs.Views.{packet_in, packet_with};
 
 use crate::packet::XnsPacket;
 use xns_c_parts::results::{BAD_ARGUMENT, OK, SHORT_BUFFER, TOO_LONG, idp_fault_number};
 use xns_c_parts::{XnsAddress, as_byte};
-use xns_idp::{MOST_DATA, Packet, cycle_sum, decode, encode_into};
+use xns_idp::{HEADER_BYTES, MOST_DATA, Packet, cycle_sum, decode, encode_into};
 
 /// The checksum of the words of the bytes, or `BAD_ARGUMENT` for an odd number of bytes
 /// (XSIS 028112, Internet Datagram Protocol, Checksum).
@@ -26,6 +27,25 @@ pub extern "C" fn xns_checksum(bytes: &[u8], sum: &mut u16) -> u32
     }
     *sum = cycle_sum(bytes);
     OK
+}
+
+/// What C is told of a packet that was read, and that has so many bytes.
+fn told(found: &Packet<'_>, taken: usize) -> XnsPacket
+    ensures flag { result.summed ≡ as_byte found.now.summed }
+    ensures fields { (result.control ≡ found.now.control) × (result.kind ≡ found.now.kind) }
+    ensures ends { (address_in result.target ≡ found.now.target) × (address_in result.source ≡ found.now.source) }
+    ensures place { (result.body_at ≡ 30) × (result.body_length ≡ length found.now.body.now) × (result.taken ≡ taken) }
+{
+    XnsPacket {
+        summed: as_byte(found.summed),
+        control: found.control,
+        kind: found.kind,
+        target: XnsAddress::of(&found.target),
+        source: XnsAddress::of(&found.source),
+        body_at: HEADER_BYTES,
+        body_length: found.body.len(),
+        taken,
+    }
 }
 
 /// Reads the packet at the front of the bytes, or answers the number of the first fault
@@ -42,16 +62,7 @@ pub extern "C" fn xns_decode(bytes: &[u8], packet: &mut XnsPacket) -> u32
 {
     match decode(bytes) {
         Ok((found, taken)) => {
-            *packet = XnsPacket {
-                summed: as_byte(found.summed),
-                control: found.control,
-                kind: found.kind,
-                target: XnsAddress::of(&found.target),
-                source: XnsAddress::of(&found.source),
-                body_at: 30,
-                body_length: found.body.len(),
-                taken,
-            };
+            *packet = told(&found, taken);
             OK
         }
         Err(fault) => idp_fault_number(fault),
