@@ -1,6 +1,10 @@
 mod Agendas
+mod Dues
+mod Handing
+mod Leading
 mod Ordered
 mod Serving
 mod Silent
+mod Tellings
 mod Tree
 mod Turning

@@ -1,9 +1,15 @@
 pub mod Agenda
+pub mod Closing
+pub mod Connecting
 pub mod Identifiers
+pub mod Reasons
+pub mod Refusing
 pub mod Register
 pub mod Services
 pub mod Settings
+pub mod Story
 pub mod Strays
+pub mod Telling
 pub mod Times
 pub mod Turns
 pub mod Waiting

@@ -1,0 +1,347 @@
+-- What steps do to what a connection has done.
+use Rattle.std.proofs.Common.{◌≡◌, ◌∙◌, ap, sym, refl, subst, ℕ, ◌≤◌, List, [], ◌∷◌, ◌++◌, append-nil, append_assoc, take, drop, map, ◌-◌, length, Bool, true, false, Option, Some, None, Result, Ok, Err, OnOk, OnErr, arith}
+use Rattle.std.specs.Prelude.{not, ◌&&◌, ◌||◌, if◌then◌else◌, is_ok}
+use Rattle.std.proofs.lemmas.List.{take-append-le}
+use Rattle.courier_messages.specs.declared.message.Message.{Message}
+use Rattle.xns_spp.specs.Growth.{Begins}
+use Rattle.xns_spp.specs.Ends.{is_open}
+use Rattle.xns_spp.specs.Held.{Held, StandsFor}
+use Rattle.xns_spp.specs.Outgoing.{data_packets_at}
+use Rattle.xns_spp.specs.Packet.{spp_packet_spelling}
+use Rattle.xns_spp.specs.Laws.{TheNextItemIsHandedUp, AnEndOnlyGrows, OtherStepsAcceptAndHandUpNothing, OtherStepsHearNothing, ItemsAreAcceptedOrChangeNothing}
+use Rattle.xns_spp.specs.Receiving.{after_receive}
+use Rattle.xns_spp.specs.Sending.{send_answer, after_send, take_answer, after_take, flush_answer, after_flush}
+use Rattle.xns_spp.specs.State.{State, numbers_of, send_limit}
+use Rattle.xns_spp.specs.Telling.{after_resend}
+use Rattle.xns_spp.specs.declared.item.Item.{Item}
+use Rattle.xns_host.specs.Story.{Story, SideHas, Flows, Runs, start, sends, takes, flushes, resends, Moves, is_stopped, with_handed, new_story}
+use Rattle.xns_host.specs.Closing.{drains, closing_items, closing_item, put_if, end_stream, end_reply_stream, noted}
+use Rattle.xns_host.specs.Telling.{Tells, Goes, Rested, owes_end, owes_reply}
+use Rattle.xns_host.specs.declared.closing.Closing.{Closing}
+use Rattle.xns_host.specs.declared.closing.TheConstants.Closing.{NONE}
+use Rattle.xns_host.specs.declared.side.Side.{Side}
+use Rattle.xns_host.specs.declared.side.Side.TheVariants.{Calls, Answers}
+use Rattle.xns_host.specs.declared.conversation.Conversation.{Conversation}
+use Rattle.xns_host.proofs.Leading.{begins_on, same_messages, goes_on}
+
+-- ---- the end moves, and the side stays
+
+pub has_at : (s : State) (h : Story) (side : Side) → SideHas h side → SideHas (record h { state = s }) side
+has_at s h (Calls t) c = record { phase = c.phase; done = c.done; going = c.going }
+has_at s h (Answers a) c = record { phase = c.phase; done = c.done; going = c.going }
+
+-- what an end's step does for a side that stays
+pub record Carries (t u : Conversation) (s v : State) : Type 0 where
+  pub stands : StandsFor u.endpoint v
+  pub fed : Begins (take s.handed s.taken) (take v.handed v.taken)
+  pub all : drains u.side u.closing ≡ false → take v.handed v.taken ≡ take s.handed s.taken
+  pub given : (g : List Item) → g ++ closing_items t.closing ≡ s.accepted → g ++ closing_items u.closing ≡ v.accepted
+
+pub carried : (t u : Conversation) (h : Story) (v : State) → u.side ≡ t.side → (drains u.side u.closing ≡ false → drains t.side t.closing ≡ false) → Carries t u h.state v → Tells t h → Tells u (record h { state = v })
+carried t u h v same drain c tells = record {
+  stands = c.stands;
+  has = subst (λ (x : Side). SideHas (record h { state = v }) x) (sym same) (has_at v h t.side tells.has);
+  fed = begins_on h.fed (take h.state.handed h.state.taken) (take v.handed v.taken) tells.fed c.fed;
+  all = λ z. tells.all (drain z) ∙ sym (c.all z);
+  given = c.given h.given tells.given;
+}
+
+pub goes_by : (t u : Conversation) → u.side ≡ t.side → (drains u.side u.closing ≡ false → drains t.side t.closing ≡ false) → ((s : State) → StandsFor t.endpoint s → (v : State) × Carries t u s v × Runs s v) → Goes t u
+goes_by t u same drain step = record {
+  still = drain;
+  on = λ h tells. let k = step h.state tells.stands in
+      (record h { state = k.0 }, carried t u h k.0 same drain k.1 tells, same_messages h (record h { state = k.0 }) k.2 refl refl refl refl);
+}
+
+-- ---- an item is taken
+
+pub after_taken : TheNextItemIsHandedUp → (s : State) (o : Option Item) → take_answer s ≡ o → ((after_take s).accepted ≡ s.accepted) × Begins (take s.handed s.taken) (take (after_take s).handed (after_take s).taken)
+after_taken next s None is = let e = next.none s is in (ap (λ (v : State). v.accepted) e, subst (λ (v : State). Begins (take s.handed s.taken) (take v.handed v.taken)) (sym e) ([], append-nil (take s.handed s.taken)))
+after_taken next s (Some x) is = let e = next.some s x is in
+    (ap (λ (v : State). v.accepted) e, subst (λ (v : State). Begins (take s.handed s.taken) (take v.handed v.taken)) (sym e) (x ∷ [], sym (next.more s x is)))
+
+pub hands_up : TheNextItemIsHandedUp → (t u : Conversation) → u.side ≡ t.side → closing_items u.closing ≡ closing_items t.closing → drains u.side u.closing ≡ true
+    → ((s : State) → StandsFor t.endpoint s → StandsFor u.endpoint (after_take s)) → Goes t u
+hands_up next t u same closing drain step = goes_by t u same (λ z. absurd (cc)) (λ s stands.
+    let k = after_taken next s (take_answer s) refl in
+    (after_take s, record { stands = step s stands; fed = k.1; all = λ z. absurd (cc); given = λ g e. ap (λ (xs : List Item). g ++ xs) closing ∙ e ∙ sym k.0 }, takes start))
+
+-- ---- an end's step with the same items
+
+pub same_items : (t u : Conversation) (s v : State) → closing_items u.closing ≡ closing_items t.closing → v.accepted ≡ s.accepted → v.handed ≡ s.handed → v.taken ≡ s.taken → StandsFor u.endpoint v → Carries t u s v
+same_items t u s v closing accepted handed taken stands =
+    let front : take v.handed v.taken ≡ take s.handed s.taken = ap (λ (n : ℕ). take n v.taken) handed ∙ ap (λ (xs : List Item). take s.handed xs) taken in
+    record { stands = stands; fed = ([], append-nil (take s.handed s.taken) ∙ sym front); all = λ z. front; given = λ g e. ap (λ (xs : List Item). g ++ xs) closing ∙ e ∙ sym accepted }
+
+-- ---- a packet comes
+
+pub same_front : (n : ℕ) (xs ys : List Item) → n ≤ length xs → Begins xs ys → take n ys ≡ take n xs
+same_front n xs ys le p = ap (λ (zs : List Item). take n zs) (sym p.1) ∙ take-append-le n xs p.0 le
+
+pub hears : AnEndOnlyGrows → OtherStepsAcceptAndHandUpNothing → (t u : Conversation) (h : Story) (b : List ℕ) → u.side ≡ t.side → u.closing ≡ t.closing → StandsFor u.endpoint (after_receive h.state b) → Tells t h
+    → Tells u (record h { state = after_receive h.state b })
+hears grows stay t u h b same closing stands tells =
+    let s : State = h.state in
+    let v : State = after_receive s b in
+    let g = grows.receive s b in
+    let k = stay.receive s b in
+    let few = tells.stands.fits.bounds.handed_taken in
+    let front : take v.handed v.taken ≡ take s.handed s.taken = ap (λ (n : ℕ). take n v.taken) k.handed ∙ same_front s.handed s.taken v.taken few g.taken in
+    carried t u h v same (λ z. ap (λ (x : Side). drains x t.closing) (sym same) ∙ ap (λ (e : Closing). drains u.side e) (sym closing) ∙ z)
+    (record { stands = stands; fed = ([], append-nil (take s.handed s.taken) ∙ sym front); all = λ z. front; given = λ l e. ap (λ (x : Closing). l ++ closing_items x) closing ∙ e ∙ sym k.accepted }) tells
+
+-- ---- items move
+
+nothing_closing : (stop end reply deaf : Bool) (side : Side) (e : Closing) → is_stopped side ≡ stop → e.end_sent ≡ end → e.reply_sent ≡ reply → (stop || (end || (reply || deaf))) ≡ false → (is_stopped side ≡ false) × (closing_items e ≡ [])
+nothing_closing true end reply deaf side e a b c d = absurd (cc)
+nothing_closing false true reply deaf side e a b c d = absurd (cc)
+nothing_closing false false true deaf side e a b c d = absurd (cc)
+nothing_closing false false false deaf side e a b c d =
+    (a, ap (λ (x : Bool). put_if x end_stream ++ put_if e.reply_sent end_reply_stream) b ∙ ap (λ (x : Bool). put_if x end_reply_stream) c)
+
+pub nothing_said : (side : Side) (e : Closing) → drains side e ≡ false → (is_stopped side ≡ false) × (closing_items e ≡ [])
+nothing_said side e d = nothing_closing (is_stopped side) e.end_sent e.reply_sent e.deaf side e refl refl refl d
+
+pub flows_of : (t : Conversation) (h : Story) → drains t.side t.closing ≡ false → Tells t h → Flows t.side t.endpoint h
+flows_of t h d tells =
+    let k = nothing_said t.side t.closing d in
+    record { stands = tells.stands; has = tells.has; fed = tells.all d; given = sym (append-nil h.given) ∙ ap (λ (xs : List Item). h.given ++ xs) (sym k.1) ∙ tells.given }
+
+pub tells_of : (t : Conversation) (h : Story) → closing_items t.closing ≡ [] → Flows t.side t.endpoint h → Tells t h
+tells_of t h closing f =
+    record { stands = f.stands; has = f.has; fed = ([], append-nil h.fed ∙ f.fed); all = λ z. f.fed; given = ap (λ (xs : List Item). h.given ++ xs) closing ∙ append-nil h.given ∙ f.given }
+
+pub conversed : (t u : Conversation) → drains t.side t.closing ≡ false → u.closing ≡ t.closing → Moves t.side t.endpoint u.side u.endpoint → Goes t u
+conversed t u d closing moves = record {
+  still = λ z. d;
+  on = λ h tells.
+      let k = moves.on h (flows_of t h d tells) in
+      (k.0, tells_of u k.0 (ap closing_items closing ∙ (nothing_said t.side t.closing d).1) k.1, k.2);
+}
+
+-- ---- flags that say nothing of what was put out
+
+pub same_closing : (e f : Closing) → f.end_sent ≡ e.end_sent → f.reply_sent ≡ e.reply_sent → closing_items f ≡ closing_items e
+same_closing e f end reply =
+    ap (λ (x : Bool). put_if x end_stream ++ put_if f.reply_sent end_reply_stream) end
+    ∙ ap (λ (x : Bool). put_if e.end_sent end_stream ++ put_if x end_reply_stream) reply
+
+pub same_drains : (s : Side) (e f : Closing) → f.end_sent ≡ e.end_sent → f.reply_sent ≡ e.reply_sent → f.deaf ≡ e.deaf → drains s f ≡ drains s e
+same_drains s e f end reply deaf =
+    ap (λ (x : Bool). is_stopped s || (x || (f.reply_sent || f.deaf))) end ∙ ap (λ (x : Bool). is_stopped s || (e.end_sent || (x || f.deaf))) reply
+    ∙ ap (λ (x : Bool). is_stopped s || (e.end_sent || (e.reply_sent || x))) deaf
+
+-- what was put out, and whether it is deaf, does not depend on what came
+pub record Beside (e f : Closing) : Type 0 where
+  pub end : f.end_sent ≡ e.end_sent
+  pub reply : f.reply_sent ≡ e.reply_sent
+  pub deaf : f.deaf ≡ e.deaf
+
+beside_by : (e : Closing) (a b : Bool) → Beside e (if a then record e { reply_wanted = true } else if b then record e { reply_wanted = true; reply_heard = true } else e)
+beside_by e true b = record { end = refl; reply = refl; deaf = refl }
+beside_by e false true = record { end = refl; reply = refl; deaf = refl }
+beside_by e false false = record { end = refl; reply = refl; deaf = refl }
+
+pub beside : (e f : Closing) (stream : ℕ) → f ≡ noted e stream → Beside e f
+beside e f stream is = subst (λ (g : Closing). Beside e g) (sym is) (beside_by e _ _)
+
+-- ---- an item of the closing exchange is put out
+
+-- one was refused
+pub not_put : ItemsAreAcceptedOrChangeNothing → (t u : Conversation) (x : Item) → u.side ≡ t.side → u.closing ≡ t.closing
+    → ((s : State) → StandsFor t.endpoint s → is_ok (send_answer s x) ≡ false) → ((s : State) → StandsFor t.endpoint s → StandsFor u.endpoint (after_send s x)) → Goes t u
+not_put law t u x same closing refused step = goes_by t u same (λ z. ap (λ (e : Closing). drains t.side e) (sym closing) ∙ ap (λ (y : Side). drains y u.closing) (sym same) ∙ z) (λ s stands.
+    let e : after_send s x ≡ s = law.refused s x (refused s stands) in
+    (s, same_items t u s s (ap closing_items closing) refl refl refl (subst (λ (v : State). StandsFor u.endpoint v) e (step s stands)), start))
+
+accepts : ItemsAreAcceptedOrChangeNothing → (t u : Conversation) (x : Item) (s : State) → is_ok (send_answer s x) ≡ true → StandsFor u.endpoint (after_send s x)
+    → ((g : List Item) → g ++ closing_items u.closing ≡ (g ++ closing_items t.closing) ++ x ∷ []) → Carries t u s (after_send s x)
+accepts law t u x s ok stands more =
+    let e : after_send s x ≡ record s { accepted = s.accepted ++ x ∷ [] } = law.accepted s x ok in
+    let front : take (after_send s x).handed (after_send s x).taken ≡ take s.handed s.taken = ap (λ (v : State). take v.handed v.taken) e in
+    record {
+      stands = stands;
+      fed = ([], append-nil (take s.handed s.taken) ∙ sym front);
+      all = λ z. front;
+      given = λ g is. more g ∙ ap (λ (xs : List Item). xs ++ x ∷ []) is ∙ sym (ap (λ (v : State). v.accepted) e);
+    }
+
+-- the reply
+pub put_reply : ItemsAreAcceptedOrChangeNothing → (t u : Conversation) → u.side ≡ t.side → u.closing ≡ record t.closing { reply_sent = true } → t.closing.reply_sent ≡ false
+    → ((s : State) → StandsFor t.endpoint s → is_ok (send_answer s (closing_item end_reply_stream)) ≡ true)
+    → ((s : State) → StandsFor t.endpoint s → StandsFor u.endpoint (after_send s (closing_item end_reply_stream))) → Goes t u
+put_reply law t u same closing unsent ok step = goes_by t u same (λ z. absurd (never (is_stopped u.side) t.closing.end_sent t.closing.deaf (sym (ap (λ (e : Closing). drains u.side e) closing) ∙ z))) (λ s stands. (
+  after_send s x,
+  accepts law t u x s (ok s stands) (step s stands) (λ g.
+      ap (λ (f : Closing). g ++ closing_items f) closing ∙ sym (append_assoc g (end_of t.closing) (x ∷ []))
+      ∙ ap (λ (xs : List Item). xs ++ x ∷ []) (sym (ap (λ (b : Bool). g ++ (end_of t.closing ++ put_if b end_reply_stream)) unsent ∙ ap (λ (xs : List Item). g ++ xs) (append-nil (end_of t.closing))))),
+  sends start x,
+)) where
+  never : (a b c : Bool) → (a || (b || (true || c))) ≡ false → ⊥
+  never true b c z = cc
+  never false true c z = cc
+  never false false c z = cc
+
+  end_of : Closing → List Item
+  end_of e = put_if e.end_sent end_stream
+
+  x : Item
+  x = closing_item end_reply_stream
+
+-- the asking for an end
+pub put_end : ItemsAreAcceptedOrChangeNothing → (t u : Conversation) → u.side ≡ t.side → u.closing ≡ record t.closing { end_sent = true } → drains t.side t.closing ≡ false
+    → ((s : State) → StandsFor t.endpoint s → is_ok (send_answer s (closing_item end_stream)) ≡ true)
+    → ((s : State) → StandsFor t.endpoint s → StandsFor u.endpoint (after_send s (closing_item end_stream))) → Goes t u
+put_end law t u same closing free ok step = goes_by t u same (λ z. free) (λ s stands.
+    let none = (nothing_said t.side t.closing free).1 in (
+      after_send s x,
+      accepts law t u x s (ok s stands) (step s stands) (λ g.
+          ap (λ (f : Closing). g ++ closing_items f) closing ∙ ap (λ (b : Bool). g ++ (x ∷ [] ++ put_if b end_reply_stream)) (no_reply (is_stopped t.side) t.closing.end_sent t.closing.reply_sent t.closing.deaf free)
+          ∙ ap (λ (xs : List Item). xs ++ x ∷ []) (sym (ap (λ (xs : List Item). g ++ xs) none ∙ append-nil g))),
+      sends start x,
+    )) where
+      no_reply : (a b c d : Bool) → (a || (b || (c || d))) ≡ false → c ≡ false
+      no_reply true b c d z = absurd (cc)
+      no_reply false true c d z = absurd (cc)
+      no_reply false false true d z = absurd (cc)
+      no_reply false false false d z = refl
+
+      x : Item
+      x = closing_item end_stream
+
+-- ---- the program's steps: the end stays, and the side goes on
+
+pub acts : (t : Conversation) (side : Side) (h m : Story) → m.state ≡ h.state → m.fed ≡ h.fed → m.given ≡ h.given → is_stopped side ≡ is_stopped t.side → SideHas m side → Tells t h → Tells (record t { side = side }) m
+acts t side h m state fed given stop has tells =
+    let same : drains side t.closing ≡ drains t.side t.closing = ap (λ (b : Bool). b || (t.closing.end_sent || (t.closing.reply_sent || t.closing.deaf))) stop in
+    record {
+      stands = subst (λ (s : State). StandsFor t.endpoint s) (sym state) tells.stands;
+      has = has;
+      fed = subst (λ (s : State). Begins m.fed (take s.handed s.taken)) (sym state) (subst (λ (xs : List Item). Begins xs (take h.state.handed h.state.taken)) (sym fed) tells.fed);
+      all = λ z. fed ∙ tells.all (sym same ∙ z) ∙ ap (λ (s : State). take s.handed s.taken) (sym state);
+      given = ap (λ (xs : List Item). xs ++ closing_items t.closing) given ∙ tells.given ∙ ap (λ (s : State). s.accepted) (sym state);
+    }
+
+-- ---- packets out
+
+pub packs : (t u : Conversation) → u.side ≡ t.side → u.closing ≡ t.closing → ((s : State) → StandsFor t.endpoint s → (v : State) × Carries t u s v × Runs s v) → Goes t u
+packs t u same closing step = goes_by t u same (λ z. ap (λ (e : Closing). drains t.side e) (sym closing) ∙ ap (λ (y : Side). drains y u.closing) (sym same) ∙ z) step
+
+pub resends_first : OtherStepsAcceptAndHandUpNothing → OtherStepsHearNothing → (t u : Conversation) → u.side ≡ t.side → u.closing ≡ t.closing → ((s : State) → StandsFor t.endpoint s → StandsFor u.endpoint (after_resend s)) → Goes t u
+resends_first stay hear t u same closing step = packs t u same closing (λ s stands.
+    (after_resend s, same_items t u s (after_resend s) (ap closing_items closing) (stay.resend s).accepted (stay.resend s).handed (hear.resend s).taken (step s stands), resends start))
+
+pub flushed : OtherStepsAcceptAndHandUpNothing → OtherStepsHearNothing → (t u : Conversation) → u.side ≡ t.side → u.closing ≡ t.closing → ((s : State) → StandsFor t.endpoint s → StandsFor u.endpoint (after_flush s)) → Goes t u
+flushed stay hear t u same closing step = packs t u same closing (λ s stands.
+    (after_flush s, same_items t u s (after_flush s) (ap closing_items closing) (stay.flush s).accepted (stay.flush s).handed (hear.flush s).taken (step s stands), flushes start))
+
+-- the end, the side and the closing stay
+pub same_end : (t u : Conversation) → u.side ≡ t.side → u.closing ≡ t.closing → u.endpoint ≡ t.endpoint → Goes t u
+same_end t u same closing stay = packs t u same closing (λ s stands.
+    (s, same_items t u s s (ap closing_items closing) refl refl refl (subst (λ (e : Held). StandsFor e s) (sym stay) stands), start))
+
+-- so do the end, the side and what was put out
+pub marks : (t u : Conversation) → u.side ≡ t.side → closing_items u.closing ≡ closing_items t.closing → (drains u.side u.closing ≡ false → drains t.side t.closing ≡ false) → u.endpoint ≡ t.endpoint → Goes t u
+marks t u same closing still stay = goes_by t u same still (λ s stands.
+    (s, same_items t u s s closing refl refl refl (subst (λ (e : Held). StandsFor e s) (sym stay) stands), start))
+
+pub on_ok : {X Y : Type 0} (P Q : Type 0) (r : Result X Y) → (P → Q) → OnOk r P → OnOk r Q
+on_ok P Q (Ok x) f h = f h
+on_ok P Q (Err e) f h = h
+
+-- what a call that may be refused memory did
+pub done_or_not : {X Y : Type 0} (P Q R : Type 0) (r : Result X Y) → (P → R) → (Q → R) → OnOk r P → OnErr r Q → R
+done_or_not P Q R (Ok x) f g p q = f p
+done_or_not P Q R (Err e) f g p q = g q
+
+-- ---- why something is put out
+
+pub undrained : (t : Conversation) → owes_end t ≡ true → drains t.side t.closing ≡ false
+undrained t owes = by t.closing.wanted (drains t.side t.closing) _ owes where
+  by : (a b c : Bool) → (a && (not b && c)) ≡ true → b ≡ false
+  by true true c e = absurd (cc)
+  by true false c e = refl
+  by false b c e = absurd (cc)
+
+pub unsent_reply : (t : Conversation) → owes_reply t ≡ true → t.closing.reply_sent ≡ false
+unsent_reply t owes = by t.closing.reply_wanted t.closing.reply_sent _ owes where
+  by : (a b c : Bool) → (a && (not b && c)) ≡ true → b ≡ false
+  by true true c e = absurd (cc)
+  by true false c e = refl
+  by false b c e = absurd (cc)
+
+-- ---- a message is handed
+
+pub record Kept (h m : Story) : Type 0 where
+  pub state : m.state ≡ h.state
+  pub fed : m.fed ≡ h.fed
+  pub given : m.given ≡ h.given
+
+pub handed_keeps : (side : Side) (h : Story) (m : Message) → Kept h (with_handed side h m)
+handed_keeps (Calls t) h m = record { state = refl; fed = refl; given = refl }
+handed_keeps (Answers a) h m = record { state = refl; fed = refl; given = refl }
+
+-- ---- nothing is left to go out for the first time
+
+pub flushed_out : (s : State) → flush_answer (after_flush s) ≡ []
+flushed_out s = by (is_open s.ends) refl where
+  none : (n : ℕ) (xs : List Item) → take (n - n) xs ≡ []
+  none n xs = let z : n - n ≡ 0 = omega arith in ap (λ (k : ℕ). take k xs) z
+
+  by : (b : Bool) → is_open s.ends ≡ b → flush_answer (if b then record s { sent = send_limit s } else s) ≡ []
+  by true e = rw e (ap (λ (xs : List Item). map spp_packet_spelling (data_packets_at s.ends (numbers_of (record s { sent = send_limit s })) (send_limit s) xs)) (none (send_limit s) (drop (send_limit s) s.accepted)))
+  by false e = rw e refl
+
+pub flushes_all : OtherStepsAcceptAndHandUpNothing → OtherStepsHearNothing → (t u : Conversation) → u.side ≡ t.side → u.closing ≡ t.closing → ((s : State) → StandsFor t.endpoint s → StandsFor u.endpoint (after_flush s)) → Rested t u
+flushes_all stay hear t u same closing step = record {
+  on = λ h tells.
+      let s : State = h.state in
+      let m : Story = record h { state = after_flush s } in
+      let drain : drains u.side u.closing ≡ false → drains t.side t.closing ≡ false = λ z. ap (λ (e : Closing). drains t.side e) (sym closing) ∙ ap (λ (y : Side). drains y u.closing) (sym same) ∙ z in (
+        m,
+        carried t u h (after_flush s) same drain (same_items t u s (after_flush s) (ap closing_items closing) (stay.flush s).accepted (stay.flush s).handed (hear.flush s).taken (step s tells.stands)) tells,
+        same_messages h m (flushes start) refl refl refl refl,
+        flushed_out s,
+      );
+}
+
+pub rested_then : {s t u : Conversation} → Goes s t → Rested t u → Rested s u
+rested_then p q = record { on = λ h f. let x = p.on h f in let y = q.on x.0 x.1 in (y.0, y.1, goes_on h x.0 y.0 x.2 y.2, y.3) }
+
+-- once it drains it does so for good
+pub drains_still : (t u : Conversation) → Goes t u → drains t.side t.closing ≡ true → drains u.side u.closing ≡ true
+drains_still t u g d = by (drains u.side u.closing) refl where
+  by : (b : Bool) → drains u.side u.closing ≡ b → b ≡ true
+  by true e = refl
+  by false e = let z = g.still e in absurd (cc)
+
+pub deafened : (a b c : Bool) → (a || (b || (c || true))) ≡ false → ⊥
+deafened true b c z = cc
+deafened false true c z = cc
+deafened false false true z = cc
+deafened false false false z = cc
+
+-- ---- only the packets that wait change
+
+tells_same : (t u : Conversation) (h : Story) → u.side ≡ t.side → u.closing ≡ t.closing → u.endpoint ≡ t.endpoint → Tells t h → Tells u h
+tells_same t u h same closing stay tells = record {
+  stands = subst (λ (e : Held). StandsFor e h.state) (sym stay) tells.stands;
+  has = subst (λ (x : Side). SideHas h x) (sym same) tells.has;
+  fed = tells.fed;
+  all = λ z. tells.all (ap (λ (e : Closing). drains t.side e) (sym closing) ∙ ap (λ (y : Side). drains y u.closing) (sym same) ∙ z);
+  given = ap (λ (e : Closing). h.given ++ closing_items e) closing ∙ tells.given;
+}
+
+pub rested_same : {s t u : Conversation} → Rested s t → u.side ≡ t.side → u.closing ≡ t.closing → u.endpoint ≡ t.endpoint → Rested s u
+rested_same {s} {t} {u} p same closing stay = record { on = λ h f. let x = p.on h f in (x.0, tells_same t u x.0 same closing stay x.1, x.2, x.3) }
+
+-- ---- a new connection
+
+pub new_tells : (t : Conversation) (s : State) (e : Held) (side : Side) → t.endpoint ≡ e → t.side ≡ side → t.closing ≡ NONE → StandsFor e s → SideHas (new_story s) side → take s.handed s.taken ≡ [] → s.accepted ≡ [] → Tells t (new_story s)
+new_tells t s e side endpoint same closing stands has none empty = record {
+  stands = subst (λ (f : Held). StandsFor f s) (sym endpoint) stands;
+  has = subst (λ (x : Side). SideHas (new_story s) x) (sym same) has;
+  fed = (take s.handed s.taken, refl);
+  all = λ z. sym none;
+  given = ap closing_items closing ∙ sym empty;
+}

@@ -1,0 +1,16 @@
+use Rattle.std.proofs.Common.{◌∙◌, ◌++◌, ◌∷◌, [], refl, subst}
+use Rattle.xns_spp.specs.Held.{Held, StandsFor}
+use Rattle.courier_sessions.specs.Answering.{answer_message}
+use Rattle.xns_host.proofs.connection.Connection.answer.Goals as goal
+
+pub returns-clause-answered : goal.returns-clause-answered
+returns-clause-answered c = λ h k tells asked done.
+    c.settled-self.ensures.goes.on (record h { answers = h.answers ++ answer_message c.args.kind k c.args.words.now ∷ [] }) (c.in_ok-answer.ensures.answered h k tells asked refl)
+
+pub invariant_of-self : goal.invariant_of-self
+invariant_of-self c = record {
+  timed = λ none s stands some. c.args.self.now.timed none s (subst (λ (e : Held). StandsFor e s) c.answer.ensures.endpoint stands) some;
+  open_due = c.args.self.now.open_due;
+  closed_due = c.args.self.now.closed_due;
+  deaf = λ some. c.answer.ensures.drains ∙ c.args.self.now.deaf some;
+}

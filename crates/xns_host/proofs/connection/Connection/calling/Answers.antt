@@ -1,0 +1,15 @@
+use Rattle.std.proofs.Common.{[], refl, sym, subst}
+use Rattle.courier_messages.specs.Conversation.{opening}
+use Rattle.courier_sessions.specs.Talk.{Talk, new_talk}
+use Rattle.xns_spp.specs.State.{State, initiator_state}
+use Rattle.xns_host.specs.Story.{CallerHas, new_story}
+use Rattle.xns_host.specs.declared.side.Side.TheVariants.{Calls}
+use Rattle.xns_host.proofs.Tellings.{new_tells}
+use Rattle.xns_host.proofs.connection.Connection.calling.Goals as goal
+
+pub returns-clause-tells : goal.returns-clause-tells
+returns-clause-tells c =
+    let s : State = initiator_state c.args.own c.args.id c.args.peer c.args.settings.now.window c.args.settings.now.backlog in
+    let new : CallerHas (new_story s) new_talk = record { phase = opening []; done = c.a_session_is_its_conversation.ensures.start; going = λ z. refl } in
+    let has : CallerHas (new_story s) c.in_ok-caller.caller = subst (λ (t : Talk). CallerHas (new_story s) t) (sym c.in_ok-caller.ensures) new in
+    new_tells c.new-2.result.conversation s c.in_ok-endpoint.endpoint (Calls c.in_ok-caller.caller) c.new-2.ensures.endpoint c.new-2.ensures.side c.new-2.ensures.closing c.in_ok-endpoint.ensures has refl refl

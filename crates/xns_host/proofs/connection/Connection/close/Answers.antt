@@ -1,0 +1,9 @@
+use Rattle.xns_host.proofs.Leading.{goes_then}
+use Rattle.xns_host.proofs.Tellings.{drains_still}
+use Rattle.xns_host.proofs.connection.Connection.close.Goals as goal
+
+pub returns-clause-goes : goal.returns-clause-goes
+returns-clause-goes c = goes_then c.close.ensures.goes c.settled-self.ensures.goes
+
+pub settled-self-requires-clause-deaf : goal.settled-self-requires-clause-deaf
+settled-self-requires-clause-deaf c = λ some. drains_still _ _ c.close.ensures.goes (c.args.self.now.deaf some)

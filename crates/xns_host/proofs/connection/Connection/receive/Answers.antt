@@ -1,0 +1,5 @@
+use Rattle.xns_spp.specs.Receiving.{after_receive}
+use Rattle.xns_host.proofs.connection.Connection.receive.Goals as goal
+
+pub returns-clause-tells : goal.returns-clause-tells
+returns-clause-tells c = record { on = λ h tells. c.settled-self.ensures.goes.on (record h { state = after_receive h.state c.args.bytes.now }) (c.in_ok-input.ensures.tells h tells) }

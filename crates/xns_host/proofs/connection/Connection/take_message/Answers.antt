@@ -1,0 +1,5 @@
+use Rattle.xns_host.specs.Story.{with_handed}
+use Rattle.xns_host.proofs.connection.Connection.take_message.Goals as goal
+
+pub returns-clause-handed : goal.returns-clause-handed
+returns-clause-handed c = λ h m tells is. c.settled-self.ensures.goes.on (with_handed c.args.self.now.conversation.side h m) (c.in_ok-message.ensures.handed h m tells is)

@@ -1,0 +1,6 @@
+use Rattle.std.proofs.Common.{refl}
+use Rattle.xns_host.proofs.Tellings.{marks}
+use Rattle.xns_host.proofs.conversation.Conversation.close.Goals as goal
+
+pub returns-clause-goes : goal.returns-clause-goes
+returns-clause-goes c = marks c.args.self.now _ refl refl (λ z. z) refl

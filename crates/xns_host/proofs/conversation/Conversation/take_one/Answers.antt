@@ -1,0 +1,20 @@
+use Rattle.std.proofs.Common.{◌∙◌, refl}
+use Rattle.xns_host.specs.declared.conversation.Conversation.{Conversation}
+use Rattle.xns_host.proofs.Tellings.{hands_up, beside, same_closing, same_drains}
+use Rattle.xns_host.proofs.conversation.Conversation.take_one.Goals as goal
+
+pub returns-clause-goes : goal.returns-clause-goes
+returns-clause-goes c =
+    let t = c.args.self.now in
+    let u : Conversation = record t { endpoint = c.take.new.self; closing = c.noted-self.result } in
+    let b = beside t.closing c.noted-self.result c.in-Some.item.stream c.noted-self.ensures in
+    hands_up c.the_next_item_is_handed_up.ensures t u refl (same_closing t.closing u.closing b.end b.reply) (same_drains t.side t.closing u.closing b.end b.reply b.deaf ∙ c.requires) c.take.ensures.stands
+
+pub returns-clause-drains : goal.returns-clause-drains
+returns-clause-drains c =
+    let t = c.args.self.now in
+    let b = beside t.closing c.noted-self.result c.in-Some.item.stream c.noted-self.ensures in
+    same_drains t.side t.closing c.noted-self.result b.end b.reply b.deaf ∙ c.requires
+
+pub returns-in_default-clause-goes : goal.returns-in_default-clause-goes
+returns-in_default-clause-goes c = hands_up c.the_next_item_is_handed_up.ensures c.args.self.now _ refl refl c.requires c.take.ensures.stands

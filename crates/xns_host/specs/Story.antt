@@ -1,0 +1,116 @@
+-- What one connection has done: the history of its end and of its side.
+use Rattle.std.specs.Prelude.{◌≡◌, ℕ, List, [], ◌∷◌, ◌++◌, Bool, false, if◌then◌else◌, take, Option, Some, None}
+use Rattle.courier_messages.specs.declared.message.Message.{Message}
+use Rattle.courier_messages.specs.Conversation.{Phase}
+use Rattle.courier_messages.specs.RawCalls.{RawCall}
+use Rattle.xns_spp.specs.Growth.{Begins}
+use Rattle.xns_spp.specs.Held.{Held, StandsFor}
+use Rattle.xns_spp.specs.Sending.{after_send, after_take, after_flush}
+use Rattle.xns_spp.specs.State.{State}
+use Rattle.xns_spp.specs.Telling.{after_resend}
+use Rattle.xns_spp.specs.declared.item.Item.{Item}
+use Rattle.courier_sessions.specs.Answering.{Answering, is_busy, is_there, why_unlisted}
+use Rattle.courier_sessions.specs.Answerings.{HasAnswered}
+use Rattle.courier_sessions.specs.Talk.{Talk}
+use Rattle.courier_sessions.specs.Talks.{HasDone}
+use Rattle.courier_sessions.specs.declared.program.Program.{Program}
+use Rattle.xns_host.specs.declared.side.Side.{Side}
+use Rattle.xns_host.specs.declared.side.Side.TheVariants.{Calls, Answers}
+
+pub record Story : Type 0 where
+  -- the end, with all its history
+  pub state : State
+  -- the items that the side was fed, and those of its that the end accepted
+  pub fed : List Item
+  pub given : List Item
+  -- the calls that the side made; the calls that it took, and the answers that it put out
+  pub made : List RawCall
+  pub taken : List Message
+  pub answers : List Message
+  -- what the program was handed: answers, or calls
+  pub handed : List Message
+
+-- nothing has happened yet
+abbrev pub new_story : State → Story
+new_story s = record { state = s; fed = []; given = []; made = []; taken = []; answers = []; handed = [] }
+
+-- the side has done all that; one that has stopped reads no further
+
+pub record CallerHas (h : Story) (t : Talk) : Type 0 where
+  pub phase : Phase
+  pub done : HasDone h.made h.fed h.given h.handed (record t { failed = false; phase = phase })
+  pub going : t.failed ≡ false → t.phase ≡ phase
+
+pub record ServerHas (h : Story) (a : Answering) : Type 0 where
+  pub phase : Phase
+  pub done : HasAnswered a.programs h.fed h.given h.taken h.handed h.answers (record a { failed = false; phase = phase })
+  pub going : a.failed ≡ false → a.phase ≡ phase
+
+abbrev pub SideHas : Story → Side → Type 0
+SideHas h (Calls t) = CallerHas h t
+SideHas h (Answers a) = ServerHas h a
+
+abbrev pub is_stopped : Side → Bool
+is_stopped (Calls t) = t.failed
+is_stopped (Answers a) = a.failed
+
+abbrev pub out_of : Side → List Item
+out_of (Calls t) = t.out
+out_of (Answers a) = a.out
+
+-- the transaction of the call that was handed and waits for its answer
+abbrev pub asked_of : Side → Option ℕ
+asked_of (Calls t) = None
+asked_of (Answers a) = a.asked
+
+-- a call waits for its answer, or to be handed, or an answer is to go out
+abbrev pub has_call : Side → Bool
+has_call (Calls t) = t.waiting
+has_call (Answers a) = is_busy a
+
+-- a call whose program and version are listed
+abbrev pub listed_call : List Program → Option Message → Option Message
+listed_call programs None = None
+listed_call programs (Some m) = if is_there (why_unlisted programs m) then None else Some m
+
+-- what there is for the program: an answer, or a call
+abbrev pub waiting_message : Side → Option Message
+waiting_message (Calls t) = t.outcome
+waiting_message (Answers a) = listed_call a.programs a.call
+
+-- there is one, or a call that is to be rejected
+abbrev pub has_message : Side → Bool
+has_message (Calls t) = is_there t.outcome
+has_message (Answers a) = is_there a.call
+
+-- the program was handed it
+abbrev pub with_handed : Side → Story → Message → Story
+with_handed (Calls t) h m = record h { handed = h.handed ++ m ∷ [] }
+with_handed (Answers a) h m = record h { taken = h.taken ++ m ∷ []; handed = h.handed ++ m ∷ [] }
+
+-- all that was handed up was fed, and all that was accepted is the side's
+pub record Flows (side : Side) (endpoint : Held) (h : Story) : Type 0 where
+  pub stands : StandsFor endpoint h.state
+  pub has : SideHas h side
+  pub fed : h.fed ≡ take h.state.handed h.state.taken
+  pub given : h.given ≡ h.state.accepted
+
+-- an end's own steps lead from one state to the other: it accepts items, hands items up and makes packets
+pub data Runs (s : State) : State → Type 0 where
+  start : Runs s s
+  sends : {v : State} → Runs s v → (x : Item) → Runs s (after_send v x)
+  takes : {v : State} → Runs s v → Runs s (after_take v)
+  flushes : {v : State} → Runs s v → Runs s (after_flush v)
+  resends : {v : State} → Runs s v → Runs s (after_resend v)
+
+-- the program made no call, and was handed nothing
+pub record GoesOn (h m : Story) : Type 0 where
+  pub path : Runs h.state m.state
+  pub made : m.made ≡ h.made
+  pub handed : m.handed ≡ h.handed
+  pub taken : Begins h.taken m.taken
+  pub answers : Begins h.answers m.answers
+
+-- whatever a side and its end had done goes on so
+pub record Moves (side : Side) (endpoint : Held) (next : Side) (after : Held) : Type 0 where
+  pub on : (h : Story) → Flows side endpoint h → (m : Story) × Flows next after m × GoesOn h m

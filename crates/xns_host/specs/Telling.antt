@@ -1,0 +1,55 @@
+-- What a connection has done, with the closing exchange (XSIS 028112, Sequenced Packet Protocol, Termination).
+use Rattle.std.specs.Prelude.{◌≡◌, ℕ, List, [], ◌++◌, Bool, false, not, ◌&&◌, ◌||◌, ◌==◌, nat_lt, take}
+use Rattle.courier_sessions.specs.Answering.{has_items}
+use Rattle.xns_spp.specs.Ends.{is_open}
+use Rattle.xns_spp.specs.Growth.{Begins}
+use Rattle.xns_spp.specs.Held.{StandsFor}
+use Rattle.xns_spp.specs.Receiving.{after_receive}
+use Rattle.xns_spp.specs.Sending.{flush_answer}
+use Rattle.xns_spp.specs.State.{State}
+use Rattle.xns_spp.specs.Telling.{unacknowledged_count}
+use Rattle.xns_host.specs.Closing.{closing_items, drains}
+use Rattle.xns_host.specs.Story.{Story, SideHas, GoesOn, out_of, has_call}
+use Rattle.xns_host.specs.declared.closing.Closing.{Closing}
+use Rattle.xns_host.specs.declared.conversation.Conversation.{Conversation}
+
+-- End is to be put out: behind all that is out, and after the answer to a call that waits
+abbrev pub owes_end : Conversation → Bool
+owes_end t = t.closing.wanted && (not (drains t.side t.closing) && (not (has_call t.side) && not (has_items (out_of t.side))))
+
+-- EndReply is to be put out
+abbrev pub owes_reply : Conversation → Bool
+owes_reply t = t.closing.reply_wanted && (not t.closing.reply_sent && (drains t.side t.closing && not (has_items (out_of t.side))))
+
+-- something waits for the peer
+abbrev pub waits : State → Bool
+waits s = not (is_open s.ends) || nat_lt 0 (unacknowledged_count s)
+
+-- the closing exchange is over, and its last item has arrived
+abbrev pub is_over : Closing → State → Bool
+is_over c s = c.reply_sent && (c.reply_heard && (unacknowledged_count s == 0))
+
+pub record Tells (conversation : Conversation) (h : Story) : Type 0 where
+  pub stands : StandsFor conversation.endpoint h.state
+  pub has : SideHas h conversation.side
+  -- the side was fed what was handed up, all of it until it drains
+  pub fed : Begins h.fed (take h.state.handed h.state.taken)
+  pub all : drains conversation.side conversation.closing ≡ false → h.fed ≡ take h.state.handed h.state.taken
+  pub given : h.given ++ closing_items conversation.closing ≡ h.state.accepted
+
+-- whatever it had done goes on so: the program makes no call and is handed nothing; once it drains it does so for good
+pub record Goes (old new : Conversation) : Type 0 where
+  pub still : drains new.side new.closing ≡ false → drains old.side old.closing ≡ false
+  pub on : (h : Story) → Tells old h → (m : Story) × Tells new m × GoesOn h m
+
+-- the same, and no item is left that may go out for the first time
+pub record Rested (old new : Conversation) : Type 0 where
+  pub on : (h : Story) → Tells old h → (m : Story) × Tells new m × GoesOn h m × (flush_answer m.state ≡ [])
+
+-- the same, from where it is after these bytes came
+pub record Hears (old new : Conversation) (bytes : List ℕ) : Type 0 where
+  pub on : (h : Story) → Tells old h → (m : Story) × Tells new m × GoesOn (record h { state = after_receive h.state bytes }) m
+
+-- a packet of the peer has more acknowledged, or opens the connection
+abbrev pub is_progress : State → State → Bool
+is_progress s v = nat_lt (unacknowledged_count v) (unacknowledged_count s) || (is_open v.ends && not (is_open s.ends))

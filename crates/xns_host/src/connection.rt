@@ -1,0 +1,683 @@
+//! A conversation with its waits.
+
+ghost use Rattle.std.specs.Prelude.{◌≡◌, ◌≢◌, ◌<◌, ◌&&◌, ◌||◌, ◌∷◌, ◌++◌, [], ℕ, not, nat_lt, if◌then◌else◌, true, false, OnOk, OnErr, IfOk, Some, None, Ok};
+ghost use Rattle.std.specs.Option.{is_some};
+ghost use Rattle.courier_messages.specs.declared.message.Message.{Message};
+ghost use Rattle.courier_messages.specs.RawCalls.{words_call};
+ghost use Rattle.courier_sessions.specs.Answering.{answer_message};
+ghost use Rattle.xns_spp.specs.Ends.{is_open};
+ghost use Rattle.xns_spp.specs.Held.{StandsFor};
+ghost use Rattle.xns_spp.specs.Receiving.{is_ours, StoresBytes};
+ghost use Rattle.xns_spp.specs.Sending.{tick_answer};
+ghost use Rattle.xns_spp.specs.State.{State, initiator_state, responder_state};
+ghost use Rattle.xns_spp.specs.Telling.{own_name, peer_name, unacknowledged_count};
+ghost use Rattle.xns_host.specs.Closing.{drains};
+ghost use Rattle.xns_host.specs.Connecting.{is_again, is_open_due, is_closed_due, why_over, why_given_up, is_closing, why_refused, why_after, owed_after, is_foreign};
+ghost use Rattle.xns_host.specs.Reasons.{call_fault_of, answer_fault_of};
+ghost use Rattle.xns_host.specs.Refusing.{Answers};
+ghost use Rattle.xns_host.specs.Settings.{IsFit};
+ghost use Rattle.xns_host.specs.Story.{Story, GoesOn, new_story, asked_of, waiting_message, with_handed, has_message};
+ghost use Rattle.xns_host.specs.Telling.{Tells, Goes, Rested, Hears, waits, is_over};
+ghost use Rattle.xns_host.specs.Waiting.{act_at, after_act, after_step, after_word, lingering, new_waiting};
+ghost use Rattle.xns_host.specs.declared.act.Act.TheVariants.{GiveUp};
+ghost use Rattle.xns_host.specs.declared.why.Why.TheVariants.{NotServed};
+
+use crate::act::Act;
+use crate::closing::Closing;
+use crate::conversation::Conversation;
+use crate::due::Due;
+use crate::host_fault::HostFault;
+use crate::owed::Owed;
+use crate::pace::Pace;
+use crate::settings::Settings;
+use crate::side::Side;
+use crate::wait::Wait;
+use crate::why::Why;
+use courier_messages::{PiecedMessage, SessionFault};
+use courier_sessions::{Answer, FeedRefusal, Program, WordCaller, WordServer};
+use std::alloc::{AllocError, Global};
+use xns_idp::Address;
+use xns_spp::{Bytes, Dropped, Endpoint, Input};
+
+/// A connection: what it says, when it says it again, and why it is closed.
+#[derive(Drop)]
+pub struct Connection {
+    conversation: Conversation,
+    wait: Wait,
+    owed: Owed,
+    closed: Option<Why>,
+    /// Whether the program was told that it is closed.
+    told: bool,
+    // What waits for the peer goes out again at a time that is set.
+    ghost timed: { closed ≡ None → (s : State) → StandsFor conversation.endpoint s → tick_answer s ≢ [] → is_again wait.due ≡ true },
+    ghost open_due: { closed ≡ None → is_open_due wait.due ≡ true },
+    ghost closed_due: { closed ≢ None → is_closed_due wait.due ≡ true },
+    ghost deaf: { closed ≢ None → drains conversation.side conversation.closing ≡ true },
+}
+
+/// Whether a packet is no word of the peer.
+fn is_foreign(dropped: Option<Dropped>) -> bool
+    ensures { result ≡ is_foreign dropped }
+{
+    matches!(
+        dropped,
+        Some(Dropped::NotIdp | Dropped::NotSpp | Dropped::NotOurs | Dropped::AheadOfUs)
+    )
+}
+
+/// Why a closing exchange is over.
+fn why_over(closing: Closing) -> Why
+    ensures { result ≡ why_over closing }
+{
+    if closing.end_sent {
+        Why::Asked
+    } else {
+        Why::ByPeer
+    }
+}
+
+/// Why a connection whose peer is silent is closed: where the closing exchange lacks but the last word, it counts as over.
+fn why_given_up(closing: Closing) -> Why
+    ensures { result ≡ why_given_up closing }
+{
+    if closing.reply_sent {
+        why_over(closing)
+    } else {
+        Why::Silent
+    }
+}
+
+/// Whether an item of this datastream closes a connection.
+fn is_closing(stream: u8) -> bool
+    ensures { result ≡ is_closing stream }
+{
+    stream == 254 || stream == 255
+}
+
+/// Why a connection is closed whose side refused an item, if it is: an item that closes it, and one for which no memory was there, are none.
+fn why_refused(refusal: FeedRefusal) -> Option<Why>
+    ensures { result ≡ why_refused refusal }
+{
+    match refusal {
+        FeedRefusal::Stopped | FeedRefusal::Busy | FeedRefusal::NoMemory => None,
+        FeedRefusal::TooLong | FeedRefusal::Attention => Some(Why::Refused(refusal)),
+        FeedRefusal::Fault(SessionFault::Stream { kind }) => {
+            if is_closing(kind) {
+                None
+            } else {
+                Some(Why::Refused(refusal))
+            }
+        }
+        FeedRefusal::Fault(_) => Some(Why::Refused(refusal)),
+    }
+}
+
+/// Why a connection is closed after its items moved, if it is.
+fn why_after(conversation: &Conversation, moved: Result<(), FeedRefusal>) -> Option<Why>
+    ensures { (s : State) → StandsFor conversation.now.endpoint s → result ≡ why_after conversation.now.closing (is_over conversation.now.closing s) moved }
+{
+    match moved {
+        Err(refusal) => why_refused(refusal),
+        Ok(()) => {
+            if conversation.is_over() {
+                Some(why_over(conversation.closing))
+            } else {
+                None
+            }
+        }
+    }
+}
+
+/// What a connection that is not closed waits for after a step.
+fn wait_on(conversation: &Conversation, wait: &mut Wait, now: u64)
+    requires { is_open_due wait.old.due ≡ true }
+    ensures waits { (s : State) → StandsFor conversation.now.endpoint s → wait.new ≡ after_step wait.old (waits s) now }
+    ensures timed { (s : State) → StandsFor conversation.now.endpoint s → tick_answer s ≢ [] → is_again wait.new.due ≡ true }
+    ensures open_due { is_open_due wait.new.due ≡ true }
+{
+    wait.step(conversation.waits(), now);
+}
+
+/// Why a connection is closed after its items moved, if it is, and what is waited for then.
+fn after_moving(
+    conversation: &mut Conversation,
+    moved: Result<(), FeedRefusal>,
+    closed: Option<Why>,
+    wait: &mut Wait,
+    now: u64,
+) -> Option<Why>
+    requires deaf { closed ≢ None → drains conversation.old.side conversation.old.closing ≡ true }
+    requires open_due { closed ≡ None → is_open_due wait.old.due ≡ true }
+    requires closed_due { closed ≢ None → is_closed_due wait.old.due ≡ true }
+    ensures goes { Goes conversation.old conversation.new }
+    ensures closed { closed ≢ None → result ≡ closed }
+    ensures why { closed ≡ None → (s : State) → StandsFor conversation.old.endpoint s → result ≡ why_after conversation.old.closing (is_over conversation.old.closing s) moved }
+    ensures timed { result ≡ None → (s : State) → StandsFor conversation.new.endpoint s → tick_answer s ≢ [] → is_again wait.new.due ≡ true }
+    ensures open_due { result ≡ None → is_open_due wait.new.due ≡ true }
+    ensures closed_due { result ≢ None → is_closed_due wait.new.due ≡ true }
+    ensures deaf { result ≢ None → drains conversation.new.side conversation.new.closing ≡ true }
+    ensures kept { closed ≢ None → wait.new ≡ wait.old }
+    ensures waits { result ≡ None → (s : State) → StandsFor conversation.new.endpoint s → wait.new ≡ after_step wait.old (waits s) now }
+    ensures lingers { closed ≡ None → result ≢ None → wait.new ≡ lingering wait.old now }
+{
+    if closed.is_some() {
+        return closed;
+    }
+    let why = why_after(conversation, moved);
+    if why.is_some() {
+        conversation.give_up();
+        wait.linger(now);
+        return why;
+    }
+    wait_on(conversation, wait, now);
+    None
+}
+
+/// Moves what can move; why the connection is closed then, if it is, and what is waited for.
+fn settled(
+    conversation: &mut Conversation,
+    alloc: Global,
+    owed: &mut Owed,
+    closed: Option<Why>,
+    wait: &mut Wait,
+    now: u64,
+) -> Option<Why>
+    requires deaf { closed ≢ None → drains conversation.old.side conversation.old.closing ≡ true }
+    requires open_due { closed ≡ None → is_open_due wait.old.due ≡ true }
+    requires closed_due { closed ≢ None → is_closed_due wait.old.due ≡ true }
+    ensures goes { Goes conversation.old conversation.new }
+    ensures closed { closed ≢ None → result ≡ closed }
+    ensures timed { result ≡ None → (s : State) → StandsFor conversation.new.endpoint s → tick_answer s ≢ [] → is_again wait.new.due ≡ true }
+    ensures open_due { result ≡ None → is_open_due wait.new.due ≡ true }
+    ensures closed_due { result ≢ None → is_closed_due wait.new.due ≡ true }
+    ensures deaf { result ≢ None → drains conversation.new.side conversation.new.closing ≡ true }
+    ensures kept { closed ≢ None → wait.new ≡ wait.old }
+    ensures waits { result ≡ None → (s : State) → StandsFor conversation.new.endpoint s → wait.new ≡ after_step wait.old (waits s) now }
+    ensures lingers { closed ≡ None → result ≢ None → wait.new ≡ lingering wait.old now }
+    ensures owed { (owed.new.again ≡ owed.old.again) × (owed.new.asks ≡ owed.old.asks) × (owed.new.fresh ≡ true) }
+    ensures word { owed.old.word ≡ true → owed.new.word ≡ true }
+{
+    let waiting = conversation.endpoint.waiting();
+    let moved = conversation.settle(alloc);
+    owed.moving = matches!(moved, Err(FeedRefusal::NoMemory));
+    owed.word = owed.word || conversation.endpoint.waiting() < waiting;
+    owed.fresh = true;
+    after_moving(conversation, moved, closed, wait, now)
+}
+
+/// Whether a packet of the peer has more acknowledged, or opens the connection.
+fn is_progress(conversation: &Conversation, before: usize, was_open: bool) -> bool
+    ensures { (s : State) → StandsFor conversation.now.endpoint s → result ≡ nat_lt (unacknowledged_count s) before || (is_open s.ends && not was_open) }
+{
+    conversation.endpoint.unacknowledged() < before
+        || (conversation.endpoint.is_open() && !was_open)
+}
+
+/// Notes a packet that came, where `more` says whether it has more acknowledged, or opens the connection, and `left` whether an item is
+/// still not acknowledged.
+fn note(input: Input, more: bool, left: bool, owed: &mut Owed, wait: &mut Wait, now: u64)
+    ensures foreign { is_foreign input.dropped ≡ true → (wait.new ≡ wait.old) × (owed.new ≡ owed.old) }
+    ensures wait { is_foreign input.dropped ≡ false → wait.new ≡ after_word wait.old more now }
+    ensures word { is_foreign input.dropped ≡ false → owed.new.word ≡ owed.old.word || input.owes_reply }
+    ensures again { is_foreign input.dropped ≡ false → owed.new.again ≡ owed.old.again || (more && (wait.old.vain && left)) }
+    ensures beside { (owed.new.asks ≡ owed.old.asks) × (owed.new.moving ≡ owed.old.moving) }
+    ensures open_due { is_open_due wait.old.due ≡ true → is_open_due wait.new.due ≡ true }
+    ensures closed_due { is_closed_due wait.old.due ≡ true → is_closed_due wait.new.due ≡ true }
+{
+    if is_foreign(input.dropped) {
+        return;
+    }
+    owed.word = owed.word || input.owes_reply;
+    owed.again = owed.again || (more && wait.was_vain() && left);
+    wait.hear(more, now);
+}
+
+/// What is owed after an act.
+fn owed_after(owed: Owed, act: Act) -> Owed
+    ensures { result ≡ owed_after owed act }
+{
+    let mut after = owed;
+    match act {
+        Act::Nothing | Act::GiveUp | Act::Forget => {}
+        Act::Again => {
+            after.again = true;
+            after.fresh = true;
+        }
+        Act::Ask => {
+            after.asks = true;
+            after.fresh = true;
+        }
+    }
+    after
+}
+
+/// What a connection waits for after a step that closes none.
+fn wait_unless(conversation: &Conversation, closed: Option<Why>, wait: &mut Wait, now: u64)
+    requires open_due { closed ≡ None → is_open_due wait.old.due ≡ true }
+    ensures kept { closed ≢ None → wait.new ≡ wait.old }
+    ensures waits { closed ≡ None → (s : State) → StandsFor conversation.now.endpoint s → wait.new ≡ after_step wait.old (waits s) now }
+    ensures timed { closed ≡ None → (s : State) → StandsFor conversation.now.endpoint s → tick_answer s ≢ [] → is_again wait.new.due ≡ true }
+    ensures open_due { closed ≡ None → is_open_due wait.new.due ≡ true }
+{
+    if closed.is_some() {
+        return;
+    }
+    wait_on(conversation, wait, now);
+}
+
+/// What is owed after a packet was asked for: where there is none, nothing is until something is done again.
+fn owed_behind(owed: Owed, packet: &Result<Option<Bytes>, AllocError>) -> Owed
+    ensures none { packet.now ≡ Ok None → result ≡ record owed { fresh = owed.moving } }
+    ensures some { packet.now ≢ Ok None → result ≡ owed }
+{
+    let mut after = owed;
+    if let Ok(None) = packet {
+        after.fresh = owed.moving;
+    }
+    after
+}
+
+impl Connection {
+    ghost use Rattle.xns_host.specs.declared.closing.TheConstants.Closing.{NONE};
+
+    fn new(
+        alloc: Global,
+        endpoint: Endpoint,
+        side: Side,
+        pace: Pace,
+        again: bool,
+        now: u64,
+    ) -> Connection
+        ensures endpoint { result.conversation.endpoint ≡ endpoint }
+        ensures side { result.conversation.side ≡ side }
+        ensures closing { result.conversation.closing ≡ NONE }
+        ensures open { (result.closed ≡ None) × (result.told ≡ false) }
+        ensures owed { (result.owed.again ≡ again) × (result.owed.fresh ≡ true) }
+        ensures wait { (s : State) → StandsFor endpoint s → result.wait ≡ after_step (new_waiting pace now) (waits s) now }
+    {
+        let conversation = Conversation::new(alloc, endpoint, side);
+        let mut wait = Wait::new(pace, now);
+        wait_on(&conversation, &mut wait, now);
+        Connection {
+            conversation,
+            wait,
+            owed: Owed {
+                word: false,
+                again,
+                asks: false,
+                moving: false,
+                fresh: true,
+            },
+            closed: None,
+            told: false,
+        }
+    }
+
+    /// A connection whose side calls. Its first packet opens it.
+    pub fn calling(
+        alloc: Global,
+        settings: &Settings,
+        own: Address,
+        id: u16,
+        peer: Address,
+        now: u64,
+    ) -> Result<Connection, AllocError>
+        requires settings { IsFit settings.now }
+        requires id { 0 < id }
+        ensures tells { IfOk result (λ t. Tells t.conversation (new_story (initiator_state own id peer settings.now.window settings.now.backlog))) }
+        ensures open { IfOk result (λ t. (t.closed ≡ None) × (t.owed.again ≡ true)) }
+    {
+        courier_sessions::laws::a_session_is_its_conversation();
+        let endpoint = Endpoint::initiator(
+            alloc,
+            own,
+            id,
+            peer,
+            settings.window,
+            settings.backlog,
+        )?;
+        let caller = WordCaller::new(alloc)?;
+        Ok(Connection::new(
+            alloc,
+            endpoint,
+            Side::Calls(caller),
+            settings.pace(),
+            true,
+            now,
+        ))
+    }
+
+    /// A connection that a peer opened, whose side is called. The packet that opened it is to be taken in next.
+    pub fn answering(
+        alloc: Global,
+        settings: &Settings,
+        own: Address,
+        id: u16,
+        peer: Address,
+        peer_id: u16,
+        programs: Vec<Program>,
+        now: u64,
+    ) -> Result<Connection, AllocError>
+        requires settings { IsFit settings.now }
+        requires id { 0 < id }
+        requires peer_id { 0 < peer_id }
+        ensures tells { IfOk result (λ t. Tells t.conversation (new_story (responder_state own id peer peer_id settings.now.window settings.now.backlog))) }
+        ensures open { IfOk result (λ t. (t.closed ≡ None) × (t.owed.again ≡ false)) }
+    {
+        courier_sessions::laws::a_server_session_is_its_conversation();
+        let endpoint = Endpoint::responder(
+            alloc,
+            own,
+            id,
+            peer,
+            peer_id,
+            settings.window,
+            settings.backlog,
+        )?;
+        let server = WordServer::new(alloc, programs)?;
+        Ok(Connection::new(
+            alloc,
+            endpoint,
+            Side::Answers(server),
+            settings.pace(),
+            false,
+            now,
+        ))
+    }
+
+    /// Moves what can move.
+    fn go_on(&mut self, alloc: Global, now: u64)
+        ensures goes { Goes self.old.conversation self.new.conversation }
+        ensures closed { self.old.closed ≢ None → self.new.closed ≡ self.old.closed }
+        ensures told { self.new.told ≡ self.old.told }
+        ensures owed { (self.new.owed.again ≡ self.old.owed.again) × (self.new.owed.asks ≡ self.old.owed.asks) × (self.new.owed.fresh ≡ true) }
+        ensures word { self.old.owed.word ≡ true → self.new.owed.word ≡ true }
+    {
+        self.closed = settled(
+            &mut self.conversation,
+            alloc,
+            &mut self.owed,
+            self.closed,
+            &mut self.wait,
+            now,
+        );
+    }
+
+    /// Takes in the bytes of a packet, at this time. Where memory is refused it is as if the packet were lost.
+    pub fn receive(&mut self, alloc: Global, now: u64, bytes: &[u8]) -> Result<(), AllocError>
+        ensures tells { OnOk result (Hears self.old.conversation self.new.conversation bytes.now) }
+        ensures closed { self.old.closed ≢ None → self.new.closed ≡ self.old.closed }
+        ensures told { self.new.told ≡ self.old.told }
+        ensures fresh { OnOk result (self.new.owed.fresh ≡ true) }
+        ensures unchanged { OnErr result (self.new ≡ self.old) }
+        ensures memory { OnErr result ((s : State) → StandsFor self.old.conversation.endpoint s → StoresBytes s bytes.now) }
+    {
+        let before = self.conversation.endpoint.unacknowledged();
+        let was_open = self.conversation.endpoint.is_open();
+        let input = self.conversation.receive(alloc, bytes)?;
+        let more = is_progress(&self.conversation, before, was_open);
+        let left = self.conversation.endpoint.unacknowledged() > 0;
+        note(input, more, left, &mut self.owed, &mut self.wait, now);
+        self.closed = settled(
+            &mut self.conversation,
+            alloc,
+            &mut self.owed,
+            self.closed,
+            &mut self.wait,
+            now,
+        );
+        Ok(())
+    }
+
+    /// Moves what memory was refused for.
+    fn move_owed(&mut self, alloc: Global, now: u64)
+        ensures goes { Goes self.old.conversation self.new.conversation }
+        ensures closed { self.old.closed ≢ None → self.new.closed ≡ self.old.closed }
+        ensures told { self.new.told ≡ self.old.told }
+    {
+        if !self.owed.moving {
+            return;
+        }
+        self.go_on(alloc, now);
+    }
+
+    /// Does what is due at this time, and says what that is. After `GiveUp` the connection is closed; after `Forget` it may go, once the
+    /// program was told that it is closed.
+    pub fn act(&mut self, now: u64) -> Act
+        ensures act { result ≡ act_at self.old.wait now }
+        ensures wait { self.new.wait ≡ after_act self.old.wait now }
+        ensures owed { self.new.owed ≡ owed_after self.old.owed result }
+        ensures goes { Goes self.old.conversation self.new.conversation }
+        ensures same { result ≢ GiveUp → (self.new.conversation ≡ self.old.conversation) × (self.new.closed ≡ self.old.closed) }
+        ensures given_up { result ≡ GiveUp → (self.old.closed ≡ None) × (self.new.closed ≡ Some (why_given_up self.old.conversation.closing)) }
+        ensures told { self.new.told ≡ self.old.told }
+    {
+        let act = self.wait.act(now);
+        self.owed = owed_after(self.owed, act);
+        if let Act::GiveUp = act {
+            self.closed = Some(why_given_up(self.conversation.closing));
+            self.conversation.give_up();
+            return act;
+        }
+        act
+    }
+
+    /// Nobody hears the packet that was to open the connection: it is closed, unless it is open or closed.
+    pub fn not_served(&mut self, now: u64)
+        ensures goes { Goes self.old.conversation self.new.conversation }
+        ensures closed { self.old.closed ≢ None → self.new ≡ self.old }
+        ensures open { (s : State) → StandsFor self.old.conversation.endpoint s → is_open s.ends ≡ true → self.new ≡ self.old }
+        ensures not_served { (s : State) → StandsFor self.old.conversation.endpoint s → is_open s.ends ≡ false → self.old.closed ≡ None → (self.new.closed ≡ Some NotServed) × (self.new.wait ≡ lingering self.old.wait now) }
+        ensures told { self.new.told ≡ self.old.told }
+    {
+        if self.conversation.endpoint.is_open() {
+            return;
+        }
+        if self.closed.is_some() {
+            return;
+        }
+        self.closed = Some(Why::NotServed);
+        self.conversation.give_up();
+        self.wait.linger(now);
+    }
+
+    /// The next packet that is to go out. `None` where there is none, until something is done again. The only error is want of memory:
+    /// what is to go out stays so.
+    pub fn next_packet(&mut self, alloc: Global, now: u64) -> Result<Option<Bytes>, AllocError>
+        ensures goes { Goes self.old.conversation self.new.conversation }
+        ensures rested { result ≡ Ok None → Rested self.old.conversation self.new.conversation }
+        ensures none { result ≡ Ok None → (self.new.owed.again ≡ false) × (self.new.owed.asks ≡ false) × (self.new.owed.word ≡ false) × (self.new.owed.fresh ≡ self.new.owed.moving) }
+        ensures closed { self.old.closed ≢ None → self.new.closed ≡ self.old.closed }
+        ensures told { self.new.told ≡ self.old.told }
+    {
+        self.move_owed(alloc, now);
+        let packet = self.conversation.next_packet(alloc, &mut self.owed);
+        wait_unless(&self.conversation, self.closed, &mut self.wait, now);
+        self.owed = owed_behind(self.owed, &packet);
+        packet
+    }
+
+    /// Puts out a call. It is refused, and nothing is changed, as `Closing` where the connection closes or is closed; `PeerCalls`; `Busy`
+    /// where a call waits for its answer, or the answer was not fetched; `TooLong` over 65,530 words; `NoMemory`.
+    pub fn call(
+        &mut self,
+        alloc: Global,
+        now: u64,
+        program: u32,
+        version: u16,
+        procedure: u16,
+        words: &[u16],
+    ) -> Result<(), HostFault>
+        ensures answer { Answers (call_fault_of self.old.conversation (words_call program version procedure words.now)) result }
+        ensures called { (h : Story) → Tells self.old.conversation h → result ≡ Ok tt → (m : Story) × Tells self.new.conversation m × GoesOn (record h { made = h.made ++ words_call program version procedure words.now ∷ [] }) m }
+        ensures closed { self.old.closed ≢ None → self.new.closed ≡ self.old.closed }
+        ensures told { self.new.told ≡ self.old.told }
+        ensures fresh { result ≡ Ok tt → self.new.owed.fresh ≡ true }
+        ensures unchanged { OnErr result (self.new ≡ self.old) }
+    {
+        self.conversation
+            .call(alloc, program, version, procedure, words)?;
+        self.closed = settled(
+            &mut self.conversation,
+            alloc,
+            &mut self.owed,
+            self.closed,
+            &mut self.wait,
+            now,
+        );
+        Ok(())
+    }
+
+    /// Answers the call that was handed. It is refused, and nothing is changed, as `Closing` where the connection closes or is closed;
+    /// `NoCall` where none was handed that is not answered; `TooLong` over 131,072 bytes; `NoMemory`.
+    pub fn answer(
+        &mut self,
+        alloc: Global,
+        now: u64,
+        kind: Answer,
+        words: &[u16],
+    ) -> Result<(), HostFault>
+        ensures answer { Answers (answer_fault_of self.old.conversation kind words.now) result }
+        ensures answered { (h : Story) (k : ℕ) → Tells self.old.conversation h → asked_of self.old.conversation.side ≡ Some k → result ≡ Ok tt → (m : Story) × Tells self.new.conversation m × GoesOn (record h { answers = h.answers ++ answer_message kind k words.now ∷ [] }) m }
+        ensures closed { self.old.closed ≢ None → self.new.closed ≡ self.old.closed }
+        ensures told { self.new.told ≡ self.old.told }
+        ensures fresh { result ≡ Ok tt → self.new.owed.fresh ≡ true }
+        ensures unchanged { OnErr result (self.new ≡ self.old) }
+    {
+        self.conversation.answer(alloc, kind, words)?;
+        self.closed = settled(
+            &mut self.conversation,
+            alloc,
+            &mut self.owed,
+            self.closed,
+            &mut self.wait,
+            now,
+        );
+        Ok(())
+    }
+
+    /// Closes once all that it has to say is said.
+    pub fn close(&mut self, alloc: Global, now: u64)
+        ensures goes { Goes self.old.conversation self.new.conversation }
+        ensures closed { self.old.closed ≢ None → self.new.closed ≡ self.old.closed }
+        ensures told { self.new.told ≡ self.old.told }
+        ensures fresh { self.new.owed.fresh ≡ true }
+    {
+        self.conversation.close();
+        self.closed = settled(
+            &mut self.conversation,
+            alloc,
+            &mut self.owed,
+            self.closed,
+            &mut self.wait,
+            now,
+        );
+    }
+
+    /// The message that waits for the program, once: an answer, or a call. `None` where none waits.
+    pub fn take_message(&mut self, alloc: Global, now: u64) -> Option<PiecedMessage>
+        ensures message { result ≡ waiting_message self.old.conversation.side }
+        ensures handed { (h : Story) (m : Message) → Tells self.old.conversation h → result ≡ Some m → (n : Story) × Tells self.new.conversation n × GoesOn (with_handed self.old.conversation.side h m) n }
+        ensures closed { self.old.closed ≢ None → self.new.closed ≡ self.old.closed }
+        ensures told { self.new.told ≡ self.old.told }
+        ensures none { result ≡ None → self.new ≡ self.old }
+    {
+        let message = self.conversation.take_message()?;
+        self.closed = settled(
+            &mut self.conversation,
+            alloc,
+            &mut self.owed,
+            self.closed,
+            &mut self.wait,
+            now,
+        );
+        Some(message)
+    }
+
+    /// Why it is closed, once.
+    pub fn take_why(&mut self) -> Option<Why>
+        ensures why { result ≡ (if self.old.told then None else self.old.closed) }
+        ensures told { self.new.told ≡ self.old.told || is_some self.old.closed }
+        ensures rest { self.new ≡ record self.old { told = self.new.told } }
+    {
+        if self.told {
+            return None;
+        }
+        let why = self.closed?;
+        self.told = true;
+        Some(why)
+    }
+
+    /// Whether there may be something to tell the program.
+    pub fn has_event(&self) -> bool
+        ensures { result ≡ has_message self.now.conversation.side || (is_some self.now.closed && not self.now.told) }
+    {
+        self.conversation.side.has_message() || (self.closed.is_some() && !self.told)
+    }
+
+    /// Whether there may be a packet that is to go out.
+    pub fn has_packet(&self) -> bool
+        ensures { result ≡ self.now.owed.fresh }
+    {
+        self.owed.fresh
+    }
+
+    /// What is due, and when. Where something waits for the peer of a connection that is not closed, it goes out again at that time.
+    pub fn due(&self) -> Due
+        ensures due { result ≡ self.now.wait.due }
+        ensures timed { self.now.closed ≡ None → (s : State) → StandsFor self.now.conversation.endpoint s → tick_answer s ≢ [] → is_again result ≡ true }
+        ensures open { self.now.closed ≡ None → is_open_due result ≡ true }
+        ensures closed { self.now.closed ≢ None → is_closed_due result ≡ true }
+    {
+        self.wait.due()
+    }
+
+    /// When the last word of the peer came; at a new connection, when it was made.
+    pub fn heard_at(&self) -> u64
+        ensures { result ≡ self.now.wait.heard_at }
+    {
+        self.wait.heard_at()
+    }
+
+    /// Whether it is closed.
+    pub fn is_closed(&self) -> bool
+        ensures { result ≡ is_some self.now.closed }
+    {
+        self.closed.is_some()
+    }
+
+    /// Whether the program was told that it is closed.
+    pub fn is_told(&self) -> bool
+        ensures { result ≡ self.now.told }
+    {
+        self.told
+    }
+
+    /// Whether its peer has replied.
+    pub fn is_open(&self) -> bool
+        ensures { (s : State) → StandsFor self.now.conversation.endpoint s → result ≡ is_open s.ends }
+    {
+        self.conversation.endpoint.is_open()
+    }
+
+    /// Whether the bytes are a packet of the connection.
+    pub fn is_ours(&self, bytes: &[u8]) -> bool
+        ensures { (s : State) → StandsFor self.now.conversation.endpoint s → result ≡ is_ours s bytes.now }
+    {
+        self.conversation.endpoint.is_ours(bytes)
+    }
+
+    /// Its own address and connection identifier.
+    pub fn own(&self) -> (Address, u16)
+        ensures { (s : State) → StandsFor self.now.conversation.endpoint s → result ≡ own_name s.ends }
+    {
+        self.conversation.endpoint.own()
+    }
+
+    /// The peer's. `None` before the connection is open.
+    pub fn peer(&self) -> Option<(Address, u16)>
+        ensures { (s : State) → StandsFor self.now.conversation.endpoint s → result ≡ peer_name s.ends }
+    {
+        self.conversation.endpoint.peer()
+    }
+}

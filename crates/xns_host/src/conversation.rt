@@ -1,0 +1,429 @@
+//! An endpoint, its side, and the closing exchange between both.
+
+ghost use Rattle.std.specs.Prelude.{◌≡◌, ◌≢◌, ℕ, [], ◌∷◌, ◌++◌, List, true, false, is_ok, IfOk, OnOk, OnErr, Some, None, Ok};
+ghost use Rattle.courier_messages.specs.declared.message.Message.{Message};
+ghost use Rattle.courier_messages.specs.RawCalls.{words_call};
+ghost use Rattle.courier_sessions.specs.Answering.{answer_message};
+ghost use Rattle.xns_spp.specs.Held.{StandsFor};
+ghost use Rattle.xns_spp.specs.Receiving.{input_answer, after_receive, StoresBytes};
+ghost use Rattle.xns_spp.specs.Sending.{send_answer, after_send, flush_answer, tick_answer};
+ghost use Rattle.std.specs.Option.{option_to_list};
+ghost use Rattle.xns_spp.specs.State.{State};
+ghost use Rattle.xns_spp.specs.Telling.{resend_answer, told_answer};
+ghost use Rattle.xns_host.specs.Closing.{closing_item, noted, drains};
+ghost use Rattle.xns_host.specs.Refusing.{Answers};
+ghost use Rattle.xns_host.specs.declared.closing.TheConstants.Closing.{NONE};
+ghost use Rattle.xns_host.specs.Story.{Story, asked_of, waiting_message, with_handed};
+
+use crate::closing::Closing;
+use crate::host_fault::HostFault;
+use crate::owed::Owed;
+use crate::side::Side;
+use courier_messages::PiecedMessage;
+use courier_sessions::{Answer, FeedRefusal};
+use std::alloc::{AllocError, Global};
+use std::collections::VecDeque;
+use xns_spp::{Bytes, Endpoint, Input, Item};
+
+/// The datastream of the item that asks for an end of the connection.
+const END: u8 = 254;
+
+/// The datastream of the item that answers it.
+const END_REPLY: u8 = 255;
+
+/// The end of a connection and its side.
+#[derive(Drop)]
+pub struct Conversation {
+    pub endpoint: Endpoint,
+    /// Packets that were made and are to go out.
+    pub packets: VecDeque<Bytes>,
+    pub side: Side,
+    pub closing: Closing,
+}
+
+/// An item of the closing exchange.
+fn closing_item(alloc: Global, stream: u8) -> Item
+    ensures { result ≡ closing_item stream }
+{
+    Item {
+        stream,
+        attention: false,
+        last: true,
+        body: Bytes::new(Vec::new(alloc)),
+    }
+}
+
+/// What is known of closing after an item of this datastream. An EndReply that nobody asked for counts as End and EndReply.
+fn noted(closing: Closing, stream: u8) -> Closing
+    ensures { result ≡ noted closing stream }
+{
+    let mut after = closing;
+    if stream == END {
+        after.reply_wanted = true;
+    } else if stream == END_REPLY {
+        after.reply_wanted = true;
+        after.reply_heard = true;
+    }
+    after
+}
+
+impl Conversation {
+    ghost use Rattle.xns_host.specs.Reasons.{call_fault_of, answer_fault_of};
+    ghost use Rattle.xns_host.specs.Telling.{Tells, Goes, Rested, owes_end, owes_reply, waits, is_over};
+
+    /// One in which nothing was said.
+    pub fn new(alloc: Global, endpoint: Endpoint, side: Side) -> Conversation
+        ensures endpoint { result.endpoint ≡ endpoint }
+        ensures side { result.side ≡ side }
+        ensures closing { result.closing ≡ NONE }
+        ensures packets { result.packets.items ≡ [] }
+    {
+        Conversation {
+            endpoint,
+            packets: VecDeque::new(alloc),
+            side,
+            closing: Closing::NONE,
+        }
+    }
+
+    /// Whether what comes is looked at for the closing exchange alone.
+    fn drains(&self) -> bool
+        ensures { result ≡ drains self.now.side self.now.closing }
+    {
+        self.side.is_stopped()
+            || self.closing.end_sent
+            || self.closing.reply_sent
+            || self.closing.deaf
+    }
+
+    /// Takes the item that waits first, and notes what it says of closing; whether there was one.
+    fn take_one(&mut self) -> bool
+        requires { drains self.old.side self.old.closing ≡ true }
+        ensures goes { Goes self.old self.new }
+        ensures drains { drains self.new.side self.new.closing ≡ true }
+    {
+        xns_spp::laws::the_next_item_is_handed_up();
+        let Some(item) = self.endpoint.take() else {
+            return false;
+        };
+        self.closing = noted(self.closing, item.stream);
+        true
+    }
+
+    /// Takes all that waits, and notes what is said of closing.
+    fn drain(&mut self)
+        requires { drains self.old.side self.old.closing ≡ true }
+        ensures { Goes self.old self.new }
+    {
+        for _ in 0..self.endpoint.waiting() {
+            if !self.take_one() {
+                return;
+            }
+        }
+    }
+
+    /// Takes all that waits, where it is looked at for the closing exchange alone.
+    fn drain_out(&mut self)
+        ensures { Goes self.old self.new }
+    {
+        if self.drains() {
+            self.drain();
+        }
+    }
+
+    /// Whether EndReply is to be put out.
+    fn owes_reply(&self) -> bool
+        ensures { result ≡ owes_reply self.now }
+    {
+        self.closing.reply_wanted
+            && !self.closing.reply_sent
+            && self.drains()
+            && !self.side.has_out()
+    }
+
+    /// Whether End is to be put out.
+    fn owes_end(&self) -> bool
+        ensures { result ≡ owes_end self.now }
+    {
+        self.closing.wanted && !self.drains() && !self.side.has_call() && !self.side.has_out()
+    }
+
+    /// Puts out an item of the closing exchange, unless there is no room; whether it did.
+    fn put(&mut self, alloc: Global, stream: u8) -> bool
+        ensures answer { (s : State) → StandsFor self.old.endpoint s → result ≡ is_ok (send_answer s (closing_item stream)) }
+        ensures stands { (s : State) → StandsFor self.old.endpoint s → StandsFor self.new.endpoint (after_send s (closing_item stream)) }
+        ensures beside { (self.new.side ≡ self.old.side) × (self.new.closing ≡ self.old.closing) }
+    {
+        self.endpoint.send(closing_item(alloc, stream)).is_ok()
+    }
+
+    /// Answers an End, once.
+    fn say_reply(&mut self, alloc: Global)
+        ensures { Goes self.old self.new }
+    {
+        xns_spp::laws::items_are_accepted_or_change_nothing();
+        if !self.owes_reply() {
+            return;
+        }
+        if self.put(alloc, END_REPLY) {
+            self.closing.reply_sent = true;
+        }
+    }
+
+    /// Asks for an end, once, where that is wanted: behind all that is out, and after the answer to a call that waits.
+    fn say_end(&mut self, alloc: Global)
+        ensures { Goes self.old self.new }
+    {
+        xns_spp::laws::items_are_accepted_or_change_nothing();
+        if !self.owes_end() {
+            return;
+        }
+        if self.put(alloc, END) {
+            self.closing.end_sent = true;
+        }
+    }
+
+    /// Moves items between the side and the endpoint, unless what comes is looked at for the closing exchange alone.
+    fn converse(&mut self, alloc: Global) -> Result<(), FeedRefusal>
+        ensures { Goes self.old self.new }
+    {
+        if self.drains() {
+            return Ok(());
+        }
+        self.side.converse(alloc, &mut self.endpoint)
+    }
+
+    /// Says what is to be said of closing, and looks at what waits where it is looked at for that alone.
+    fn close_up(&mut self, alloc: Global)
+        ensures { Goes self.old self.new }
+    {
+        self.say_end(alloc);
+        self.drain_out();
+        self.say_reply(alloc);
+    }
+
+    /// What comes is read no more, but for the closing exchange.
+    pub fn give_up(&mut self)
+        ensures goes { Goes self.old self.new }
+        ensures drains { drains self.new.side self.new.closing ≡ true }
+        ensures endpoint { self.new.endpoint ≡ self.old.endpoint }
+    {
+        self.closing.deaf = true;
+    }
+
+    /// The side reads no more where it refused an item, unless memory was refused.
+    fn mark(&mut self, moved: Result<(), FeedRefusal>)
+        ensures { Goes self.old self.new }
+    {
+        match moved {
+            Ok(()) | Err(FeedRefusal::NoMemory) => {}
+            Err(_) => self.give_up(),
+        }
+    }
+
+    /// Moves what can move. An `Err` is why the side refused an item: it reads no more then, unless it is `NoMemory`, after which the
+    /// same call goes on.
+    pub fn settle(&mut self, alloc: Global) -> Result<(), FeedRefusal>
+        ensures { Goes self.old self.new }
+    {
+        let moved = self.converse(alloc);
+        self.mark(moved);
+        if let Err(FeedRefusal::NoMemory) = moved {
+            return moved;
+        }
+        self.close_up(alloc);
+        moved
+    }
+
+    /// The program wants an end.
+    pub fn close(&mut self)
+        ensures goes { Goes self.old self.new }
+        ensures endpoint { self.new.endpoint ≡ self.old.endpoint }
+    {
+        self.closing.wanted = true;
+    }
+
+    /// Takes in the bytes of a packet. The only error is want of memory: it is as if the packet were lost.
+    pub fn receive(&mut self, alloc: Global, bytes: &[u8]) -> Result<Input, AllocError>
+        ensures answer { IfOk result (λ i. (s : State) → StandsFor self.old.endpoint s → i ≡ input_answer s bytes.now) }
+        ensures tells { OnOk result ((h : Story) → Tells self.old h → Tells self.new (record h { state = after_receive h.state bytes.now })) }
+        ensures beside { (self.new.side ≡ self.old.side) × (self.new.closing ≡ self.old.closing) }
+        ensures unchanged { OnErr result (self.new ≡ self.old) }
+        ensures memory { OnErr result ((s : State) → StandsFor self.old.endpoint s → StoresBytes s bytes.now) }
+    {
+        xns_spp::laws::an_end_only_grows();
+        xns_spp::laws::other_steps_accept_and_hand_up_nothing();
+        self.endpoint.input(alloc, bytes)
+    }
+
+    /// Whether something waits for the peer: it is not open, or an item is not acknowledged.
+    pub fn waits(&self) -> bool
+        ensures value { (s : State) → StandsFor self.now.endpoint s → result ≡ waits s }
+        ensures tick { (s : State) → StandsFor self.now.endpoint s → result ≡ false → tick_answer s ≡ [] }
+    {
+        !self.endpoint.is_open() || self.endpoint.unacknowledged() > 0
+    }
+
+    /// Whether the closing exchange is over, and its last item has arrived.
+    pub fn is_over(&self) -> bool
+        ensures { (s : State) → StandsFor self.now.endpoint s → result ≡ is_over self.now.closing s }
+    {
+        self.closing.reply_sent && self.closing.reply_heard && self.endpoint.unacknowledged() == 0
+    }
+
+    /// Puts out a call. It is refused, and nothing is changed, as `Closing` where the conversation closes; `PeerCalls`; `Busy`; `TooLong`;
+    /// `NoMemory`.
+    pub fn call(
+        &mut self,
+        alloc: Global,
+        program: u32,
+        version: u16,
+        procedure: u16,
+        words: &[u16],
+    ) -> Result<(), HostFault>
+        ensures answer { Answers (call_fault_of self.old (words_call program version procedure words.now)) result }
+        ensures called { (h : Story) → Tells self.old h → result ≡ Ok tt → Tells self.new (record h { made = h.made ++ words_call program version procedure words.now ∷ [] }) }
+        ensures drains { drains self.new.side self.new.closing ≡ drains self.old.side self.old.closing }
+        ensures endpoint { self.new.endpoint ≡ self.old.endpoint }
+        ensures unchanged { OnErr result (self.new ≡ self.old) }
+    {
+        if self.drains() {
+            return Err(HostFault::Closing);
+        }
+        if self.closing.wanted {
+            return Err(HostFault::Closing);
+        }
+        self.side.call(alloc, program, version, procedure, words)
+    }
+
+    /// Answers the call that was handed. It is refused, and nothing is changed, as `Closing` where the conversation closes; `NoCall`;
+    /// `TooLong`; `NoMemory`.
+    pub fn answer(&mut self, alloc: Global, answer: Answer, words: &[u16]) -> Result<(), HostFault>
+        ensures answer { Answers (answer_fault_of self.old answer words.now) result }
+        ensures answered { (h : Story) (k : ℕ) → Tells self.old h → asked_of self.old.side ≡ Some k → result ≡ Ok tt → Tells self.new (record h { answers = h.answers ++ answer_message answer k words.now ∷ [] }) }
+        ensures drains { drains self.new.side self.new.closing ≡ drains self.old.side self.old.closing }
+        ensures endpoint { self.new.endpoint ≡ self.old.endpoint }
+        ensures unchanged { OnErr result (self.new ≡ self.old) }
+    {
+        if self.drains() {
+            return Err(HostFault::Closing);
+        }
+        self.side.answer(alloc, answer, words)
+    }
+
+    /// The message that waits for the program, once.
+    pub fn take_message(&mut self) -> Option<PiecedMessage>
+        ensures message { result ≡ waiting_message self.old.side }
+        ensures handed { (h : Story) (m : Message) → Tells self.old h → result ≡ Some m → Tells self.new (with_handed self.old.side h m) }
+        ensures drains { drains self.new.side self.new.closing ≡ drains self.old.side self.old.closing }
+        ensures endpoint { self.new.endpoint ≡ self.old.endpoint }
+        ensures none { result ≡ None → self.new ≡ self.old }
+    {
+        self.side.take_message()
+    }
+
+    /// Makes the packets that go out for the first time, where none that were made wait.
+    fn flush(&mut self, alloc: Global) -> Result<(), AllocError>
+        requires { self.old.packets.items ≡ [] }
+        ensures goes { Goes self.old self.new }
+        ensures rested { OnOk result (Rested self.old self.new) }
+        ensures packets { OnOk result ((s : State) → StandsFor self.old.endpoint s → self.new.packets.items ≡ flush_answer s) }
+        ensures unchanged { OnErr result (self.new ≡ self.old) }
+    {
+        xns_spp::laws::other_steps_accept_and_hand_up_nothing();
+        xns_spp::laws::other_steps_hear_nothing();
+        self.packets = VecDeque::from(self.endpoint.flush(alloc)?);
+        Ok(())
+    }
+
+    /// Makes the packet of the first item again; `None` where there is none.
+    fn again(&mut self, alloc: Global) -> Result<Option<Bytes>, AllocError>
+        ensures goes { Goes self.old self.new }
+        ensures answer { IfOk result (λ o. (s : State) → StandsFor self.old.endpoint s → o ≡ resend_answer s) }
+        ensures packets { self.new.packets.items ≡ self.old.packets.items }
+        ensures unchanged { OnErr result (self.new ≡ self.old) }
+    {
+        xns_spp::laws::other_steps_accept_and_hand_up_nothing();
+        xns_spp::laws::other_steps_hear_nothing();
+        self.endpoint.resend_first(alloc)
+    }
+
+    /// The next packet of those that were made.
+    fn fetch(&mut self) -> Option<Bytes>
+        ensures goes { Goes self.old self.new }
+        ensures packets { self.old.packets.items ≡ option_to_list result ++ self.new.packets.items }
+        ensures none { result ≡ None → self.new.packets.items ≡ [] }
+        ensures rest { self.new ≡ record self.old { packets = self.new.packets } }
+    {
+        self.packets.pop_front()
+    }
+
+    /// The next packet of those that were made, or that is to go out again.
+    fn older_packet(&mut self, alloc: Global, owed: &mut Owed) -> Result<Option<Bytes>, AllocError>
+        ensures goes { Goes self.old self.new }
+        ensures none { result ≡ Ok None → (self.new.packets.items ≡ []) × (owed.new.again ≡ false) }
+        ensures beside { (owed.new.asks ≡ owed.old.asks) × (owed.new.moving ≡ owed.old.moving) × (owed.new.fresh ≡ owed.old.fresh) }
+        ensures refused { OnErr result (owed.new ≡ owed.old) }
+    {
+        if let Some(packet) = self.fetch() {
+            return Ok(Some(packet));
+        }
+        if !owed.again {
+            return Ok(None);
+        }
+        let packet = self.again(alloc)?;
+        owed.again = false;
+        owed.word = owed.word && packet.is_none();
+        Ok(packet)
+    }
+
+    /// The packet without an item that is owed.
+    fn system_packet(&self, alloc: Global, owed: &mut Owed) -> Result<Option<Bytes>, AllocError>
+        ensures none { result ≡ Ok None → (owed.new.asks ≡ false) × (owed.new.word ≡ false) }
+        ensures answer { (s : State) (b : List ℕ) → StandsFor self.now.endpoint s → result ≡ Ok (Some b) → told_answer s owed.old.asks ≡ Some b }
+        ensures beside { (owed.new.again ≡ owed.old.again) × (owed.new.moving ≡ owed.old.moving) × (owed.new.fresh ≡ owed.old.fresh) }
+        ensures refused { OnErr result (owed.new ≡ owed.old) }
+    {
+        if !owed.asks && !owed.word {
+            return Ok(None);
+        }
+        let packet = self.endpoint.system_packet(alloc, owed.asks)?;
+        owed.asks = false;
+        owed.word = false;
+        Ok(packet)
+    }
+
+    /// The next packet that goes out for the first time, or a packet without an item that is owed.
+    fn newer_packet(&mut self, alloc: Global, owed: &mut Owed) -> Result<Option<Bytes>, AllocError>
+        requires { self.old.packets.items ≡ [] }
+        ensures goes { Goes self.old self.new }
+        ensures rested { result ≡ Ok None → Rested self.old self.new }
+        ensures none { result ≡ Ok None → (owed.new.asks ≡ false) × (owed.new.word ≡ false) }
+        ensures beside { (owed.new.again ≡ owed.old.again) × (owed.new.moving ≡ owed.old.moving) × (owed.new.fresh ≡ owed.old.fresh) }
+        ensures refused { OnErr result (owed.new ≡ owed.old) }
+    {
+        self.flush(alloc)?;
+        if let Some(packet) = self.fetch() {
+            owed.word = false;
+            return Ok(Some(packet));
+        }
+        self.system_packet(alloc, owed)
+    }
+
+    /// The next packet that is to go out. `None` where there is none. The only error is want of memory: what is to go out stays so.
+    pub fn next_packet(
+        &mut self,
+        alloc: Global,
+        owed: &mut Owed,
+    ) -> Result<Option<Bytes>, AllocError>
+        ensures goes { Goes self.old self.new }
+        ensures rested { result ≡ Ok None → Rested self.old self.new }
+        ensures none { result ≡ Ok None → (owed.new.again ≡ false) × (owed.new.asks ≡ false) × (owed.new.word ≡ false) }
+        ensures beside { (owed.new.moving ≡ owed.old.moving) × (owed.new.fresh ≡ owed.old.fresh) }
+    {
+        if let Some(packet) = self.older_packet(alloc, owed)? {
+            return Ok(Some(packet));
+        }
+        self.newer_packet(alloc, owed)
+    }
+}

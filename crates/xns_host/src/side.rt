@@ -1,0 +1,190 @@
+//! A side of a conversation: the one that calls or the one that is called.
+
+ghost use Rattle.std.specs.Prelude.{◌≡◌, ℕ, [], ◌∷◌, ◌++◌, false, OnErr, Some, None, Ok};
+ghost use Rattle.courier_messages.specs.declared.message.Message.{Message};
+ghost use Rattle.courier_messages.specs.RawCalls.{words_call};
+ghost use Rattle.courier_sessions.specs.Answering.{answer_message, has_items};
+ghost use Rattle.xns_spp.specs.Held.{Held};
+ghost use Rattle.xns_host.specs.Story.{Story, SideHas, Moves, is_stopped, out_of, asked_of, has_call, has_message, waiting_message, with_handed};
+ghost use Rattle.xns_host.specs.Refusing.{Answers, side_call_fault, side_answer_fault, call_result, answer_result};
+
+use crate::host_fault::HostFault;
+use courier_messages::PiecedMessage;
+use courier_sessions::{
+    Answer, AnswerRefusal, CallRefusal, FeedRefusal, WordCaller, WordServer, WordSide, pump,
+};
+use std::alloc::{AllocError, Global};
+use xns_spp::Endpoint;
+
+/// A side of a conversation.
+#[derive(Drop)]
+pub enum Side {
+    /// It makes calls.
+    Calls(WordCaller),
+    /// It is called.
+    Answers(WordServer),
+}
+
+/// What is told of a call.
+fn call_result(made: Result<(), CallRefusal>) -> Result<(), HostFault>
+    ensures { result ≡ call_result made }
+{
+    match made {
+        Ok(()) => Ok(()),
+        Err(CallRefusal::Stopped) => Err(HostFault::Closing),
+        Err(CallRefusal::Busy) => Err(HostFault::Busy),
+        Err(CallRefusal::TooLong) => Err(HostFault::TooLong),
+        Err(CallRefusal::NoMemory) => Err(HostFault::NoMemory),
+    }
+}
+
+/// What is told of an answer.
+fn answer_result(given: Result<(), AnswerRefusal>) -> Result<(), HostFault>
+    ensures { result ≡ answer_result given }
+{
+    match given {
+        Ok(()) => Ok(()),
+        Err(AnswerRefusal::NoCall) => Err(HostFault::NoCall),
+        Err(AnswerRefusal::TooLong) => Err(HostFault::TooLong),
+        Err(AnswerRefusal::NoMemory) => Err(HostFault::NoMemory),
+    }
+}
+
+impl Side {
+    /// Whether it has stopped, and is fed no more.
+    pub fn is_stopped(&self) -> bool
+        ensures { result ≡ is_stopped self.now }
+    {
+        match self {
+            Side::Calls(caller) => caller.is_stopped(),
+            Side::Answers(server) => server.is_stopped(),
+        }
+    }
+
+    /// Whether items are to go out.
+    pub fn has_out(&self) -> bool
+        ensures { result ≡ has_items (out_of self.now) }
+    {
+        match self {
+            Side::Calls(caller) => caller.first_out().is_some(),
+            Side::Answers(server) => server.first_out().is_some(),
+        }
+    }
+
+    /// Whether a call waits for its answer, or to be handed, or an answer is to go out.
+    pub fn has_call(&self) -> bool
+        ensures { result ≡ has_call self.now }
+    {
+        match self {
+            Side::Calls(caller) => caller.is_waiting(),
+            Side::Answers(server) => server.is_busy(),
+        }
+    }
+
+    /// Whether there may be a message for the program.
+    pub fn has_message(&self) -> bool
+        ensures value { result ≡ has_message self.now }
+        ensures none { result ≡ false → waiting_message self.now ≡ None }
+    {
+        match self {
+            Side::Calls(caller) => caller.outcome().is_some(),
+            Side::Answers(server) => server.first_call().is_some(),
+        }
+    }
+
+    /// Puts out a call.
+    pub fn call(
+        &mut self,
+        alloc: Global,
+        program: u32,
+        version: u16,
+        procedure: u16,
+        words: &[u16],
+    ) -> Result<(), HostFault>
+        ensures answer { Answers (side_call_fault self.old (words_call program version procedure words.now)) result }
+        ensures called { (h : Story) → SideHas h self.old → is_stopped self.old ≡ false → result ≡ Ok tt → SideHas (record h { made = h.made ++ words_call program version procedure words.now ∷ [] }) self.new }
+        ensures stopped { is_stopped self.new ≡ is_stopped self.old }
+        ensures unchanged { OnErr result (self.new ≡ self.old) }
+    {
+        courier_sessions::laws::a_session_is_its_conversation();
+        match self {
+            Side::Calls(caller) => {
+                call_result(caller.call(alloc, program, version, procedure, words))
+            }
+            Side::Answers(_) => Err(HostFault::PeerCalls),
+        }
+    }
+
+    /// Answers the call that was handed.
+    pub fn answer(&mut self, alloc: Global, answer: Answer, words: &[u16]) -> Result<(), HostFault>
+        ensures answer { Answers (side_answer_fault self.old answer words.now) result }
+        ensures answered { (h : Story) (k : ℕ) → SideHas h self.old → is_stopped self.old ≡ false → asked_of self.old ≡ Some k → result ≡ Ok tt → SideHas (record h { answers = h.answers ++ answer_message answer k words.now ∷ [] }) self.new }
+        ensures stopped { is_stopped self.new ≡ is_stopped self.old }
+        ensures unchanged { OnErr result (self.new ≡ self.old) }
+    {
+        courier_sessions::laws::a_server_session_is_its_conversation();
+        match self {
+            Side::Calls(_) => Err(HostFault::NoCall),
+            Side::Answers(server) => answer_result(server.answer(alloc, answer, words)),
+        }
+    }
+
+    /// The message that is there for the program, once: an answer, or a call whose program is listed.
+    pub fn take_message(&mut self) -> Option<PiecedMessage>
+        ensures message { result ≡ waiting_message self.old }
+        ensures handed { (h : Story) (m : Message) → SideHas h self.old → result ≡ Some m → SideHas (with_handed self.old h m) self.new }
+        ensures stopped { is_stopped self.new ≡ is_stopped self.old }
+        ensures none { result ≡ None → self.new ≡ self.old }
+    {
+        courier_sessions::laws::a_session_is_its_conversation();
+        courier_sessions::laws::a_server_session_is_its_conversation();
+        match self {
+            Side::Calls(caller) => caller.take_outcome(),
+            Side::Answers(server) => server.take_call(),
+        }
+    }
+
+    /// Moves items both ways between the side and its endpoint until nothing moves.
+    fn pump(&mut self, alloc: Global, endpoint: &mut Endpoint) -> Result<(), FeedRefusal>
+        requires { is_stopped self.old ≡ false }
+        ensures { Moves self.old endpoint.old self.new endpoint.new }
+    {
+        xns_spp::laws::the_next_item_is_handed_up();
+        courier_sessions::laws::a_session_is_its_conversation();
+        courier_sessions::laws::a_server_session_is_its_conversation();
+        match self {
+            Side::Calls(caller) => pump(caller, alloc, endpoint),
+            Side::Answers(server) => pump(server, alloc, endpoint),
+        }
+    }
+
+    /// Rejects a call that waits and whose program is not listed; whether there was one.
+    fn reject_unlisted(&mut self, alloc: Global) -> Result<bool, AllocError>
+        ensures moves { (e : Held) → Moves self.old e self.new e }
+        ensures stopped { is_stopped self.new ≡ is_stopped self.old }
+    {
+        courier_sessions::laws::a_server_session_is_its_conversation();
+        match self {
+            Side::Calls(_) => Ok(false),
+            Side::Answers(server) => server.reject_unlisted(alloc),
+        }
+    }
+
+    /// Moves items until nothing moves and no call is there whose program is not listed: such calls are rejected.
+    pub fn converse(&mut self, alloc: Global, endpoint: &mut Endpoint) -> Result<(), FeedRefusal>
+        requires { is_stopped self.old ≡ false }
+        ensures { Moves self.old endpoint.old self.new endpoint.new }
+    {
+        self.pump(alloc, endpoint)?;
+        for _ in 0..=endpoint.waiting() {
+            if self.is_stopped() {
+                return Ok(());
+            }
+            if !self.reject_unlisted(alloc)? {
+                return Ok(());
+            }
+            self.pump(alloc, endpoint)?;
+        }
+        Ok(())
+    }
+}
