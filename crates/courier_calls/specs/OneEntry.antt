@@ -3,15 +3,16 @@ use Rattle.std.proofs.Common.{ℕ, Bool, true, false, Result, Some, None, Err, [
 use Rattle.std.specs.Prelude.{if◌then◌else◌, ◌||◌, nat_lt}
 use Rattle.courier_types.specs.Value.{ValueModel}
 use Rattle.courier_calls.specs.Table.{EntryModel, ProcedureModel, procedure_of}
-use Rattle.courier_calls.specs.Calls.{SeenModel, no_such_version, in_entries, in_procedures, HasArguments}
+use Rattle.courier_messages.specs.Rejects.{no_such_version, version_words}
+use Rattle.courier_calls.specs.Calls.{SeenModel, in_entries, in_procedures, HasArguments}
 
 -- what is so of the procedures of the entry is so of the table
 abbrev pub OfEntry : (Result (EntryModel × ProcedureModel) SeenModel → Type 0) → EntryModel → ℕ → ValueModel → Type 0
 OfEntry P e procedure v = HasArguments (in_procedures e (procedure_of e.procedures procedure)) v → P (in_procedures e (procedure_of e.procedures procedure))
 
 in_range : (P : Result (EntryModel × ProcedureModel) SeenModel → Type 0) (e : EntryModel) (procedure : ℕ) (v : ValueModel) (outside : Bool) → OfEntry P e procedure v
-    → HasArguments (if outside then Err (SeenModel.rejected no_such_version (e.low ∷ e.high ∷ [])) else in_procedures e (procedure_of e.procedures procedure)) v
-    → P (if outside then Err (SeenModel.rejected no_such_version (e.low ∷ e.high ∷ [])) else in_procedures e (procedure_of e.procedures procedure))
+    → HasArguments (if outside then Err (SeenModel.rejected no_such_version (version_words e.low e.high)) else in_procedures e (procedure_of e.procedures procedure)) v
+    → P (if outside then Err (SeenModel.rejected no_such_version (version_words e.low e.high)) else in_procedures e (procedure_of e.procedures procedure))
 in_range P e procedure v true f h = absurd h
 in_range P e procedure v false f h = f h
 

@@ -11,3 +11,4 @@ pub mod RawCalls
 pub mod Called
 pub mod Whole
 pub mod Laws
+pub mod Rejects

@@ -9,6 +9,7 @@ use Rattle.courier_messages.specs.Cutting.{cut, versions_item}
 use Rattle.courier_messages.specs.Message.{most_words, message_words}
 use Rattle.courier_messages.specs.Phases.{run, said, ◌then◌}
 use Rattle.courier_messages.specs.Called.{heard}
+use Rattle.courier_messages.specs.Rejects.{no_such_program, no_such_version, is_outside, version_words}
 use Rattle.courier_messages.specs.Text.{signs}
 use Rattle.courier_sessions.specs.Feeding as feeding
 use Rattle.courier_sessions.specs.Feeding.{longest_item}
@@ -105,7 +106,7 @@ entry_for (e ∷ es) program = if e.number == program then Some e else entry_for
 
 abbrev pub version_refusal : Option Program → ℕ → Option Unlisted
 version_refusal None version = Some unlisted.Program
-version_refusal (Some e) version = if nat_lt version e.lowest || nat_lt e.highest version then Some (unlisted.Version e.lowest e.highest) else None
+version_refusal (Some e) version = if is_outside e.lowest e.highest version then Some (unlisted.Version e.lowest e.highest) else None
 
 -- why a call is not handed, if it isn't; where no program is listed each is handed
 abbrev pub why_unlisted : List Program → Message → Option Unlisted
@@ -117,8 +118,8 @@ why_unlisted (e ∷ es) (Abort transaction error words) = None
 
 -- what it is answered
 abbrev pub reject_message : ℕ → Unlisted → Message
-reject_message transaction unlisted.Program = Reject transaction 0 []
-reject_message transaction (unlisted.Version low high) = Reject transaction 1 (low ∷ high ∷ [])
+reject_message transaction unlisted.Program = Reject transaction no_such_program []
+reject_message transaction (unlisted.Version low high) = Reject transaction no_such_version (version_words low high)
 
 abbrev pub after_reject : Answering → Message → Unlisted → Answering
 after_reject a m u = record a { out = a.out ++ cut (reject_message (transaction_in m) u); call = None }
