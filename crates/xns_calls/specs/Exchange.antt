@@ -33,7 +33,12 @@ abbrev pub seen_from_other : Scene → Scene
 seen_from_other s = record s { own = s.other; other = s.own }
 
 abbrev pub told_of : Track → Scene → Told
-told_of track s = record { track = track; calls = record { own = s.own.call; asked = s.other.call }; text = s.text; is_refused = s.is_refused }
+told_of track s = record {
+  track = track;
+  calls = record { own = s.own.call; asked = s.other.call };
+  text = s.text;
+  is_refused = s.is_refused;
+}
 
 abbrev pub after_told : Told → Scene → Scene
 after_told t s = record {

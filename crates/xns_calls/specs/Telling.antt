@@ -41,7 +41,9 @@ after_answer calls transaction = record calls { asked = call_left calls.asked tr
 
 -- a call is the flow's call without an answer, and an answer answers that of the flow behind
 abbrev pub after_message : Heading → Calls → Message → Calls
-after_message heading calls (Call transaction program version procedure words) = record calls { own = Some (record { transaction = transaction; line = heading.number }) }
+after_message heading calls (Call transaction program version procedure words) = record calls {
+  own = Some (record { transaction = transaction; line = heading.number });
+}
 after_message heading calls (Reject transaction reason words) = after_answer calls transaction
 after_message heading calls (Return transaction words) = after_answer calls transaction
 after_message heading calls (Abort transaction error words) = after_answer calls transaction

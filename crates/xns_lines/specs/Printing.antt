@@ -61,6 +61,12 @@ pub record StandsFor (has_printed : Says) (text_of : TextOf) (has_refused : HasR
   pub written : IsWritten before after (whole page.text) (text_of lines)
   pub printed : is_lost ≡ false → has_printed lines
 
+-- so too, behind so many parts of the end of the input
+abbrev pub StandsBehind : (List (List ℕ) → ℕ → Type 0) → TextWithEnd → (List (List ℕ) → ℕ → Bool) → ℕ → Page → Bool → Option (List ℕ)
+    → Option (List ℕ) → Says
+StandsBehind has_printed text_of has_refused part page is_lost before after lines =
+    StandsFor (λ xs. has_printed xs part) (λ xs. text_of xs part) (λ xs. has_refused xs part) page is_lost before after lines
+
 -- after a failed write nothing is pending, and something of the text was not written
 abbrev pub HasFailed : TextOf → Page → Option (List ℕ) → Option (List ℕ) → List (List ℕ) → Type 0
 HasFailed text_of page before after lines = (whole page.text ≡ []) × AppendsPart before after (text_of lines)
@@ -77,7 +83,7 @@ StandsInEnd _ stands fails part lines = ⊥
 abbrev pub StopsInEnd : RunFault → (List (List ℕ) → ℕ → Type 0) → TextWithEnd → (List (List ℕ) → ℕ → Bool) → Page → Bool → Option (List ℕ)
     → Option (List ℕ) → List (List ℕ) → ℕ → Type 0
 StopsInEnd f has_printed text_of has_refused page is_lost before after lines most = (part : ℕ) × (part ≤ most)
-    × StandsInEnd f (λ k xs. StandsFor (λ ys. has_printed ys k) (λ ys. text_of ys k) (λ ys. has_refused ys k) page is_lost before after xs)
+    × StandsInEnd f (λ k xs. StandsBehind has_printed text_of has_refused k page is_lost before after xs)
     (λ k xs. HasFailed (λ ys. text_of ys k) page before after xs) part lines
 
 -- at the end of the input, which was read whole and has good lines alone, memory or a write was refused
@@ -115,7 +121,7 @@ abbrev pub TakesAll : ℕ → (List (List ℕ) → ℕ → Type 0) → TextWithE
 TakesAll most has_printed text_of has_refused end_count page is_lost begun left after input = Consumes (Some input) left input
     × IsWithinLimits most input
     × ((before : Option (List ℕ)) → begun before
-    → StandsFor (λ xs. has_printed xs (end_count (lines_of input))) (λ xs. text_of xs (end_count (lines_of input))) (λ xs. has_refused xs (end_count (lines_of input))) page is_lost before after (lines_of input))
+    → StandsBehind has_printed text_of has_refused (end_count (lines_of input)) page is_lost before after (lines_of input))
 
 -- or up to a fault
 abbrev pub TakesSome : ℕ → (List (List ℕ) → ℕ → Type 0) → TextWithEnd → (List (List ℕ) → ℕ → Bool) → EndCount → Page → Bool
@@ -124,4 +130,5 @@ TakesSome most has_printed text_of has_refused end_count page is_lost begun left
     × Consumes (Some input) left read
     × ((before : Option (List ℕ)) → begun before
     → StopsAt most end_count f input read (λ part.
-    StandsAfter f (StandsFor (λ xs. has_printed xs part) (λ xs. text_of xs part) (λ xs. has_refused xs part) page is_lost before after) (HasFailed (λ xs. text_of xs part) page before after)))
+    StandsAfter f (StandsBehind has_printed text_of has_refused part page is_lost before after)
+    (HasFailed (λ xs. text_of xs part) page before after)))

@@ -55,7 +55,8 @@ impl Cutter {
             → HasTaken most self.new (T.stands taker.new before (W.contents writer.new)) (taken ++ piece.now)) }
         ensures err { IfErr result (λ fault. (most : ℕ) (taken : List ℕ) (before : Option (List ℕ))
             → HasTaken most self.old (T.stands taker.old before (W.contents writer.old)) taken
-            → IsCutShort most fault (taken ++ piece.now) (StandsAfter fault (T.stands taker.new before (W.contents writer.new)) (T.fails taker.new before (W.contents writer.new)))) }
+            → IsCutShort most fault (taken ++ piece.now) (StandsAfter fault (T.stands taker.new before (W.contents writer.new))
+            (T.fails taker.new before (W.contents writer.new)))) }
         ensures room { OnOk result (room_of self.new + length piece.now ≤ room_of self.old) }
     {
         let mut rest = piece;
@@ -84,7 +85,9 @@ impl Cutter {
             → HasTaken most self.new (T.stands taker.new before (W.contents writer.new)) ((taken ++ run.now) ++ 10 ∷ [])) }
         ensures err { IfErr result (λ fault. (most : ℕ) (taken : List ℕ) (before : Option (List ℕ))
             → HasTaken most self.old (T.stands taker.old before (W.contents writer.old)) taken
-            → IsCutShort most fault ((taken ++ run.now) ++ 10 ∷ []) (StandsAfter fault (T.stands taker.new before (W.contents writer.new)) (T.fails taker.new before (W.contents writer.new)))) }
+            → IsCutShort most fault ((taken ++ run.now) ++ 10 ∷ [])
+            (StandsAfter fault (T.stands taker.new before (W.contents writer.new))
+            (T.fails taker.new before (W.contents writer.new)))) }
         ensures room { OnOk result (room_of self.new + length run.now < room_of self.old) }
     {
         if !self.line.is_empty() {
@@ -137,7 +140,8 @@ impl Cutter {
             → HasTaken most self.new (T.stands taker.new before (W.contents writer.new)) (taken ++ 10 ∷ [])) }
         ensures err { IfErr result (λ fault. (most : ℕ) (taken : List ℕ) (before : Option (List ℕ))
             → HasTaken most self.old (T.stands taker.old before (W.contents writer.old)) taken
-            → IsCutShort most fault (taken ++ 10 ∷ []) (StandsAfter fault (T.stands taker.new before (W.contents writer.new)) (T.fails taker.new before (W.contents writer.new)))) }
+            → IsCutShort most fault (taken ++ 10 ∷ []) (StandsAfter fault (T.stands taker.new before (W.contents writer.new))
+            (T.fails taker.new before (W.contents writer.new)))) }
         ensures room { OnOk result (room_of self.new < room_of self.old) }
     {
         let number = self.next_number()?;
@@ -172,7 +176,8 @@ impl Cutter {
             → T.stands taker.new before (W.contents writer.new) (lines_of taken)) }
         ensures err { IfErr result (λ fault. (most : ℕ) (taken : List ℕ) (before : Option (List ℕ))
             → HasTaken most self (T.stands taker.old before (W.contents writer.old)) taken
-            → StopsShort most fault taken (StandsAfter fault (T.stands taker.new before (W.contents writer.new)) (T.fails taker.new before (W.contents writer.new)))) }
+            → StopsShort most fault taken (StandsAfter fault (T.stands taker.new before (W.contents writer.new))
+            (T.fails taker.new before (W.contents writer.new)))) }
     {
         if self.line.is_empty() {
             return Ok(());

@@ -1,7 +1,7 @@
 //! Prints lines on pages.
 ghost use Rattle.std.specs.Prelude.{◌≡◌, ◌≤◌, ◌<◌, ◌+◌, ◌++◌, ◌∷◌, [], ℕ, true, List, Option, IfErr, OnErr, OnOk, length};
 ghost use Rattle.xns_lines.specs.Lines.{most_line_bytes};
-ghost use Rattle.xns_lines.specs.Printing.{HasFailed, StandsFor, StopsInEnd};
+ghost use Rattle.xns_lines.specs.Printing.{HasFailed, StandsBehind, StopsInEnd};
 
 use crate::fault::RunFault;
 use crate::line_printer::LinePrinter;
@@ -27,11 +27,12 @@ impl<P: LinePrinter> PagePrinter<P> {
         requires few { number ≤ P.limit }
         requires short { length line.now ≤ most_line_bytes }
         ensures ok { OnOk result ((before after : Option (List ℕ)) (lines : List (List ℕ)) → number ≡ length lines + 1
-            → StandsFor (λ xs. P.has_printed self.old.printer xs 0) (λ xs. P.text_of xs 0) (λ xs. P.has_refused xs 0) self.old.page self.old.is_lost before after lines
-            → StandsFor (λ xs. P.has_printed self.new.printer xs 0) (λ xs. P.text_of xs 0) (λ xs. P.has_refused xs 0) self.new.page self.new.is_lost before after (lines ++ line.now ∷ [])) }
+            → StandsBehind (P.has_printed self.old.printer) P.text_of P.has_refused 0 self.old.page self.old.is_lost before after lines
+            → StandsBehind (P.has_printed self.new.printer) P.text_of P.has_refused 0
+            self.new.page self.new.is_lost before after (lines ++ line.now ∷ [])) }
         ensures err { OnErr result ((before after : Option (List ℕ)) (lines : List (List ℕ))
-            → StandsFor (λ xs. P.has_printed self.old.printer xs 0) (λ xs. P.text_of xs 0) (λ xs. P.has_refused xs 0) self.old.page self.old.is_lost before after lines
-            → StandsFor (λ xs. P.has_printed self.new.printer xs 0) (λ xs. P.text_of xs 0) (λ xs. P.has_refused xs 0) self.new.page self.new.is_lost before after lines) }
+            → StandsBehind (P.has_printed self.old.printer) P.text_of P.has_refused 0 self.old.page self.old.is_lost before after lines
+            → StandsBehind (P.has_printed self.new.printer) P.text_of P.has_refused 0 self.new.page self.new.is_lost before after lines) }
     {
         if self.is_lost {
             return Err(AllocError);
@@ -61,11 +62,13 @@ impl<P: LinePrinter> PagePrinter<P> {
     /// Prints a part of the end of the input. Where memory is refused, no text of it stays.
     fn print_end(&mut self, part: usize) -> Result<(), AllocError>
         ensures ok { OnOk result ((before after : Option (List ℕ)) (lines : List (List ℕ)) → part < P.end_count lines
-            → StandsFor (λ xs. P.has_printed self.old.printer xs part) (λ xs. P.text_of xs part) (λ xs. P.has_refused xs part) self.old.page self.old.is_lost before after lines
-            → StandsFor (λ xs. P.has_printed self.new.printer xs (part + 1)) (λ xs. P.text_of xs (part + 1)) (λ xs. P.has_refused xs (part + 1)) self.new.page self.new.is_lost before after lines) }
+            → StandsBehind (P.has_printed self.old.printer) P.text_of P.has_refused part self.old.page self.old.is_lost before after lines
+            → StandsBehind (P.has_printed self.new.printer) P.text_of P.has_refused (part + 1)
+            self.new.page self.new.is_lost before after lines) }
         ensures err { OnErr result ((before after : Option (List ℕ)) (lines : List (List ℕ))
-            → StandsFor (λ xs. P.has_printed self.old.printer xs part) (λ xs. P.text_of xs part) (λ xs. P.has_refused xs part) self.old.page self.old.is_lost before after lines
-            → StandsFor (λ xs. P.has_printed self.new.printer xs part) (λ xs. P.text_of xs part) (λ xs. P.has_refused xs part) self.new.page self.new.is_lost before after lines) }
+            → StandsBehind (P.has_printed self.old.printer) P.text_of P.has_refused part self.old.page self.old.is_lost before after lines
+            → StandsBehind (P.has_printed self.new.printer) P.text_of P.has_refused part
+            self.new.page self.new.is_lost before after lines) }
     {
         if self.is_lost {
             return Err(AllocError);
@@ -82,11 +85,15 @@ impl<P: LinePrinter> PagePrinter<P> {
     /// Prints a part of the end of the input, and writes a page that is full.
     fn take_end<W: Write>(&mut self, part: usize, writer: &mut W) -> Result<(), RunFault>
         ensures ok { OnOk result ((before : Option (List ℕ)) (lines : List (List ℕ)) → part < P.end_count lines
-            → StandsFor (λ xs. P.has_printed self.old.printer xs part) (λ xs. P.text_of xs part) (λ xs. P.has_refused xs part) self.old.page self.old.is_lost before (W.contents writer.old) lines
-            → StandsFor (λ xs. P.has_printed self.new.printer xs (part + 1)) (λ xs. P.text_of xs (part + 1)) (λ xs. P.has_refused xs (part + 1)) self.new.page self.new.is_lost before (W.contents writer.new) lines) }
+            → StandsBehind (P.has_printed self.old.printer) P.text_of P.has_refused part
+            self.old.page self.old.is_lost before (W.contents writer.old) lines
+            → StandsBehind (P.has_printed self.new.printer) P.text_of P.has_refused (part + 1)
+            self.new.page self.new.is_lost before (W.contents writer.new) lines) }
         ensures err { IfErr result (λ fault. (before : Option (List ℕ)) (lines : List (List ℕ)) → part < P.end_count lines
-            → StandsFor (λ xs. P.has_printed self.old.printer xs part) (λ xs. P.text_of xs part) (λ xs. P.has_refused xs part) self.old.page self.old.is_lost before (W.contents writer.old) lines
-            → StopsInEnd fault (P.has_printed self.new.printer) P.text_of P.has_refused self.new.page self.new.is_lost before (W.contents writer.new) lines (part + 1)) }
+            → StandsBehind (P.has_printed self.old.printer) P.text_of P.has_refused part
+            self.old.page self.old.is_lost before (W.contents writer.old) lines
+            → StopsInEnd fault (P.has_printed self.new.printer) P.text_of P.has_refused
+            self.new.page self.new.is_lost before (W.contents writer.new) lines (part + 1)) }
     {
         let Ok(()) = self.print_end(part) else {
             return Err(RunFault::NoMemory);
@@ -100,11 +107,15 @@ impl<P: LinePrinter> PagePrinter<P> {
     /// Prints all parts of the end of the input.
     pub(crate) fn finish<W: Write>(&mut self, writer: &mut W) -> Result<(), RunFault>
         ensures ok { OnOk result ((before : Option (List ℕ)) (lines : List (List ℕ))
-            → StandsFor (λ xs. P.has_printed self.old.printer xs 0) (λ xs. P.text_of xs 0) (λ xs. P.has_refused xs 0) self.old.page self.old.is_lost before (W.contents writer.old) lines
-            → StandsFor (λ xs. P.has_printed self.new.printer xs (P.end_count lines)) (λ xs. P.text_of xs (P.end_count lines)) (λ xs. P.has_refused xs (P.end_count lines)) self.new.page self.new.is_lost before (W.contents writer.new) lines) }
+            → StandsBehind (P.has_printed self.old.printer) P.text_of P.has_refused 0
+            self.old.page self.old.is_lost before (W.contents writer.old) lines
+            → StandsBehind (P.has_printed self.new.printer) P.text_of P.has_refused (P.end_count lines)
+            self.new.page self.new.is_lost before (W.contents writer.new) lines) }
         ensures err { IfErr result (λ fault. (before : Option (List ℕ)) (lines : List (List ℕ))
-            → StandsFor (λ xs. P.has_printed self.old.printer xs 0) (λ xs. P.text_of xs 0) (λ xs. P.has_refused xs 0) self.old.page self.old.is_lost before (W.contents writer.old) lines
-            → StopsInEnd fault (P.has_printed self.new.printer) P.text_of P.has_refused self.new.page self.new.is_lost before (W.contents writer.new) lines (P.end_count lines)) }
+            → StandsBehind (P.has_printed self.old.printer) P.text_of P.has_refused 0
+            self.old.page self.old.is_lost before (W.contents writer.old) lines
+            → StopsInEnd fault (P.has_printed self.new.printer) P.text_of P.has_refused
+            self.new.page self.new.is_lost before (W.contents writer.new) lines (P.end_count lines)) }
     {
         if self.is_lost {
             return Err(RunFault::NoMemory);
@@ -119,7 +130,8 @@ impl<P: LinePrinter> PagePrinter<P> {
 impl<P: LinePrinter> LineTaker for PagePrinter<P> {
     ghost limit = { P.limit };
 
-    ghost stands = { λ taker before after lines. StandsFor (λ xs. P.has_printed taker.printer xs 0) (λ xs. P.text_of xs 0) (λ xs. P.has_refused xs 0) taker.page taker.is_lost before after lines };
+    ghost stands = { λ taker before after lines. StandsBehind (P.has_printed taker.printer) P.text_of P.has_refused 0
+        taker.page taker.is_lost before after lines };
 
     ghost fails = { λ taker before after lines. HasFailed (λ xs. P.text_of xs 0) taker.page before after lines };
 

@@ -2,7 +2,7 @@
 ghost use Rattle.std.specs.Prelude.{◌≡◌, ◌≤◌, ℕ, List, [], Option, IfErr, IfOk, IfSome, OnOk};
 ghost use Rattle.std.specs.Io.KnownBytes.{Appends};
 ghost use Rattle.xns_lines.specs.Lines.{IsWithinLimits, lines_of};
-ghost use Rattle.xns_lines.specs.Printing.{StandsFor, StopsIn, TakesAll, TakesSome, text_to_end};
+ghost use Rattle.xns_lines.specs.Printing.{StandsBehind, StopsIn, TakesAll, TakesSome, text_to_end};
 
 use crate::fault::RunFault;
 use crate::line_printer::LinePrinter;
@@ -66,11 +66,15 @@ fn take_all<R: Read, W: Write, P: LinePrinter>(
     writer: &mut W,
 ) -> Result<(), RunFault>
     requires few { most ≤ P.limit }
-    ensures ok { OnOk result (IfSome (R.remaining reader.old) (λ input. TakesAll most (P.has_printed taker.new.printer) P.text_of P.has_refused P.end_count taker.new.page taker.new.is_lost
-        (λ before. StandsFor (λ xs. P.has_printed taker.old.printer xs 0) (λ xs. P.text_of xs 0) (λ xs. P.has_refused xs 0) taker.old.page taker.old.is_lost before (W.contents writer.old) [])
+    ensures ok { OnOk result (IfSome (R.remaining reader.old) (λ input.
+        TakesAll most (P.has_printed taker.new.printer) P.text_of P.has_refused P.end_count taker.new.page taker.new.is_lost
+        (λ before. StandsBehind (P.has_printed taker.old.printer) P.text_of P.has_refused 0
+        taker.old.page taker.old.is_lost before (W.contents writer.old) [])
         (R.remaining reader.new) (W.contents writer.new) input)) }
-    ensures err { IfErr result (λ fault. IfSome (R.remaining reader.old) (λ input. TakesSome most (P.has_printed taker.new.printer) P.text_of P.has_refused P.end_count taker.new.page taker.new.is_lost
-        (λ before. StandsFor (λ xs. P.has_printed taker.old.printer xs 0) (λ xs. P.text_of xs 0) (λ xs. P.has_refused xs 0) taker.old.page taker.old.is_lost before (W.contents writer.old) [])
+    ensures err { IfErr result (λ fault. IfSome (R.remaining reader.old) (λ input.
+        TakesSome most (P.has_printed taker.new.printer) P.text_of P.has_refused P.end_count taker.new.page taker.new.is_lost
+        (λ before. StandsBehind (P.has_printed taker.old.printer) P.text_of P.has_refused 0
+        taker.old.page taker.old.is_lost before (W.contents writer.old) [])
         (R.remaining reader.new) (W.contents writer.new) fault input)) }
 {
     take_lines(alloc, most, reader, taker, writer)?;

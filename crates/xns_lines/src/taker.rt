@@ -37,7 +37,8 @@ pub trait LineTaker {
             → stands self.new before (W.contents writer.new) (lines ++ line.now ∷ [])) }
         ensures err { IfErr result (λ fault. (before : Option (List ℕ)) (lines : List (List ℕ)) → number ≡ length lines + 1
             → stands self.old before (W.contents writer.old) lines
-            → StandsAfterLine fault (stands self.new before (W.contents writer.new)) (fails self.new before (W.contents writer.new)) lines line.now) };
+            → StandsAfterLine fault (stands self.new before (W.contents writer.new))
+            (fails self.new before (W.contents writer.new)) lines line.now) };
 
     /// Does what is to be done before more of the input is awaited.
     ///

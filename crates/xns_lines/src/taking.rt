@@ -40,7 +40,8 @@ pub fn take_lines<R: Read, T: LineTaker, W: Write>(
     ensures err { IfErr result (λ fault. IfSome (R.remaining reader.old) (λ input. (read : List ℕ)
         × Consumes (Some input) (R.remaining reader.new) read
         × ((before : Option (List ℕ)) → T.stands taker.old before (W.contents writer.old) []
-        → StopsShort most fault read (StandsAfter fault (T.stands taker.new before (W.contents writer.new)) (T.fails taker.new before (W.contents writer.new)))))) }
+        → StopsShort most fault read (StandsAfter fault (T.stands taker.new before (W.contents writer.new))
+        (T.fails taker.new before (W.contents writer.new)))))) }
 {
     let mut cutter = Cutter::new(alloc, most)?;
     let mut piece = [0u8; PIECE];
