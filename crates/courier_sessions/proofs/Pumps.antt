@@ -6,9 +6,8 @@ use Rattle.xns_spp.specs.Sending.{send_fault, after_send, take_answer, handing, 
 use Rattle.xns_spp.specs.State.{State}
 use Rattle.xns_spp.specs.declared.item.Item.{Item}
 use Rattle.xns_spp.specs.declared.send_fault.SendFault.{SendFault}
-use Rattle.courier_sessions.specs.Pumping.{Side, sending, feeds, moving, one_step, Leads, on, IsFed, Refuses, Pumped}
+use Rattle.courier_sessions.specs.Pumping.{Side, sending, feeds, moving, one_step, Leads, on, Refuses, Pumped}
 use Rattle.courier_sessions.specs.declared.feed_refusal.FeedRefusal.{FeedRefusal}
-use Rattle.courier_sessions.specs.declared.feed_refusal.FeedRefusal.TheVariants.{Stopped, Busy, TooLong, Attention, Fault, NoMemory}
 
 -- steps led to here
 pub record Going {S : Type 0} (side : Side S) (first : S × State) (session : S) (endpoint : Held) : Type 0 where
@@ -89,15 +88,6 @@ module _ {S : Type 0} (side : Side S) where
       let left : length (after_take g.end).taken + (k + 1) ≡ (after_take g.end).handed + all =
       subst (λ (s : State). length s.taken + (k + 1) ≡ s.handed + all) (sym after) (omega (arith, g.left)) in
       record { end = after_take g.end; leads = on g.leads (feeding_step t g.end none ∙ more.0); stands = more.1; left = left }
-
-  -- an item is refused, and not for want of time
-  pub refuses : (t n : S) (x : Item) (e : FeedRefusal) → e ≢ Busy → IsFed side t x (Err e) n → Refuses side t (Some x) e n
-  refuses t n x Stopped other h = h
-  refuses t n x Busy other h = absurd (other refl)
-  refuses t n x TooLong other h = h
-  refuses t n x Attention other h = h
-  refuses t n x (Fault f) other h = h
-  refuses t n x NoMemory other h = h
 
   -- the next item is refused
   pub refused : (first : S × State) (t n : S) (e f : Held) (all k : ℕ) (refusal : FeedRefusal) → side.out t ≡ [] → f ≡ e → ((s : State) → StandsFor e s → Refuses side t (take_answer s) refusal n)
