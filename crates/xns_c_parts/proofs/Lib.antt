@@ -3,5 +3,4 @@ pub mod Owned
 pub mod Sizes
 pub mod Arrivals
 pub mod Peers
-pub mod Sessions
 pub mod Given

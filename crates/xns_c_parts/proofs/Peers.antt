@@ -1,7 +1,7 @@
 -- A map has the number of each connection by its peer.
 use Rattle.std.proofs.Common.{◌≡◌, ◌∙◌, ap, sym, refl, rules, arith, ℕ, ◌<◌, ◌==◌, Bool, true, false, cond, List, length, replicate, get_or, Option, Some, None}
 use Rattle.std.specs.Prelude.{◌&&◌, ◌||◌, nat_lt, position, slice_get, slice_set}
-use Rattle.std.specs.BTreeMap.{BTreeMap, IsEmpty, IsUnchanged, Updates, get, is_at}
+use Rattle.std.specs.BTreeMap.{BTreeMap, IsEmpty, Updates, get, is_at}
 use Rattle.std.specs.Map.{lookup}
 use Rattle.std.specs.Cmp.Lexicographic.{slice_cmp}
 use Rattle.std.specs.List.{position_or_len}
@@ -186,13 +186,6 @@ not_at own e slots peers n slot h told at passes =
     let same_slot : k ≡ n = h.sound k n a.guest b.guest a.there b.there (two_clash q a.guest b.guest a.passes b.passes) in
     let no : false ≡ true = sym passes ∙ ap p (sym (get_or_from_slice_get slots n slot None at)) ∙ ap (λ (i : ℕ). p (get_or slots i None)) (sym same_slot) ∙ here in cc)
 
-pub not_past : (own : Address) (e : SppPacketModel) (slots : List (Option Guest)) (peers : BTreeMap Peer ℕ) (n : ℕ) → IsKept slots peers
-    → get peer_cmp peers (peer_at e.source e.header.source_id) ≡ Some n → slice_get slots n ≡ None → position (slot_is_for own e) slots ≡ None
-not_past own e slots peers n h told past =
-    let q = peer_at e.source e.header.source_id in
-    let first = position-Some (slot_has_peer q) slots n None (sym (h.placed q) ∙ told) in
-    let no : None ≡ Some (get_or slots n None) = sym past ∙ slice_get-get_or slots n None first.0 in absurd (cc)
-
 -- ---- what is kept after a change
 
 none_of_peer : (slots : List (Option Guest)) (g : Guest) (q : Peer) → position (slot_clashes g) slots ≡ None → is_eq (peer_cmp (peer_of g) q) ≡ true → NonePasses (slot_has_peer q) slots None
@@ -245,9 +238,6 @@ kept_without slots m m' n g k h at is u = record {
   placed = λ q. u.0 q ∙ ap (λ (x : Peer). cond (is_eq (peer_cmp x q)) None (get peer_cmp m q)) is
       ∙ taken_by slots n g q (is_eq (peer_cmp (peer_of g) q)) (get peer_cmp m q) h.sound refl (h.placed q) at;
 }
-
-pub kept_unchanged : (slots : List (Option Guest)) (m m' : BTreeMap Peer ℕ) → IsKept slots m → IsUnchanged m m' → IsKept slots m'
-kept_unchanged slots m m' h e = record { sound = h.sound; placed = λ q. ap (lookup (is_at (peer_cmp q))) e ∙ h.placed q }
 
 no_guest : (most k : ℕ) (g : Guest) → slice_get (replicate most None) k ≡ Some (Some g) → ⊥
 no_guest most k g at =
