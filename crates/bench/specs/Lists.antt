@@ -28,4 +28,8 @@ abbrev pub IsCount : ℕ → Type 0
 IsCount n = n ≤ 60000
 
 abbrev pub lists : Serving ℕ
-lists = record { table = lists_entry ∷ []; outcome = λ n q. OutcomeModel.returned (ValueModel.sequence (values_from (counted n))); after = λ n q. n }
+lists = record {
+  table = lists_entry ∷ [];
+  outcome = λ n q. OutcomeModel.returned (ValueModel.sequence (values_from (counted n)));
+  after = λ n q. n;
+}

@@ -7,7 +7,8 @@ use Rattle.courier_types.specs.Value.{ValueModel, count, values_from}
 use Rattle.courier_types.specs.Spelling.{values_spelling}
 use Rattle.courier_types.specs.Fits.{has_shape, each_passes, AreValues}
 use Rattle.courier_calls.specs.Table.{EntryModel, ProcedureModel}
-use Rattle.courier_calls.specs.Calls.{Asked, SeenModel, OutcomeModel, found, in_procedures, HasArguments, IsAsked, IsSent, AllowsOutcome, IsAllowed, IsLawful}
+use Rattle.courier_calls.specs.Calls.{Asked, SeenModel, OutcomeModel, found, in_procedures, HasArguments, IsAsked, IsSent, AllowsOutcome}
+use Rattle.courier_calls.specs.Calls.{IsAllowed, IsLawful}
 use Rattle.courier_calls.specs.OneEntry.{of_one_entry}
 use Rattle.bench.specs.Lists.{list_shape, lists_entry, counted, IsCount, lists}
 
@@ -42,20 +43,31 @@ counted_sent : (n : ℕ) → n ≤ 60000 → IsSent list_shape (ValueModel.seque
 counted_sent n h =
     let many = counted_count n in
     let size = counted_size n in
-    record { fits = record { variants = counted_shape n h; numbers = (omega (arith, many, h), counted_values n h) }; size = omega (arith, size, h) }
+    record {
+      fits = record { variants = counted_shape n h; numbers = (omega (arith, many, h), counted_values n h) };
+      size = omega (arith, size, h);
+    }
 
-by_procedure : (list v : ValueModel) (listed : Bool) → IsSent list_shape list → HasArguments (in_procedures lists_entry (if listed then Some (record { number = 1; arguments = list_shape; results = list_shape }) else None)) v
-    → AllowsOutcome (in_procedures lists_entry (if listed then Some (record { number = 1; arguments = list_shape; results = list_shape }) else None)) (OutcomeModel.returned list)
+by_procedure : (list v : ValueModel) (listed : Bool) → IsSent list_shape list
+    → HasArguments (in_procedures lists_entry (if listed then Some
+    (record { number = 1; arguments = list_shape; results = list_shape }) else None)) v
+    → AllowsOutcome (in_procedures lists_entry (if listed then Some
+    (record { number = 1; arguments = list_shape; results = list_shape }) else None)) (OutcomeModel.returned list)
 by_procedure list v true s h = s
 by_procedure list v false s h = absurd h
 
-allowed : (list : ValueModel) (q : Asked) → IsSent list_shape list → IsAsked lists.table q → IsAllowed lists.table q (OutcomeModel.returned list)
+allowed : (list : ValueModel) (q : Asked) → IsSent list_shape list → IsAsked lists.table q
+    → IsAllowed lists.table q (OutcomeModel.returned list)
 unfolding found
 allowed list q s h =
-    of_one_entry (λ r. AllowsOutcome r (OutcomeModel.returned list)) lists_entry q.version q.procedure q.arguments (8 == q.program) (λ k. by_procedure list q.arguments (1 == q.procedure) s k) h
+    of_one_entry (λ r. AllowsOutcome r (OutcomeModel.returned list)) lists_entry q.version q.procedure q.arguments (8 == q.program)
+    (λ k. by_procedure list q.arguments (1 == q.procedure) s k) h
 
 pub lists_lawful : IsLawful lists IsCount
 lists_lawful = record {
-  carries_out = λ n q few h. record { outcome = allowed (ValueModel.sequence (values_from (counted n))) q (counted_sent n few) h; after = few };
+  carries_out = λ n q few h. record {
+    outcome = allowed (ValueModel.sequence (values_from (counted n))) q (counted_sent n few) h;
+    after = few;
+  };
   table = (record { low = omega arith; high = omega arith; errors = tt }, tt);
 }

@@ -1,5 +1,5 @@
-//! Two ends exchange 65,535 items each way: in order; with every second packet late where the first word is `late`; or with the last seven packets
-//! of each round lost where it is `lossy`. They do so as often as the second word says, else once.
+//! Two ends exchange 65,535 items each way: in order; with every second packet late where the first word is `late`; or with the last seven
+//! packets of each round lost where it is `lossy`. They do so as often as the second word says, else once.
 
 use std::alloc::{AllocError, Global};
 use std::io;

@@ -17,7 +17,8 @@ pub front_begins : {X : Type 0} (n : ℕ) (xs : List X) → Begins (take n xs) x
 front_begins n xs = (drop n xs, take-append-drop n xs)
 
 pub begins_length : {X : Type 0} (xs ys : List X) → Begins xs ys → length xs ≤ length ys
-begins_length xs ys b = subst (λ (n : ℕ). length xs ≤ n) (sym (length-append xs b.0) ∙ ap length b.1) (le-add_right (length xs) (length b.0))
+begins_length xs ys b = subst (λ (n : ℕ). length xs ≤ n) (sym (length-append xs b.0) ∙ ap length b.1)
+    (le-add_right (length xs) (length b.0))
 
 -- a list that begins another is its front
 pub front_of : {X : Type 0} (xs ys : List X) → Begins xs ys → take (length xs) ys ≡ xs
@@ -25,7 +26,8 @@ front_of xs ys b = ap (take (length xs)) (sym b.1) ∙ take-append_seam xs b.0
 
 -- a front with one element more
 pub one_more : {X : Type 0} (xs : List X) (k : ℕ) (x : X) → slice_get xs k ≡ Some x → take (k + 1) xs ≡ take k xs ++ x ∷ []
-one_more {X} xs k x h = take_more xs k x (slice_get_within xs k x h) ∙ ap (λ (y : X). take k xs ++ y ∷ []) (get_or_from_slice_get xs k x x h)
+one_more {X} xs k x h = take_more xs k x (slice_get_within xs k x h) ∙ ap (λ (y : X). take k xs ++ y ∷ [])
+    (get_or_from_slice_get xs k x x h)
 
 pub begins_more : {X : Type 0} (xs ys : List X) (x : X) → Begins xs ys → slice_get ys (length xs) ≡ Some x → Begins (xs ++ x ∷ []) ys
 begins_more {X} xs ys x b h =
@@ -38,4 +40,5 @@ at_length (y ∷ xs) x rest = at_length xs x rest
 
 -- the last element of a front
 pub last_of : {X : Type 0} (xs : List X) (x : X) (ys : List X) → Begins (xs ++ x ∷ []) ys → slice_get ys (length xs) ≡ Some x
-last_of {X} xs x ys b = subst (λ (l : List X). slice_get l (length xs) ≡ Some x) (sym (append_assoc xs (x ∷ []) b.0) ∙ b.1) (at_length xs x b.0)
+last_of {X} xs x ys b = subst (λ (l : List X). slice_get l (length xs) ≡ Some x) (sym (append_assoc xs (x ∷ []) b.0) ∙ b.1)
+    (at_length xs x b.0)

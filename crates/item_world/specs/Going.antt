@@ -28,7 +28,8 @@ pub record Later (w v : World) : Type 0 where
 pub record Lands (w : World) (k : ℕ) (side : Side) (v : World) : Type 0 where
   pub packet : Emitted
   pub is : slice_get w.bag k ≡ Some packet
-  pub world : moved (marked w k packet) side (after_receive (end_of w side) packet.bytes) (option_to_list (receive_answer (end_of w side) packet.bytes).reply) ≡ v
+  pub world : moved (marked w k packet) side (after_receive (end_of w side) packet.bytes)
+      (option_to_list (receive_answer (end_of w side) packet.bytes).reply) ≡ v
 
 -- whether packet k lands
 abbrev pub does_land : World → ℕ → Bool

@@ -56,8 +56,8 @@ pub record WentOut (s : State) (k : ℕ) (x : Item) : Type 0 where
   pub is : slice_get s.accepted k ≡ Some x
   pub sent : k < s.sent
 
--- an end beside its peer: what it has taken begins what the peer accepted, and went out there, as did each early item, which is the item of its number; of its own the peer has taken no less than
--- it was acknowledged, and no more than went out
+-- an end beside its peer: what it has taken begins what the peer accepted, and went out there, as did each early item, which is the item of
+-- its number; of its own the peer has taken no less than it was acknowledged, and no more than went out
 pub record Stands (s peer : State) : Type 0 where
   pub fits : IsState s
   pub taken : Begins s.taken peer.accepted

@@ -19,7 +19,8 @@ use Rattle.xns_spp.specs.Sending.{send_answer, take_answer, after_flush}
 use Rattle.xns_spp.specs.State.{State}
 use Rattle.item_world.specs.Events.{Step, IsStep, IsOther, IsEvent, stepped, steps_of, all_stepped, delivers, undelivered, happens, run}
 use Rattle.item_world.specs.Landing.{landing, end_reached}
-use Rattle.item_world.specs.World.{World, start, end_of, moved, has_passed, flushes, sends, takes, channel_of, packets_of, sent_at, handed_at}
+use Rattle.item_world.specs.World.{World, start, end_of, moved, has_passed, flushes, sends, takes, channel_of, packets_of, sent_at}
+use Rattle.item_world.specs.World.{handed_at}
 use Rattle.xns_spp.specs.Growth.{Begins}
 use Rattle.item_world.specs.Invariant.{Holds, IsSoundSpelling}
 
@@ -28,7 +29,8 @@ pub record EachStepKeepsTheOrder : Type 0 where
   pub each : (w : World) (s : Step) → IsStep s → Holds w → Holds (stepped w s)
   pub land : (w : World) (k : ℕ) (l : Side × World) → Holds w → landing w k ≡ Some l → Holds l.1
   pub order : (w : World) (side : Side) → Holds w → Begins (handed_at w side) (sent_at w (other side))
-  pub read : (w : World) (x : Emitted) → Holds w → has_passed w x ≡ false → (i : IsSoundSpelling (end_of w x.side) (end_of w (other x.side)) x) →
+  pub read : (w : World) (x : Emitted) → Holds w → has_passed w x ≡ false
+      → (i : IsSoundSpelling (end_of w x.side) (end_of w (other x.side)) x) →
       numbers_in (end_of w (other x.side)) i.says.packet ≡ as_meant i.says.meant
 
 pub record ItemsComeInOrder : Type 0 where
@@ -36,7 +38,8 @@ pub record ItemsComeInOrder : Type 0 where
       Begins (handed_at (run (start setup) events) side) (sent_at (run (start setup) events) (other side))
   pub holds : (setup : Setup) (events : List Event) → IsSetup setup → IsGood setup → All IsEvent events →
       Holds (run (start setup) events)
-  pub within : (setup : Setup) (events : List Event) (event : Event) (n : ℕ) → IsSetup setup → IsGood setup → All IsEvent events → IsEvent event →
+  pub within : (setup : Setup) (events : List Event) (event : Event) (n : ℕ) → IsSetup setup → IsGood setup → All IsEvent events
+      → IsEvent event →
       Holds (all_stepped (run (start setup) events) (take n (steps_of (run (start setup) events) event)))
 
 abbrev pub ForeignBytesChangeNothing : Type 0
@@ -57,13 +60,15 @@ pub record WhatWasHandedUpStays : Type 0 where
 pub record AWorldOnlyGoesOn : Type 0 where
   pub itself : (w : World) → Later w w
   pub further : (u v w : World) → Later u v → Later v w → Later u w
-  pub moved : (w : World) (side : Side) (s : State) (bs : List (List ℕ)) → length (end_of w side).taken ≤ length s.taken → Later w (moved w side s bs)
+  pub moved : (w : World) (side : Side) (s : State) (bs : List (List ℕ)) → length (end_of w side).taken ≤ length s.taken
+      → Later w (moved w side s bs)
   pub flush : (w : World) (side : Side) → Later w (flushes w side)
   pub land : (w : World) (k : ℕ) (l : Side × World) → landing w k ≡ Some l → Later w l.1
 
 -- an end that sends and takes nothing leaves the network as it was
 abbrev pub AQuietEndLeavesTheNetwork : Type 0
-AQuietEndLeavesTheNetwork = (n : Network) (w : World) (side : Side) (s : State) → IsNetwork n w → length s.taken ≡ length (end_of w side).taken → IsNetwork n (moved w side s [])
+AQuietEndLeavesTheNetwork = (n : Network) (w : World) (side : Side) (s : State) → IsNetwork n w
+    → length s.taken ≡ length (end_of w side).taken → IsNetwork n (moved w side s [])
 
 abbrev pub APacketThatLandsIsReceived : Type 0
 APacketThatLandsIsReceived = (w : World) (k : ℕ) (side : Side) (v : World) → landing w k ≡ Some (side, v) → Lands w k side v
@@ -76,11 +81,14 @@ pub record ARestLeavesOutWhatIsSettled : Type 0 where
 -- each small step is a move of the channel; only an end that is given an item accepts one, and only an end that hands an item up does so
 pub record EachStepIsAMove : Type 0 where
   pub each : (w : World) (s : Step) → Holds w → Move (channel_of w) (channel_of (stepped w s))
-  pub history : (setup : Setup) (steps : List Step) → IsSetup setup → IsGood setup → All IsStep steps → IsHistory (λ n. channel_of (all_stepped (start setup) (take n steps)))
+  pub history : (setup : Setup) (steps : List Step) → IsSetup setup → IsGood setup → All IsStep steps
+      → IsHistory (λ n. channel_of (all_stepped (start setup) (take n steps)))
   pub quiet : (w : World) (s : Step) → IsOther s → Holds w → IsQuiet (channel_of w) (channel_of (stepped w s))
   pub land : (w : World) (k : ℕ) (l : Side × World) → Holds w → landing w k ≡ Some l → IsQuiet (channel_of w) (channel_of l.1)
-  pub send : (w : World) (side : Side) (x : Item) → is_ok (send_answer (end_of w side) x) ≡ true → Accepts (channel_of w) (channel_of (sends w side x)) side x
-  pub take : (w : World) (side : Side) (x : Item) → Holds w → take_answer (end_of w side) ≡ Some x → HandsUp (channel_of w) (channel_of (takes w side)) side x
+  pub send : (w : World) (side : Side) (x : Item) → is_ok (send_answer (end_of w side) x) ≡ true
+      → Accepts (channel_of w) (channel_of (sends w side x)) side x
+  pub take : (w : World) (side : Side) (x : Item) → Holds w → take_answer (end_of w side) ≡ Some x
+      → HandsUp (channel_of w) (channel_of (takes w side)) side x
 
 -- whatever the moves, what either side has handed up begins what the other accepted
 abbrev pub MovesKeepTheOrder : Type 0

@@ -1,7 +1,7 @@
 //! What an endpoint of a play does with the network.
 //!
-//! The only error is want of memory, where something is to be sent or kept. The network is then as it was. The endpoint is as it was too, or
-//! it went on, and what it sent is lost.
+//! The only error is want of memory, where something is to be sent or kept. The network is then as it was. The endpoint is as it was too,
+//! or it went on, and what it sent is lost.
 
 ghost use Rattle.std.specs.Prelude.{◌≡◌, ◌<◌, ◌⊎◌, ℕ, length, slice_get, OnOk, OnErr, Some};
 ghost use Rattle.xns_spp.specs.Held.{StandsFor};
@@ -26,9 +26,11 @@ pub fn flush_end(
     endpoint: &mut Endpoint,
     network: &mut Network,
 ) -> Result<(), AllocError>
-    ensures stands { OnOk result (EndLaws → (w : World) → IsEnd endpoint.old network.old w side → IsEnd endpoint.new network.new (flushes w side) side) }
+    ensures stands { OnOk result (EndLaws → (w : World) → IsEnd endpoint.old network.old w side
+        → IsEnd endpoint.new network.new (flushes w side) side) }
     ensures unchanged { OnErr result (network.new ≡ network.old) }
-    ensures refused { OnErr result ((s : State) → StandsFor endpoint.old s → StandsFor endpoint.new s ⊎ StandsFor endpoint.new (after_flush s)) }
+    ensures refused { OnErr result ((s : State) → StandsFor endpoint.old s
+        → StandsFor endpoint.new s ⊎ StandsFor endpoint.new (after_flush s)) }
     ensures memory { OnErr result ((s : State) → StandsFor endpoint.old s → 0 < length (flush_answer s)) }
 {
     let packets = endpoint.flush(alloc)?;
@@ -42,9 +44,11 @@ pub fn tick_end(
     endpoint: &mut Endpoint,
     network: &mut Network,
 ) -> Result<(), AllocError>
-    ensures stands { OnOk result (EndLaws → (w : World) → IsEnd endpoint.old network.old w side → IsEnd endpoint.new network.new (ticks w side) side) }
+    ensures stands { OnOk result (EndLaws → (w : World) → IsEnd endpoint.old network.old w side
+        → IsEnd endpoint.new network.new (ticks w side) side) }
     ensures unchanged { OnErr result (network.new ≡ network.old) }
-    ensures refused { OnErr result ((s : State) → StandsFor endpoint.old s → StandsFor endpoint.new s ⊎ StandsFor endpoint.new (after_tick s)) }
+    ensures refused { OnErr result ((s : State) → StandsFor endpoint.old s
+        → StandsFor endpoint.new s ⊎ StandsFor endpoint.new (after_tick s)) }
     ensures memory { OnErr result ((s : State) → StandsFor endpoint.old s → 0 < length (tick_answer s)) }
 {
     let packets = endpoint.tick(alloc)?;
@@ -60,11 +64,13 @@ pub fn land(
     number: usize,
 ) -> Result<(), AllocError>
     requires { number < length network.old.packets }
-    ensures stands { OnOk result (EndLaws → (w v : World) → IsEnd endpoint.old network.old w side → landing w number ≡ Some (side, v) → IsEnd endpoint.new network.new v side) }
+    ensures stands { OnOk result (EndLaws → (w v : World) → IsEnd endpoint.old network.old w side → landing w number ≡ Some (side, v)
+        → IsEnd endpoint.new network.new v side) }
     ensures unchanged { OnErr result (network.new ≡ network.old) }
     ensures refused { OnErr result ((s : State) (x : Emitted) → StandsFor endpoint.old s → slice_get network.old.packets number ≡ Some x →
         StandsFor endpoint.new s ⊎ StandsFor endpoint.new (after_receive s x.bytes)) }
-    ensures memory { OnErr result ((s : State) (x : Emitted) → StandsFor endpoint.old s → slice_get network.old.packets number ≡ Some x → NeedsMemory s x.bytes) }
+    ensures memory { OnErr result ((s : State) (x : Emitted) → StandsFor endpoint.old s → slice_get network.old.packets number ≡ Some x
+        → NeedsMemory s x.bytes) }
 {
     let received = endpoint.receive(alloc, network.bytes(number))?;
     network.deliver(side, number, received.took, received.reply)

@@ -1,4 +1,5 @@
-ghost use Rattle.std.specs.Prelude.{◌≡◌, ◌≤◌, ◌<◌, ◌+◌, ◌^◌, ◌∷◌, ◌++◌, if◌then◌else◌, ℕ, [], map, length, Some, IsSome, OnOk, OnErr, IfOk, IfSome, slice_get};
+ghost use Rattle.std.specs.Prelude.{◌≡◌, ◌≤◌, ◌<◌, ◌+◌, ◌^◌, ◌∷◌, ◌++◌, if◌then◌else◌, ℕ, [], map, length, Some, IsSome, OnOk, OnErr, IfOk};
+ghost use Rattle.std.specs.Prelude.{IfSome, slice_get};
 ghost use Rattle.std.specs.Vec.{vec_len, vec_capacity};
 ghost use Rattle.std.specs.Option.{option_to_list};
 ghost use Rattle.xns_spp.specs.Numbers.{most_items};
@@ -79,7 +80,8 @@ impl Network {
     pub fn emit(&mut self, side: Side, packets: Vec<Bytes>) -> Result<(), AllocError>
         ensures unchanged { OnErr result (self.new ≡ self.old) }
         ensures memory { OnErr result (0 < length packets.items) }
-        ensures sends { OnOk result ((w : World) (s : State) → IsNetwork self.old w → length s.taken ≡ length (end_of w side).taken → IsNetwork self.new (moved w side s packets.items)) }
+        ensures sends { OnOk result ((w : World) (s : State) → IsNetwork self.old w → length s.taken ≡ length (end_of w side).taken
+            → IsNetwork self.new (moved w side s packets.items)) }
     {
         let at = self.taken.moment(side);
         self.packets.reserve(packets.as_slice().len())?;
@@ -87,8 +89,8 @@ impl Network {
         Ok(())
     }
 
-    /// A packet was delivered to an end, which took so many items from it, and perhaps replies. The only error is want of memory, where there
-    /// is a reply; the network is then as it was.
+    /// A packet was delivered to an end, which took so many items from it, and perhaps replies. The only error is want of memory, where
+    /// there is a reply; the network is then as it was.
     pub fn deliver(
         &mut self,
         side: Side,
@@ -99,7 +101,8 @@ impl Network {
         requires { number < length self.old.packets }
         ensures unchanged { OnErr result (self.new ≡ self.old) }
         ensures memory { OnErr result (IsSome reply) }
-        ensures delivers { OnOk result ((w : World) (x : Emitted) (s : State) → IsNetwork self.old w → slice_get w.bag number ≡ Some x → length s.taken ≤ most_items → length (end_of w side).taken + took ≡ length s.taken →
+        ensures delivers { OnOk result ((w : World) (x : Emitted) (s : State) → IsNetwork self.old w → slice_get w.bag number ≡ Some x
+            → length s.taken ≤ most_items → length (end_of w side).taken + took ≡ length s.taken →
             IsNetwork self.new (moved (marked w number x) side s (option_to_list reply))) }
     {
         let mut taken = self.taken;
@@ -133,7 +136,8 @@ impl Network {
     /// Lists the number of a packet, where it is not settled.
     fn list(&self, numbers: &mut Vec<usize>, number: usize) -> Result<(), AllocError>
         requires { number < length self.now.packets }
-        ensures { OnOk result ((w : World) (x : Emitted) → IsNetwork self.now w → slice_get w.bag number ≡ Some x → numbers.new.items ≡ numbers.old.items ++ (if is_settled w x then [] else number ∷ [])) }
+        ensures { OnOk result ((w : World) (x : Emitted) → IsNetwork self.now w → slice_get w.bag number ≡ Some x
+            → numbers.new.items ≡ numbers.old.items ++ (if is_settled w x then [] else number ∷ [])) }
     {
         if !self.is_settled(number) {
             numbers.push(number)?;

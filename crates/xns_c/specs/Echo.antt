@@ -21,7 +21,8 @@ pub record IsRequestTo (own : Address) (bytes : List ℕ) : Type 0 where
 abbrev pub echo_request : Address → Address → List ℕ → List ℕ
 echo_request own target bytes = sent_packet 2 own target (echo_spelling (record { reply = false; body = bytes }))
 
--- the packet is an Echo reply from the socket that was asked, of the host that was asked, or of any where every host was; networks are not compared
+-- the packet is an Echo reply from the socket that was asked, of the host that was asked, or of any where every host was; networks are not
+-- compared
 pub record IsEchoed (asked : Address) (p : PacketModel) : Type 0 where
   pub kind : p.kind ≡ 2
   pub reply : echo_of p.body ≡ Ok (record { reply = true; body = drop 2 p.body })

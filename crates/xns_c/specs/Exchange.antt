@@ -1,4 +1,5 @@
--- Both sides of a packet exchange (XSIS 028112, Packet Exchange Protocol). Of one that asks C holds whom it asks, and under which identifier.
+-- Both sides of a packet exchange (XSIS 028112, Packet Exchange Protocol). Of one that asks C holds whom it asks, and under which
+-- identifier.
 use Rattle.std.specs.Prelude.{◌≡◌, ◌≢◌, ◌⊎◌, ◌≤◌, ℕ, ◌+◌, List, [], drop, length, slice_range, Ok}
 use Rattle.xns_idp.specs.Packet.{PacketModel, broadcast}
 use Rattle.xns_idp.specs.Reading.{long_at, packet_of, word_at}

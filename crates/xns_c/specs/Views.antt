@@ -9,7 +9,14 @@ use Rattle.xns_c.specs.declared.packet.XnsPacket.{XnsPacket}
 
 -- the packet with this body
 abbrev pub packet_with : XnsPacket → List ℕ → PacketModel
-packet_with p body = record { summed = is_yes p.summed; control = p.control; kind = p.kind; target = address_in p.target; source = address_in p.source; body = body }
+packet_with p body = record {
+  summed = is_yes p.summed;
+  control = p.control;
+  kind = p.kind;
+  target = address_in p.target;
+  source = address_in p.source;
+  body = body;
+}
 
 -- the packet whose body stands at its place in the bytes
 abbrev pub packet_in : XnsPacket → List ℕ → PacketModel

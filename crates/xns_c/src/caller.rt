@@ -54,8 +54,8 @@ pub extern "C" fn xns_caller_clear(alloc: Global, handle: &mut XnsCaller)
 
 /// Puts out a call of these words (XSIS 038112, Courier, Call message).
 ///
-/// `NO_CALLER`; else `STOPPED`; `BUSY` where a call waits for its answer, or an answer was not picked up; `TOO_LONG` for more than 65,530 words;
-/// `NO_MEMORY` where memory is refused.
+/// `NO_CALLER`; else `STOPPED`; `BUSY` where a call waits for its answer, or an answer was not picked up; `TOO_LONG` for more than 65,530
+/// words; `NO_MEMORY` where memory is refused.
 #[unsafe(no_mangle)]
 pub extern "C" fn xns_caller_call(
     alloc: Global,
@@ -65,9 +65,12 @@ pub extern "C" fn xns_caller_call(
     procedure: u16,
     words: &[u16],
 ) -> u32
-    ensures number { (t : Talk) → talk_of handle.old ≡ Some t → result ≢ no_memory → result ≡ call_number t (words_call program version procedure words.now) }
-    ensures memory { (t : Talk) → talk_of handle.old ≡ Some t → result ≡ no_memory → call_number t (words_call program version procedure words.now) ≡ ok }
-    ensures called { (t : Talk) → talk_of handle.old ≡ Some t → result ≡ ok → talk_of handle.new ≡ Some (called t (words_call program version procedure words.now)) }
+    ensures number { (t : Talk) → talk_of handle.old ≡ Some t → result ≢ no_memory
+        → result ≡ call_number t (words_call program version procedure words.now) }
+    ensures memory { (t : Talk) → talk_of handle.old ≡ Some t → result ≡ no_memory
+        → call_number t (words_call program version procedure words.now) ≡ ok }
+    ensures called { (t : Talk) → talk_of handle.old ≡ Some t → result ≡ ok
+        → talk_of handle.new ≡ Some (called t (words_call program version procedure words.now)) }
     ensures none { talk_of handle.old ≡ None → result ≡ no_caller }
     ensures unchanged { result ≢ ok → talk_of handle.new ≡ talk_of handle.old }
 {
@@ -81,7 +84,8 @@ pub extern "C" fn xns_caller_call(
 
 /// Gives the next item that is to go out, its bytes to the front of the buffer. Each is given once.
 ///
-/// `NO_CALLER`; `NOTHING` where there is none; `SHORT_BUFFER` where the item is longer than the buffer, and `item.length` is then how long it is.
+/// `NO_CALLER`; `NOTHING` where there is none; `SHORT_BUFFER` where the item is longer than the buffer, and `item.length` is then how long
+/// it is.
 #[unsafe(no_mangle)]
 pub extern "C" fn xns_caller_next_item(
     alloc: Global,
@@ -89,8 +93,10 @@ pub extern "C" fn xns_caller_next_item(
     item: &mut XnsItem,
     buffer: &mut [u8],
 ) -> u32
-    ensures given { (t : Talk) (x : Item) (xs : List Item) → talk_of handle.old ≡ Some t → t.out ≡ x ∷ xs → ItemIsGiven x item.old item.new buffer.old buffer.new result }
-    ensures rest { (t : Talk) (x : Item) (xs : List Item) → talk_of handle.old ≡ Some t → t.out ≡ x ∷ xs → length x.body ≤ length buffer.old →
+    ensures given { (t : Talk) (x : Item) (xs : List Item) → talk_of handle.old ≡ Some t → t.out ≡ x ∷ xs
+        → ItemIsGiven x item.old item.new buffer.old buffer.new result }
+    ensures rest { (t : Talk) (x : Item) (xs : List Item) → talk_of handle.old ≡ Some t → t.out ≡ x ∷ xs
+        → length x.body ≤ length buffer.old →
         talk_of handle.new ≡ Some (record t { out = xs }) }
     ensures nothing { (t : Talk) → talk_of handle.old ≡ Some t → t.out ≡ [] → result ≡ nothing }
     ensures none { talk_of handle.old ≡ None → result ≡ no_caller }
@@ -107,8 +113,9 @@ pub extern "C" fn xns_caller_next_item(
 
 /// Takes in an item of the peer's, whose bytes are copied. `last` is 0 for no.
 ///
-/// `NO_CALLER`; `TOO_LONG` for more than 131,076 bytes, which no message has: they are not looked at, and the session is as it was; else why the session
-/// stops, and from then on `STOPPED`. `NO_MEMORY` where memory is refused: the session is as it was, and the item can be fed again.
+/// `NO_CALLER`; `TOO_LONG` for more than 131,076 bytes, which no message has: they are not looked at, and the session is as it was; else
+/// why the session stops, and from then on `STOPPED`. `NO_MEMORY` where memory is refused: the session is as it was, and the item can be
+/// fed again.
 #[unsafe(no_mangle)]
 pub extern "C" fn xns_caller_feed(
     alloc: Global,
@@ -117,7 +124,8 @@ pub extern "C" fn xns_caller_feed(
     last: u8,
     body: &[u8],
 ) -> u32
-    ensures fed { (t : Talk) → talk_of handle.old ≡ Some t → IfSome (talk_of handle.new) (FedTo caller_side t (item_given stream 0 last body.now) result) }
+    ensures fed { (t : Talk) → talk_of handle.old ≡ Some t
+        → IfSome (talk_of handle.new) (FedTo caller_side t (item_given stream 0 last body.now) result) }
     ensures stays { (t : Talk) → talk_of handle.old ≡ Some t → talk_of handle.new ≢ None }
     ensures none { talk_of handle.old ≡ None → (result ≡ no_caller) × (talk_of handle.new ≡ None) }
 {
@@ -129,11 +137,13 @@ pub extern "C" fn xns_caller_feed(
     result
 }
 
-/// Moves items both ways between the session and an endpoint until nothing moves. What is to go out is sent, as far as the endpoint accepts it; once
-/// nothing is out, what waits at the endpoint is fed to the session. The session's memory and the endpoint's are all that it takes.
+/// Moves items both ways between the session and an endpoint until nothing moves. What is to go out is sent, as far as the endpoint accepts
+/// it; once nothing is out, what waits at the endpoint is fed to the session. The session's memory and the endpoint's are all that it
+/// takes.
 ///
-/// `NO_CALLER`; `NO_ENDPOINT`; `ATTENTION` for an attention item, which stops the session; else 0, or what `xns_caller_feed` answers to the first item that it refuses. That one waits at the endpoint still, and so
-/// does what comes behind it; what the endpoint does not accept is still to go out. After `NO_MEMORY` the same call goes on.
+/// `NO_CALLER`; `NO_ENDPOINT`; `ATTENTION` for an attention item, which stops the session; else 0, or what `xns_caller_feed` answers to the
+/// first item that it refuses. That one waits at the endpoint still, and so does what comes behind it; what the endpoint does not accept is
+/// still to go out. After `NO_MEMORY` the same call goes on.
 #[unsafe(no_mangle)]
 pub extern "C" fn xns_caller_pump(
     alloc: Global,
@@ -143,8 +153,10 @@ pub extern "C" fn xns_caller_pump(
     ensures pumped { (t : Talk) (s : State) → talk_of handle.old ≡ Some t → Keeps (line_of endpoint.old) s →
         IfBoth (talk_of handle.new) (line_of endpoint.new) (λ n l. PumpedTo caller_side (t, s) result n l.endpoint) }
     ensures packets { packets_of (line_of endpoint.new) ≡ packets_of (line_of endpoint.old) }
-    ensures no_caller { talk_of handle.old ≡ None → (result ≡ no_caller) × (talk_of handle.new ≡ None) × (line_of endpoint.new ≡ line_of endpoint.old) }
-    ensures no_endpoint { talk_of handle.old ≢ None → line_of endpoint.old ≡ None → (result ≡ no_endpoint) × (talk_of handle.new ≡ talk_of handle.old) × (line_of endpoint.new ≡ None) }
+    ensures no_caller { talk_of handle.old ≡ None → (result ≡ no_caller) × (talk_of handle.new ≡ None)
+        × (line_of endpoint.new ≡ line_of endpoint.old) }
+    ensures no_endpoint { talk_of handle.old ≢ None → line_of endpoint.old ≡ None → (result ≡ no_endpoint)
+        × (talk_of handle.new ≡ talk_of handle.old) × (line_of endpoint.new ≡ None) }
 {
     let Some(mut session) = handle.take(alloc) else {
         return NO_CALLER;
@@ -161,7 +173,8 @@ pub extern "C" fn xns_caller_pump(
 
 /// Gives the answer that is there, once: a return, an abort or a reject, its words to the front of a buffer.
 ///
-/// `NO_CALLER`; `NOTHING` where there is none; `SHORT_BUFFER` where it has more words than the buffer has room for: `count` is then their number.
+/// `NO_CALLER`; `NOTHING` where there is none; `SHORT_BUFFER` where it has more words than the buffer has room for: `count` is then their
+/// number.
 #[unsafe(no_mangle)]
 pub extern "C" fn xns_caller_outcome(
     alloc: Global,
@@ -170,7 +183,8 @@ pub extern "C" fn xns_caller_outcome(
     words: &mut [u16],
     count: &mut usize,
 ) -> u32
-    ensures given { (t : Talk) (m : Message) → talk_of handle.old ≡ Some t → t.outcome ≡ Some m → MessageIsGiven m message.new words.old words.new count.new result }
+    ensures given { (t : Talk) (m : Message) → talk_of handle.old ≡ Some t → t.outcome ≡ Some m
+        → MessageIsGiven m message.new words.old words.new count.new result }
     ensures rest { (t : Talk) → talk_of handle.old ≡ Some t → result ≡ ok → talk_of handle.new ≡ Some (record t { outcome = None }) }
     ensures nothing { (t : Talk) → talk_of handle.old ≡ Some t → t.outcome ≡ None → (result ≡ nothing) × (count.new ≡ count.old) }
     ensures none { talk_of handle.old ≡ None → (result ≡ no_caller) × (count.new ≡ count.old) }

@@ -16,8 +16,8 @@ use xns_c_parts::{XnsMessage, head_in, head_out, message_bytes, message_fault_nu
 
 /// Reads the message that the bytes are, its words to the front of a buffer (XSIS 038112, Courier, Message stream).
 ///
-/// The number of the first fault; else `NO_MEMORY` where memory is refused for the words; else `SHORT_BUFFER` where there are more of them than the
-/// buffer has room for, and `count` is then their number.
+/// The number of the first fault; else `NO_MEMORY` where memory is refused for the words; else `SHORT_BUFFER` where there are more of them
+/// than the buffer has room for, and `count` is then their number.
 #[unsafe(no_mangle)]
 pub extern "C" fn xns_message_read(
     alloc: Global,
@@ -28,8 +28,10 @@ pub extern "C" fn xns_message_read(
 ) -> u32
     ensures read { (m : Message) → message_of bytes.now ≡ Ok m → result ≡ ok →
         (message.new ≡ head_given m) × IsPut (words_in m) words.old words.new count.new }
-    ensures short { (m : Message) → message_of bytes.now ≡ Ok m → length words.old < length (words_in m) → result ≢ no_memory → (result ≡ short_buffer) × (count.new ≡ length (words_in m)) }
-    ensures memory { (m : Message) → message_of bytes.now ≡ Ok m → length (words_in m) ≤ length words.old → result ≢ ok → result ≡ no_memory }
+    ensures short { (m : Message) → message_of bytes.now ≡ Ok m → length words.old < length (words_in m) → result ≢ no_memory
+        → (result ≡ short_buffer) × (count.new ≡ length (words_in m)) }
+    ensures memory { (m : Message) → message_of bytes.now ≡ Ok m → length (words_in m) ≤ length words.old → result ≢ ok
+        → result ≡ no_memory }
     ensures fault { (f : MessageFault) → message_of bytes.now ≡ Err f → result ≡ message_fault_number f }
     ensures unchanged { result ≢ ok → (message.new ≡ message.old) × (words.new ≡ words.old) }
     ensures count { result ≢ ok → result ≢ short_buffer → count.new ≡ count.old }
@@ -48,8 +50,8 @@ pub extern "C" fn xns_message_read(
 
 /// Puts the bytes of a message to the front of the buffer.
 ///
-/// `BAD_ARGUMENT` where its kind is none of the four; `TOO_LONG` over 131,072 bytes; `SHORT_BUFFER`, and `written` is then how many bytes are needed. Only
-/// then the words are copied: `NO_MEMORY` where memory is refused.
+/// `BAD_ARGUMENT` where its kind is none of the four; `TOO_LONG` over 131,072 bytes; `SHORT_BUFFER`, and `written` is then how many bytes
+/// are needed. Only then the words are copied: `NO_MEMORY` where memory is refused.
 #[tactic(auto, using(crate::proofs::Messages::message_size))]
 #[unsafe(no_mangle)]
 pub extern "C" fn xns_message_write(
@@ -61,10 +63,13 @@ pub extern "C" fn xns_message_write(
 ) -> u32
     ensures written { (m : Message) → message_given message.now words.now ≡ Some m → result ≡ ok →
         (length (message_bytes m) ≤ most_bytes) × IsPut (message_bytes m) buffer.old buffer.new written.new }
-    ensures long { (m : Message) → message_given message.now words.now ≡ Some m → most_bytes < length (message_bytes m) → result ≡ too_long }
-    ensures short { (m : Message) → message_given message.now words.now ≡ Some m → length (message_bytes m) ≤ most_bytes → length buffer.old < length (message_bytes m) →
+    ensures long { (m : Message) → message_given message.now words.now ≡ Some m → most_bytes < length (message_bytes m)
+        → result ≡ too_long }
+    ensures short { (m : Message) → message_given message.now words.now ≡ Some m → length (message_bytes m) ≤ most_bytes
+        → length buffer.old < length (message_bytes m) →
         (result ≡ short_buffer) × (written.new ≡ length (message_bytes m)) }
-    ensures memory { (m : Message) → message_given message.now words.now ≡ Some m → length (message_bytes m) ≤ most_bytes → length (message_bytes m) ≤ length buffer.old →
+    ensures memory { (m : Message) → message_given message.now words.now ≡ Some m → length (message_bytes m) ≤ most_bytes
+        → length (message_bytes m) ≤ length buffer.old →
         result ≢ ok → result ≡ no_memory }
     ensures bad { message_given message.now words.now ≡ None → result ≡ bad_argument }
     ensures unchanged { result ≢ ok → buffer.new ≡ buffer.old }

@@ -25,7 +25,8 @@ const MOST_ECHOED: usize = 544;
 
 /// Puts an Echo request with these bytes to the front of the buffer (XSIS 028112, Echo Protocol).
 ///
-/// `TOO_LONG` for more than 544 bytes; else `SHORT_BUFFER`, and `written` is then how many bytes are needed; else `NO_MEMORY` where memory is refused.
+/// `TOO_LONG` for more than 544 bytes; else `SHORT_BUFFER`, and `written` is then how many bytes are needed; else `NO_MEMORY` where memory
+/// is refused.
 #[unsafe(no_mangle)]
 pub extern "C" fn xns_echo_request(
     alloc: Global,
@@ -35,9 +36,11 @@ pub extern "C" fn xns_echo_request(
     buffer: &mut [u8],
     written: &mut usize,
 ) -> u32
-    ensures written { result ≡ ok → IsPut (echo_request (address_in own.now) (address_in target.now) bytes.now) buffer.old buffer.new written.new }
+    ensures written { result ≡ ok → IsPut (echo_request (address_in own.now)
+        (address_in target.now) bytes.now) buffer.old buffer.new written.new }
     ensures long { 544 < length bytes.now → result ≡ too_long }
-    ensures short { length bytes.now ≤ 544 → length buffer.old < made_even (32 + length bytes.now) → (result ≡ short_buffer) × (written.new ≡ made_even (32 + length bytes.now)) }
+    ensures short { length bytes.now ≤ 544 → length buffer.old < made_even (32 + length bytes.now) → (result ≡ short_buffer)
+        × (written.new ≡ made_even (32 + length bytes.now)) }
     ensures memory { length bytes.now ≤ 544 → made_even (32 + length bytes.now) ≤ length buffer.old → result ≢ ok → result ≡ no_memory }
     ensures unchanged { result ≢ ok → buffer.new ≡ buffer.old }
     ensures untold { result ≢ ok → result ≢ short_buffer → written.new ≡ written.old }
@@ -98,8 +101,8 @@ fn replied_length(body: &[u8]) -> Option<usize>
     Some(echo.body.len())
 }
 
-/// Whether the bytes are an Echo reply from `target`, and where the bytes that it echoes stand in them. Network numbers are not compared; where `target`
-/// is the broadcast host, the reply comes from any host (XSIS 028112, Echo Protocol).
+/// Whether the bytes are an Echo reply from `target`, and where the bytes that it echoes stand in them. Network numbers are not compared;
+/// where `target` is the broadcast host, the reply comes from any host (XSIS 028112, Echo Protocol).
 ///
 /// `NOTHING` where they are not.
 #[unsafe(no_mangle)]

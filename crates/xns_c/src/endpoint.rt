@@ -6,14 +6,16 @@ ghost use Rattle.xns_spp.specs.Ends.{is_open, most_pending};
 ghost use Rattle.xns_spp.specs.Held.{StandsFor};
 ghost use Rattle.xns_spp.specs.Packet.{most_body};
 ghost use Rattle.xns_spp.specs.Receiving.{receive_answer, after_receive, NeedsMemory};
-ghost use Rattle.xns_spp.specs.Sending.{send_answer, after_send, take_answer, after_take, is_full, waiting_count, flush_answer, after_flush, tick_answer, after_tick};
+ghost use Rattle.xns_spp.specs.Sending.{send_answer, after_send, take_answer, after_take, is_full, waiting_count, flush_answer};
+ghost use Rattle.xns_spp.specs.Sending.{after_flush, tick_answer, after_tick};
 ghost use Rattle.xns_spp.specs.State.{State, initiator_state, responder_state};
 ghost use Rattle.xns_spp.specs.Telling.{unacknowledged_count};
 ghost use Rattle.xns_spp.specs.declared.item.Item.{Item};
 ghost use Rattle.xns_c_parts.specs.Given.{GivesItem, IsPut, IsPutIfThere};
 ghost use Rattle.xns_c_parts.specs.Handle.{line_of};
 ghost use Rattle.xns_c_parts.specs.Line.{Keeps, packets_of};
-ghost use Rattle.xns_c_parts.specs.Results.{ok, nothing, no_memory, no_endpoint, short_buffer, bad_argument, too_long, send_number, dropped_number};
+ghost use Rattle.xns_c_parts.specs.Results.{ok, nothing, no_memory, no_endpoint, short_buffer, bad_argument, too_long, send_number};
+ghost use Rattle.xns_c_parts.specs.Results.{dropped_number};
 ghost use Rattle.xns_c_parts.specs.Views.{address_in, item_given};
 
 use std::alloc::Global;
@@ -60,8 +62,10 @@ pub extern "C" fn xns_endpoint_new_initiator(
 ) -> u32
     ensures made { result ≡ ok → Keeps (line_of handle.new) (initiator_state (address_in own.now) id (address_in peer.now) window backlog) }
     ensures packets { packets_of (line_of handle.new) ≡ [] }
-    ensures bad { (id ≡ 0) ⊎ ((window < 1) ⊎ ((most_pending < window) ⊎ ((backlog < 1) ⊎ (most_pending < backlog)))) → result ≡ bad_argument }
-    ensures good { 0 < id → (1 ≤ window) × (window ≤ most_pending) → (1 ≤ backlog) × (backlog ≤ most_pending) → result ≢ ok → result ≡ no_memory }
+    ensures bad { (id ≡ 0) ⊎ ((window < 1) ⊎ ((most_pending < window) ⊎ ((backlog < 1) ⊎ (most_pending < backlog))))
+        → result ≡ bad_argument }
+    ensures good { 0 < id → (1 ≤ window) × (window ≤ most_pending) → (1 ≤ backlog)
+        × (backlog ≤ most_pending) → result ≢ ok → result ≡ no_memory }
     ensures none { result ≢ ok → line_of handle.new ≡ None }
 {
     let _ = handle.take(alloc);
@@ -88,10 +92,13 @@ pub extern "C" fn xns_endpoint_new_responder(
     window: usize,
     backlog: usize,
 ) -> u32
-    ensures made { result ≡ ok → Keeps (line_of handle.new) (responder_state (address_in own.now) id (address_in peer.now) peer_id window backlog) }
+    ensures made { result ≡ ok → Keeps (line_of handle.new)
+        (responder_state (address_in own.now) id (address_in peer.now) peer_id window backlog) }
     ensures packets { packets_of (line_of handle.new) ≡ [] }
-    ensures bad { (id ≡ 0) ⊎ ((peer_id ≡ 0) ⊎ ((window < 1) ⊎ ((most_pending < window) ⊎ ((backlog < 1) ⊎ (most_pending < backlog))))) → result ≡ bad_argument }
-    ensures good { 0 < id → 0 < peer_id → (1 ≤ window) × (window ≤ most_pending) → (1 ≤ backlog) × (backlog ≤ most_pending) → result ≢ ok → result ≡ no_memory }
+    ensures bad { (id ≡ 0) ⊎ ((peer_id ≡ 0) ⊎ ((window < 1) ⊎ ((most_pending < window) ⊎ ((backlog < 1) ⊎ (most_pending < backlog)))))
+        → result ≡ bad_argument }
+    ensures good { 0 < id → 0 < peer_id → (1 ≤ window) × (window ≤ most_pending) → (1 ≤ backlog)
+        × (backlog ≤ most_pending) → result ≢ ok → result ≡ no_memory }
     ensures none { result ≢ ok → line_of handle.new ≡ None }
 {
     let _ = handle.take(alloc);
@@ -158,8 +165,8 @@ pub extern "C" fn xns_endpoint_waiting(alloc: Global, handle: &mut XnsEndpoint) 
 
 /// Accepts an item, whose bytes are copied. `attention` and `last` are 0 for no.
 ///
-/// `NO_ENDPOINT`; `TOO_LONG` for more than 534 bytes, which are not looked at; `NO_MEMORY` where memory is refused; else 0, or why the item is refused. The
-/// endpoint is as it was, but after 0.
+/// `NO_ENDPOINT`; `TOO_LONG` for more than 534 bytes, which are not looked at; `NO_MEMORY` where memory is refused; else 0, or why the item
+/// is refused. The endpoint is as it was, but after 0.
 #[unsafe(no_mangle)]
 pub extern "C" fn xns_endpoint_send(
     alloc: Global,
@@ -169,11 +176,14 @@ pub extern "C" fn xns_endpoint_send(
     last: u8,
     body: &[u8],
 ) -> u32
-    ensures number { (s : State) → Keeps (line_of handle.old) s → result ≢ no_memory → result ≡ send_number (send_answer s (item_given stream attention last body.now)) }
-    ensures stands { (s : State) → Keeps (line_of handle.old) s → result ≢ no_memory → Keeps (line_of handle.new) (after_send s (item_given stream attention last body.now)) }
+    ensures number { (s : State) → Keeps (line_of handle.old) s → result ≢ no_memory
+        → result ≡ send_number (send_answer s (item_given stream attention last body.now)) }
+    ensures stands { (s : State) → Keeps (line_of handle.old) s → result ≢ no_memory
+        → Keeps (line_of handle.new) (after_send s (item_given stream attention last body.now)) }
     ensures packets { packets_of (line_of handle.new) ≡ packets_of (line_of handle.old) }
     ensures none { line_of handle.old ≡ None → (result ≡ no_endpoint) × (line_of handle.new ≡ None) }
-    ensures long { line_of handle.old ≢ None → most_body < length body.now → (result ≡ too_long) × (line_of handle.new ≡ line_of handle.old) }
+    ensures long { line_of handle.old ≢ None → most_body < length body.now → (result ≡ too_long)
+        × (line_of handle.new ≡ line_of handle.old) }
     ensures memory { result ≡ no_memory → line_of handle.new ≡ line_of handle.old }
 {
     let Some(mut connection) = handle.take(alloc) else {
@@ -186,8 +196,8 @@ pub extern "C" fn xns_endpoint_send(
 
 /// Hands up the next item, its bytes to the front of the buffer.
 ///
-/// `SHORT_BUFFER` where the buffer has fewer than 534 bytes, whatever waits, and the item's length is then 534; else `NO_ENDPOINT`, or `NOTHING` where
-/// none waits.
+/// `SHORT_BUFFER` where the buffer has fewer than 534 bytes, whatever waits, and the item's length is then 534; else `NO_ENDPOINT`, or
+/// `NOTHING` where none waits.
 #[unsafe(no_mangle)]
 pub extern "C" fn xns_endpoint_take(
     alloc: Global,
@@ -195,12 +205,16 @@ pub extern "C" fn xns_endpoint_take(
     item: &mut XnsItem,
     buffer: &mut [u8],
 ) -> u32
-    ensures stands { (s : State) → Keeps (line_of handle.old) s → most_body ≤ length buffer.old → Keeps (line_of handle.new) (after_take s) }
+    ensures stands { (s : State) → Keeps (line_of handle.old) s → most_body ≤ length buffer.old
+        → Keeps (line_of handle.new) (after_take s) }
     ensures packets { packets_of (line_of handle.new) ≡ packets_of (line_of handle.old) }
     ensures nothing { (s : State) → Keeps (line_of handle.old) s → most_body ≤ length buffer.old → take_answer s ≡ None → result ≡ nothing }
-    ensures some { (s : State) (x : Item) → Keeps (line_of handle.old) s → most_body ≤ length buffer.old → take_answer s ≡ Some x → (result ≡ ok) × GivesItem x item.new }
-    ensures bytes { (s : State) (x : Item) → Keeps (line_of handle.old) s → most_body ≤ length buffer.old → take_answer s ≡ Some x → IsPut x.body buffer.old buffer.new item.new.length }
-    ensures short { length buffer.old < most_body → (result ≡ short_buffer) × (item.new ≡ record item.old { length = most_body }) × (line_of handle.new ≡ line_of handle.old) }
+    ensures some { (s : State) (x : Item) → Keeps (line_of handle.old) s → most_body ≤ length buffer.old → take_answer s ≡ Some x
+        → (result ≡ ok) × GivesItem x item.new }
+    ensures bytes { (s : State) (x : Item) → Keeps (line_of handle.old) s → most_body ≤ length buffer.old → take_answer s ≡ Some x
+        → IsPut x.body buffer.old buffer.new item.new.length }
+    ensures short { length buffer.old < most_body → (result ≡ short_buffer) × (item.new ≡ record item.old { length = most_body })
+        × (line_of handle.new ≡ line_of handle.old) }
     ensures none { line_of handle.old ≡ None → most_body ≤ length buffer.old → (result ≡ no_endpoint) × (line_of handle.new ≡ None) }
     ensures unchanged { result ≢ ok → buffer.new ≡ buffer.old }
     ensures untold { result ≢ ok → result ≢ short_buffer → item.new ≡ item.old }
@@ -243,8 +257,8 @@ fn put_reply(buffer: &mut [u8], reply: &Option<Bytes>) -> usize
 
 /// Takes in the bytes of a packet, and puts the reply, where one is wanted, to the front of the buffer.
 ///
-/// `SHORT_BUFFER` where the buffer has fewer than 42 bytes, whatever came, and `received.reply` is then 42; else `NO_ENDPOINT`; else `NO_MEMORY` where
-/// memory is refused: the endpoint is then as it was, as if the packet were lost.
+/// `SHORT_BUFFER` where the buffer has fewer than 42 bytes, whatever came, and `received.reply` is then 42; else `NO_ENDPOINT`; else
+/// `NO_MEMORY` where memory is refused: the endpoint is then as it was, as if the packet were lost.
 #[unsafe(no_mangle)]
 pub extern "C" fn xns_endpoint_receive(
     alloc: Global,
@@ -256,10 +270,14 @@ pub extern "C" fn xns_endpoint_receive(
     ensures stands { (s : State) → Keeps (line_of handle.old) s → result ≡ ok → Keeps (line_of handle.new) (after_receive s bytes.now) }
     ensures packets { packets_of (line_of handle.new) ≡ packets_of (line_of handle.old) }
     ensures took { (s : State) → Keeps (line_of handle.old) s → result ≡ ok → received.new.took ≡ (receive_answer s bytes.now).took }
-    ensures acknowledged { (s : State) → Keeps (line_of handle.old) s → result ≡ ok → received.new.acknowledged ≡ unacknowledged_count s - unacknowledged_count (after_receive s bytes.now) }
-    ensures dropped { (s : State) → Keeps (line_of handle.old) s → result ≡ ok → received.new.dropped ≡ dropped_number (receive_answer s bytes.now).dropped }
-    ensures reply { (s : State) → Keeps (line_of handle.old) s → result ≡ ok → IsPutIfThere (receive_answer s bytes.now).reply buffer.old buffer.new received.new.reply }
-    ensures memory { (s : State) → Keeps (line_of handle.old) s → 42 ≤ length buffer.old → result ≢ ok → (result ≡ no_memory) × NeedsMemory s bytes.now }
+    ensures acknowledged { (s : State) → Keeps (line_of handle.old) s → result ≡ ok
+        → received.new.acknowledged ≡ unacknowledged_count s - unacknowledged_count (after_receive s bytes.now) }
+    ensures dropped { (s : State) → Keeps (line_of handle.old) s → result ≡ ok
+        → received.new.dropped ≡ dropped_number (receive_answer s bytes.now).dropped }
+    ensures reply { (s : State) → Keeps (line_of handle.old) s → result ≡ ok
+        → IsPutIfThere (receive_answer s bytes.now).reply buffer.old buffer.new received.new.reply }
+    ensures memory { (s : State) → Keeps (line_of handle.old) s → 42 ≤ length buffer.old → result ≢ ok → (result ≡ no_memory)
+        × NeedsMemory s bytes.now }
     ensures short { length buffer.old < 42 → (result ≡ short_buffer) × (received.new ≡ record received.old { reply = 42 }) }
     ensures none { line_of handle.old ≡ None → 42 ≤ length buffer.old → result ≡ no_endpoint }
     ensures unchanged { result ≢ ok → (line_of handle.new ≡ line_of handle.old) × (buffer.new ≡ buffer.old) }
@@ -298,7 +316,8 @@ pub extern "C" fn xns_endpoint_receive(
 pub extern "C" fn xns_endpoint_flush(alloc: Global, handle: &mut XnsEndpoint) -> u32
     ensures stands { (s : State) → Keeps (line_of handle.old) s → result ≡ ok → Keeps (line_of handle.new) (after_flush s) }
     ensures packets { (s : State) → Keeps (line_of handle.old) s → result ≡ ok → packets_of (line_of handle.new) ≡ flush_answer s }
-    ensures short { (s : State) → Keeps (line_of handle.old) s → result ≡ ok → All (λ p. length p ≤ most_packet) (packets_of (line_of handle.new)) }
+    ensures short { (s : State) → Keeps (line_of handle.old) s → result ≡ ok
+        → All (λ p. length p ≤ most_packet) (packets_of (line_of handle.new)) }
     ensures memory { (s : State) → Keeps (line_of handle.old) s → result ≢ ok → (result ≡ no_memory) × (0 < length (flush_answer s)) }
     ensures none { line_of handle.old ≡ None → result ≡ no_endpoint }
     ensures unchanged { result ≢ ok → line_of handle.new ≡ line_of handle.old }
@@ -320,7 +339,8 @@ pub extern "C" fn xns_endpoint_flush(alloc: Global, handle: &mut XnsEndpoint) ->
 pub extern "C" fn xns_endpoint_tick(alloc: Global, handle: &mut XnsEndpoint) -> u32
     ensures stands { (s : State) → Keeps (line_of handle.old) s → result ≡ ok → Keeps (line_of handle.new) (after_tick s) }
     ensures packets { (s : State) → Keeps (line_of handle.old) s → result ≡ ok → packets_of (line_of handle.new) ≡ tick_answer s }
-    ensures short { (s : State) → Keeps (line_of handle.old) s → result ≡ ok → All (λ p. length p ≤ most_packet) (packets_of (line_of handle.new)) }
+    ensures short { (s : State) → Keeps (line_of handle.old) s → result ≡ ok
+        → All (λ p. length p ≤ most_packet) (packets_of (line_of handle.new)) }
     ensures memory { (s : State) → Keeps (line_of handle.old) s → result ≢ ok → (result ≡ no_memory) × (0 < length (tick_answer s)) }
     ensures none { line_of handle.old ≡ None → result ≡ no_endpoint }
     ensures unchanged { result ≢ ok → line_of handle.new ≡ line_of handle.old }
@@ -339,7 +359,8 @@ pub extern "C" fn xns_endpoint_tick(alloc: Global, handle: &mut XnsEndpoint) -> 
 
 /// Puts the next packet that `xns_endpoint_flush` or `xns_endpoint_tick` made to the front of the buffer. Each is given once.
 ///
-/// `NO_ENDPOINT`; `NOTHING` where there is none; `SHORT_BUFFER` where the packet is longer than the buffer, and `written` is then how long it is.
+/// `NO_ENDPOINT`; `NOTHING` where there is none; `SHORT_BUFFER` where the packet is longer than the buffer, and `written` is then how long
+/// it is.
 #[unsafe(no_mangle)]
 pub extern "C" fn xns_endpoint_next_packet(
     alloc: Global,
@@ -349,7 +370,8 @@ pub extern "C" fn xns_endpoint_next_packet(
 ) -> u32
     ensures put { (p : List ℕ) (ps : List (List ℕ)) → packets_of (line_of handle.old) ≡ p ∷ ps → length p ≤ length buffer.old →
         (result ≡ ok) × (packets_of (line_of handle.new) ≡ ps) × IsPut p buffer.old buffer.new written.new }
-    ensures short { (p : List ℕ) (ps : List (List ℕ)) → packets_of (line_of handle.old) ≡ p ∷ ps → length buffer.old < length p → (result ≡ short_buffer) × (written.new ≡ length p) }
+    ensures short { (p : List ℕ) (ps : List (List ℕ)) → packets_of (line_of handle.old) ≡ p ∷ ps → length buffer.old < length p
+        → (result ≡ short_buffer) × (written.new ≡ length p) }
     ensures nothing { (s : State) → Keeps (line_of handle.old) s → packets_of (line_of handle.old) ≡ [] → result ≡ nothing }
     ensures stands { (s : State) → Keeps (line_of handle.old) s → Keeps (line_of handle.new) s }
     ensures none { line_of handle.old ≡ None → result ≡ no_endpoint }

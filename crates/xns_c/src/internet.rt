@@ -82,7 +82,8 @@ pub extern "C" fn xns_encode(
     ensures written { length body.now ≤ most_data → made_even (30 + length body.now) ≤ length buffer.old →
         (result ≡ ok) × IsPut (packet_spelling (packet_with packet.now body.now)) buffer.old buffer.new written.new }
     ensures long { most_data < length body.now → result ≡ too_long }
-    ensures short { length body.now ≤ most_data → length buffer.old < made_even (30 + length body.now) → (result ≡ short_buffer) × (written.new ≡ made_even (30 + length body.now)) }
+    ensures short { length body.now ≤ most_data → length buffer.old < made_even (30 + length body.now) → (result ≡ short_buffer)
+        × (written.new ≡ made_even (30 + length body.now)) }
     ensures unchanged { result ≢ ok → buffer.new ≡ buffer.old }
     ensures untold { result ≢ ok → result ≢ short_buffer → written.new ≡ written.old }
 {

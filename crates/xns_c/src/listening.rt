@@ -23,8 +23,8 @@ fn make_listener(alloc: Global, own: Address, most: usize) -> Result<Box<Listene
     Ok(Box::new(alloc, listener)?)
 }
 
-/// Makes a listener at the socket of `own`, with no connection and room for `most`, in the place of the one that the handle had, which is freed in any
-/// case.
+/// Makes a listener at the socket of `own`, with no connection and room for `most`, in the place of the one that the handle had, which is
+/// freed in any case.
 ///
 /// `BAD_ARGUMENT` where `most` is over 65,535; else `NO_MEMORY` where memory is refused. The handle then has no listener.
 #[unsafe(no_mangle)]
@@ -75,8 +75,10 @@ pub extern "C" fn xns_listener_find(
 ) -> u32
     ensures given { (l : Listening) → listening_of handle.old ≡ Some l → result ≡ ok → IsFor l bytes.now number.new }
     ensures only { (l : Listening) (k : ℕ) → listening_of handle.old ≡ Some l → IsFor l bytes.now k → (result ≡ ok) × (number.new ≡ k) }
-    ensures opens { (l : Listening) → listening_of handle.old ≡ Some l → result ≡ opens → OpensNew l bytes.now (address_in peer.new) peer_id.new }
-    ensures opened { (l : Listening) (a : Address) (id : ℕ) → listening_of handle.old ≡ Some l → OpensNew l bytes.now a id → result ≡ opens }
+    ensures opens { (l : Listening) → listening_of handle.old ≡ Some l → result ≡ opens
+        → OpensNew l bytes.now (address_in peer.new) peer_id.new }
+    ensures opened { (l : Listening) (a : Address) (id : ℕ) → listening_of handle.old ≡ Some l → OpensNew l bytes.now a id
+        → result ≡ opens }
     ensures nothing { (l : Listening) → listening_of handle.old ≡ Some l → result ≢ ok → result ≢ opens → result ≡ nothing }
     ensures none { listening_of handle.old ≡ None → result ≡ no_listener }
     ensures same { listening_of handle.new ≡ listening_of handle.old }
@@ -101,10 +103,11 @@ pub extern "C" fn xns_listener_find(
     }
 }
 
-/// Puts in a connection with this peer, whose identifier is `peer_id`, under the identifier `id` of ours, and says its number: the first that is free.
+/// Puts in a connection with this peer, whose identifier is `peer_id`, under the identifier `id` of ours, and says its number: the first
+/// that is free.
 ///
-/// `NO_LISTENER`; `BAD_ARGUMENT` where `id` or `peer_id` is 0; `IN_USE` where a connection has this `id`, or this peer with this identifier; `NO_SLOT`
-/// where there is no room; `NO_MEMORY` where memory is refused: all is then as it was.
+/// `NO_LISTENER`; `BAD_ARGUMENT` where `id` or `peer_id` is 0; `IN_USE` where a connection has this `id`, or this peer with this
+/// identifier; `NO_SLOT` where there is no room; `NO_MEMORY` where memory is refused: all is then as it was.
 #[unsafe(no_mangle)]
 pub extern "C" fn xns_listener_add(
     alloc: Global,
@@ -114,8 +117,10 @@ pub extern "C" fn xns_listener_add(
     id: u16,
     number: &mut usize,
 ) -> u32
-    ensures number { (l : Listening) → listening_of handle.old ≡ Some l → result ≢ no_memory → result ≡ add_number l (guest_of (address_in peer.now) peer_id id) }
-    ensures memory { (l : Listening) → listening_of handle.old ≡ Some l → result ≡ no_memory → add_number l (guest_of (address_in peer.now) peer_id id) ≡ ok }
+    ensures number { (l : Listening) → listening_of handle.old ≡ Some l → result ≢ no_memory
+        → result ≡ add_number l (guest_of (address_in peer.now) peer_id id) }
+    ensures memory { (l : Listening) → listening_of handle.old ≡ Some l → result ≡ no_memory
+        → add_number l (guest_of (address_in peer.now) peer_id id) ≡ ok }
     ensures added { (l : Listening) → listening_of handle.old ≡ Some l → result ≡ ok → (position is_none l.slots ≡ Some number.new) ×
         (listening_of handle.new ≡ Some (with_slot l number.new (Some (guest_of (address_in peer.now) peer_id id)))) }
     ensures none { listening_of handle.old ≡ None → result ≡ no_listener }

@@ -18,7 +18,8 @@ use xns_c_parts::results::{LEFT_OVER, NOT_BOOLEAN, OK, OVER_MAXIMUM, SHORT_BUFFE
 /// Reads a cardinal, one word.
 #[unsafe(no_mangle)]
 pub extern "C" fn xns_read_cardinal(words: &[u16], cursor: &mut XnsCursor, value: &mut u16) -> u32
-    ensures read { cursor.old.fault ≡ ok → IsRead (value_of ShapeModel.cardinal (ahead words.now cursor.old)) cursor.old cursor.new result (ValueModel.cardinal value.new) }
+    ensures read { cursor.old.fault ≡ ok → IsRead (value_of ShapeModel.cardinal (ahead words.now cursor.old)) cursor.old cursor.new result
+        (ValueModel.cardinal value.new) }
     ensures stays { cursor.old.fault ≢ ok → (result ≡ cursor.old.fault) × (cursor.new ≡ cursor.old) }
     ensures unchanged { result ≢ ok → value.new ≡ value.old }
 {
@@ -40,7 +41,8 @@ pub extern "C" fn xns_read_long_cardinal(
     cursor: &mut XnsCursor,
     value: &mut u32,
 ) -> u32
-    ensures read { cursor.old.fault ≡ ok → IsRead (value_of ShapeModel.long_cardinal (ahead words.now cursor.old)) cursor.old cursor.new result (ValueModel.long_cardinal value.new) }
+    ensures read { cursor.old.fault ≡ ok → IsRead (value_of ShapeModel.long_cardinal
+        (ahead words.now cursor.old)) cursor.old cursor.new result (ValueModel.long_cardinal value.new) }
     ensures stays { cursor.old.fault ≢ ok → (result ≡ cursor.old.fault) × (cursor.new ≡ cursor.old) }
     ensures unchanged { result ≢ ok → value.new ≡ value.old }
 {
@@ -58,7 +60,8 @@ pub extern "C" fn xns_read_long_cardinal(
 /// Reads an integer, one word.
 #[unsafe(no_mangle)]
 pub extern "C" fn xns_read_integer(words: &[u16], cursor: &mut XnsCursor, value: &mut i16) -> u32
-    ensures read { cursor.old.fault ≡ ok → IsRead (value_of ShapeModel.integer (ahead words.now cursor.old)) cursor.old cursor.new result (ValueModel.integer value.new) }
+    ensures read { cursor.old.fault ≡ ok → IsRead (value_of ShapeModel.integer (ahead words.now cursor.old)) cursor.old cursor.new result
+        (ValueModel.integer value.new) }
     ensures stays { cursor.old.fault ≢ ok → (result ≡ cursor.old.fault) × (cursor.new ≡ cursor.old) }
     ensures unchanged { result ≢ ok → value.new ≡ value.old }
 {
@@ -77,7 +80,8 @@ pub extern "C" fn xns_read_long_integer(
     cursor: &mut XnsCursor,
     value: &mut i32,
 ) -> u32
-    ensures read { cursor.old.fault ≡ ok → IsRead (value_of ShapeModel.long_integer (ahead words.now cursor.old)) cursor.old cursor.new result (ValueModel.long_integer value.new) }
+    ensures read { cursor.old.fault ≡ ok → IsRead (value_of ShapeModel.long_integer
+        (ahead words.now cursor.old)) cursor.old cursor.new result (ValueModel.long_integer value.new) }
     ensures stays { cursor.old.fault ≢ ok → (result ≡ cursor.old.fault) × (cursor.new ≡ cursor.old) }
     ensures unchanged { result ≢ ok → value.new ≡ value.old }
 {
@@ -103,7 +107,8 @@ pub extern "C" fn xns_read_count(
         (result ≡ ok) × (count.new ≡ n) × (cursor.new ≡ moved cursor.old 1) }
     ensures over { (n : ℕ) (rest : List ℕ) → cursor.old.fault ≡ ok → ahead words.now cursor.old ≡ n ∷ rest → most < n →
         (result ≡ over_maximum) × (cursor.new ≡ faulted cursor.old over_maximum) }
-    ensures cut { cursor.old.fault ≡ ok → ahead words.now cursor.old ≡ [] → (result ≡ truncated) × (cursor.new ≡ faulted cursor.old truncated) }
+    ensures cut { cursor.old.fault ≡ ok → ahead words.now cursor.old ≡ [] → (result ≡ truncated)
+        × (cursor.new ≡ faulted cursor.old truncated) }
     ensures stays { cursor.old.fault ≢ ok → (result ≡ cursor.old.fault) × (cursor.new ≡ cursor.old) }
     ensures unchanged { result ≢ ok → count.new ≡ count.old }
 {
@@ -127,7 +132,8 @@ pub extern "C" fn xns_read_count(
 #[unsafe(no_mangle)]
 pub extern "C" fn xns_read_end(words: &[u16], cursor: &mut XnsCursor) -> u32
     ensures end { cursor.old.fault ≡ ok → ahead words.now cursor.old ≡ [] → (result ≡ ok) × (cursor.new ≡ cursor.old) }
-    ensures left { cursor.old.fault ≡ ok → ahead words.now cursor.old ≢ [] → (result ≡ left_over) × (cursor.new ≡ faulted cursor.old left_over) }
+    ensures left { cursor.old.fault ≡ ok → ahead words.now cursor.old ≢ [] → (result ≡ left_over)
+        × (cursor.new ≡ faulted cursor.old left_over) }
     ensures stays { cursor.old.fault ≢ ok → (result ≡ cursor.old.fault) × (cursor.new ≡ cursor.old) }
 {
     if cursor.fault != OK {
@@ -144,7 +150,8 @@ pub extern "C" fn xns_read_end(words: &[u16], cursor: &mut XnsCursor) -> u32
 /// `NOT_BOOLEAN` for another one.
 #[unsafe(no_mangle)]
 pub extern "C" fn xns_read_boolean(words: &[u16], cursor: &mut XnsCursor, value: &mut u8) -> u32
-    ensures read { cursor.old.fault ≡ ok → IsRead (value_of ShapeModel.boolean (ahead words.now cursor.old)) cursor.old cursor.new result (ValueModel.boolean (is_yes value.new)) }
+    ensures read { cursor.old.fault ≡ ok → IsRead (value_of ShapeModel.boolean (ahead words.now cursor.old)) cursor.old cursor.new result
+        (ValueModel.boolean (is_yes value.new)) }
     ensures bit { result ≡ ok → cursor.old.fault ≡ ok → value.new ≤ 1 }
     ensures stays { cursor.old.fault ≢ ok → (result ≡ cursor.old.fault) × (cursor.new ≡ cursor.old) }
     ensures unchanged { result ≢ ok → value.new ≡ value.old }
@@ -192,11 +199,14 @@ pub extern "C" fn xns_read_text(
     text: &mut [u8],
     size: &mut usize,
 ) -> u32
-    ensures read { (bytes : List ℕ) (taken : ℕ) → cursor.old.fault ≡ ok → value_of ShapeModel.text (ahead words.now cursor.old) ≡ Ok (ValueModel.text bytes, taken) → length bytes ≤ length text.old →
+    ensures read { (bytes : List ℕ) (taken : ℕ) → cursor.old.fault ≡ ok
+        → value_of ShapeModel.text (ahead words.now cursor.old) ≡ Ok (ValueModel.text bytes, taken) → length bytes ≤ length text.old →
         (result ≡ ok) × IsPut bytes text.old text.new size.new × (cursor.new ≡ moved cursor.old taken) }
-    ensures short { (bytes : List ℕ) (taken : ℕ) → cursor.old.fault ≡ ok → value_of ShapeModel.text (ahead words.now cursor.old) ≡ Ok (ValueModel.text bytes, taken) → length text.old < length bytes →
+    ensures short { (bytes : List ℕ) (taken : ℕ) → cursor.old.fault ≡ ok
+        → value_of ShapeModel.text (ahead words.now cursor.old) ≡ Ok (ValueModel.text bytes, taken) → length text.old < length bytes →
         (result ≡ short_buffer) × (size.new ≡ length bytes) × (cursor.new ≡ cursor.old) }
-    ensures cut { (fault : ReadFault) → cursor.old.fault ≡ ok → value_of ShapeModel.text (ahead words.now cursor.old) ≡ Err fault → (result ≡ truncated) × (cursor.new ≡ faulted cursor.old truncated) }
+    ensures cut { (fault : ReadFault) → cursor.old.fault ≡ ok → value_of ShapeModel.text (ahead words.now cursor.old) ≡ Err fault
+        → (result ≡ truncated) × (cursor.new ≡ faulted cursor.old truncated) }
     ensures stays { cursor.old.fault ≢ ok → (result ≡ cursor.old.fault) × (cursor.new ≡ cursor.old) × (size.new ≡ size.old) }
     ensures unchanged { result ≢ ok → text.new ≡ text.old }
     ensures untold { result ≢ ok → result ≢ short_buffer → size.new ≡ size.old }

@@ -20,7 +20,8 @@ use xns_small::{Exchange, read_exchange};
 #[tactic(auto, unfolding(xns_small::specs::Exchange::exchange_of))]
 fn asked_as(own: &XnsAddress, packet: &Packet<'_>) -> Option<(u32, u16)>
     ensures { MatchOption result (IsAsked (address_in own.now) (packet_model packet.now) → ⊥)
-        (λ x. IsAsked (address_in own.now) (packet_model packet.now) × (x.0 ≡ long_at packet.now.body.now 0) × (x.1 ≡ word_at packet.now.body.now 4)) }
+        (λ x. IsAsked (address_in own.now) (packet_model packet.now) × (x.0 ≡ long_at packet.now.body.now 0)
+        × (x.1 ≡ word_at packet.now.body.now 4)) }
 {
     if packet.kind != PACKET_EXCHANGE || packet.target.socket != own.socket {
         return None;
@@ -35,11 +36,11 @@ fn asked_as(own: &XnsAddress, packet: &Packet<'_>) -> Option<(u32, u16)>
     Some((exchange.id, exchange.client))
 }
 
-/// Puts the response to a request of a packet exchange to the front of the buffer: with the request's identifier and client type it goes to where the
-/// request came from (XSIS 028112, Packet Exchange Protocol).
+/// Puts the response to a request of a packet exchange to the front of the buffer: with the request's identifier and client type it goes to
+/// where the request came from (XSIS 028112, Packet Exchange Protocol).
 ///
-/// `TOO_LONG` for more than 540 bytes; else `NOTHING` where the request is no packet of a packet exchange to `own` from one host; else `SHORT_BUFFER`,
-/// and `written` is then how many bytes are needed; else `NO_MEMORY` where memory is refused.
+/// `TOO_LONG` for more than 540 bytes; else `NOTHING` where the request is no packet of a packet exchange to `own` from one host; else
+/// `SHORT_BUFFER`, and `written` is then how many bytes are needed; else `NO_MEMORY` where memory is refused.
 #[unsafe(no_mangle)]
 pub extern "C" fn xns_exchange_reply(
     alloc: Global,
@@ -49,13 +50,15 @@ pub extern "C" fn xns_exchange_reply(
     buffer: &mut [u8],
     written: &mut usize,
 ) -> u32
-    ensures written { (x : PacketModel × ℕ) → packet_of request.now ≡ Ok x → result ≡ ok → IsPut (answering_packet (address_in own.now) x.0 bytes.now) buffer.old buffer.new written.new }
+    ensures written { (x : PacketModel × ℕ) → packet_of request.now ≡ Ok x → result ≡ ok
+        → IsPut (answering_packet (address_in own.now) x.0 bytes.now) buffer.old buffer.new written.new }
     ensures long { 540 < length bytes.now → result ≡ too_long }
     ensures answered { (x : PacketModel × ℕ) → packet_of request.now ≡ Ok x → IsAsked (address_in own.now) x.0 → result ≢ nothing }
     ensures nothing { length bytes.now ≤ 540 → result ≢ nothing → IsAskedBy (address_in own.now) request.now }
     ensures short { length bytes.now ≤ 540 → result ≢ nothing → length buffer.old < made_even (36 + length bytes.now) →
         (result ≡ short_buffer) × (written.new ≡ made_even (36 + length bytes.now)) }
-    ensures memory { length bytes.now ≤ 540 → result ≢ nothing → made_even (36 + length bytes.now) ≤ length buffer.old → result ≢ ok → result ≡ no_memory }
+    ensures memory { length bytes.now ≤ 540 → result ≢ nothing → made_even (36 + length bytes.now) ≤ length buffer.old → result ≢ ok
+        → result ≡ no_memory }
     ensures unchanged { result ≢ ok → buffer.new ≡ buffer.old }
     ensures untold { result ≢ ok → result ≢ short_buffer → written.new ≡ written.old }
 {

@@ -20,8 +20,8 @@ use xns_small::{Exchange, read_exchange};
 /// Puts the request packet of a packet exchange to the front of the buffer: to be sent, and sent again until the response comes
 /// (XSIS 028112, Packet Exchange Protocol).
 ///
-/// `TOO_LONG` for more than 540 bytes; else `BAD_ARGUMENT` where the target is the broadcast host; else `SHORT_BUFFER`, and `written` is then how many
-/// bytes are needed; else `NO_MEMORY` where memory is refused.
+/// `TOO_LONG` for more than 540 bytes; else `BAD_ARGUMENT` where the target is the broadcast host; else `SHORT_BUFFER`, and `written` is
+/// then how many bytes are needed; else `NO_MEMORY` where memory is refused.
 #[unsafe(no_mangle)]
 pub extern "C" fn xns_exchange_request(
     alloc: Global,
@@ -33,12 +33,14 @@ pub extern "C" fn xns_exchange_request(
     buffer: &mut [u8],
     written: &mut usize,
 ) -> u32
-    ensures written { result ≡ ok → IsPut (asking_packet (address_in own.now) (address_in target.now) id client bytes.now) buffer.old buffer.new written.new }
+    ensures written { result ≡ ok → IsPut (asking_packet (address_in own.now)
+        (address_in target.now) id client bytes.now) buffer.old buffer.new written.new }
     ensures long { 540 < length bytes.now → result ≡ too_long }
     ensures everyone { length bytes.now ≤ 540 → target.now.host ≡ broadcast → result ≡ bad_argument }
     ensures short { length bytes.now ≤ 540 → target.now.host ≢ broadcast → length buffer.old < made_even (36 + length bytes.now) →
         (result ≡ short_buffer) × (written.new ≡ made_even (36 + length bytes.now)) }
-    ensures memory { length bytes.now ≤ 540 → target.now.host ≢ broadcast → made_even (36 + length bytes.now) ≤ length buffer.old → result ≢ ok → result ≡ no_memory }
+    ensures memory { length bytes.now ≤ 540 → target.now.host ≢ broadcast → made_even (36 + length bytes.now) ≤ length buffer.old
+        → result ≢ ok → result ≡ no_memory }
     ensures unchanged { result ≢ ok → buffer.new ≡ buffer.old }
     ensures untold { result ≢ ok → result ≢ short_buffer → written.new ≡ written.old }
 {
@@ -61,7 +63,8 @@ pub extern "C" fn xns_exchange_request(
 #[tactic(auto, unfolding(xns_small::specs::Exchange::exchange_of))]
 fn response_length(target: &XnsAddress, id: u32, packet: &Packet<'_>) -> Option<usize>
     ensures { MatchOption result (IsResponse (asker (address_in target.now) id) (packet_model packet.now) → ⊥)
-        (λ n. IsResponse (asker (address_in target.now) id) (packet_model packet.now) × (BEFORE_EXCHANGED + n ≡ length packet.now.body.now)) }
+        (λ n. IsResponse (asker (address_in target.now) id) (packet_model packet.now)
+        × (BEFORE_EXCHANGED + n ≡ length packet.now.body.now)) }
 {
     let source = packet.source;
     if packet.kind != PACKET_EXCHANGE
@@ -77,8 +80,8 @@ fn response_length(target: &XnsAddress, id: u32, packet: &Packet<'_>) -> Option<
     Some(exchange.body.len())
 }
 
-/// Whether the bytes are the response to what was asked of `target` under this identifier, and where its data stand in them. Network numbers are not
-/// compared (XSIS 028112, Packet Exchange Protocol).
+/// Whether the bytes are the response to what was asked of `target` under this identifier, and where its data stand in them. Network
+/// numbers are not compared (XSIS 028112, Packet Exchange Protocol).
 ///
 /// `NOTHING` where they are not.
 #[unsafe(no_mangle)]
@@ -89,7 +92,8 @@ pub extern "C" fn xns_exchange_accept(
     body_at: &mut usize,
     body_length: &mut usize,
 ) -> u32
-    ensures accepted { (x : PacketModel × ℕ) → packet_of bytes.now ≡ Ok x → IsResponse (asker (address_in target.now) id) x.0 → result ≡ ok }
+    ensures accepted { (x : PacketModel × ℕ) → packet_of bytes.now ≡ Ok x → IsResponse (asker (address_in target.now) id) x.0
+        → result ≡ ok }
     ensures response { result ≡ ok → IsResponseIn (asker (address_in target.now) id) bytes.now body_at.new body_length.new }
     ensures nothing { result ≢ ok → result ≡ nothing }
     ensures unchanged { result ≢ ok → (body_at.new ≡ body_at.old) × (body_length.new ≡ body_length.old) }

@@ -28,8 +28,8 @@ pub fn packet_size(count: usize) -> usize
     HEADER_BYTES + count + count % 2
 }
 
-/// Puts the bytes of a summed packet with these data, of transport control 0, to the front of a buffer that has room for them, and says how many they
-/// are.
+/// Puts the bytes of a summed packet with these data, of transport control 0, to the front of a buffer that has room for them, and says how
+/// many they are.
 pub fn put_packet(
     kind: u8,
     source: Address,
@@ -65,8 +65,10 @@ pub fn put_exchange(
     written: &mut usize,
 ) -> u32
     requires { length exchange.now.body.now ≤ 540 }
-    ensures written { result ≡ ok → IsPut (asking_packet source target exchange.now.id exchange.now.client exchange.now.body.now) buffer.old buffer.new written.new }
-    ensures short { length buffer.old < made_even (36 + length exchange.now.body.now) → (result ≡ short_buffer) × (written.new ≡ made_even (36 + length exchange.now.body.now)) }
+    ensures written { result ≡ ok → IsPut
+        (asking_packet source target exchange.now.id exchange.now.client exchange.now.body.now) buffer.old buffer.new written.new }
+    ensures short { length buffer.old < made_even (36 + length exchange.now.body.now) → (result ≡ short_buffer)
+        × (written.new ≡ made_even (36 + length exchange.now.body.now)) }
     ensures memory { made_even (36 + length exchange.now.body.now) ≤ length buffer.old → result ≢ ok → result ≡ no_memory }
     ensures unchanged { result ≢ ok → buffer.new ≡ buffer.old }
     ensures untold { result ≢ ok → result ≢ short_buffer → written.new ≡ written.old }

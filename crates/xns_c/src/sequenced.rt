@@ -47,7 +47,8 @@ pub extern "C" fn xns_header_write(
     buffer: &mut [u8],
     written: &mut usize,
 ) -> u32
-    ensures written { 12 ≤ length buffer.old → (result ≡ ok) × IsPut (header_spelling (header_in header.now)) buffer.old buffer.new written.new }
+    ensures written { 12 ≤ length buffer.old → (result ≡ ok)
+        × IsPut (header_spelling (header_in header.now)) buffer.old buffer.new written.new }
     ensures short { length buffer.old < 12 → (result ≡ short_buffer) × (written.new ≡ 12) × (buffer.new ≡ buffer.old) }
 {
     let whole = Header {

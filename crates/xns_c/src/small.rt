@@ -19,8 +19,8 @@ use xns_small::{Exchange, answer_echo, complain, read_error, read_exchange, writ
 
 /// Puts the answer to an Echo request to the front of the buffer (XSIS 028112, Echo Protocol).
 ///
-/// `NOTHING` where the bytes are no request to `own`; else `SHORT_BUFFER`, and `written` is then how many bytes are needed, or `NO_MEMORY` where memory is
-/// refused.
+/// `NOTHING` where the bytes are no request to `own`; else `SHORT_BUFFER`, and `written` is then how many bytes are needed, or `NO_MEMORY`
+/// where memory is refused.
 #[unsafe(no_mangle)]
 pub extern "C" fn xns_echo_reply(
     alloc: Global,
@@ -33,7 +33,8 @@ pub extern "C" fn xns_echo_reply(
     ensures written { (x : PacketModel × ℕ) → packet_of bytes.now ≡ Ok x → result ≡ ok →
         IsAnswered (address_in own.now) x.0 × IsPut (echo_reply (address_in own.now) x.0) buffer.old buffer.new written.new }
     ensures short { (x : PacketModel × ℕ) → packet_of bytes.now ≡ Ok x → result ≡ short_buffer →
-        IsAnswered (address_in own.now) x.0 × (length buffer.old < length (echo_reply (address_in own.now) x.0)) × (written.new ≡ length (echo_reply (address_in own.now) x.0)) }
+        IsAnswered (address_in own.now) x.0 × (length buffer.old < length (echo_reply (address_in own.now) x.0))
+        × (written.new ≡ length (echo_reply (address_in own.now) x.0)) }
     ensures memory { result ≢ ok → result ≢ nothing → result ≢ short_buffer → result ≡ no_memory }
     ensures nothing { result ≢ nothing → IsRequestTo (address_in own.now) bytes.now }
     ensures unchanged { result ≢ ok → buffer.new ≡ buffer.old }
@@ -51,8 +52,8 @@ pub extern "C" fn xns_echo_reply(
 
 /// Puts an Error packet about the offending packet to the front of the buffer (XSIS 028112, Error Protocol).
 ///
-/// `NOTHING` where one must not complain of the bytes; else `SHORT_BUFFER`, and `written` is then how many bytes are needed, or `NO_MEMORY` where memory is
-/// refused.
+/// `NOTHING` where one must not complain of the bytes; else `SHORT_BUFFER`, and `written` is then how many bytes are needed, or `NO_MEMORY`
+/// where memory is refused.
 #[unsafe(no_mangle)]
 pub extern "C" fn xns_complain(
     alloc: Global,
@@ -64,8 +65,10 @@ pub extern "C" fn xns_complain(
     written: &mut usize,
 ) -> u32
     ensures complained { MayBeComplainedOf offending.now → result ≢ nothing }
-    ensures written { result ≡ ok → IsPut (complaint (address_in own.now) number parameter offending.now) buffer.old buffer.new written.new }
-    ensures short { result ≡ short_buffer → (length buffer.old < length (complaint (address_in own.now) number parameter offending.now)) × (written.new ≡ length (complaint (address_in own.now) number parameter offending.now)) }
+    ensures written { result ≡ ok → IsPut
+        (complaint (address_in own.now) number parameter offending.now) buffer.old buffer.new written.new }
+    ensures short { result ≡ short_buffer → (length buffer.old < length (complaint (address_in own.now) number parameter offending.now))
+        × (written.new ≡ length (complaint (address_in own.now) number parameter offending.now)) }
     ensures memory { result ≢ ok → result ≢ nothing → result ≢ short_buffer → result ≡ no_memory }
     ensures nothing { result ≢ nothing → MayBeComplainedOf offending.now }
     ensures unchanged { result ≢ ok → buffer.new ≡ buffer.old }
@@ -82,7 +85,8 @@ pub extern "C" fn xns_complain(
 #[tactic(auto, unfolding(xns_small::specs::ErrorReport::error_of))]
 #[unsafe(no_mangle)]
 pub extern "C" fn xns_error_read(body: &[u8], number: &mut u16, parameter: &mut u16) -> u32
-    ensures read { result ≡ ok → error_of body.now ≡ Ok (record { number = number.new; parameter = parameter.new; quoted = drop 4 body.now }) }
+    ensures read { result ≡ ok → error_of body.now ≡ Ok
+        (record { number = number.new; parameter = parameter.new; quoted = drop 4 body.now }) }
     ensures long { 4 ≤ length body.now → result ≡ ok }
     ensures short { length body.now < 4 → result ≡ short }
     ensures unchanged { result ≢ ok → (number.new ≡ number.old) × (parameter.new ≡ parameter.old) }
@@ -119,7 +123,8 @@ pub extern "C" fn xns_exchange_read(body: &[u8], id: &mut u32, client: &mut u16)
 
 /// Puts the data of a Packet Exchange packet to the front of the buffer.
 ///
-/// `TOO_LONG` for more than 540 bytes; else `SHORT_BUFFER`, and `written` is then how many bytes are needed; else `NO_MEMORY` where memory is refused.
+/// `TOO_LONG` for more than 540 bytes; else `SHORT_BUFFER`, and `written` is then how many bytes are needed; else `NO_MEMORY` where memory
+/// is refused.
 #[unsafe(no_mangle)]
 pub extern "C" fn xns_exchange_write(
     alloc: Global,
@@ -129,9 +134,11 @@ pub extern "C" fn xns_exchange_write(
     buffer: &mut [u8],
     written: &mut usize,
 ) -> u32
-    ensures written { result ≡ ok → IsPut (exchange_spelling (record { id = id; client = client; body = bytes.now })) buffer.old buffer.new written.new }
+    ensures written { result ≡ ok → IsPut (exchange_spelling
+        (record { id = id; client = client; body = bytes.now })) buffer.old buffer.new written.new }
     ensures long { 540 < length bytes.now → result ≡ too_long }
-    ensures short { length bytes.now ≤ 540 → length buffer.old < 6 + length bytes.now → (result ≡ short_buffer) × (written.new ≡ 6 + length bytes.now) }
+    ensures short { length bytes.now ≤ 540 → length buffer.old < 6 + length bytes.now → (result ≡ short_buffer)
+        × (written.new ≡ 6 + length bytes.now) }
     ensures memory { length bytes.now ≤ 540 → 6 + length bytes.now ≤ length buffer.old → result ≢ ok → result ≡ no_memory }
     ensures unchanged { result ≢ ok → buffer.new ≡ buffer.old }
     ensures untold { result ≢ ok → result ≢ short_buffer → written.new ≡ written.old }

@@ -55,7 +55,8 @@ fn fill_text(bytes: &[u8], words: &mut [u16])
 /// Writes a cardinal, one word.
 #[unsafe(no_mangle)]
 pub extern "C" fn xns_write_cardinal(buffer: &mut [u16], cursor: &mut XnsCursor, value: u16) -> u32
-    ensures written { cursor.old.fault ≡ ok → IsWritten (value_spelling (ValueModel.cardinal value)) cursor.old cursor.new buffer.old buffer.new result }
+    ensures written { cursor.old.fault ≡ ok → IsWritten
+        (value_spelling (ValueModel.cardinal value)) cursor.old cursor.new buffer.old buffer.new result }
     ensures stays { cursor.old.fault ≢ ok → (result ≡ cursor.old.fault) × (cursor.new ≡ cursor.old) × (buffer.new ≡ buffer.old) }
 {
     put(&[value], buffer, cursor)
@@ -68,7 +69,8 @@ pub extern "C" fn xns_write_long_cardinal(
     cursor: &mut XnsCursor,
     value: u32,
 ) -> u32
-    ensures written { cursor.old.fault ≡ ok → IsWritten (value_spelling (ValueModel.long_cardinal value)) cursor.old cursor.new buffer.old buffer.new result }
+    ensures written { cursor.old.fault ≡ ok → IsWritten
+        (value_spelling (ValueModel.long_cardinal value)) cursor.old cursor.new buffer.old buffer.new result }
     ensures stays { cursor.old.fault ≢ ok → (result ≡ cursor.old.fault) × (cursor.new ≡ cursor.old) × (buffer.new ≡ buffer.old) }
 {
     put(
@@ -81,7 +83,8 @@ pub extern "C" fn xns_write_long_cardinal(
 /// Writes an integer, one word.
 #[unsafe(no_mangle)]
 pub extern "C" fn xns_write_integer(buffer: &mut [u16], cursor: &mut XnsCursor, value: i16) -> u32
-    ensures written { cursor.old.fault ≡ ok → IsWritten (value_spelling (ValueModel.integer value)) cursor.old cursor.new buffer.old buffer.new result }
+    ensures written { cursor.old.fault ≡ ok → IsWritten
+        (value_spelling (ValueModel.integer value)) cursor.old cursor.new buffer.old buffer.new result }
     ensures stays { cursor.old.fault ≢ ok → (result ≡ cursor.old.fault) × (cursor.new ≡ cursor.old) × (buffer.new ≡ buffer.old) }
 {
     put(&[value.cast_unsigned()], buffer, cursor)
@@ -94,7 +97,8 @@ pub extern "C" fn xns_write_long_integer(
     cursor: &mut XnsCursor,
     value: i32,
 ) -> u32
-    ensures written { cursor.old.fault ≡ ok → IsWritten (value_spelling (ValueModel.long_integer value)) cursor.old cursor.new buffer.old buffer.new result }
+    ensures written { cursor.old.fault ≡ ok → IsWritten
+        (value_spelling (ValueModel.long_integer value)) cursor.old cursor.new buffer.old buffer.new result }
     ensures stays { cursor.old.fault ≢ ok → (result ≡ cursor.old.fault) × (cursor.new ≡ cursor.old) × (buffer.new ≡ buffer.old) }
 {
     xns_write_long_cardinal(buffer, cursor, value.cast_unsigned())
@@ -103,7 +107,8 @@ pub extern "C" fn xns_write_long_integer(
 /// Writes a boolean, one word. `value` is 0 for no.
 #[unsafe(no_mangle)]
 pub extern "C" fn xns_write_boolean(buffer: &mut [u16], cursor: &mut XnsCursor, value: u8) -> u32
-    ensures written { cursor.old.fault ≡ ok → IsWritten (value_spelling (ValueModel.boolean (is_yes value))) cursor.old cursor.new buffer.old buffer.new result }
+    ensures written { cursor.old.fault ≡ ok → IsWritten
+        (value_spelling (ValueModel.boolean (is_yes value))) cursor.old cursor.new buffer.old buffer.new result }
     ensures stays { cursor.old.fault ≢ ok → (result ≡ cursor.old.fault) × (cursor.new ≡ cursor.old) × (buffer.new ≡ buffer.old) }
 {
     put(&[u16::from(value != 0)], buffer, cursor)
@@ -120,7 +125,8 @@ pub extern "C" fn xns_write_count(
     count: usize,
 ) -> u32
     ensures written { cursor.old.fault ≡ ok → count ≤ most → IsWritten (count ∷ []) cursor.old cursor.new buffer.old buffer.new result }
-    ensures over { cursor.old.fault ≡ ok → most < count → (result ≡ over_maximum) × (cursor.new ≡ faulted cursor.old over_maximum) × (buffer.new ≡ buffer.old) }
+    ensures over { cursor.old.fault ≡ ok → most < count → (result ≡ over_maximum) × (cursor.new ≡ faulted cursor.old over_maximum)
+        × (buffer.new ≡ buffer.old) }
     ensures stays { cursor.old.fault ≢ ok → (result ≡ cursor.old.fault) × (cursor.new ≡ cursor.old) × (buffer.new ≡ buffer.old) }
 {
     if cursor.fault != OK {
@@ -138,8 +144,10 @@ pub extern "C" fn xns_write_count(
 #[unsafe(no_mangle)]
 #[tactic(auto, using(crate::proofs::Spelled::bytes_count))]
 pub extern "C" fn xns_write_text(buffer: &mut [u16], cursor: &mut XnsCursor, bytes: &[u8]) -> u32
-    ensures written { cursor.old.fault ≡ ok → length bytes.now < 2 ^ 16 → IsWritten (value_spelling (ValueModel.text bytes.now)) cursor.old cursor.new buffer.old buffer.new result }
-    ensures long { cursor.old.fault ≡ ok → 2 ^ 16 ≤ length bytes.now → (result ≡ too_long) × (cursor.new ≡ faulted cursor.old too_long) × (buffer.new ≡ buffer.old) }
+    ensures written { cursor.old.fault ≡ ok → length bytes.now < 2 ^ 16
+        → IsWritten (value_spelling (ValueModel.text bytes.now)) cursor.old cursor.new buffer.old buffer.new result }
+    ensures long { cursor.old.fault ≡ ok → 2 ^ 16 ≤ length bytes.now → (result ≡ too_long) × (cursor.new ≡ faulted cursor.old too_long)
+        × (buffer.new ≡ buffer.old) }
     ensures stays { cursor.old.fault ≢ ok → (result ≡ cursor.old.fault) × (cursor.new ≡ cursor.old) × (buffer.new ≡ buffer.old) }
 {
     if cursor.fault != OK {

@@ -5,7 +5,8 @@ use Rattle.courier_messages.specs.declared.fault.MessageFault.TheVariants.{OddLe
 use Rattle.courier_messages.specs.declared.message.Message.{Message}
 use Rattle.courier_messages.specs.declared.message.Message.TheVariants.{Call, Reject, Return, Abort}
 use Rattle.courier_messages.specs.declared.fault.SessionFault.{SessionFault}
-use Rattle.courier_messages.specs.declared.fault.SessionFault.TheVariants.{NoCommonVersion, BadVersions, BadMessage, WrongTransaction, BadReply, Stream, NoMemory, Failed}
+use Rattle.courier_messages.specs.declared.fault.SessionFault.TheVariants.{NoCommonVersion, BadVersions, BadMessage, WrongTransaction}
+use Rattle.courier_messages.specs.declared.fault.SessionFault.TheVariants.{BadReply, Stream, NoMemory, Failed}
 use Rattle.courier_messages.specs.Head.{words_in}
 use Rattle.xns_c_parts.specs.Given.{IsPut}
 use Rattle.xns_c_parts.specs.Results.{ok, no_memory, short_buffer, stopped, closing}
@@ -31,11 +32,26 @@ message_given m words =
 abbrev pub head_given : Message → XnsMessage
 head_given (Call transaction program version procedure words) =
     record { kind = 0; transaction = transaction; program = program; version = version; procedure = procedure; number = 0 }
-head_given (Reject transaction reason words) = record { kind = 1; transaction = transaction; program = 0; version = 0; procedure = 0; number = reason }
+head_given (Reject transaction reason words) = record {
+  kind = 1;
+  transaction = transaction;
+  program = 0;
+  version = 0;
+  procedure = 0;
+  number = reason;
+}
 head_given (Return transaction words) = record { kind = 2; transaction = transaction; program = 0; version = 0; procedure = 0; number = 0 }
-head_given (Abort transaction error words) = record { kind = 3; transaction = transaction; program = 0; version = 0; procedure = 0; number = error }
+head_given (Abort transaction error words) = record {
+  kind = 3;
+  transaction = transaction;
+  program = 0;
+  version = 0;
+  procedure = 0;
+  number = error;
+}
 
--- what is answered where this message is to be given, its words to the front of a buffer: with no room for all of them none is put, and their number is told
+-- what is answered where this message is to be given, its words to the front of a buffer: with no room for all of them none is put, and
+-- their number is told
 abbrev pub MessageIsGiven : Message → XnsMessage → List ℕ → List ℕ → ℕ → ℕ → Type 0
 MessageIsGiven m after old new count number =
     (length (words_in m) ≤ length old → (number ≡ ok) × (after ≡ head_given m) × IsPut (words_in m) old new count)

@@ -26,7 +26,8 @@ pub record GivesItem (x : Item) (out : XnsItem) : Type 0 where
   pub attention : out.attention ≡ as_byte x.attention
   pub last : out.last ≡ as_byte x.last
 
--- what is answered where this item is to be given, its bytes to the front of a buffer: with no room for all of them none is put, and their number is told
+-- what is answered where this item is to be given, its bytes to the front of a buffer: with no room for all of them none is put, and their
+-- number is told
 abbrev pub ItemIsGiven : Item → XnsItem → XnsItem → List ℕ → List ℕ → ℕ → Type 0
 ItemIsGiven x before after old new number =
     (length x.body ≤ length old → (number ≡ ok) × GivesItem x after × IsPut x.body old new after.length)

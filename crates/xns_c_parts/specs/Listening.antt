@@ -1,5 +1,6 @@
 -- The connections behind one socket (XSIS 028112, Sequenced Packet Protocol, Connection Identifiers).
-use Rattle.std.specs.Prelude.{◌≡◌, ℕ, Bool, true, false, ◌&&◌, ◌||◌, ◌==◌, if◌then◌else◌, List, position, replicate, slice_get, slice_set, Option, Some, None, Ok}
+use Rattle.std.specs.Prelude.{◌≡◌, ℕ, Bool, true, false, ◌&&◌, ◌||◌, ◌==◌, if◌then◌else◌, List, position, replicate, slice_get, slice_set}
+use Rattle.std.specs.Prelude.{Option, Some, None, Ok}
 use Rattle.std.specs.Option.{is_none, is_some}
 use Rattle.std.specs.Result.{result_ok}
 use Rattle.xns_idp.specs.declared.address.Address.{Address}

@@ -5,7 +5,8 @@ ghost use Rattle.xns_spp.specs.Held.{StandsFor};
 ghost use Rattle.xns_spp.specs.Item.{IsShortItem};
 ghost use Rattle.xns_spp.specs.Packet.{most_body};
 ghost use Rattle.xns_spp.specs.Receiving.{receive_answer, after_receive, NeedsMemory, is_ours};
-ghost use Rattle.xns_spp.specs.Sending.{send_answer, after_send, is_full, waiting_count, flush_answer, after_flush, tick_answer, after_tick, take_answer, after_take};
+ghost use Rattle.xns_spp.specs.Sending.{send_answer, after_send, is_full, waiting_count, flush_answer, after_flush, tick_answer};
+ghost use Rattle.xns_spp.specs.Sending.{after_tick, take_answer, after_take};
 ghost use Rattle.xns_spp.specs.State.{State};
 ghost use Rattle.xns_spp.specs.Telling.{told_answer, resend_answer, after_resend, unacknowledged_count, room_to_send, own_name, peer_name};
 ghost use Rattle.courier_sessions.specs.Pumping.{Pumped};
@@ -77,8 +78,10 @@ impl Connection {
 
     /// Accepts an item, whose bytes are copied unless they are too many, and says by a number whether it did.
     pub fn send(&mut self, alloc: Global, stream: u8, attention: u8, last: u8, body: &[u8]) -> u32
-        ensures number { (s : State) → StandsFor self.old.endpoint s → result ≢ no_memory → result ≡ send_number (send_answer s (item_given stream attention last body.now)) }
-        ensures stands { (s : State) → StandsFor self.old.endpoint s → result ≢ no_memory → StandsFor self.new.endpoint (after_send s (item_given stream attention last body.now)) }
+        ensures number { (s : State) → StandsFor self.old.endpoint s → result ≢ no_memory
+            → result ≡ send_number (send_answer s (item_given stream attention last body.now)) }
+        ensures stands { (s : State) → StandsFor self.old.endpoint s → result ≢ no_memory
+            → StandsFor self.new.endpoint (after_send s (item_given stream attention last body.now)) }
         ensures packets { self.new.packets ≡ self.old.packets }
         ensures long { most_body < length body.now → (result ≡ too_long) × (self.new ≡ self.old) }
         ensures memory { result ≡ no_memory → self.new ≡ self.old }
@@ -131,7 +134,8 @@ impl Connection {
     /// Takes in the bytes of a packet.
     pub fn receive(&mut self, alloc: Global, bytes: &[u8]) -> Result<Received, AllocError>
         ensures answer { IfOk result (λ r. (s : State) → StandsFor self.old.endpoint s → r ≡ receive_answer s bytes.now) }
-        ensures stands { OnOk result ((s : State) → StandsFor self.old.endpoint s → StandsFor self.new.endpoint (after_receive s bytes.now)) }
+        ensures stands { OnOk result ((s : State) → StandsFor self.old.endpoint s
+            → StandsFor self.new.endpoint (after_receive s bytes.now)) }
         ensures packets { self.new.packets ≡ self.old.packets }
         ensures memory { OnErr result ((s : State) → StandsFor self.old.endpoint s → NeedsMemory s bytes.now) }
         ensures reply { IfOk result (λ r. (s : State) → StandsFor self.old.endpoint s → IfSome r.reply (λ b. length b ≡ 42)) }
@@ -166,12 +170,13 @@ impl Connection {
         Ok(())
     }
 
-    /// Puts the next packet to the front of the buffer. `NOTHING` where there is none; `SHORT_BUFFER` where it is longer than the buffer, and `written` is
-    /// then how long it is.
+    /// Puts the next packet to the front of the buffer. `NOTHING` where there is none; `SHORT_BUFFER` where it is longer than the buffer,
+    /// and `written` is then how long it is.
     pub fn next_packet(&mut self, buffer: &mut [u8], written: &mut usize) -> u32
         ensures put { (p : List ℕ) (ps : List (List ℕ)) → self.old.packets ≡ p ∷ ps → length p ≤ length buffer.old →
             (result ≡ ok) × (self.new.packets ≡ ps) × IsPut p buffer.old buffer.new written.new }
-        ensures short { (p : List ℕ) (ps : List (List ℕ)) → self.old.packets ≡ p ∷ ps → length buffer.old < length p → (result ≡ short_buffer) × (written.new ≡ length p) }
+        ensures short { (p : List ℕ) (ps : List (List ℕ)) → self.old.packets ≡ p ∷ ps → length buffer.old < length p
+            → (result ≡ short_buffer) × (written.new ≡ length p) }
         ensures none { self.old.packets ≡ [] → result ≡ nothing }
         ensures endpoint { self.new.endpoint ≡ self.old.endpoint }
         ensures unchanged { result ≢ ok → (self.new ≡ self.old) × (buffer.new ≡ buffer.old) }
@@ -231,7 +236,8 @@ impl Connection {
         written: &mut usize,
     ) -> u32
         requires { 42 ≤ length buffer.old }
-        ensures put { (s : State) (p : List ℕ) → StandsFor self.now.endpoint s → told_answer s asks ≡ Some p → result ≢ no_memory → (result ≡ ok) × IsPut p buffer.old buffer.new written.new }
+        ensures put { (s : State) (p : List ℕ) → StandsFor self.now.endpoint s → told_answer s asks ≡ Some p → result ≢ no_memory
+            → (result ≡ ok) × IsPut p buffer.old buffer.new written.new }
         ensures nothing { (s : State) → StandsFor self.now.endpoint s → told_answer s asks ≡ None → result ≡ nothing }
         ensures unchanged { result ≢ ok → buffer.new ≡ buffer.old }
         ensures untold { result ≢ ok → result ≢ short_buffer → written.new ≡ written.old }
@@ -246,7 +252,8 @@ impl Connection {
     /// Puts the first of the packets that `tick` would make to the front of the buffer. `NOTHING` where there is none, `NO_MEMORY`.
     pub fn resend_first(&mut self, alloc: Global, buffer: &mut [u8], written: &mut usize) -> u32
         requires { most_packet ≤ length buffer.old }
-        ensures put { (s : State) (p : List ℕ) → StandsFor self.old.endpoint s → resend_answer s ≡ Some p → result ≢ no_memory → (result ≡ ok) × IsPut p buffer.old buffer.new written.new }
+        ensures put { (s : State) (p : List ℕ) → StandsFor self.old.endpoint s → resend_answer s ≡ Some p → result ≢ no_memory
+            → (result ≡ ok) × IsPut p buffer.old buffer.new written.new }
         ensures nothing { (s : State) → StandsFor self.old.endpoint s → resend_answer s ≡ None → result ≡ nothing }
         ensures stands { (s : State) → StandsFor self.old.endpoint s → result ≢ no_memory → StandsFor self.new.endpoint (after_resend s) }
         ensures packets { self.new.packets ≡ self.old.packets }

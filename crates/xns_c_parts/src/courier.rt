@@ -7,7 +7,8 @@ ghost use Rattle.courier_messages.specs.declared.fault.SessionFault.{SessionFaul
 ghost use Rattle.courier_messages.specs.declared.fault.SessionFault.TheVariants.{NoMemory};
 ghost use Rattle.courier_messages.specs.declared.head.Head.TheVariants.{Call};
 ghost use Rattle.courier_messages.specs.Head.{with_words};
-ghost use Rattle.xns_c_parts.specs.Courier.{MessageIsGiven, head_given, message_fault_number, message_given, session_fault_number, stream_number};
+ghost use Rattle.xns_c_parts.specs.Courier.{MessageIsGiven, head_given, message_fault_number, message_given, session_fault_number};
+ghost use Rattle.xns_c_parts.specs.Courier.{stream_number};
 ghost use Rattle.xns_c_parts.specs.Results.{ok, no_memory, too_long};
 
 use crate::message::XnsMessage;
@@ -66,7 +67,8 @@ pub fn session_fault_number(fault: SessionFault) -> u32
 
 /// The program, version and procedure that a call with this head names; 0 for each where it is no call's.
 pub fn procedure_of(head: Head) -> (u32, u16, u16)
-    ensures { (transaction program version procedure : ℕ) → head ≡ Call transaction program version procedure → result ≡ (program, version, procedure) }
+    ensures { (transaction program version procedure : ℕ) → head ≡ Call transaction program version procedure
+        → result ≡ (program, version, procedure) }
 {
     match head {
         Head::Call {

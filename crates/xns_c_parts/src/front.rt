@@ -22,7 +22,8 @@ pub fn put_front<T: Copy>(items: &[T], buffer: &mut [T], written: &mut usize) ->
 
 /// Puts a packet, if there is one, to the front of a buffer. `NOTHING` where there is none.
 pub fn put_made(packet: &Option<Bytes>, buffer: &mut [u8], written: &mut usize) -> u32
-    ensures put { (b : List ℕ) → packet.now ≡ Some b → length b ≤ length buffer.old → (result ≡ ok) × IsPut b buffer.old buffer.new written.new }
+    ensures put { (b : List ℕ) → packet.now ≡ Some b → length b ≤ length buffer.old → (result ≡ ok)
+        × IsPut b buffer.old buffer.new written.new }
     ensures nothing { packet.now ≡ None → result ≡ nothing }
     ensures memory { result ≢ no_memory }
     ensures unchanged { result ≢ ok → buffer.new ≡ buffer.old }

@@ -1,5 +1,5 @@
-//! What the library for C, `xns_c`, is made of: the sides of a Courier conversation with C's numbers and buffers, the connections behind one
-//! socket, and their handles. Nothing of it is exported.
+//! What the library for C, `xns_c`, is made of: the sides of a Courier conversation with C's numbers and buffers, the connections behind
+//! one socket, and their handles. Nothing of it is exported.
 //!
 //! C keeps each by its handle, and is told of each by a number of `results`.
 #![tactic(auto)]

@@ -1,7 +1,8 @@
 ghost use Rattle.std.specs.Prelude.{◌≡◌, ◌≢◌, ℕ, true, false, position, length, ◌<◌, IfOk, IfSome, OnOk, OnErr, Some, None, slice_get};
 ghost use Rattle.std.specs.Option.{is_none, is_some};
 ghost use Rattle.xns_idp.specs.declared.address.Address.{Address};
-ghost use Rattle.xns_c_parts.specs.Listening.{IsFor, IsSound, OpensNew, add_number, arrival, has_guest, new_listening, opener_at, slot_clashes};
+ghost use Rattle.xns_c_parts.specs.Listening.{IsFor, IsSound, OpensNew, add_number, arrival, has_guest, new_listening, opener_at};
+ghost use Rattle.xns_c_parts.specs.Listening.{slot_clashes};
 ghost use Rattle.xns_c_parts.specs.Listening.{slot_is_for, with_slot};
 ghost use Rattle.xns_c_parts.specs.Results.{ok, no_memory};
 
@@ -128,7 +129,8 @@ impl Listener {
     pub fn enter(&mut self, guest: Guest, number: &mut usize) -> u32
         ensures answer { result ≢ no_memory → result ≡ add_number self.old guest }
         ensures memory { result ≡ no_memory → add_number self.old guest ≡ ok }
-        ensures added { result ≡ ok → (position is_none self.old.slots ≡ Some number.new) × (self.new ≡ with_slot self.old number.new (Some guest)) }
+        ensures added { result ≡ ok → (position is_none self.old.slots ≡ Some number.new)
+            × (self.new ≡ with_slot self.old number.new (Some guest)) }
         ensures unchanged { result ≢ ok → (self.new ≡ self.old) × (number.new ≡ number.old) }
     {
         if guest.id == 0 || guest.peer_id == 0 {

@@ -5,7 +5,8 @@ ghost use Rattle.xns_spp.specs.Held.{StandsFor};
 ghost use Rattle.xns_spp.specs.State.{State};
 ghost use Rattle.xns_spp.specs.declared.item.Item.{Item};
 ghost use Rattle.courier_messages.specs.declared.message.Message.{Message};
-ghost use Rattle.courier_sessions.specs.Answering.{new_answering, is_busy, after_call, why_unlisted, after_reject, answer_message, answers_to, answered};
+ghost use Rattle.courier_sessions.specs.Answering.{new_answering, is_busy, after_call, why_unlisted, after_reject, answer_message};
+ghost use Rattle.courier_sessions.specs.Answering.{answers_to, answered};
 ghost use Rattle.courier_sessions.specs.Pumping.{server_side};
 ghost use Rattle.courier_sessions.specs.declared.answer.Answer.{Answer};
 ghost use Rattle.courier_sessions.specs.declared.unlisted.Unlisted.{Unlisted};
@@ -69,9 +70,9 @@ impl ServerSession {
         self.server.is_busy()
     }
 
-    /// Takes in one more item, and says by a number whether the session goes on. Where it does not each further item is refused; but while a call waits or
-    /// something is out, and where memory is refused, nothing is changed, and the item can be fed again. One that is too long for any message is not looked
-    /// at.
+    /// Takes in one more item, and says by a number whether the session goes on. Where it does not each further item is refused; but while
+    /// a call waits or something is out, and where memory is refused, nothing is changed, and the item can be fed again. One that is too
+    /// long for any message is not looked at.
     pub fn feed(&mut self, alloc: Global, stream: u8, last: u8, body: &[u8]) -> u32
         ensures { FedTo server_side self.old (item_given stream 0 last body.now) result self.new }
     {
@@ -81,8 +82,8 @@ impl ServerSession {
         )
     }
 
-    /// Hands the call that waits, which is listed, its words to the front of a buffer. Where the buffer is too short the call stays, and the number of
-    /// its words is told.
+    /// Hands the call that waits, which is listed, its words to the front of a buffer. Where the buffer is too short the call stays, and
+    /// the number of its words is told.
     fn hand(&mut self, message: &mut XnsMessage, words: &mut [u16], count: &mut usize) -> u32
         requires { (m : Message) → self.old.call ≡ Some m → why_unlisted self.old.programs m ≡ None }
         ensures given { (m : Message) → self.old.call ≡ Some m → MessageIsGiven m message.new words.old words.new count.new result }
@@ -101,7 +102,8 @@ impl ServerSession {
         result
     }
 
-    /// Hands the call that waits, once, its words to the front of a buffer; one whose program or version is not listed is answered by a reject instead.
+    /// Hands the call that waits, once, its words to the front of a buffer; one whose program or version is not listed is answered by a
+    /// reject instead.
     pub fn call(
         &mut self,
         alloc: Global,
@@ -109,9 +111,12 @@ impl ServerSession {
         words: &mut [u16],
         count: &mut usize,
     ) -> u32
-        ensures given { (m : Message) → self.old.call ≡ Some m → why_unlisted self.old.programs m ≡ None → MessageIsGiven m message.new words.old words.new count.new result }
-        ensures rest { (m : Message) → self.old.call ≡ Some m → result ≡ ok → (why_unlisted self.old.programs m ≡ None) × (self.new ≡ after_call self.old m) }
-        ensures rejects { (m : Message) (u : Unlisted) → self.old.call ≡ Some m → why_unlisted self.old.programs m ≡ Some u → result ≢ no_memory →
+        ensures given { (m : Message) → self.old.call ≡ Some m → why_unlisted self.old.programs m ≡ None
+            → MessageIsGiven m message.new words.old words.new count.new result }
+        ensures rest { (m : Message) → self.old.call ≡ Some m → result ≡ ok → (why_unlisted self.old.programs m ≡ None)
+            × (self.new ≡ after_call self.old m) }
+        ensures rejects { (m : Message) (u : Unlisted) → self.old.call ≡ Some m → why_unlisted self.old.programs m ≡ Some u
+            → result ≢ no_memory →
             (result ≡ nothing) × (self.new ≡ after_reject self.old m u) × (count.new ≡ count.old) }
         ensures none { self.old.call ≡ None → (result ≡ nothing) × (self.new ≡ self.old) × (count.new ≡ count.old) }
         ensures stays { result ≢ ok → result ≢ nothing → self.new ≡ self.old }
@@ -129,7 +134,8 @@ impl ServerSession {
     pub fn answer(&mut self, alloc: Global, kind: u8, number: u16, words: &[u16]) -> u32
         ensures number { result ≢ no_memory → result ≡ answer_number self.old (answer_in kind number) words.now }
         ensures memory { result ≡ no_memory → answer_number self.old (answer_in kind number) words.now ≡ ok }
-        ensures answered { (answer : Answer) (k : ℕ) → answer_in kind number ≡ Some answer → answers_to self.old answer ≡ Some k → result ≡ ok → self.new ≡ answered self.old (answer_message answer k words.now) }
+        ensures answered { (answer : Answer) (k : ℕ) → answer_in kind number ≡ Some answer → answers_to self.old answer ≡ Some k
+            → result ≡ ok → self.new ≡ answered self.old (answer_message answer k words.now) }
         ensures unchanged { result ≢ ok → self.new ≡ self.old }
     {
         let Some(answer) = answer_in(kind, number) else {
@@ -145,7 +151,8 @@ impl ServerSession {
     /// Gives the next item that is to go out, its bytes to the front of the buffer.
     pub fn next_item(&mut self, item: &mut XnsItem, buffer: &mut [u8]) -> u32
         ensures given { (x : Item) (xs : List Item) → self.old.out ≡ x ∷ xs → ItemIsGiven x item.old item.new buffer.old buffer.new result }
-        ensures rest { (x : Item) (xs : List Item) → self.old.out ≡ x ∷ xs → length x.body ≤ length buffer.old → self.new ≡ record self.old { out = xs } }
+        ensures rest { (x : Item) (xs : List Item) → self.old.out ≡ x ∷ xs → length x.body ≤ length buffer.old
+            → self.new ≡ record self.old { out = xs } }
         ensures none { self.old.out ≡ [] → result ≡ nothing }
         ensures unchanged { result ≢ ok → (self.new ≡ self.old) × (buffer.new ≡ buffer.old) }
         ensures untold { result ≢ ok → result ≢ short_buffer → item.new ≡ item.old }
@@ -155,7 +162,8 @@ impl ServerSession {
 
     /// Moves items both ways until nothing moves, and says by a number whether the session goes on.
     pub fn pump(&mut self, alloc: Global, connection: &mut Connection) -> u32
-        ensures pumped { (s : State) → StandsFor connection.old.endpoint s → PumpedTo server_side (self.old, s) result self.new connection.new.endpoint }
+        ensures pumped { (s : State) → StandsFor connection.old.endpoint s
+            → PumpedTo server_side (self.old, s) result self.new connection.new.endpoint }
         ensures packets { connection.new.packets ≡ connection.old.packets }
     {
         fed_number(connection.pump(&mut self.server, alloc))

@@ -65,8 +65,9 @@ impl Session {
         call_told(self.caller.call(alloc, program, version, procedure, words))
     }
 
-    /// Takes in one more item, and says by a number whether the session goes on. Where it does not each further item and call is refused; but where
-    /// memory is refused nothing is changed, and the item can be fed again. One that is too long for any message is not looked at.
+    /// Takes in one more item, and says by a number whether the session goes on. Where it does not each further item and call is refused;
+    /// but where memory is refused nothing is changed, and the item can be fed again. One that is too long for any message is not looked
+    /// at.
     pub fn feed(&mut self, alloc: Global, stream: u8, last: u8, body: &[u8]) -> u32
         ensures { FedTo caller_side self.old (item_given stream 0 last body.now) result self.new }
     {
@@ -76,8 +77,8 @@ impl Session {
         )
     }
 
-    /// Gives the answer that is there, once, its words to the front of a buffer. Where the buffer is too short the answer stays, and the number of its
-    /// words is told.
+    /// Gives the answer that is there, once, its words to the front of a buffer. Where the buffer is too short the answer stays, and the
+    /// number of its words is told.
     pub fn outcome(&mut self, message: &mut XnsMessage, words: &mut [u16], count: &mut usize) -> u32
         ensures given { (m : Message) → self.old.outcome ≡ Some m → MessageIsGiven m message.new words.old words.new count.new result }
         ensures rest { result ≡ ok → self.new ≡ record self.old { outcome = None } }
@@ -97,7 +98,8 @@ impl Session {
     /// Gives the next item that is to go out, its bytes to the front of the buffer.
     pub fn next_item(&mut self, item: &mut XnsItem, buffer: &mut [u8]) -> u32
         ensures given { (x : Item) (xs : List Item) → self.old.out ≡ x ∷ xs → ItemIsGiven x item.old item.new buffer.old buffer.new result }
-        ensures rest { (x : Item) (xs : List Item) → self.old.out ≡ x ∷ xs → length x.body ≤ length buffer.old → self.new ≡ record self.old { out = xs } }
+        ensures rest { (x : Item) (xs : List Item) → self.old.out ≡ x ∷ xs → length x.body ≤ length buffer.old
+            → self.new ≡ record self.old { out = xs } }
         ensures none { self.old.out ≡ [] → result ≡ nothing }
         ensures unchanged { result ≢ ok → (self.new ≡ self.old) × (buffer.new ≡ buffer.old) }
         ensures untold { result ≢ ok → result ≢ short_buffer → item.new ≡ item.old }
@@ -107,7 +109,8 @@ impl Session {
 
     /// Moves items both ways until nothing moves, and says by a number whether the session goes on.
     pub fn pump(&mut self, alloc: Global, connection: &mut Connection) -> u32
-        ensures pumped { (s : State) → StandsFor connection.old.endpoint s → PumpedTo caller_side (self.old, s) result self.new connection.new.endpoint }
+        ensures pumped { (s : State) → StandsFor connection.old.endpoint s
+            → PumpedTo caller_side (self.old, s) result self.new connection.new.endpoint }
         ensures packets { connection.new.packets ≡ connection.old.packets }
     {
         fed_number(connection.pump(&mut self.caller, alloc))

@@ -92,4 +92,3 @@ small word i n few digits e =
     let short : length (take i word) ≤ 10 = omega (arith, length-take i word) in
     let below : digits_from 0 (take i word) < 10 ^ 10 = digits_value_short own (take i word) 10 digits short in
     subst (λ m. m < 10 ^ 10) (sym e) below
-

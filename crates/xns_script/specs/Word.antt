@@ -1,5 +1,6 @@
 -- The words of a line, and what they are as numbers and bytes.
-use Rattle.std.specs.Prelude.{◌≡◌, ℕ, ◌+◌, ◌*◌, ◌-◌, ◌<◌, ◌≤◌, ◌==◌, Bool, false, if◌then◌else◌, nat_le, length, slice_index, List, [], ◌∷◌, codes, Option, Some, None, Result, Ok}
+use Rattle.std.specs.Prelude.{◌≡◌, ℕ, ◌+◌, ◌*◌, ◌-◌, ◌<◌, ◌≤◌, ◌==◌, Bool, false, if◌then◌else◌, nat_le, length, slice_index, List, [], ◌∷◌}
+use Rattle.std.specs.Prelude.{codes, Option, Some, None, Result, Ok}
 use Rattle.std.specs.Fmt.{decimal}
 use Rattle.std.specs.Int.{IsInRange, from_be_bytes, w16}
 use Rattle.std.specs.Str.{bytes_eq}

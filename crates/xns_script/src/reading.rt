@@ -1,7 +1,8 @@
 //! Reading a line.
 ghost use Rattle.std.specs.Prelude.{◌≡◌, ◌∷◌, [], Some, None, IfOk, option_map};
 ghost use Rattle.courier_calls.specs.Calls.{call_model};
-ghost use Rattle.xns_script.specs.Command.{add_call as add_call_of, calls, command_in, command_model, command_of, foreign_of, one_word, raw_call_of, three_words, total_call as total_call_of, two_words};
+ghost use Rattle.xns_script.specs.Command.{add_call as add_call_of, calls, command_in, command_model, command_of, foreign_of, one_word};
+ghost use Rattle.xns_script.specs.Command.{raw_call_of, three_words, total_call as total_call_of, two_words};
 ghost use Rattle.xns_script.specs.Word.{hex_bytes_of, number_of, raw_words_of, side_of, words_after, words_of_line};
 
 use crate::command::Command;

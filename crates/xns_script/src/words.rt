@@ -2,7 +2,8 @@
 ghost use Rattle.std.specs.Prelude.{◌≡◌, ◌<◌, ◌≤◌, ◌-◌, ◌↔◌, ◌∷◌, IfNone, IfOk, IfSome, IsTrue, MatchOption, length, option_map};
 ghost use Rattle.std.specs.Int.{IsInRange};
 ghost use Rattle.std.specs.Str.{bytes_eq};
-ghost use Rattle.xns_script.specs.Word.{AreDigits, MayBeDecimal, all_hex_words, digits_from, hex_bytes_of, hex_word_of, is_dash as is_dash_of, number_of, raw_words_of, side_of, words_after, words_of_line};
+ghost use Rattle.xns_script.specs.Word.{AreDigits, MayBeDecimal, all_hex_words, digits_from, hex_bytes_of, hex_word_of};
+ghost use Rattle.xns_script.specs.Word.{is_dash as is_dash_of, number_of, raw_words_of, side_of, words_after, words_of_line};
 
 use hex::FromHexError;
 use item_world::Side;

@@ -51,4 +51,5 @@ pub record IsReplyTo (own : Address) (request reply : PacketModel) : Type 0 wher
   pub kind : reply.kind ≡ 2
   pub source : reply.source ≡ own
   pub target : reply.target ≡ request.source
-  pub echoed : (bytes : List ℕ) → SpellsEcho (record { reply = false; body = bytes }) request.body → echo_of reply.body ≡ Ok (record { reply = true; body = bytes })
+  pub echoed : (bytes : List ℕ) → SpellsEcho (record { reply = false; body = bytes }) request.body
+      → echo_of reply.body ≡ Ok (record { reply = true; body = bytes })

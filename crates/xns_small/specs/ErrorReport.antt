@@ -54,4 +54,5 @@ pub record MayBeComplainedOf (offending : List ℕ) : Type 0 where
 -- an Error packet to the offending packet's source, by its place in the header, quoting its front
 unfoldable pub complaint : Address → ℕ → ℕ → List ℕ → List ℕ
 complaint own number parameter offending =
-    sent_packet 3 own (address_at offending 18) (error_spelling (record { number = number; parameter = parameter; quoted = take most_quoted offending }))
+    sent_packet 3 own (address_at offending 18) (error_spelling
+    (record { number = number; parameter = parameter; quoted = take most_quoted offending }))

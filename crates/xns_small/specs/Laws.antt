@@ -20,7 +20,8 @@ WrittenExchangeIsReadAgain = (exchange : ExchangeModel) → IsExchange exchange 
 abbrev pub AnAnsweredEchoCarriesTheRequest : Type 0
 AnAnsweredEchoCarriesTheRequest = (own : Address) (request : PacketModel) (rest : List ℕ) → IsAddress own → IsPacket request →
     length request.body ≤ most_data → IsAnswered own request →
-    (reply : PacketModel) × (packet_of (echo_reply own request ++ rest) ≡ Ok (reply, length (echo_reply own request))) × IsReplyTo own request reply
+    (reply : PacketModel) × (packet_of (echo_reply own request ++ rest) ≡ Ok (reply, length (echo_reply own request)))
+    × IsReplyTo own request reply
 
 -- the error numbers (XSIS 028112, Error Protocol)
 pub record ErrorNumbersAreTheStandards : Type 0 where

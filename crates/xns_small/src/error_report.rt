@@ -1,5 +1,6 @@
 ghost use Rattle.std.specs.Prelude.{◌≡◌, ◌+◌, ◌<◌, ◌≤◌, ◌++◌, length, take, IfOk, OnOk, OnErr, Ok, vec_len, vec_capacity};
-ghost use Rattle.xns_small.specs.ErrorReport.{ErrorReportModel, IsErrorReport, SpellsError, error_report_model, error_of, error_spelling, most_quoted, with_front_quoted};
+ghost use Rattle.xns_small.specs.ErrorReport.{ErrorReportModel, IsErrorReport, SpellsError, error_report_model, error_of, error_spelling};
+ghost use Rattle.xns_small.specs.ErrorReport.{most_quoted, with_front_quoted};
 ghost use Rattle.xns_small.specs.Reading.{answer_model};
 
 use crate::appending::append;
@@ -36,7 +37,8 @@ impl ErrorReport<'_> {
 pub fn read_error(body: &[u8]) -> Result<ErrorReport<'_>, SmallFault>
     ensures exact { answer_model error_report_model result ≡ error_of body.now }
     ensures found { IfOk result (λ report. SpellsError (error_report_model report) body.now) }
-    ensures only { (report : ErrorReportModel) → IsErrorReport report → SpellsError report body.now → answer_model error_report_model result ≡ Ok report }
+    ensures only { (report : ErrorReportModel) → IsErrorReport report → SpellsError report body.now
+        → answer_model error_report_model result ≡ Ok report }
 {
     read_report(body)
 }

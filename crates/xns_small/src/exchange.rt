@@ -33,7 +33,8 @@ impl Exchange<'_> {
 pub fn read_exchange(body: &[u8]) -> Result<Exchange<'_>, SmallFault>
     ensures exact { answer_model exchange_model result ≡ exchange_of body.now }
     ensures found { IfOk result (λ exchange. SpellsExchange (exchange_model exchange) body.now) }
-    ensures only { (exchange : ExchangeModel) → IsExchange exchange → SpellsExchange exchange body.now → answer_model exchange_model result ≡ Ok exchange }
+    ensures only { (exchange : ExchangeModel) → IsExchange exchange → SpellsExchange exchange body.now
+        → answer_model exchange_model result ≡ Ok exchange }
 {
     read_fields(body)
 }

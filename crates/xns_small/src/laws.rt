@@ -1,6 +1,7 @@
 //! What the definitions imply, each as the contract of a function that does nothing.
 
-ghost use Rattle.xns_small.specs.Laws.{WrittenEchoIsReadAgain, WrittenErrorIsReadAgain, WrittenExchangeIsReadAgain, AnAnsweredEchoCarriesTheRequest, ErrorNumbersAreTheStandards};
+ghost use Rattle.xns_small.specs.Laws.{WrittenEchoIsReadAgain, WrittenErrorIsReadAgain, WrittenExchangeIsReadAgain};
+ghost use Rattle.xns_small.specs.Laws.{AnAnsweredEchoCarriesTheRequest, ErrorNumbersAreTheStandards};
 
 use xns_idp::laws::written_packet_is_read_again;
 

@@ -1,7 +1,8 @@
 -- The laws that the proofs stand on, as the layers below state them.
 use Rattle.std.specs.Prelude.{All}
 use Rattle.courier_calls.specs.Calls.{Serving, IsFitting}
-use Rattle.courier_calls.specs.Laws.{WhatIsHeardStays, BothSidesAgree, CallerItemsCanBeSent, SessionItemsCanBeSent, FirstFaultStays, AnItemBringsAtMostOneAnswer}
+use Rattle.courier_calls.specs.Laws.{WhatIsHeardStays, BothSidesAgree, CallerItemsCanBeSent, SessionItemsCanBeSent, FirstFaultStays}
+use Rattle.courier_calls.specs.Laws.{AnItemBringsAtMostOneAnswer}
 use Rattle.xns_world.specs.CallPromises.{AreParties}
 use Rattle.xns_world.specs.CallWorld.{Parties}
 use Rattle.item_world.specs.EndLaws.{EndLaws}

@@ -81,7 +81,8 @@ pub record IsReady {S : Type 0} (serving : Serving S) (calls : List Call) (p : P
 
 -- where it stood for w, it then stands for what f makes of w
 abbrev pub CallStepsBy : {S : Type 0} → Serving S → List Call → CallPlay S → CallPlay S → (Parties S → CallWorld → CallWorld) → Type 0
-CallStepsBy {S} serving calls before after f = (p : Parties S) (w : CallWorld) → IsReady serving calls p w → IsCallPlaying p before w → IsCallPlaying p after (f p w)
+CallStepsBy {S} serving calls before after f = (p : Parties S) (w : CallWorld) → IsReady serving calls p w → IsCallPlaying p before w
+    → IsCallPlaying p after (f p w)
 
 abbrev pub parties : {S : Type 0} → Serving S → S → List Call → Parties S
 parties serving service calls = record { serving = serving; service = service; calls = map raw_call calls }

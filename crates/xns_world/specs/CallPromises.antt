@@ -7,7 +7,8 @@ use Rattle.item_world.specs.declared.side.Side.{Side}
 use Rattle.item_world.specs.Setup.{IsSetup, IsGood}
 use Rattle.item_world.specs.Landing.{landing}
 use Rattle.item_world.specs.World.{World, ticks}
-use Rattle.xns_world.specs.CallWorld.{Parties, CallWorld, call_start, in_world, CallStep, call_stepped, all_call_stepped, settles, run_calls}
+use Rattle.xns_world.specs.CallWorld.{Parties, CallWorld, call_start, in_world, CallStep, call_stepped, all_call_stepped, settles}
+use Rattle.xns_world.specs.CallWorld.{run_calls}
 use Rattle.xns_world.specs.CallOrder.{decides, ledger_of, CallsHold, MeetNoFault, IsBetween, Settles}
 use Rattle.xns_world.specs.Ledger.{Ledger, Entry, IsHistory, IsInOrder}
 
@@ -19,7 +20,8 @@ pub record AreParties {S : Type 0} (serving : Serving S) (IsServiceState : S →
 
 -- whatever entries are made, in each history of a ledger all is in order
 abbrev pub EntriesKeepTheOrder : (S C O : Type 0) → Type 0
-EntriesKeepTheOrder S C O = (decide : S → C → S × O) (s : S) (l : ℕ → Ledger S C O) → IsHistory decide s l → (n : ℕ) → IsInOrder decide s (l n)
+EntriesKeepTheOrder S C O = (decide : S → C → S × O) (s : S) (l : ℕ → Ledger S C O) → IsHistory decide s l → (n : ℕ)
+    → IsInOrder decide s (l n)
 
 -- what small steps lead to from the start, in whatever order they are taken, is a history of the ledger
 abbrev pub EachStepIsAnEntry : {S : Type 0} → Serving S → (S → Type 0) → Type 0
@@ -34,16 +36,21 @@ pub record CallsComeInOrder {S : Type 0} (serving : Serving S) (IsServiceState :
       IsInOrder (decides p.serving) p.service (ledger_of p w)
   pub well : (p : Parties S) (w : CallWorld) → AreParties serving IsServiceState p → CallsHold p w → MeetNoFault p w
   -- it is so at the start, and is kept by each small step, in whatever order they are taken; it is one entry of the ledger
-  pub starts : (p : Parties S) (setup : Setup) → AreParties serving IsServiceState p → IsSetup setup → IsGood setup → IsBetween p (call_start setup)
+  pub starts : (p : Parties S) (setup : Setup) → AreParties serving IsServiceState p → IsSetup setup → IsGood setup
+      → IsBetween p (call_start setup)
   pub entry : (p : Parties S) (w : CallWorld) (step : CallStep) → AreParties serving IsServiceState p → CallsHold p w →
       Entry (decides p.serving) (ledger_of p w) (ledger_of p (call_stepped p w step))
   pub keeps : (p : Parties S) (w : CallWorld) (steps : List CallStep) → AreParties serving IsServiceState p → CallsHold p w →
       CallsHold p (all_call_stepped p w steps)
   -- after any events
-  pub between : (p : Parties S) (setup : Setup) (events : List Event) → AreParties serving IsServiceState p → IsSetup setup → IsGood setup → IsBetween p (run_calls p setup events)
+  pub between : (p : Parties S) (setup : Setup) (events : List Event) → AreParties serving IsServiceState p → IsSetup setup → IsGood setup
+      → IsBetween p (run_calls p setup events)
   -- a side settles wherever it is let
   pub ends : (p : Parties S) (side : Side) (w : CallWorld) → AreParties serving IsServiceState p → IsBetween p w → Settles p side w
   -- where sides settle in a run: at the start, behind the other side, behind a packet that came, and behind a tick
-  pub settled : (p : Parties S) (side : Side) (w : CallWorld) → AreParties serving IsServiceState p → IsBetween p w → IsBetween p (settles p side w)
-  pub lands : (p : Parties S) (w : CallWorld) (k : ℕ) (l : Side × World) → AreParties serving IsServiceState p → IsBetween p w → landing w.world k ≡ Some l → IsBetween p (in_world w l.1)
-  pub tick : (p : Parties S) (w : CallWorld) (side : Side) → AreParties serving IsServiceState p → IsBetween p w → IsBetween p (in_world w (ticks w.world side))
+  pub settled : (p : Parties S) (side : Side) (w : CallWorld) → AreParties serving IsServiceState p → IsBetween p w
+      → IsBetween p (settles p side w)
+  pub lands : (p : Parties S) (w : CallWorld) (k : ℕ) (l : Side × World) → AreParties serving IsServiceState p → IsBetween p w
+      → landing w.world k ≡ Some l → IsBetween p (in_world w l.1)
+  pub tick : (p : Parties S) (w : CallWorld) (side : Side) → AreParties serving IsServiceState p → IsBetween p w
+      → IsBetween p (in_world w (ticks w.world side))

@@ -1,5 +1,6 @@
 -- A connection whose two ends carry calls: the caller at A, the server at B.
-use Rattle.std.specs.Prelude.{ℕ, zero, suc, ◌+◌, Bool, ◌==◌, ◌&&◌, nat_lt, if◌then◌else◌, List, [], ◌∷◌, ◌++◌, length, take, fold, slice_get, Option, Some, None}
+use Rattle.std.specs.Prelude.{ℕ, zero, suc, ◌+◌, Bool, ◌==◌, ◌&&◌, nat_lt, if◌then◌else◌, List, [], ◌∷◌, ◌++◌, length, take, fold}
+use Rattle.std.specs.Prelude.{slice_get, Option, Some, None}
 use Rattle.courier_messages.specs.RawCalls.{RawCall, caller_items}
 use Rattle.courier_calls.specs.Calls.{SeenModel, Serving}
 use Rattle.courier_calls.specs.Caller.{answers}

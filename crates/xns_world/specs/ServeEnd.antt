@@ -51,7 +51,8 @@ pub record IsServePlaying {S : Type 0} (serving : Serving S) (s : S) (play : Ser
 
 -- where it stood for w, it then stands for what f makes of w
 abbrev pub ServeStepsBy : {S : Type 0} → Serving S → ServePlay S → ServePlay S → (S → Served → Served) → Type 0
-ServeStepsBy {S} serving before after f = (s : S) (w : Served) → Answering serving s → IsServePlaying serving s before w → IsServePlaying serving s after (f s w)
+ServeStepsBy {S} serving before after f = (s : S) (w : Served) → Answering serving s → IsServePlaying serving s before w
+    → IsServePlaying serving s after (f s w)
 
 -- the end's numbers keep within their bounds: at most window items wait, and at most backlog are unacknowledged
 pub record IsWithin {S : Type 0} (t : ServeTrace S) (w : Served) : Type 0 where

@@ -33,18 +33,23 @@ pub record IsServedWithin {S : Type 0} (serving : Serving S) (s : S) (w : Served
   -- where its session has met no fault, it keeps fewer than four bytes of the versions, or at most 131,072 bytes of an incoming message
   pub kept : (p : Phase) → server_ending (handed_by w.end) ≡ Ok p → IsBounded p
   -- the answer to whatever call it decides next has at most 131,072 bytes
-  pub answer : (transaction : ℕ) (call : RawCall) → HasWords call → IsShort (answer_message transaction (decision serving (server_state serving s (handed_by w.end)) call))
+  pub answer : (transaction : ℕ) (call : RawCall) → HasWords call
+      → IsShort (answer_message transaction (decision serving (server_state serving s (handed_by w.end)) call))
   -- while an item is out, a step of the end hands no other up to the session, so no call is decided
-  pub alone : (x : Item) (v : State) → next_of serving s w.end ≡ Some x → serve_step serving s w.end ≡ Some v → handed_by v ≡ handed_by w.end
+  pub alone : (x : Item) (v : State) → next_of serving s w.end ≡ Some x → serve_step serving s w.end ≡ Some v
+      → handed_by v ≡ handed_by w.end
   -- all that is out has at most 131,072 bytes
   pub out : IsOutShort serving s w.end
 
 -- an end that settles comes to where no step applies
 abbrev pub ServedEndsSettle : {S : Type 0} → Serving S → (S → Type 0) → Type 0
-ServedEndsSettle {S} serving IsServiceState = (s : S) (v : State) → IsServiceState s → IsState v → All IsItem v.taken → serve_step serving s (stepped_out (serve_step serving s) v) ≡ None
+ServedEndsSettle {S} serving IsServiceState = (s : S) (v : State) → IsServiceState s → IsState v → All IsItem v.taken
+    → serve_step serving s (stepped_out (serve_step serving s) v) ≡ None
 
 pub record ServedEndsStayWithinBounds {S : Type 0} (serving : Serving S) (IsServiceState : S → Type 0) : Type 0 where
   -- after whatever packets
-  pub ends : (s : S) (setup : Setup) (packets : List (List ℕ)) → IsServiceState s → IsSetup setup → IsGood setup → All AreBytes packets → IsServedWithin serving s (serve serving s setup packets)
+  pub ends : (s : S) (setup : Setup) (packets : List (List ℕ)) → IsServiceState s → IsSetup setup → IsGood setup → All AreBytes packets
+      → IsServedWithin serving s (serve serving s setup packets)
   -- and after each of the steps by which an end settles
-  pub settling : (s : S) (v : State) (n : ℕ) → IsServiceState s → IsState v → IsOutShort serving s v → IsState (steps (serve_step serving s) v n) × IsOutShort serving s (steps (serve_step serving s) v n)
+  pub settling : (s : S) (v : State) (n : ℕ) → IsServiceState s → IsState v → IsOutShort serving s v
+      → IsState (steps (serve_step serving s) v n) × IsOutShort serving s (steps (serve_step serving s) v n)

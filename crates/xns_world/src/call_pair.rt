@@ -25,7 +25,8 @@ pub struct CallPair<'a, S: Service> {
 impl<'a, S: Service> CallPair<'a, S> {
     /// The end at this side takes steps until none applies.
     pub fn step_out(&mut self, alloc: Global, calls: &[Call], side: Side) -> Result<(), AllocError>
-        ensures { OnOk result ((p : Parties S) (w : CallWorld) → IsReady S.serving calls.now p w → IsCallPair p self.old w → IsCallPair p self.new (stepped_out (step p side) w)) }
+        ensures { OnOk result ((p : Parties S) (w : CallWorld) → IsReady S.serving calls.now p w → IsCallPair p self.old w
+            → IsCallPair p self.new (stepped_out (step p side) w)) }
     {
         match side {
             Side::A => self.a.step_out::<S>(alloc, calls),

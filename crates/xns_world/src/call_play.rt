@@ -36,7 +36,8 @@ impl<'a, S: Service> CallPlay<'a, S> {
         requires listed { table_model table.now ≡ S.serving.table }
         requires checked { IsCheckedTable (table_model table.now) }
         requires state { S.IsServiceState service }
-        ensures { IfOk result (λ play. (p : Parties S) → p.serving ≡ S.serving → p.service ≡ service → IsCallPlaying p play (call_start setup.now)) }
+        ensures { IfOk result (λ play. (p : Parties S) → p.serving ≡ S.serving → p.service ≡ service
+            → IsCallPlaying p play (call_start setup.now)) }
     {
         let b = ServingEnd::new(alloc, setup, table, service)?;
         let a = CallingEnd::new::<S>(alloc, setup, table)?;
@@ -115,7 +116,8 @@ impl<'a, S: Service> CallPlay<'a, S> {
 
     /// Both ends settle, and then all these events happen in turn.
     fn run(&mut self, alloc: Global, calls: &[Call], events: &[Event]) -> Result<(), AllocError>
-        ensures { OnOk result (CallStepsBy S.serving calls.now self.old self.new (λ p w. fold (call_happens p) (settles p B (settles p A w)) events.now)) }
+        ensures { OnOk result (CallStepsBy S.serving calls.now self.old self.new
+            (λ p w. fold (call_happens p) (settles p B (settles p A w)) events.now)) }
     {
         self.settle(alloc, calls, Side::A)?;
         self.settle(alloc, calls, Side::B)?;
@@ -164,7 +166,8 @@ pub fn play_calls<S: Service>(
     requires checked { IsCheckedTable (table_model table.now) }
     requires state { S.IsServiceState service }
     requires fit { All (CallFits (table_model table.now)) (map call_model calls.now) }
-    ensures trace { IfOk result (λ t. IsCallTrace (parties S.serving service calls.now) t (run_calls (parties S.serving service calls.now) setup.now events.now)) }
+    ensures trace { IfOk result (λ t. IsCallTrace (parties S.serving service calls.now) t
+        (run_calls (parties S.serving service calls.now) setup.now events.now)) }
     ensures once { IfOk result (λ t. IsOnceInOrder S.serving service calls.now t) }
 {
     setup.known();

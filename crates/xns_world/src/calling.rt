@@ -1,4 +1,5 @@
-ghost use Rattle.std.specs.Prelude.{◌≡◌, ◌<◌, ◌==◌, ◌&&◌, nat_lt, length, [], map, OnOk, IfOk, slice_get, Some, None, true, false, if◌then◌else◌};
+ghost use Rattle.std.specs.Prelude.{◌≡◌, ◌<◌, ◌==◌, ◌&&◌, nat_lt, length, [], map, OnOk, IfOk, slice_get, Some, None, true, false};
+ghost use Rattle.std.specs.Prelude.{if◌then◌else◌};
 ghost use Rattle.courier_calls.specs.Calls.{raw_call};
 ghost use Rattle.courier_calls.specs.Table.{table_model, IsCheckedTable};
 ghost use Rattle.item_world.specs.Setup.{IsGood};
@@ -8,7 +9,8 @@ ghost use Rattle.item_world.specs.declared.side.Side.TheVariants.{A};
 ghost use Rattle.xns_world.specs.CallLaws.{Given};
 ghost use Rattle.xns_world.specs.CallOrder.{CallsHold};
 ghost use Rattle.xns_world.specs.CallPlay.{IsCalling};
-ghost use Rattle.xns_world.specs.CallWorld.{Parties, CallWorld, next_out, sends_next, feeds, lists, makes, has_outcome, may_call, caller_step, step, call_start};
+ghost use Rattle.xns_world.specs.CallWorld.{Parties, CallWorld, next_out, sends_next, feeds, lists, makes, has_outcome, may_call};
+ghost use Rattle.xns_world.specs.CallWorld.{caller_step, step, call_start};
 ghost use Rattle.xns_world.specs.Settling.{stepped_out, Stepped};
 
 use courier_calls::{Call, Caller, Seen, Service, Table};
@@ -53,7 +55,8 @@ impl<'a> CallingEnd<'a> {
 
     /// Sends the first item that is out.
     fn send<S: Service>(&mut self)
-        ensures { (p : Parties S) (w : CallWorld) (x : Item) → Given p → CallsHold p w → IsCalling p self.old w → next_out p w A ≡ Some x → is_full w.world.a ≡ false →
+        ensures { (p : Parties S) (w : CallWorld) (x : Item) → Given p → CallsHold p w → IsCalling p self.old w → next_out p w A ≡ Some x
+            → is_full w.world.a ≡ false →
             IsCalling p self.new (sends_next w A x) }
     {
         if let Some(item) = self.caller.next_out() {
@@ -90,7 +93,8 @@ impl<'a> CallingEnd<'a> {
 
     /// Makes the next call, where none is unanswered and calls remain; whether it did.
     fn call<S: Service>(&mut self, alloc: Global, calls: &[Call]) -> Result<bool, AllocError>
-        ensures { IfOk result (λ b. (p : Parties S) (w : CallWorld) → Given p → CallsHold p w → p.calls ≡ map raw_call calls.now → has_outcome p w ≡ false → IsCalling p self.old w →
+        ensures { IfOk result (λ b. (p : Parties S) (w : CallWorld) → Given p → CallsHold p w → p.calls ≡ map raw_call calls.now
+            → has_outcome p w ≡ false → IsCalling p self.old w →
             (b ≡ may_call p w) × IsCalling p self.new (if b then makes w else w)) }
     {
         if self.seen.len() != self.made || self.made >= calls.len() {
@@ -107,7 +111,8 @@ impl<'a> CallingEnd<'a> {
 
     /// Lists an outcome, or else makes a call.
     fn act<S: Service>(&mut self, alloc: Global, calls: &[Call]) -> Result<bool, AllocError>
-        ensures { IfOk result (λ b. (p : Parties S) (w : CallWorld) → Given p → CallsHold p w → p.calls ≡ map raw_call calls.now → IsCalling p self.old w →
+        ensures { IfOk result (λ b. (p : Parties S) (w : CallWorld) → Given p → CallsHold p w → p.calls ≡ map raw_call calls.now
+            → IsCalling p self.old w →
             Stepped b w (caller_step p w A) (IsCalling p self.new)) }
     {
         if self.list::<S>()? {
@@ -119,7 +124,8 @@ impl<'a> CallingEnd<'a> {
     /// Feeds an item, or else lists an outcome, or else makes a call.
     fn feed_or_act<S: Service>(&mut self, alloc: Global, calls: &[Call]) -> Result<bool, AllocError>
         requires { self.old.caller.out ≡ [] }
-        ensures { IfOk result (λ b. (p : Parties S) (w : CallWorld) → Given p → CallsHold p w → p.calls ≡ map raw_call calls.now → IsCalling p self.old w →
+        ensures { IfOk result (λ b. (p : Parties S) (w : CallWorld) → Given p → CallsHold p w → p.calls ≡ map raw_call calls.now
+            → IsCalling p self.old w →
             Stepped b w (if nat_lt 0 (waiting_count w.world.a) then Some (feeds w A) else caller_step p w A) (IsCalling p self.new)) }
     {
         if self.feed::<S>(alloc)? {
@@ -130,7 +136,8 @@ impl<'a> CallingEnd<'a> {
 
     /// Takes the first step that applies; whether one did.
     fn step<S: Service>(&mut self, alloc: Global, calls: &[Call]) -> Result<bool, AllocError>
-        ensures { IfOk result (λ b. (p : Parties S) (w : CallWorld) → Given p → CallsHold p w → p.calls ≡ map raw_call calls.now → IsCalling p self.old w →
+        ensures { IfOk result (λ b. (p : Parties S) (w : CallWorld) → Given p → CallsHold p w → p.calls ≡ map raw_call calls.now
+            → IsCalling p self.old w →
             Stepped b w (step p A w) (IsCalling p self.new)) }
     {
         if !self.caller.has_out() {
@@ -145,7 +152,8 @@ impl<'a> CallingEnd<'a> {
 
     /// Takes steps until none applies.
     pub fn step_out<S: Service>(&mut self, alloc: Global, calls: &[Call]) -> Result<(), AllocError>
-        ensures { OnOk result ((p : Parties S) (w : CallWorld) → Given p → CallsHold p w → p.calls ≡ map raw_call calls.now → IsCalling p self.old w →
+        ensures { OnOk result ((p : Parties S) (w : CallWorld) → Given p → CallsHold p w → p.calls ≡ map raw_call calls.now
+            → IsCalling p self.old w →
             IsCalling p self.new (stepped_out (step p A) w)) }
     {
         for _step in 0..MOST_STEPS {

@@ -83,7 +83,8 @@ impl<'a, S: Service> ServePlay<'a, S> {
 
     /// The end settles, and then all these packets come in turn.
     fn run(&mut self, alloc: Global, packets: &[Bytes]) -> Result<(), AllocError>
-        ensures { OnOk result (ServeStepsBy S.serving self.old self.new (λ s w. fold (serve_hears S.serving s) (serve_settles S.serving s w) packets.now)) }
+        ensures { OnOk result (ServeStepsBy S.serving self.old self.new
+            (λ s w. fold (serve_hears S.serving s) (serve_settles S.serving s w) packets.now)) }
     {
         self.settle(alloc)?;
         self.serve_each(alloc, packets)
@@ -160,7 +161,8 @@ pub fn serve_bytes<S: Service>(
     ensures heard { IfOk result (λ t. IsHeard S.serving service t) }
     ensures within { IfOk result (λ t. IsWithin t (serve S.serving service setup.now packets.now)) }
     // After each of the packets.
-    ensures always { IfOk result (λ t. (come : List (List ℕ)) → Begins come packets.now → IsServedWithin S.serving service (serve S.serving service setup.now come)) }
+    ensures always { IfOk result (λ t. (come : List (List ℕ)) → Begins come packets.now
+        → IsServedWithin S.serving service (serve S.serving service setup.now come)) }
 {
     setup.known();
     known_packets(packets);

@@ -57,7 +57,8 @@ impl<'a, S: Service> ServingEnd<'a, S> {
 
     /// Sends the first item that is out.
     fn send(&mut self)
-        ensures { (s : S) (v : State) (x : Item) → Answering S.serving s → IsServed S.serving s self.old v → next_of S.serving s v ≡ Some x → is_full v ≡ false →
+        ensures { (s : S) (v : State) (x : Item) → Answering S.serving s → IsServed S.serving s self.old v → next_of S.serving s v ≡ Some x
+            → is_full v ≡ false →
             IsServed S.serving s self.new (after_send v x) }
     {
         if let Some(item) = self.server.next_out() {
@@ -68,7 +69,8 @@ impl<'a, S: Service> ServingEnd<'a, S> {
     /// Feeds an item to the session, which answers a call or refuses the item.
     fn hear(&mut self, alloc: Global, item: Item) -> Result<(), AllocError>
         requires { self.old.server.out ≡ [] }
-        ensures hearing { OnOk result ((s : S) (F P : List Item) → Answering S.serving s → IsHearing S.serving s self.old F P → IsHearing S.serving s self.new (F ++ item ∷ []) P) }
+        ensures hearing { OnOk result ((s : S) (F P : List Item) → Answering S.serving s → IsHearing S.serving s self.old F P
+            → IsHearing S.serving s self.new (F ++ item ∷ []) P) }
         ensures endpoint { self.new.endpoint ≡ self.old.endpoint }
         ensures handed { self.new.handed ≡ self.old.handed }
     {

@@ -11,7 +11,8 @@ use Rattle.xns_command.specs.Modes.{name_of}
 -- `xns` with the subcommands that read captures, `dump` and `calls`; a subcommand is required
 abbrev pub reading_app : App
 reading_app =
-    let subcommands = with_subcommand (with_subcommand (new_app (codes "xns")) (new_app (codes "dump")).top) (new_app (codes "calls")).top in
+    let subcommands = with_subcommand (with_subcommand (new_app (codes "xns")) (new_app (codes "dump")).top)
+    (new_app (codes "calls")).top in
     record subcommands { top = record subcommands.top { subcommand_required = true } }
 
 -- the program's command, with `sim` behind these
