@@ -33,7 +33,7 @@ use Rattle.item_world.specs.Events as events
 use Rattle.item_world.specs.Events.{undelivered}
 use Rattle.item_world.specs.Network.{IsNetwork, IsEnd, unsettled}
 use Rattle.item_world.specs.Side.{other}
-use Rattle.xns_world.specs.CallLaws.{Answering, Given}
+use Rattle.xns_world.specs.CallLaws.{ServerLaws, Given}
 use Rattle.item_world.specs.Fronts.{begins_then}
 use Rattle.xns_world.specs.CallOrder.{decides, ledger_of, IsBetween}
 use Rattle.xns_world.specs.Ledger.{Ledger, IsInOrder}
@@ -84,12 +84,12 @@ pub pair_of : {S : Type 0} (p : Parties S) (e : CallPair S) (w : CallWorld) → 
 pair_of p e w a b = λ side. elim side as (λ t. IsAtSide p e w t) [ A ↦ a | B ↦ b ]
 
 -- the end at a side takes its steps, and the other one stays
-pub caller_stepped : {S : Type 0} (p : Parties S) → Answering p.serving p.service → (e : CallPair S) (w : CallWorld) (a : CallingEnd) → IsCallPair p e w → IsCalling p a (stepped_out (step p A) w) → IsCallPair p (record e { a = a }) (stepped_out (step p A) w)
+pub caller_stepped : {S : Type 0} (p : Parties S) → ServerLaws p.serving p.service → (e : CallPair S) (w : CallWorld) (a : CallingEnd) → IsCallPair p e w → IsCalling p a (stepped_out (step p A) w) → IsCallPair p (record e { a = a }) (stepped_out (step p A) w)
 caller_stepped p laws e w a h i =
     let v = stepped_out (step p A) w in
     pair_of p (record e { a = a }) v i (other_serving p e.b w v (steps_leave p laws A w most_steps).there (h B))
 
-pub server_stepped : {S : Type 0} (p : Parties S) → Answering p.serving p.service → (e : CallPair S) (w : CallWorld) (b : ServingEnd S) → IsCallPair p e w → IsServing p b (stepped_out (step p B) w) → IsCallPair p (record e { b = b }) (stepped_out (step p B) w)
+pub server_stepped : {S : Type 0} (p : Parties S) → ServerLaws p.serving p.service → (e : CallPair S) (w : CallWorld) (b : ServingEnd S) → IsCallPair p e w → IsServing p b (stepped_out (step p B) w) → IsCallPair p (record e { b = b }) (stepped_out (step p B) w)
 server_stepped p laws e w b h i =
     let v = stepped_out (step p B) w in
     let l = steps_leave p laws B w most_steps in
@@ -168,13 +168,13 @@ ticked serving cs p e f n m w side r h a =
 
 -- ---- deliveries in turn
 
-settles_later : {S : Type 0} (p : Parties S) → Answering p.serving p.service → (side : Side) (w : CallWorld) → Later w.world (settles p side w).world
+settles_later : {S : Type 0} (p : Parties S) → ServerLaws p.serving p.service → (side : Side) (w : CallWorld) → Later w.world (settles p side w).world
 settles_later p laws side w =
     let v = stepped_out (step p side) w in
     subst (λ (u : CallWorld). Later w.world u.world) (sym (settles_is p side w))
     (laws.network.goes_on.further w.world v.world (flushes v.world side) (steps_leave p laws side w most_steps).later (laws.network.goes_on.flush v.world side))
 
-delivers_later : {S : Type 0} (p : Parties S) → Answering p.serving p.service → (w : CallWorld) (k : ℕ) (o : Option (Side × World)) → landing w.world k ≡ o → Later w.world (delivers p w k).world
+delivers_later : {S : Type 0} (p : Parties S) → ServerLaws p.serving p.service → (w : CallWorld) (k : ℕ) (o : Option (Side × World)) → landing w.world k ≡ o → Later w.world (delivers p w k).world
 delivers_later p laws w k None is = subst (λ (u : CallWorld). Later w.world u.world) (sym (arrived_nowhere p w k is)) (laws.network.goes_on.itself w.world)
 delivers_later p laws w k (Some l) is =
     let v = settles p l.0 (in_world w l.1) in
@@ -188,14 +188,14 @@ one_passed p w v k ks (Some l) is away later next same = next
 one_passed p w v k ks None is away later next same = ap (λ (u : CallWorld). fold (delivers p) u ks) (arrived_nowhere p v k (away is v.world later)) ∙ same
 
 -- what lands nowhere as they begin is passed over
-pass_over : {S : Type 0} (p : Parties S) → Answering p.serving p.service → (w : World) (v : CallWorld) (ks : List ℕ) → All (StaysAway w) ks → Later w v.world → fold (delivers p) v ks ≡ fold (delivers p) v (filter (does_land w) ks)
+pass_over : {S : Type 0} (p : Parties S) → ServerLaws p.serving p.service → (w : World) (v : CallWorld) (ks : List ℕ) → All (StaysAway w) ks → Later w v.world → fold (delivers p) v ks ≡ fold (delivers p) v (filter (does_land w) ks)
 pass_over p laws w v [] stay later = refl
 pass_over p laws w v (k ∷ ks) stay later =
     let rest = All-tail (StaysAway w) k ks stay in
     let on = laws.network.goes_on.further w v.world (delivers p v k).world later (delivers_later p laws v k (landing v.world k) refl) in
     one_passed p w v k ks (landing w k) refl (All-head (StaysAway w) k ks stay) later (pass_over p laws w (delivers p v k) ks rest on) (pass_over p laws w v ks rest later)
 
-pub unsettled_is_enough : {S : Type 0} (p : Parties S) → Answering p.serving p.service → (w : CallWorld) → call_happens p w Rest ≡ fold (delivers p) w (unsettled w.world 0 w.world.bag)
+pub unsettled_is_enough : {S : Type 0} (p : Parties S) → ServerLaws p.serving p.service → (w : CallWorld) → call_happens p w Rest ≡ fold (delivers p) w (unsettled w.world 0 w.world.bag)
 unsettled_is_enough p laws w =
     deliveries_all p w (undelivered 0 w.world.bag)
     ∙ pass_over p laws w.world w (undelivered 0 w.world.bag) (laws.network.rest.away w.world) (laws.network.goes_on.itself w.world)

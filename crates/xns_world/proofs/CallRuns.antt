@@ -6,7 +6,7 @@ use Rattle.item_world.specs.Events as events
 use Rattle.item_world.specs.Landing.{landing, reached}
 use Rattle.item_world.specs.World.{World, flushes, start, end_of, moved, ticks, channel_of, sent_at, handed_at}
 use Rattle.xns_world.proofs.CallCarries.{quiet_holds, faces, same_read, steps_hold, settles_end}
-use Rattle.xns_world.specs.CallLaws.{Given, Answering}
+use Rattle.xns_world.specs.CallLaws.{Given, ServerLaws}
 use Rattle.xns_world.specs.CallOrder.{CallsHold, AllListed, IsBetween, MeetNoFault}
 use Rattle.xns_world.specs.CallWorld.{Parties, CallWorld, in_world, step, CallStep, arrival, noise, ticking, acting, flushing, resending, telling, call_stepped, all_call_stepped, acting_steps, call_arrival_steps, call_deliveries, settles, delivers, calls_made, put_out, outcomes_read, call_start, call_happens, begun, run_calls}
 use Rattle.xns_world.specs.Settling.{most_steps, onward, steps, stepped_out}
@@ -112,7 +112,7 @@ leaves_moved laws side w t same = record {
   listed = λ b. refl;
 }
 
-step_leaves : {S : Type 0} (p : Parties S) → Answering p.serving p.service → (side : Side) (w : CallWorld) → Leaves side w (onward w (step p side w))
+step_leaves : {S : Type 0} (p : Parties S) → ServerLaws p.serving p.service → (side : Side) (w : CallWorld) → Leaves side w (onward w (step p side w))
 step_leaves p laws side w =
     let on : Later w.world w.world = laws.network.goes_on.itself w.world in
     by_step p w (λ t o. Leaves t w (onward w o)) (record {
@@ -124,7 +124,7 @@ step_leaves p laws side w =
       stays = leaves_itself laws.network B w;
     }) side
 
-pub steps_leave : {S : Type 0} (p : Parties S) → Answering p.serving p.service → (side : Side) (w : CallWorld) (n : ℕ) → Leaves side w (steps (step p side) w n)
+pub steps_leave : {S : Type 0} (p : Parties S) → ServerLaws p.serving p.service → (side : Side) (w : CallWorld) (n : ℕ) → Leaves side w (steps (step p side) w n)
 steps_leave p laws side w zero = leaves_itself laws.network side w
 steps_leave p laws side w (suc n) =
     let v = steps (step p side) w n in

@@ -19,7 +19,7 @@ use Rattle.xns_world.proofs.CallCarries.{next_piece, calls, read_more, not_refus
 use Rattle.item_world.specs.Fronts.{one_more}
 use Rattle.xns_world.specs.declared.calling.CallingEnd.{CallingEnd}
 use Rattle.item_world.specs.declared.side.Side.TheVariants.{A, B}
-use Rattle.xns_world.specs.CallLaws.{Given, Answering}
+use Rattle.xns_world.specs.CallLaws.{Given, ServerLaws}
 use Rattle.xns_world.specs.CallOrder.{CallsHold}
 use Rattle.xns_world.specs.CallPlay.{IsCalling, caller_history, IsServing}
 use Rattle.xns_world.specs.CallWorld.{Parties, CallWorld, or_caller, calls_made, next_out, outcomes_read, sends_next, feeds, lists, makes, has_outcome, may_call, caller_step, step_with, step, seen_at}
@@ -255,7 +255,7 @@ serving_next serving s e v h =
     ap (λ (l : List Item). slice_get l (length v.accepted)) (sym h.hearing.session.items)
     ∙ out_first v.accepted e.server.out
 
-pub serving_sends : {S : Type 0} (serving : Serving S) (s : S) (e : ServingEnd S) (v : State) (x : Item) (endpoint : Held) (new : server.ServerState S) → Answering serving s → IsServed serving s e v → next_of serving s v ≡ Some x → is_full v ≡ false
+pub serving_sends : {S : Type 0} (serving : Serving S) (s : S) (e : ServingEnd S) (v : State) (x : Item) (endpoint : Held) (new : server.ServerState S) → ServerLaws serving s → IsServed serving s e v → next_of serving s v ≡ Some x → is_full v ≡ false
     → StandsFor endpoint (after_send v x) → server.StandsFor serving new (server_history s (handed_by v) (v.accepted ++ x ∷ [])) → IsServed serving s (record e { endpoint = endpoint; server = new }) (after_send v x)
 serving_sends {S = S} serving s e v x endpoint new a h is full stands session =
     let piece : IsSendableItem x = at_place (server_items serving s (handed_by v)) (length v.accepted) x is (a.pieces.server (handed_by v) h.items) in

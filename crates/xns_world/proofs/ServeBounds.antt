@@ -11,7 +11,7 @@ use Rattle.xns_spp.specs.State.{State, IsState}
 use Rattle.xns_spp.specs.declared.item.Item.{Item}
 use Rattle.xns_world.proofs.CallCarries.{at_place, not_refused, room_of, room_most, send_room, take_waiting, waiting_item}
 use Rattle.xns_world.proofs.Stepping.{by_end, steps_are, GoesOn, IfGoesOn, steps_keep, steps_end}
-use Rattle.xns_world.specs.CallLaws.{Answering}
+use Rattle.xns_world.specs.CallLaws.{ServerLaws}
 use Rattle.xns_world.specs.ServeEnd.{next_of}
 use Rattle.xns_world.specs.Settling.{handed_by, most_steps, serve_step, stepped_out, steps}
 use Rattle.courier_messages.specs.Conversation.{conversation, Phase, ending}
@@ -36,7 +36,7 @@ pub record Keeps (v : State) : Type 0 where
 pub left_of : State → ℕ
 left_of v = room_of v + waiting_count v
 
-sends_go : {S : Type 0} (serving : Serving S) (s : S) (v : State) (x : Item) → Answering serving s → Keeps v → next_of serving s v ≡ Some x → is_full v ≡ false → GoesOn Keeps left_of v (after_send v x)
+sends_go : {S : Type 0} (serving : Serving S) (s : S) (v : State) (x : Item) → ServerLaws serving s → Keeps v → next_of serving s v ≡ Some x → is_full v ≡ false → GoesOn Keeps left_of v (after_send v x)
 unfolding left_of
 sends_go serving s v x a k is full =
     let piece : IsSendableItem x = at_place (server_items serving s (handed_by v)) (length v.accepted) x is (a.pieces.server (handed_by v) (All-take IsItem v.handed v.taken k.items)) in
@@ -47,7 +47,7 @@ sends_go serving s v x a k is full =
       fewer = omega (arith, falls.0, falls.1);
     }
 
-takes_go : {S : Type 0} (serving : Serving S) (s : S) (v : State) → Answering serving s → Keeps v → nat_lt 0 (waiting_count v) ≡ true → GoesOn Keeps left_of v (after_take v)
+takes_go : {S : Type 0} (serving : Serving S) (s : S) (v : State) → ServerLaws serving s → Keeps v → nat_lt 0 (waiting_count v) ≡ true → GoesOn Keeps left_of v (after_take v)
 unfolding left_of
 takes_go serving s v a k is =
     let e = waiting_item a.ends v is in
@@ -57,11 +57,11 @@ takes_go serving s v a k is =
       fewer = omega (arith, falls.0, falls.1);
     }
 
-pub step_goes : {S : Type 0} (serving : Serving S) (s : S) (v : State) → Answering serving s → Keeps v → IfGoesOn Keeps left_of v (serve_step serving s v)
+pub step_goes : {S : Type 0} (serving : Serving S) (s : S) (v : State) → ServerLaws serving s → Keeps v → IfGoesOn Keeps left_of v (serve_step serving s v)
 unfolding IfGoesOn
 step_goes serving s v a k = by_end v (next_of serving s v) (λ o. IfGoesOn Keeps left_of v o) (λ x is full. sends_go serving s v x a k is full) (λ none is. takes_go serving s v a k is) tt
 
-pub settled : {S : Type 0} (serving : Serving S) (s : S) (v : State) → Answering serving s → Keeps v → serve_step serving s (stepped_out (serve_step serving s) v) ≡ None
+pub settled : {S : Type 0} (serving : Serving S) (s : S) (v : State) → ServerLaws serving s → Keeps v → serve_step serving s (stepped_out (serve_step serving s) v) ≡ None
 unfolding left_of
 settled serving s v a k =
     let most : left_of v ≤ most_steps = omega (arith, steps_are, k.fits.bounds.window_holds, k.fits.ends.window_most, k.fits.ends.backlog_most, room_most v) in
@@ -124,7 +124,7 @@ out_after serving s F x k past (inr one) =
     let answer = next_answer serving s F one.transaction one.call in
     subst (λ (l : List Item). length (bytes_in (drop k l)) ≤ 131072) (sym one.out) (omega (arith, bytes_past k (server_items serving s F) answer past, one.size))
 
-sends_out : {S : Type 0} (serving : Serving S) (s : S) (v : State) (x : Item) → Answering serving s → Keeps v → next_of serving s v ≡ Some x → is_full v ≡ false → IsOutShort serving s v → IsOutShort serving s (after_send v x)
+sends_out : {S : Type 0} (serving : Serving S) (s : S) (v : State) (x : Item) → ServerLaws serving s → Keeps v → next_of serving s v ≡ Some x → is_full v ≡ false → IsOutShort serving s v → IsOutShort serving s (after_send v x)
 sends_out serving s v x a k is full h =
     let out = server_items serving s (handed_by v) in
     let piece : IsSendableItem x = at_place out (length v.accepted) x is (a.pieces.server (handed_by v) (All-take IsItem v.handed v.taken k.items)) in
@@ -133,7 +133,7 @@ sends_out serving s v x a k is full h =
     let fewer : length (bytes_in (drop (suc (length v.accepted)) out)) ≤ 131072 = omega (arith, bytes_further (length v.accepted) out, h) in
     subst (λ (u : State). IsOutShort serving s u) (sym one) (subst (λ (n : ℕ). length (bytes_in (drop n out)) ≤ 131072) (sym longer) fewer)
 
-takes_out : {S : Type 0} (serving : Serving S) (s : S) (v : State) → Answering serving s → AnItemBringsAtMostOneAnswer serving s → Keeps v → next_of serving s v ≡ None → nat_lt 0 (waiting_count v) ≡ true → IsOutShort serving s (after_take v)
+takes_out : {S : Type 0} (serving : Serving S) (s : S) (v : State) → ServerLaws serving s → AnItemBringsAtMostOneAnswer serving s → Keeps v → next_of serving s v ≡ None → nat_lt 0 (waiting_count v) ≡ true → IsOutShort serving s (after_take v)
 takes_out serving s v a brings k none waits =
     let e = waiting_item a.ends v waits in
     let one = a.ends.hands_up.some v e.0 e.1 in
@@ -143,7 +143,7 @@ takes_out serving s v a brings k none waits =
     subst (λ (u : State). IsOutShort serving s u) (sym one)
     (subst (λ (l : List Item). length (bytes_in (drop (length v.accepted) (server_items serving s l))) ≤ 131072) (sym up) there)
 
-pub step_out : {S : Type 0} (serving : Serving S) (s : S) (v : State) → Answering serving s → AnItemBringsAtMostOneAnswer serving s → Keeps v → IsOutShort serving s v → IfOut serving s (serve_step serving s v)
+pub step_out : {S : Type 0} (serving : Serving S) (s : S) (v : State) → ServerLaws serving s → AnItemBringsAtMostOneAnswer serving s → Keeps v → IsOutShort serving s v → IfOut serving s (serve_step serving s v)
 step_out serving s v a brings k h =
     by_end v (next_of serving s v) (λ o. IfOut serving s o) (λ x is full. sends_out serving s v x a k is full h) (λ none waits. takes_out serving s v a brings k none waits) tt
 
@@ -158,17 +158,17 @@ pub record Within {S : Type 0} (serving : Serving S) (s : S) (v : State) : Type 
   pub fits : IsState v
   pub out : IsOutShort serving s v
 
-within_goes : {S : Type 0} (serving : Serving S) (s : S) (v : State) → Answering serving s → AnItemBringsAtMostOneAnswer serving s → Within serving s v → IfGoesOn (Within serving s) left_of v (serve_step serving s v)
+within_goes : {S : Type 0} (serving : Serving S) (s : S) (v : State) → ServerLaws serving s → AnItemBringsAtMostOneAnswer serving s → Within serving s v → IfGoesOn (Within serving s) left_of v (serve_step serving s v)
 unfolding IfGoesOn
 within_goes serving s v a brings h = by_step (serve_step serving s v) (step_goes serving s v a (keeps_of v h.fits)) (step_out serving s v a brings (keeps_of v h.fits) h.out) where
   by_step : (o : Option State) → IfGoesOn Keeps left_of v o → IfOut serving s o → IfGoesOn (Within serving s) left_of v o
   by_step None goes out = tt
   by_step (Some u) goes out = record { keeps = record { fits = goes.keeps.fits; out = out }; fewer = goes.fewer }
 
-pub steps_within : {S : Type 0} (serving : Serving S) (s : S) (v : State) (n : ℕ) → Answering serving s → AnItemBringsAtMostOneAnswer serving s → Within serving s v → Within serving s (steps (serve_step serving s) v n)
+pub steps_within : {S : Type 0} (serving : Serving S) (s : S) (v : State) (n : ℕ) → ServerLaws serving s → AnItemBringsAtMostOneAnswer serving s → Within serving s v → Within serving s (steps (serve_step serving s) v n)
 steps_within serving s v n a brings h = steps_keep (serve_step serving s) (Within serving s) left_of (λ u k. within_goes serving s u a brings k) v n h
 
-pub settles_within : {S : Type 0} (serving : Serving S) (s : S) (w : Served) → Answering serving s → AnItemBringsAtMostOneAnswer serving s → Within serving s w.end → Within serving s (serve_settles serving s w).end
+pub settles_within : {S : Type 0} (serving : Serving S) (s : S) (w : Served) → ServerLaws serving s → AnItemBringsAtMostOneAnswer serving s → Within serving s w.end → Within serving s (serve_settles serving s w).end
 settles_within serving s w a brings h =
     let v = stepped_out (serve_step serving s) w.end in
     let k = steps_within serving s w.end most_steps a brings h in
@@ -178,7 +178,7 @@ settles_within serving s w a brings h =
       out = out_same serving s v (after_flush v) on.accepted (a.network.stays.handed v (after_flush v) on k.fits.bounds.handed_taken) k.out;
     }
 
-receives_within : {S : Type 0} (serving : Serving S) (s : S) (w : Served) (b : List ℕ) → Answering serving s → Within serving s w.end → AreBytes b → Within serving s (serve_receives w b).end
+receives_within : {S : Type 0} (serving : Serving S) (s : S) (w : Served) (b : List ℕ) → ServerLaws serving s → Within serving s w.end → AreBytes b → Within serving s (serve_receives w b).end
 receives_within serving s w b a h bytes =
     let on = a.network.stays.receive w.end b in
     record {
@@ -186,10 +186,10 @@ receives_within serving s w b a h bytes =
       out = out_same serving s w.end (after_receive w.end b) on.accepted (a.network.stays.handed w.end (after_receive w.end b) on h.fits.bounds.handed_taken) h.out;
     }
 
-hears_within : {S : Type 0} (serving : Serving S) (s : S) (w : Served) (b : List ℕ) → Answering serving s → AnItemBringsAtMostOneAnswer serving s → Within serving s w.end → AreBytes b → Within serving s (serve_hears serving s w b).end
+hears_within : {S : Type 0} (serving : Serving S) (s : S) (w : Served) (b : List ℕ) → ServerLaws serving s → AnItemBringsAtMostOneAnswer serving s → Within serving s w.end → AreBytes b → Within serving s (serve_hears serving s w b).end
 hears_within serving s w b a brings h bytes = settles_within serving s (serve_receives w b) a brings (receives_within serving s w b a h bytes)
 
-pub hears_all_within : {S : Type 0} (serving : Serving S) (s : S) (w : Served) (packets : List (List ℕ)) → Answering serving s → AnItemBringsAtMostOneAnswer serving s → Within serving s w.end → All AreBytes packets
+pub hears_all_within : {S : Type 0} (serving : Serving S) (s : S) (w : Served) (packets : List (List ℕ)) → ServerLaws serving s → AnItemBringsAtMostOneAnswer serving s → Within serving s w.end → All AreBytes packets
     → Within serving s (fold (serve_hears serving s) w packets).end
 hears_all_within serving s w [] a brings h bytes = h
 hears_all_within serving s w (b ∷ bs) a brings h bytes =

@@ -9,7 +9,7 @@ use Rattle.item_world.specs.EndLaws.{EndLaws}
 use Rattle.item_world.specs.Laws.{EachStepKeepsTheOrder, ForeignBytesChangeNothing, NetworkLaws}
 
 -- of an end, of its network, and of a server's session that began in the state s
-pub record Answering {S : Type 0} (serving : Serving S) (s : S) : Type 0 where
+pub record ServerLaws {S : Type 0} (serving : Serving S) (s : S) : Type 0 where
   pub ends : EndLaws
   pub network : NetworkLaws
   pub pieces : SessionItemsCanBeSent serving s
@@ -23,12 +23,12 @@ pub record Given {S : Type 0} (p : Parties S) : Type 0 where
   pub agree : BothSidesAgree p.serving p.service
   pub brings : AnItemBringsAtMostOneAnswer p.serving p.service
   pub pieces : CallerItemsCanBeSent
-  pub answering : Answering p.serving p.service
+  pub answering : ServerLaws p.serving p.service
   pub fitting : All IsFitting p.calls
 
 -- of a server's session in each state that its service can be in, and of all parties with that service
 abbrev pub ServerLawsAreGiven : {S : Type 0} → Serving S → (S → Type 0) → Type 0
-ServerLawsAreGiven {S} serving IsServiceState = (s : S) → IsServiceState s → Answering serving s
+ServerLawsAreGiven {S} serving IsServiceState = (s : S) → IsServiceState s → ServerLaws serving s
 
 abbrev pub LawsAreGiven : {S : Type 0} → Serving S → (S → Type 0) → Type 0
 LawsAreGiven {S} serving IsServiceState = (p : Parties S) → AreParties serving IsServiceState p → Given p

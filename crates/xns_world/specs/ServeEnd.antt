@@ -13,7 +13,7 @@ use Rattle.xns_world.specs.Serve.{first_fault, Served}
 use Rattle.xns_world.specs.Settling.{handed_by}
 use Rattle.xns_world.specs.declared.serving.ServingEnd.{ServingEnd}
 use Rattle.xns_spp.specs.Numbers.{most_items}
-use Rattle.xns_world.specs.CallLaws.{Answering}
+use Rattle.xns_world.specs.CallLaws.{ServerLaws}
 use Rattle.xns_world.specs.declared.serve.ServePlay.{ServePlay}
 use Rattle.xns_world.specs.declared.serve_trace.ServeTrace.{ServeTrace}
 
@@ -51,7 +51,7 @@ pub record IsServePlaying {S : Type 0} (serving : Serving S) (s : S) (play : Ser
 
 -- where it stood for w, it then stands for what f makes of w
 abbrev pub ServeStepsBy : {S : Type 0} → Serving S → ServePlay S → ServePlay S → (S → Served → Served) → Type 0
-ServeStepsBy {S} serving before after f = (s : S) (w : Served) → Answering serving s → IsServePlaying serving s before w
+ServeStepsBy {S} serving before after f = (s : S) (w : Served) → ServerLaws serving s → IsServePlaying serving s before w
     → IsServePlaying serving s after (f s w)
 
 -- the end's numbers keep within their bounds: at most window items wait, and at most backlog are unacknowledged

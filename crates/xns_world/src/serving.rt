@@ -5,7 +5,7 @@ ghost use Rattle.courier_messages.specs.declared.fault.SessionFault.{SessionFaul
 ghost use Rattle.xns_spp.specs.Sending.{is_full, waiting_count, after_send, after_take};
 ghost use Rattle.xns_spp.specs.State.{State};
 ghost use Rattle.xns_spp.specs.declared.item.Item.{Item};
-ghost use Rattle.xns_world.specs.CallLaws.{Answering};
+ghost use Rattle.xns_world.specs.CallLaws.{ServerLaws};
 ghost use Rattle.xns_world.specs.ServeEnd.{IsServed, IsHearing, next_of, noted};
 ghost use Rattle.xns_world.specs.Settling.{serve_step, stepped_out, Stepped};
 ghost use Rattle.item_world.specs.Setup.{IsGood};
@@ -57,7 +57,7 @@ impl<'a, S: Service> ServingEnd<'a, S> {
 
     /// Sends the first item that is out.
     fn send(&mut self)
-        ensures { (s : S) (v : State) (x : Item) → Answering S.serving s → IsServed S.serving s self.old v → next_of S.serving s v ≡ Some x
+        ensures { (s : S) (v : State) (x : Item) → ServerLaws S.serving s → IsServed S.serving s self.old v → next_of S.serving s v ≡ Some x
             → is_full v ≡ false →
             IsServed S.serving s self.new (after_send v x) }
     {
@@ -69,7 +69,7 @@ impl<'a, S: Service> ServingEnd<'a, S> {
     /// Feeds an item to the session, which answers a call or refuses the item.
     fn hear(&mut self, alloc: Global, item: Item) -> Result<(), AllocError>
         requires { self.old.server.out ≡ [] }
-        ensures hearing { OnOk result ((s : S) (F P : List Item) → Answering S.serving s → IsHearing S.serving s self.old F P
+        ensures hearing { OnOk result ((s : S) (F P : List Item) → ServerLaws S.serving s → IsHearing S.serving s self.old F P
             → IsHearing S.serving s self.new (F ++ item ∷ []) P) }
         ensures endpoint { self.new.endpoint ≡ self.old.endpoint }
         ensures handed { self.new.handed ≡ self.old.handed }
@@ -87,7 +87,7 @@ impl<'a, S: Service> ServingEnd<'a, S> {
     /// Hands up the next item that waits and feeds it to the session; whether there was one.
     fn feed(&mut self, alloc: Global) -> Result<bool, AllocError>
         requires { self.old.server.out ≡ [] }
-        ensures { IfOk result (λ b. (s : S) (v : State) → Answering S.serving s → IsServed S.serving s self.old v →
+        ensures { IfOk result (λ b. (s : S) (v : State) → ServerLaws S.serving s → IsServed S.serving s self.old v →
             (b ≡ nat_lt 0 (waiting_count v)) × IsServed S.serving s self.new (if b then after_take v else v)) }
     {
         let Some(item) = self.endpoint.take() else {
@@ -101,7 +101,7 @@ impl<'a, S: Service> ServingEnd<'a, S> {
 
     /// Takes the first step that applies; whether one did.
     fn step(&mut self, alloc: Global) -> Result<bool, AllocError>
-        ensures { IfOk result (λ b. (s : S) (v : State) → Answering S.serving s → IsServed S.serving s self.old v →
+        ensures { IfOk result (λ b. (s : S) (v : State) → ServerLaws S.serving s → IsServed S.serving s self.old v →
             Stepped b v (serve_step S.serving s v) (IsServed S.serving s self.new)) }
     {
         if !self.server.has_out() {
@@ -116,7 +116,7 @@ impl<'a, S: Service> ServingEnd<'a, S> {
 
     /// Takes steps until none applies.
     pub fn step_out(&mut self, alloc: Global) -> Result<(), AllocError>
-        ensures { OnOk result ((s : S) (v : State) → Answering S.serving s → IsServed S.serving s self.old v →
+        ensures { OnOk result ((s : S) (v : State) → ServerLaws S.serving s → IsServed S.serving s self.old v →
             IsServed S.serving s self.new (stepped_out (serve_step S.serving s) v)) }
     {
         for _step in 0..MOST_STEPS {

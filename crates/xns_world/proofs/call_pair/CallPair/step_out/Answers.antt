@@ -3,7 +3,7 @@ use Rattle.courier_calls.specs.Calls.{Serving}
 use Rattle.xns_world.proofs.CallPlays.{caller_stepped, server_stepped}
 use Rattle.xns_world.proofs.Stepping.{ok_then}
 use Rattle.xns_world.proofs.Ends.{stepped_world}
-use Rattle.xns_world.specs.CallLaws.{Answering}
+use Rattle.xns_world.specs.CallLaws.{ServerLaws}
 use Rattle.xns_world.specs.CallPlay.{IsCallPair}
 use Rattle.xns_world.specs.CallWorld.{step}
 use Rattle.xns_world.specs.ServeEnd.{IsServed}
@@ -25,7 +25,7 @@ returns-in-B g c =
     ok_then c.step_out-in-B.result c.step_out-in-B.ensures (λ stepped p w ready h.
     let e = c.args.self.now in
     let b = c.step_out-in-B.new.self in
-    let serves = subst (λ (u : Serving g.row.S.Denot). Answering u p.service → IsServed u p.service e.b w.world.b → IsServed u p.service b (stepped_out (serve_step u p.service) w.world.b)) (sym ready.serving_is)
+    let serves = subst (λ (u : Serving g.row.S.Denot). ServerLaws u p.service → IsServed u p.service e.b w.world.b → IsServed u p.service b (stepped_out (serve_step u p.service) w.world.b)) (sym ready.serving_is)
     (stepped p.service w.world.b) ready.given.answering (h B) in
     let here = server_stepped p ready.given.answering e w b h (stepped_world p b w serves) in
     subst (λ (t : Side). IsCallPair p (record e { b = b }) (stepped_out (step p t) w)) (sym c.in-B.is) here)
