@@ -1,5 +1,6 @@
 -- Packets, and the bytes that spell them (XSIS 028112, Internet Datagram Protocol, Packet Format).
-use Rattle.std.specs.Prelude.{◌≡◌, ℕ, ◌+◌, ◌%◌, ◌<◌, ◌≤◌, ◌^◌, All, Bool, ◌&&◌, ◌==◌, if◌then◌else◌, List, [], ◌∷◌, ◌++◌, length, take, replicate}
+use Rattle.std.specs.Prelude.{◌≡◌, ℕ, ◌+◌, ◌%◌, ◌<◌, ◌≤◌, ◌^◌, All, Bool, ◌&&◌, ◌==◌, if◌then◌else◌, List, [], ◌∷◌, ◌++◌, length, take}
+use Rattle.std.specs.Prelude.{replicate}
 use Rattle.std.specs.Int.{w16, w32, to_be_bytes}
 use Rattle.std.specs.Str.{bytes_eq}
 use Rattle.xns_idp.specs.Checksum.{words, cycle_checksum}
@@ -66,14 +67,16 @@ address_bytes a = to_be_bytes w32 a.network ++ a.host ++ to_be_bytes w16 a.socke
 -- all after the checksum field: length of header and data, transport control, packet type, destination, source, data, garbage byte
 unfoldable pub after_checksum : PacketModel → List ℕ → List ℕ
 after_checksum p garbage =
-    to_be_bytes w16 (30 + length p.body) ++ (p.control ∷ p.kind ∷ []) ++ address_bytes p.target ++ address_bytes p.source ++ p.body ++ garbage
+    to_be_bytes w16 (30 + length p.body) ++ (p.control ∷ p.kind ∷ []) ++ address_bytes p.target ++ address_bytes p.source ++ p.body
+    ++ garbage
 
 -- the packet with this garbage behind its data: in front is the checksum of all words after that field, or 65535 for none
 unfoldable pub packet_bytes : PacketModel → List ℕ → List ℕ
 packet_bytes p garbage =
     to_be_bytes w16 (if p.summed then cycle_checksum (words (after_checksum p garbage)) else 65535) ++ after_checksum p garbage
 
--- the bytes spell the packet: it has at most `most_data` bytes of data, and behind an odd number of them stands one garbage byte of any value
+-- the bytes spell the packet: it has at most `most_data` bytes of data, and behind an odd number of them stands one garbage byte of any
+-- value
 pub record SpellsPacket (p : PacketModel) (bytes : List ℕ) : Type 0 where
   pub size : length p.body ≤ most_data
   pub garbage : List ℕ

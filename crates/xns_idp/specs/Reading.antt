@@ -1,5 +1,7 @@
--- The packet at the front of bytes, by the places of its fields, or the first fault (XSIS 028112, Internet Datagram Protocol, Packet Format).
-use Rattle.std.specs.Prelude.{ℕ, ◌+◌, ◌*◌, ◌%◌, ◌==◌, nat_lt, not, if◌then◌else◌, List, length, slice_index, slice_range, Option, Some, None, Result, Ok, Err}
+-- The packet at the front of bytes, by the places of its fields, or the first fault (XSIS 028112, Internet Datagram Protocol, Packet
+-- Format).
+use Rattle.std.specs.Prelude.{ℕ, ◌+◌, ◌*◌, ◌%◌, ◌==◌, nat_lt, not, if◌then◌else◌, List, length, slice_index, slice_range, Option, Some}
+use Rattle.std.specs.Prelude.{None, Result, Ok, Err}
 use Rattle.xns_idp.specs.Checksum.{words, cycle_checksum}
 use Rattle.xns_idp.specs.Packet.{PacketModel, most_packet, packet_model}
 use Rattle.xns_idp.specs.declared.address.Address.{Address}

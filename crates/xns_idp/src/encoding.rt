@@ -1,4 +1,5 @@
-ghost use Rattle.std.specs.Prelude.{◌≡◌, ◌+◌, ◌<◌, ◌≤◌, ◌++◌, ◌∷◌, [], ◌%◌, if◌then◌else◌, length, drop, replicate, IsOk, OnOk, OnErr, vec_len, vec_capacity};
+ghost use Rattle.std.specs.Prelude.{◌≡◌, ◌+◌, ◌<◌, ◌≤◌, ◌++◌, ◌∷◌, [], ◌%◌, if◌then◌else◌, length, drop, replicate, IsOk, OnOk, OnErr};
+ghost use Rattle.std.specs.Prelude.{vec_len, vec_capacity};
 ghost use Rattle.std.specs.Int.{w16, to_be_bytes};
 ghost use Rattle.xns_idp.specs.Checksum.{words, cycle_checksum};
 ghost use Rattle.xns_idp.specs.Packet.{most_data, address_bytes, packet_model, packet_spelling, with_data_behind};
@@ -42,7 +43,8 @@ pub fn encode_parts(
     ensures ok { OnOk result (out.new.items ≡ out.old.items ++ packet_spelling (with_data_behind (packet_model packet.now) rest.now)) }
     ensures err { OnErr result (out.new.items ≡ out.old.items) }
     // It is refused memory only where `out` has no room for the packet's bytes.
-    ensures memory { OnErr result (vec_capacity out.old < vec_len out.old + made_even (30 + (length packet.now.body.now + length rest.now))) }
+    ensures memory { OnErr result (vec_capacity out.old < vec_len out.old + made_even
+        (30 + (length packet.now.body.now + length rest.now))) }
     // No room is given back.
     ensures room { vec_capacity out.old ≤ vec_capacity out.new }
 {
@@ -61,7 +63,8 @@ pub fn encode_parts(
 #[inline(always)]
 pub(crate) fn header_bytes(packet: &Packet<'_>, size: usize) -> [u8; HEADER_BYTES]
     requires { size ≤ most_data }
-    ensures { result ≡ 0 ∷ 0 ∷ to_be_bytes w16 (30 + size) ++ (packet.now.control ∷ packet.now.kind ∷ []) ++ address_bytes packet.now.target ++ address_bytes packet.now.source }
+    ensures { result ≡ 0 ∷ 0 ∷ to_be_bytes w16 (30 + size) ++ (packet.now.control ∷ packet.now.kind ∷ []) ++ address_bytes packet.now.target
+        ++ address_bytes packet.now.source }
 {
     let [high, low] = (HEADER + size as u16).to_be_bytes();
     let [t0, t1, t2, t3, t4, t5, t6, t7, t8, t9, t10, t11] = packet.target.to_bytes();

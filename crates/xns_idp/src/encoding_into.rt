@@ -25,7 +25,8 @@ fn put_behind(out: &mut [u8], at: usize, bytes: &[u8]) -> usize
 pub fn encode_into(packet: &Packet<'_>, out: &mut [u8]) -> usize
     requires short { length packet.now.body.now ≤ most_data }
     requires room { made_even (30 + length packet.now.body.now) ≤ length out.old }
-    ensures { (result ≡ length (packet_spelling (packet_model packet.now))) × (out.new ≡ packet_spelling (packet_model packet.now) ++ drop (length (packet_spelling (packet_model packet.now))) out.old) }
+    ensures { (result ≡ length (packet_spelling (packet_model packet.now)))
+        × (out.new ≡ packet_spelling (packet_model packet.now) ++ drop (length (packet_spelling (packet_model packet.now))) out.old) }
 {
     let end = put_behind(out, 0, &header_bytes(packet, packet.body.len()));
     let end = put_behind(out, end, packet.body);

@@ -1,6 +1,7 @@
 //! What the definitions imply, each as the contract of a function that does nothing.
 
-ghost use Rattle.xns_idp.specs.Laws.{ChecksumIsAddedAndRotated, AnotherWordShows, AnExchangeShows, WrittenPacketIsReadAgain, PacketAtFrontIsItsSpelling};
+ghost use Rattle.xns_idp.specs.Laws.{ChecksumIsAddedAndRotated, AnotherWordShows, AnExchangeShows, WrittenPacketIsReadAgain};
+ghost use Rattle.xns_idp.specs.Laws.{PacketAtFrontIsItsSpelling};
 
 /// The checksum is what the standard describes: each word is added with end-around carry and the sum rotated left by one,
 /// from 0 on, and a final 65535 becomes 0.

@@ -1,7 +1,8 @@
 //! Packets of the Internet Datagram Protocol (XSIS 028112): the header, the cycle checksum, and the bytes of a packet.
 //!
 //! [`decode`] reads the packet at the front of some bytes and lends its body from them; [`encode`] appends the bytes of a
-//! packet, and [`encode_parts`] of one whose data lie in two places. All numbers in packets are big-endian. Nothing here opens a socket or keeps a state.
+//! packet, and [`encode_parts`] of one whose data lie in two places. All numbers in packets are big-endian. Nothing here opens a socket or
+//! keeps a state.
 #![tactic(auto)]
 
 mod address;

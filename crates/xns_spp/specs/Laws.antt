@@ -1,17 +1,20 @@
 -- What the definitions imply: the statements of the laws, each under the name of its law.
-use Rattle.std.specs.Prelude.{◌≡◌, ◌<◌, ◌≤◌, ◌+◌, ◌-◌, ◌%◌, ◌∷◌, ◌++◌, ◌↔◌, ◌⊎◌, All, Bool, IsTrue, List, [], ℕ, max, is_ok, is_some, length, map, nat_lt, take, true, false, slice_get, Ok, Err, Some, None}
+use Rattle.std.specs.Prelude.{◌≡◌, ◌<◌, ◌≤◌, ◌+◌, ◌-◌, ◌%◌, ◌∷◌, ◌++◌, ◌↔◌, ◌⊎◌, All, Bool, IsTrue, List, [], ℕ, max, is_ok, is_some}
+use Rattle.std.specs.Prelude.{length, map, nat_lt, take, true, false, slice_get, Ok, Err, Some, None}
 use Rattle.xns_idp.specs.Packet.{PacketModel, AreBytes, IsAddress, IsPacketAtFront}
 use Rattle.xns_idp.specs.Reading.{made_even}
 use Rattle.xns_idp.specs.declared.address.Address.{Address}
 use Rattle.xns_spp.specs.Ends.{IsEnds, is_open, most_pending}
 use Rattle.xns_spp.specs.Growth.{IsFresh, Grows, Stays, HearsNothing, HasCome, Takes, Acknowledges, IsOwnPacket}
-use Rattle.xns_spp.specs.Header.{IsHeader, SpellsHeader, header_spelling, header_of, system_bit, reply_control, has_bit, is_system, brings_item, wants_reply}
+use Rattle.xns_spp.specs.Header.{IsHeader, SpellsHeader, header_spelling, header_of, system_bit, reply_control, has_bit, is_system}
+use Rattle.xns_spp.specs.Header.{brings_item, wants_reply}
 use Rattle.xns_spp.specs.Item.{IsItem, IsShortItem, item_in}
 use Rattle.xns_spp.specs.Meant.{Meant, own_meant, IsReduced, as_meant}
 use Rattle.xns_spp.specs.Nearest.{field_round, half_round, nearest, IsNearest}
 use Rattle.xns_spp.specs.Packet.{SppPacketModel, IsSppPacket, IsSppPacketAtFront, spelled, spp_packet_spelling, spp_packet_of}
 use Rattle.xns_spp.specs.Receiving.{numbers_in, receive_answer, after_receive, arrival_fault, reply_packet, is_ours, IsOursAtFront}
-use Rattle.xns_spp.specs.Sending.{data_packet, system_packet, flush_packets, flush_answer, tick_packets, tick_answer, is_full, send_answer, take_answer, waiting_count, after_send, after_take, after_flush, after_tick}
+use Rattle.xns_spp.specs.Sending.{data_packet, system_packet, flush_packets, flush_answer, tick_packets, tick_answer, is_full, send_answer}
+use Rattle.xns_spp.specs.Sending.{take_answer, waiting_count, after_send, after_take, after_flush, after_tick}
 use Rattle.xns_spp.specs.State.{State, IsState, window_top, send_limit, initiator_state, responder_state}
 use Rattle.xns_spp.specs.Telling.{system_control, told_packet, told_answer, resend_packet, resend_answer, after_resend, room_to_send}
 use Rattle.xns_spp.specs.declared.dropped.Dropped.{Dropped}
@@ -55,7 +58,8 @@ pub record OwnPacketsArePackets : Type 0 where
   pub system_packet : (s : State) (control : ℕ) → IsState s → control < 256 → IsSppPacket (system_packet s control)
   pub flush : (s : State) → IsState s → All IsSppPacket (flush_packets s)
   pub tick : (s : State) → IsState s → All IsSppPacket (tick_packets s)
-  pub reply : (s : State) (p q : SppPacketModel) → IsState s → IsSppPacket p → arrival_fault s p ≡ None → reply_packet s p ≡ Some q → IsSppPacket q
+  pub reply : (s : State) (p q : SppPacketModel) → IsState s → IsSppPacket p → arrival_fault s p ≡ None → reply_packet s p ≡ Some q
+      → IsSppPacket q
   pub resend : (s : State) (p : SppPacketModel) → IsState s → resend_packet s ≡ Some p → IsSppPacket p
   pub told : (s : State) (asks : Bool) (p : SppPacketModel) → IsState s → told_packet s asks ≡ Some p → IsSppPacket p
 
@@ -80,14 +84,17 @@ pub record NewEndsAreFresh : Type 0 where
 pub record BoundsHoldAfterEachStep : Type 0 where
   pub initiator : (own peer : Address) (id window backlog : ℕ) → IsAddress own → IsAddress peer → 0 < id → id < 65536 →
       1 ≤ window → window ≤ most_pending → 1 ≤ backlog → backlog ≤ most_pending → IsState (initiator_state own id peer window backlog)
-  pub responder : (own peer : Address) (id peer_id window backlog : ℕ) → IsAddress own → IsAddress peer → 0 < id → id < 65536 → 0 < peer_id → peer_id < 65536 →
-      1 ≤ window → window ≤ most_pending → 1 ≤ backlog → backlog ≤ most_pending → IsState (responder_state own id peer peer_id window backlog)
+  pub responder : (own peer : Address) (id peer_id window backlog : ℕ) → IsAddress own → IsAddress peer → 0 < id → id < 65536 → 0 < peer_id
+      → peer_id < 65536 →
+      1 ≤ window → window ≤ most_pending → 1 ≤ backlog → backlog ≤ most_pending
+      → IsState (responder_state own id peer peer_id window backlog)
   pub send : (s : State) (x : Item) → IsState s → IsItem x → IsState (after_send s x)
   pub take : (s : State) → IsState s → IsState (after_take s)
   pub flush : (s : State) → IsState s → IsState (after_flush s)
   pub tick : (s : State) → IsState s → IsState (after_tick s)
   pub resend : (s : State) → IsState s → IsState (after_resend s)
-  pub packet : (s : State) (b : List ℕ) (p : SppPacketModel) → IsState s → spp_packet_of b ≡ Ok p → IsSppPacket p → IsState (after_receive s b)
+  pub packet : (s : State) (b : List ℕ) (p : SppPacketModel) → IsState s → spp_packet_of b ≡ Ok p → IsSppPacket p
+      → IsState (after_receive s b)
   pub receive : (s : State) (b : List ℕ) → IsState s → AreBytes b → IsState (after_receive s b)
 
 pub record AnEndOnlyGrows : Type 0 where
@@ -139,20 +146,23 @@ pub record ItemsAreTakenFromTheNextNumberOn : Type 0 where
   pub early : (s : State) (b : List ℕ) (k : ℕ) (x : Item) → (after_receive s b).early k ≡ Some x → HasCome s b k x
 
 abbrev pub PacketsAcknowledgeWhatTheySay : Type 0
-PacketsAcknowledgeWhatTheySay = (s : State) (b : List ℕ) → ((after_receive s b).acknowledged ≡ s.acknowledged) ⊎ Acknowledges s b (after_receive s b).acknowledged
+PacketsAcknowledgeWhatTheySay = (s : State) (b : List ℕ)
+    → ((after_receive s b).acknowledged ≡ s.acknowledged) ⊎ Acknowledges s b (after_receive s b).acknowledged
 
 pub record AcceptedItemsGoOut : Type 0 where
   pub flush : (s : State) → IsState s → All (IsOwnPacket s (after_flush s)) (flush_packets s)
   pub tick : (s : State) → All (IsOwnPacket s (after_tick s)) (tick_packets s)
   pub flush_bytes : (s : State) → flush_answer s ≡ map spp_packet_spelling (flush_packets s)
   pub tick_bytes : (s : State) → tick_answer s ≡ map spp_packet_spelling (tick_packets s)
-  pub reply : (s : State) (b reply : List ℕ) → (receive_answer s b).reply ≡ Some reply → reply ≡ spp_packet_spelling (system_packet (after_receive s b) reply_control)
+  pub reply : (s : State) (b reply : List ℕ) → (receive_answer s b).reply ≡ Some reply
+      → reply ≡ spp_packet_spelling (system_packet (after_receive s b) reply_control)
   pub resend : (s : State) (p : SppPacketModel) → resend_packet s ≡ Some p → IsOwnPacket s (after_resend s) p
   pub told : (s : State) (asks : Bool) (p : SppPacketModel) → told_packet s asks ≡ Some p → IsOwnPacket s s p
   pub resend_bytes : (s : State) → resend_answer s ≡ spelled (resend_packet s)
   pub told_bytes : (s : State) (asks : Bool) → told_answer s asks ≡ spelled (told_packet s asks)
 
 pub record TheFirstItemGoesOutAgain : Type 0 where
-  pub packet : (s : State) (x : Item) → is_open s.ends ≡ true → slice_get s.accepted s.acknowledged ≡ Some x → s.acknowledged < send_limit s → resend_packet s ≡ Some (data_packet s s.acknowledged x)
+  pub packet : (s : State) (x : Item) → is_open s.ends ≡ true → slice_get s.accepted s.acknowledged ≡ Some x → s.acknowledged < send_limit s
+      → resend_packet s ≡ Some (data_packet s s.acknowledged x)
   pub sent : (s : State) → is_open s.ends ≡ true → s.acknowledged < send_limit s → (after_resend s).sent ≡ max s.sent (s.acknowledged + 1)
   pub same : (s : State) → s.acknowledged < s.sent → after_resend s ≡ s
