@@ -34,7 +34,8 @@ fn read_return(
     message: &PiecedMessage,
 ) -> Result<Seen, SessionFault>
     requires { IsCheckedTable (table_model table.now) }
-    ensures { Answers result (results_in (found (table_model table.now) target.program target.version target.procedure) (words_in message.now)) }
+    ensures { Answers result (results_in (found (table_model table.now) target.program target.version target.procedure)
+        (words_in message.now)) }
 {
     let Ok((_, listed)) = table.find(target.program, target.version, target.procedure) else {
         return Err(SessionFault::BadReply);
@@ -55,7 +56,8 @@ fn read_abort(
     message: &PiecedMessage,
 ) -> Result<Seen, SessionFault>
     requires { IsCheckedTable (table_model table.now) }
-    ensures { Answers result (abort_in (found (table_model table.now) target.program target.version target.procedure) error (words_in message.now)) }
+    ensures { Answers result (abort_in (found (table_model table.now) target.program target.version target.procedure) error
+        (words_in message.now)) }
 {
     let Ok((entry, _)) = table.find(target.program, target.version, target.procedure) else {
         return Err(SessionFault::BadReply);

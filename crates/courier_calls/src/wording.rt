@@ -2,7 +2,8 @@
 ghost use Rattle.std.specs.Prelude.{◌≡◌, [], ◌≤◌, ◌*◌, length, IfOk, Ok};
 ghost use Rattle.courier_messages.specs.Message.{message_words, most_words};
 ghost use Rattle.courier_calls.specs.Table.{entry_model, procedure_model, table_model};
-ghost use Rattle.courier_calls.specs.Calls.{AllowsOutcome, outcome_model, seen_of, unlisted_model, HasGoodArguments, call_model, raw_call, SeenModel, invalid_arguments};
+ghost use Rattle.courier_calls.specs.Calls.{AllowsOutcome, outcome_model, seen_of, unlisted_model, HasGoodArguments, call_model, raw_call};
+ghost use Rattle.courier_calls.specs.Calls.{SeenModel, invalid_arguments};
 ghost use Rattle.courier_calls.specs.Answers.{answer_message};
 ghost use Rattle.courier_messages.specs.RawCalls.{call_message};
 

@@ -39,10 +39,11 @@ foreseen_fault e p x h stops = on e stops where
   bytes = map byte x.body
 
   on_fault : (f : SessionFault) → run p bytes ≡ Err f → (run p (signs x) ≡ Err f) × (said p (signs x) ≡ [])
-  on_fault f r =
-      (ap (run p) (signs_open x h) ∙ run_append p bytes (end_of x.last) ∙ ap (λ (t : Result Phase SessionFault). t then λ q. run q (end_of x.last)) r,
-      ap (said p) (signs_open x h) ∙ said_append p bytes (end_of x.last) ∙ ap (λ (ms : List Message). ms ++ onwards (run p bytes) (λ q. said q (end_of x.last))) (said_bytes p x.body)
-      ∙ ap (λ (t : Result Phase SessionFault). onwards t (λ q. said q (end_of x.last))) r)
+  on_fault f r = (
+    ap (run p) (signs_open x h) ∙ run_append p bytes (end_of x.last) ∙ ap (λ (t : Result Phase SessionFault). t then λ q. run q (end_of x.last)) r,
+    ap (said p) (signs_open x h) ∙ said_append p bytes (end_of x.last) ∙ ap (λ (ms : List Message). ms ++ onwards (run p bytes) (λ q. said q (end_of x.last))) (said_bytes p x.body)
+        ∙ ap (λ (t : Result Phase SessionFault). onwards t (λ q. said q (end_of x.last))) r,
+  )
 
   on : (f : SessionFault) → Stops f ⊥ (run p bytes ≡ Err f) → Stops f ⊥ ((run p (signs x) ≡ Err f) × (said p (signs x) ≡ []))
   on NoMemory w = w

@@ -12,7 +12,8 @@ use Rattle.courier_messages.specs.RawCalls.{RawCall}
 -- the calls up to the first message that isn't one, each with its transaction
 unfoldable pub calls_of : List Message → List (ℕ × RawCall)
 calls_of [] = []
-calls_of (Call transaction program version procedure words ∷ ms) = (transaction, record { program = program; version = version; procedure = procedure; words = words }) ∷ calls_of ms
+calls_of (Call transaction program version procedure words ∷ ms) =
+    (transaction, record { program = program; version = version; procedure = procedure; words = words }) ∷ calls_of ms
 calls_of (m ∷ ms) = []
 
 -- whether each message is a call

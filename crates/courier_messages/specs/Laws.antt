@@ -16,7 +16,8 @@ use Rattle.courier_messages.specs.Bounds.{IsBounded, bytes_in}
 use Rattle.courier_messages.specs.Conversation.{Phase, opening, inside, conversation, ending}
 use Rattle.courier_messages.specs.Phases.{run, said, onwards, ◌then◌}
 use Rattle.courier_messages.specs.Cutting.{cut, versions_item}
-use Rattle.courier_messages.specs.RawCalls.{RawCall, IsShortCall, call_message, call_items, caller_items, numbered, numbered_message, transaction_of}
+use Rattle.courier_messages.specs.RawCalls.{RawCall, IsShortCall, call_message, call_items, caller_items, numbered, numbered_message}
+use Rattle.courier_messages.specs.RawCalls.{transaction_of}
 use Rattle.courier_messages.specs.Called.{calls_of, heard, server_ending}
 use Rattle.courier_messages.specs.Whole.{whole}
 
@@ -68,7 +69,8 @@ pub record MessageIsSpelled : Type 0 where
   pub written : (m : Message) (words : List ℕ) → SpellsMessage m words → message_of (message_bytes m) ≡ Ok m
 
 abbrev pub WholeValueIsSpelled : Type 0
-WholeValueIsSpelled = (shape : ShapeModel) (value : ValueModel) (words : List ℕ) → AreWords words → (whole shape words ≡ Some value) ↔ SpellsValue shape value words
+WholeValueIsSpelled = (shape : ShapeModel) (value : ValueModel) (words : List ℕ) → AreWords words
+    → (whole shape words ≡ Some value) ↔ SpellsValue shape value words
 
 abbrev pub TextIsItsPieces : Type 0
 TextIsItsPieces = (text : List Sign) → foreign_in text ≡ None → flat_map marked (pieces text) ++ map byte (rest text) ≡ text
@@ -105,7 +107,8 @@ pub record SignsRunOn : Type 0 where
   pub said_on : (p : Phase) (text more : List Sign) → said p (text ++ more) ≡ said p text ++ onwards (run p text) (λ q. said q more)
 
 pub record OneItemMore : Type 0 where
-  pub messages : (fed : List Item) (item : Item) → conversation (fed ++ item ∷ []) ≡ conversation fed ++ onwards (ending fed) (λ p. said p (signs item))
+  pub messages : (fed : List Item) (item : Item) → conversation (fed ++ item ∷ []) ≡ conversation fed
+      ++ onwards (ending fed) (λ p. said p (signs item))
   pub kept : (fed : List Item) (item : Item) → ending (fed ++ item ∷ []) ≡ (ending fed then λ p. run p (signs item))
   -- an item ends at most one message, and none where it brings a fault
   pub single : (item : Item) (p : Phase) → length (said p (signs item)) ≤ 1
@@ -115,14 +118,17 @@ pub record AServerHearsOneItemMore : Type 0 where
   pub goes : (fed : List Item) (p : Phase) (item : Item) → server_ending fed ≡ Ok p → GoesOn fed p item
   pub stays : (fed : List Item) (item : Item) (fault : SessionFault) → server_ending fed ≡ Err fault → Stays fed item fault
   -- an item that brings a fault ends no call
-  pub silent : (fed : List Item) (item : Item) (fault : SessionFault) → server_ending (fed ++ item ∷ []) ≡ Err fault → calls_of (conversation (fed ++ item ∷ [])) ≡ calls_of (conversation fed)
+  pub silent : (fed : List Item) (item : Item) (fault : SessionFault) → server_ending (fed ++ item ∷ []) ≡ Err fault
+      → calls_of (conversation (fed ++ item ∷ [])) ≡ calls_of (conversation fed)
 
 pub record MoreCallsGoOut : Type 0 where
-  pub one : (k : ℕ) (calls : List RawCall) (call : RawCall) → call_items k (calls ++ call ∷ []) ≡ call_items k calls ++ cut (call_message (transaction_of (k + length calls)) call)
+  pub one : (k : ℕ) (calls : List RawCall) (call : RawCall)
+      → call_items k (calls ++ call ∷ []) ≡ call_items k calls ++ cut (call_message (transaction_of (k + length calls)) call)
   pub front : (front calls : List RawCall) → Begins front calls → Begins (caller_items front) (caller_items calls)
 
 abbrev pub AFrontIsHeard : Type 0
 AFrontIsHeard = (fed : List Item) (sent : List Message) → AllByRecursion IsShort sent → Begins fed (items_of sent) → Hears fed sent
 
 abbrev pub CallsAreHeard : Type 0
-CallsAreHeard = (fed : List Item) (made : List RawCall) → AllByRecursion IsShortCall made → Begins fed (caller_items made) → HearsCalls fed made
+CallsAreHeard = (fed : List Item) (made : List RawCall) → AllByRecursion IsShortCall made → Begins fed (caller_items made)
+    → HearsCalls fed made

@@ -1,5 +1,6 @@
 -- Messages as words and as bytes (XSIS 038112, Courier, Message stream).
-use Rattle.std.specs.Prelude.{◌≡◌, ℕ, ◌+◌, ◌*◌, ◌/◌, ◌%◌, ◌^◌, ◌<◌, ◌≤◌, List, [], ◌∷◌, length, ◌==◌, nat_lt, if◌then◌else◌, Result, Ok, Err}
+use Rattle.std.specs.Prelude.{◌≡◌, ℕ, ◌+◌, ◌*◌, ◌/◌, ◌%◌, ◌^◌, ◌<◌, ◌≤◌, List, [], ◌∷◌, length, ◌==◌, nat_lt, if◌then◌else◌, Result, Ok}
+use Rattle.std.specs.Prelude.{Err}
 use Rattle.courier_types.specs.Pieces.{words_of}
 use Rattle.courier_types.specs.Source.{bytes_of}
 use Rattle.courier_types.specs.Spelling.{AreWords}
@@ -42,7 +43,8 @@ message_bytes m = bytes_of (message_words m)
 
 -- the message's numbers are within their types' bounds
 abbrev pub IsMessage : Message → Type 0
-IsMessage (Call transaction program version procedure words) = (transaction < 2 ^ 16) × (program < 2 ^ 32) × (version < 2 ^ 16) × (procedure < 2 ^ 16) × AreWords words
+IsMessage (Call transaction program version procedure words) = (transaction < 2 ^ 16) × (program < 2 ^ 32) × (version < 2 ^ 16)
+    × (procedure < 2 ^ 16) × AreWords words
 IsMessage (Reject transaction reason words) = (transaction < 2 ^ 16) × (reason < 2 ^ 16) × AreWords words
 IsMessage (Return transaction words) = (transaction < 2 ^ 16) × AreWords words
 IsMessage (Abort transaction error words) = (transaction < 2 ^ 16) × (error < 2 ^ 16) × AreWords words

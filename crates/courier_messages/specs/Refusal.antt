@@ -6,7 +6,8 @@ use Rattle.courier_messages.specs.declared.fault.MessageFault.{MessageFault}
 use Rattle.courier_messages.specs.declared.fault.MessageRefusal.{MessageRefusal}
 use Rattle.courier_messages.specs.declared.fault.MessageRefusal.TheVariants as refusals
 use Rattle.courier_messages.specs.declared.fault.SessionFault.{SessionFault}
-use Rattle.courier_messages.specs.declared.fault.SessionFault.TheVariants.{NoCommonVersion, BadVersions, BadMessage, WrongTransaction, BadReply, Stream, NoMemory, Failed}
+use Rattle.courier_messages.specs.declared.fault.SessionFault.TheVariants.{NoCommonVersion, BadVersions, BadMessage, WrongTransaction}
+use Rattle.courier_messages.specs.declared.fault.SessionFault.TheVariants.{BadReply, Stream, NoMemory, Failed}
 use Rattle.courier_messages.specs.declared.message.Message.{Message}
 use Rattle.courier_messages.specs.Head.{words_in, head_in}
 use Rattle.courier_messages.specs.declared.head.Head.{Head}
@@ -56,7 +57,8 @@ abbrev pub Takes : {A : Type 0} → Result (Option Message) SessionFault → Res
 Takes (Ok m) q ms new = (q ≡ Ok new) × (ms ≡ option_to_list m)
 Takes (Err e) q ms new = UnlessMemory e ((q ≡ Err e) × (ms ≡ []))
 
--- what is told of an item before it is taken: the heads of the messages that it ends, of which there is at most one, or the fault that a peer makes
+-- what is told of an item before it is taken: the heads of the messages that it ends, of which there is at most one, or the fault that a
+-- peer makes
 abbrev pub Foresees : {A : Type 0} → Result (Option Head) SessionFault → Result A SessionFault → List Message → Type 0
 Foresees (Ok head) q ms = IsOk q × (map head_in ms ≡ option_to_list head)
 Foresees (Err e) q ms = Stops e ⊥ ((q ≡ Err e) × (ms ≡ []))
@@ -65,7 +67,8 @@ Foresees (Err e) q ms = Stops e ⊥ ((q ≡ Err e) × (ms ≡ []))
 abbrev pub AreRight : Phase → List ℕ → Type 0
 AreRight p bytes = (e : SessionFault) → run p (map byte bytes) ≡ Err e → ⊥
 
--- more bytes make a second piece: bytes are kept already, and with these they are more or fewer than the version range, of which nothing is kept
+-- more bytes make a second piece: bytes are kept already, and with these they are more or fewer than the version range, of which nothing is
+-- kept
 abbrev pub MakeSecondPiece : Phase → List ℕ → Type 0
 MakeSecondPiece (opening bytes) more = (0 < length bytes) × (length bytes + length more ≢ range_bytes)
 MakeSecondPiece fresh more = ⊥
@@ -75,6 +78,7 @@ MakeSecondPiece (inside bytes) more = 0 < length bytes
 abbrev pub MayBeKept : Phase → List ℕ → Type 0
 MayBeKept p bytes = (0 < length bytes) × AreRight p bytes × MakeSecondPiece p bytes
 
--- an item at which memory may be refused: it is of datastream 0, has bytes to keep behind others or ends a message, and nothing is wrong with its bytes
+-- an item at which memory may be refused: it is of datastream 0, has bytes to keep behind others or ends a message, and nothing is wrong
+-- with its bytes
 abbrev pub MayGrow : Phase → Item → Type 0
 MayGrow p x = (x.stream ≡ 0) × (said p (signs x) ≡ [] → (0 < length x.body) × MakeSecondPiece p x.body) × AreRight p x.body

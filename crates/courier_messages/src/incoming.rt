@@ -1,5 +1,6 @@
 //! The message that is coming in.
-ghost use Rattle.std.specs.Prelude.{◌≡◌, ◌<◌, ◌≤◌, ◌+◌, ◌*◌, ◌/◌, ◌++◌, Ok, Err, [], map, length, drop, slice_get, get_or, true, IfOk, IfErr, IfSome, MatchOption, OnOk, OnErr};
+ghost use Rattle.std.specs.Prelude.{◌≡◌, ◌<◌, ◌≤◌, ◌+◌, ◌*◌, ◌/◌, ◌++◌, Ok, Err, [], map, length, drop, slice_get, get_or, true, IfOk};
+ghost use Rattle.std.specs.Prelude.{IfErr, IfSome, MatchOption, OnOk, OnErr};
 ghost use Rattle.courier_messages.specs.declared.incoming.Stage.TheVariants.{Fresh, Inside};
 ghost use Rattle.courier_messages.specs.declared.fault.SessionFault.TheVariants.{NoMemory};
 ghost use Rattle.courier_types.specs.Pieces.{words_of};
@@ -128,7 +129,8 @@ fn read_head_in(pieces: &Pieces, skipped: usize) -> Result<Head, MessageFault>
 #[tactic(auto, using(crate::proofs::Ranges::still_opening, crate::proofs::Ranges::range_faulty, crate::proofs::Ranges::range_alone, crate::proofs::Ranges::range_and_more, crate::proofs::Ranges::range_and_too_much))]
 fn behind_range(pieces: &Pieces, body: &[u8]) -> Result<(Stage, usize), SessionFault>
     requires { length pieces.now < range_bytes }
-    ensures runs { IfOk result (λ x. run (opening pieces.now) (map byte body.now) ≡ Ok (phase_in x.0 (drop x.1 (kept_at x.0 (pieces.now ++ body.now))))) }
+    ensures runs { IfOk result (λ x. run (opening pieces.now) (map byte body.now) ≡ Ok
+        (phase_in x.0 (drop x.1 (kept_at x.0 (pieces.now ++ body.now))))) }
     ensures held { IfOk result (λ x. IsHeld x.0 x.1 (kept_at x.0 (pieces.now ++ body.now))) }
     ensures whole { IfOk result (λ x. length pieces.now + length body.now ≡ range_bytes → x.0 ≡ Fresh) }
     ensures stops { IfErr result (λ e. Stops e ⊥ (run (opening pieces.now) (map byte body.now) ≡ Err e)) }
@@ -170,7 +172,8 @@ fn take_range(pieces: &mut Pieces, body: Vec<u8>) -> Result<(Stage, usize), Sess
 fn behind_more(pieces: &Pieces, skipped: usize, body: &[u8]) -> Result<(), SessionFault>
     requires skipped { IsSkipped skipped pieces.now }
     requires size { length pieces.now ≤ most_bytes + skipped }
-    ensures runs { OnOk result (run (inside (drop skipped pieces.now)) (map byte body.now) ≡ Ok (inside (drop skipped (pieces.now ++ body.now)))) }
+    ensures runs { OnOk result (run (inside (drop skipped pieces.now)) (map byte body.now) ≡ Ok
+        (inside (drop skipped (pieces.now ++ body.now)))) }
     ensures held { OnOk result (IsHeld Inside skipped (pieces.now ++ body.now)) }
     ensures stops { IfErr result (λ e. Stops e ⊥ (run (inside (drop skipped pieces.now)) (map byte body.now) ≡ Err e)) }
 {
@@ -265,7 +268,8 @@ fn behind(
     body: &[u8],
 ) -> Result<(Stage, usize), SessionFault>
     requires { IsHeld stage skipped pieces.now }
-    ensures runs { IfOk result (λ x. run (phase_in stage (drop skipped pieces.now)) (map byte body.now) ≡ Ok (phase_in x.0 (drop x.1 (kept_at x.0 (pieces.now ++ body.now))))) }
+    ensures runs { IfOk result (λ x. run (phase_in stage (drop skipped pieces.now)) (map byte body.now) ≡ Ok
+        (phase_in x.0 (drop x.1 (kept_at x.0 (pieces.now ++ body.now))))) }
     ensures held { IfOk result (λ x. IsHeld x.0 x.1 (kept_at x.0 (pieces.now ++ body.now))) }
     ensures stops { IfErr result (λ e. Stops e ⊥ (run (phase_in stage (drop skipped pieces.now)) (map byte body.now) ≡ Err e)) }
 {
@@ -291,7 +295,8 @@ fn look_at_mark(
     body: &[u8],
 ) -> Result<Option<Head>, SessionFault>
     requires { IsHeld stage skipped (kept_at stage (pieces.now ++ body.now)) }
-    ensures { Foresees result (step (phase_in stage (drop skipped (kept_at stage (pieces.now ++ body.now)))) mark) (ended (phase_in stage (drop skipped (kept_at stage (pieces.now ++ body.now)))) mark) }
+    ensures { Foresees result (step (phase_in stage (drop skipped (kept_at stage (pieces.now ++ body.now)))) mark)
+        (ended (phase_in stage (drop skipped (kept_at stage (pieces.now ++ body.now)))) mark) }
 {
     match stage {
         Stage::Opening => Err(SessionFault::BadVersions),
@@ -357,7 +362,8 @@ impl Incoming {
 
     /// What an item of these parts would bring, of which nothing is kept: the head of the message that it would end, or what is wrong.
     pub fn look(&self, stream: u8, last: bool, body: &[u8]) -> Result<Option<Head>, SessionFault>
-        ensures { Foresees result (run self.now (signs (item_of stream last body.now))) (said self.now (signs (item_of stream last body.now))) }
+        ensures { Foresees result (run self.now (signs (item_of stream last body.now)))
+            (said self.now (signs (item_of stream last body.now))) }
     {
         if stream != 0 {
             return Err(SessionFault::Stream { kind: stream });
@@ -394,8 +400,8 @@ impl Incoming {
         }
     }
 
-    /// One more item, which may end a message. Memory is only refused to bytes that are to be kept behind others and with which nothing is wrong: then
-    /// nothing is changed, and the item can be given again. So the first piece of a message takes none.
+    /// One more item, which may end a message. Memory is only refused to bytes that are to be kept behind others and with which nothing is
+    /// wrong: then nothing is changed, and the item can be given again. So the first piece of a message takes none.
     #[tactic(auto, using(crate::proofs::Runs::run_append, crate::proofs::Runs::said_append, crate::proofs::Runs::run_mark, crate::proofs::Runs::said_mark, crate::proofs::Runs::said_bytes))]
     #[inline(always)]
     pub fn take(&mut self, alloc: Global, item: Item) -> Result<Option<PiecedMessage>, SessionFault>

@@ -1,6 +1,9 @@
 //! Laws on messages, over the definitions alone, as functions that do nothing.
 
-ghost use Rattle.courier_messages.specs.Laws.{MessageIsSpelled, WholeValueIsSpelled, TextIsItsPieces, ConversationIsReadSignBySign, WhatIsKeptIsBounded, MessageItemsCanBeSent, WhatIsHeardHasNumbers, CutsDoNotMatter, WhatIsSentIsHeard, AConversationOnlyGrows, SignsRunOn, OneItemMore, AServerHearsOneItemMore, MoreCallsGoOut, AFrontIsHeard, CallsAreHeard};
+ghost use Rattle.courier_messages.specs.Laws.{MessageIsSpelled, WholeValueIsSpelled, TextIsItsPieces, ConversationIsReadSignBySign};
+ghost use Rattle.courier_messages.specs.Laws.{WhatIsKeptIsBounded, MessageItemsCanBeSent, WhatIsHeardHasNumbers, CutsDoNotMatter};
+ghost use Rattle.courier_messages.specs.Laws.{WhatIsSentIsHeard, AConversationOnlyGrows, SignsRunOn, OneItemMore, AServerHearsOneItemMore};
+ghost use Rattle.courier_messages.specs.Laws.{MoreCallsGoOut, AFrontIsHeard, CallsAreHeard};
 
 use courier_types::laws::value_of_is_spelled;
 

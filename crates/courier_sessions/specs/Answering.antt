@@ -1,5 +1,6 @@
 -- The side of a Courier conversation that is called, over words (XSIS 038112, Courier).
-use Rattle.std.specs.Prelude.{◌≡◌, ℕ, List, [], ◌∷◌, ◌++◌, length, Bool, true, false, ◌||◌, ◌==◌, nat_lt, if◌then◌else◌, Option, Some, None, Result, Ok, Err}
+use Rattle.std.specs.Prelude.{◌≡◌, ℕ, List, [], ◌∷◌, ◌++◌, length, Bool, true, false, ◌||◌, ◌==◌, nat_lt, if◌then◌else◌, Option, Some, None}
+use Rattle.std.specs.Prelude.{Result, Ok, Err}
 use Rattle.xns_spp.specs.declared.item.Item.{Item}
 use Rattle.courier_messages.specs.declared.fault.SessionFault.{SessionFault}
 use Rattle.courier_messages.specs.declared.message.Message.{Message}
@@ -38,7 +39,14 @@ pub record Answering : Type 0 where
 
 -- the versions are out
 abbrev pub new_answering : List Program → Answering
-new_answering programs = record { programs = programs; phase = opening []; out = versions_item ∷ []; failed = false; call = None; asked = None }
+new_answering programs = record {
+  programs = programs;
+  phase = opening [];
+  out = versions_item ∷ [];
+  failed = false;
+  call = None;
+  asked = None;
+}
 
 -- an item that comes
 

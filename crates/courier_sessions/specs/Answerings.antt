@@ -17,8 +17,10 @@ is_listed programs m = not (is_there (why_unlisted programs m))
 abbrev pub IsAnswer : Message → Type 0
 IsAnswer m = IsShort m × (is_a_call m ≡ false)
 
--- the items fed, the items given, the calls taken, those of them that were handed or given a reject before, and the answers made, in their orders
-pub record HasAnswered (programs : List Program) (fed given : List Item) (taken handed answers : List Message) (a : Answering) : Type 0 where
+-- the items fed, the items given, the calls taken, those of them that were handed or given a reject before, and the answers made, in their
+-- orders
+pub record HasAnswered (programs : List Program) (fed given : List Item) (taken handed answers : List Message)
+    (a : Answering) : Type 0 where
   pub table : a.programs ≡ programs
   pub going : a.failed ≡ false
   -- what was given and is out are the versions and the answers, each cut

@@ -1,5 +1,5 @@
--- Items that move between a side of a conversation and an end until nothing moves: what is out is sent as far as the end accepts it; once nothing is
--- out, what waits is handed up to the side, as far as that takes it.
+-- Items that move between a side of a conversation and an end until nothing moves: what is out is sent as far as the end accepts it; once
+-- nothing is out, what waits is handed up to the side, as far as that takes it.
 use Rattle.std.specs.Prelude.{◌≡◌, List, [], ◌∷◌, Option, Some, None, Result, Ok, Err}
 use Rattle.courier_messages.specs.Refusal.{Stops}
 use Rattle.xns_spp.specs.Held.{Held, StandsFor}
@@ -75,12 +75,24 @@ one_step side y = moving side y.0 y.1 (side.out y.0)
 -- ---- the side that calls
 
 abbrev pub caller_side : Side Talk
-caller_side = record { out = λ t. t.out; with_out = λ t xs. record t { out = xs }; fed = talk.fed; stops = talk.IsStopped; grows = λ t x. MayGrow (talk.fed t x) x }
+caller_side = record {
+  out = λ t. t.out;
+  with_out = λ t xs. record t { out = xs };
+  fed = talk.fed;
+  stops = talk.IsStopped;
+  grows = λ t x. MayGrow (talk.fed t x) x;
+}
 
 -- ---- the side that is called
 
 abbrev pub server_side : Side Answering
-server_side = record { out = λ a. a.out; with_out = λ a xs. record a { out = xs }; fed = answering.fed; stops = answering.IsStopped; grows = λ a x. MayGrow (answering.fed a x) x }
+server_side = record {
+  out = λ a. a.out;
+  with_out = λ a xs. record a { out = xs };
+  fed = answering.fed;
+  stops = answering.IsStopped;
+  grows = λ a x. MayGrow (answering.fed a x) x;
+}
 
 -- ---- steps that are taken
 
@@ -105,7 +117,8 @@ Settles side last (Ok u) n = (n ≡ last.0) × (one_step side last ≡ None)
 Settles side last (Err e) n = (side.out last.0 ≡ []) × Refuses side last.0 (take_answer last.1) e n
 
 -- steps were taken up to the last, where none applies, or where nothing is out and the next item that waits is refused
-pub record Pumped {S : Type 0} (side : Side S) (first : S × State) (result : Result (Unit {0}) FeedRefusal) (session : S) (endpoint : Held) : Type 0 where
+pub record Pumped {S : Type 0} (side : Side S) (first : S × State) (result : Result (Unit {0}) FeedRefusal) (session : S)
+    (endpoint : Held) : Type 0 where
   pub last : S × State
   pub leads : Leads side first last
   pub stands : StandsFor endpoint last.1

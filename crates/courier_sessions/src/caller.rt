@@ -40,7 +40,14 @@ impl Model for WordCaller {
 
     ghost Value = { Talk };
 
-    ghost view = { λ s. record { phase = s.incoming; out = s.out.items; failed = s.failed; transaction = s.transaction; waiting = s.waiting; outcome = s.outcome } };
+    ghost view = { λ s. record {
+      phase = s.incoming;
+      out = s.out.items;
+      failed = s.failed;
+      transaction = s.transaction;
+      waiting = s.waiting;
+      outcome = s.outcome;
+    } };
 }
 
 /// Why a message is no answer to the call that waits.
@@ -107,7 +114,8 @@ impl WordCaller {
 
     /// Why a call of so many words can't be made now.
     fn refusal(&self, count: usize) -> Result<(), CallRefusal>
-        ensures answer { (program version procedure : ℕ) (words : List ℕ) → length words ≡ count → CallAnswers (call_refusal self.now (words_call program version procedure words)) result }
+        ensures answer { (program version procedure : ℕ) (words : List ℕ) → length words ≡ count
+            → CallAnswers (call_refusal self.now (words_call program version procedure words)) result }
         ensures apart { result ≡ Err refusals.NoMemory → ⊥ }
     {
         if self.failed {
@@ -123,8 +131,8 @@ impl WordCaller {
 
     /// Puts out a call.
     ///
-    /// It is refused, and nothing is changed, as `Stopped` where the conversation has stopped; `Busy` where a call waits for its answer or an answer was not
-    /// picked up; `TooLong` over 65,530 words; `NoMemory` where a growth was refused.
+    /// It is refused, and nothing is changed, as `Stopped` where the conversation has stopped; `Busy` where a call waits for its answer or
+    /// an answer was not picked up; `TooLong` over 65,530 words; `NoMemory` where a growth was refused.
     pub fn call(
         &mut self,
         alloc: Global,
@@ -208,7 +216,12 @@ impl WordCaller {
         last: bool,
         body: &[u8],
     ) -> Result<(), FeedRefusal>
-        ensures { IsFed caller_side self.old (record { stream = stream; attention = attention; last = last; body = body.now }) result self.new }
+        ensures { IsFed caller_side self.old (record {
+          stream = stream;
+          attention = attention;
+          last = last;
+          body = body.now;
+        }) result self.new }
     {
         if self.failed {
             return Err(FeedRefusal::Stopped);

@@ -6,7 +6,8 @@ use thiserror::Error;
 
 /// Why an item is not taken in.
 ///
-/// `Attention` and `Fault` stop the conversation: each further item and call is refused as `Stopped`. After the others the side is as it was.
+/// `Attention` and `Fault` stop the conversation: each further item and call is refused as `Stopped`. After the others the side is as it
+/// was.
 #[derive(Clone, Copy, Debug, PartialEq, Eq, Error)]
 pub enum FeedRefusal {
     /// The conversation has stopped before.

@@ -34,7 +34,8 @@ pub fn copied_item(alloc: Global, stream: u8, last: bool, body: &[u8]) -> Result
 
 /// The program, version and procedure that a call with this head names; 0 for each where it is no call's.
 fn procedure_of(head: Head) -> (u32, u16, u16)
-    ensures { (transaction program version procedure : ℕ) → head ≡ Call transaction program version procedure → result ≡ (program, version, procedure) }
+    ensures { (transaction program version procedure : ℕ) → head ≡ Call transaction program version procedure
+        → result ≡ (program, version, procedure) }
 {
     match head {
         Head::Call {

@@ -31,7 +31,8 @@ fn accept(endpoint: &mut Endpoint, item: Item)
 fn send_first<S: WordSide>(side: &mut S, endpoint: &mut Endpoint) -> bool
     ensures sent { (s : State) (x : Item) (xs : List Item) → StandsFor endpoint.old s → S.side.out side.old ≡ x ∷ xs → result ≡ true →
         (send_fault s x ≡ None) × (S.side.out side.new ≡ xs) × StandsFor endpoint.new (after_send s x) }
-    ensures refused { (s : State) (x : Item) (xs : List Item) → StandsFor endpoint.old s → S.side.out side.old ≡ x ∷ xs → result ≡ false → send_fault s x ≢ None }
+    ensures refused { (s : State) (x : Item) (xs : List Item) → StandsFor endpoint.old s → S.side.out side.old ≡ x ∷ xs → result ≡ false
+        → send_fault s x ≢ None }
     ensures beside { result ≡ true → side.new ≡ S.side.with_out side.old (S.side.out side.new) }
     ensures stays { result ≡ false → (side.new ≡ side.old) × (endpoint.new ≡ endpoint.old) }
     ensures fewer { result ≡ true → length (S.side.out side.new) < length (S.side.out side.old) }
@@ -48,8 +49,8 @@ fn send_first<S: WordSide>(side: &mut S, endpoint: &mut Endpoint) -> bool
     true
 }
 
-/// Feeds the item that waits first at an endpoint, which then hands it up; whether it did. Where it is refused it waits still. None is fed where none waits,
-/// or the side is busy.
+/// Feeds the item that waits first at an endpoint, which then hands it up; whether it did. Where it is refused it waits still. None is fed
+/// where none waits, or the side is busy.
 fn feed_first<S: WordSide>(
     side: &mut S,
     alloc: Global,
@@ -76,11 +77,11 @@ fn feed_first<S: WordSide>(
     }
 }
 
-/// Moves items both ways between a side and an endpoint until nothing moves. What is out is sent, as far as the endpoint accepts it; once nothing is out,
-/// what waits at the endpoint is fed to the side, until that is busy.
+/// Moves items both ways between a side and an endpoint until nothing moves. What is out is sent, as far as the endpoint accepts it; once
+/// nothing is out, what waits at the endpoint is fed to the side, until that is busy.
 ///
-/// The first item that the side refuses for another reason is told, with the reason: it waits at the endpoint still, and so do those behind it. After
-/// `NoMemory` the same call goes on.
+/// The first item that the side refuses for another reason is told, with the reason: it waits at the endpoint still, and so do those behind
+/// it. After `NoMemory` the same call goes on.
 pub fn pump<S: WordSide>(
     side: &mut S,
     alloc: Global,

@@ -1,6 +1,8 @@
-//! The side of a Courier conversation that is called. It reads no shapes: a call is handed as a message, and its answer goes out with its words.
+//! The side of a Courier conversation that is called. It reads no shapes: a call is handed as a message, and its answer goes out with its
+//! words.
 
-ghost use Rattle.std.specs.Prelude.{◌≡◌, ◌≢◌, ◌<◌, ◌++◌, ℕ, List, length, true, false, OnErr, IfOk, IsOk, Some, None, Ok, Err, option_map, option_copied, nat_lt};
+ghost use Rattle.std.specs.Prelude.{◌≡◌, ◌≢◌, ◌<◌, ◌++◌, ℕ, List, length, true, false, OnErr, IfOk, IsOk, Some, None, Ok, Err, option_map};
+ghost use Rattle.std.specs.Prelude.{option_copied, nat_lt};
 ghost use Rattle.courier_messages.specs.declared.fault.SessionFault.TheVariants.{NoMemory};
 ghost use Rattle.courier_messages.specs.declared.message.Message.{Message};
 ghost use Rattle.courier_messages.specs.Cutting.{cut};
@@ -9,7 +11,9 @@ ghost use Rattle.courier_messages.specs.Message.{message_words, most_words};
 ghost use Rattle.courier_messages.specs.Refusal.{Follows};
 ghost use Rattle.courier_messages.specs.Text.{item_of};
 ghost use Rattle.courier_sessions.specs.Feeding.{Judges};
-ghost use Rattle.courier_sessions.specs.Answering.{Answering, new_answering, is_busy, is_there, after_item, is_a_call, transaction_in, after_call, why_unlisted, reject_message, after_reject, answer_message, answers_to, is_reject, answer_refusal, AnswerAnswers, answered};
+ghost use Rattle.courier_sessions.specs.Answering.{Answering, new_answering, is_busy, is_there, after_item, is_a_call, transaction_in};
+ghost use Rattle.courier_sessions.specs.Answering.{after_call, why_unlisted, reject_message, after_reject, answer_message, answers_to};
+ghost use Rattle.courier_sessions.specs.Answering.{is_reject, answer_refusal, AnswerAnswers, answered};
 ghost use Rattle.courier_sessions.specs.Pumping.{server_side, IsFed};
 ghost use Rattle.courier_sessions.specs.declared.unlisted.Unlisted.{Unlisted};
 
@@ -47,7 +51,14 @@ impl Model for WordServer {
 
     ghost Value = { Answering };
 
-    ghost view = { λ s. record { programs = s.programs.items; phase = s.incoming; out = s.out.items; failed = s.failed; call = s.call; asked = s.asked } };
+    ghost view = { λ s. record {
+      programs = s.programs.items;
+      phase = s.incoming;
+      out = s.out.items;
+      failed = s.failed;
+      call = s.call;
+      asked = s.asked;
+    } };
 }
 
 /// Whether a message with this head is a call.
@@ -174,7 +185,12 @@ impl WordServer {
         last: bool,
         body: &[u8],
     ) -> Result<(), FeedRefusal>
-        ensures { IsFed server_side self.old (record { stream = stream; attention = attention; last = last; body = body.now }) result self.new }
+        ensures { IsFed server_side self.old (record {
+          stream = stream;
+          attention = attention;
+          last = last;
+          body = body.now;
+        }) result self.new }
     {
         if self.failed {
             return Err(FeedRefusal::Stopped);
@@ -215,8 +231,10 @@ impl WordServer {
 
     /// Hands the call that waits, once, if its program and version are listed.
     pub fn take_call(&mut self) -> Option<PiecedMessage>
-        ensures handed { (m : Message) → self.old.call ≡ Some m → why_unlisted self.old.programs m ≡ None → (result ≡ Some m) × (self.new ≡ after_call self.old m) }
-        ensures unlisted { (m : Message) (u : Unlisted) → self.old.call ≡ Some m → why_unlisted self.old.programs m ≡ Some u → (result ≡ None) × (self.new ≡ self.old) }
+        ensures handed { (m : Message) → self.old.call ≡ Some m → why_unlisted self.old.programs m ≡ None → (result ≡ Some m)
+            × (self.new ≡ after_call self.old m) }
+        ensures unlisted { (m : Message) (u : Unlisted) → self.old.call ≡ Some m → why_unlisted self.old.programs m ≡ Some u
+            → (result ≡ None) × (self.new ≡ self.old) }
         ensures none { self.old.call ≡ None → (result ≡ None) × (self.new ≡ self.old) }
     {
         if self.refusal().is_some() {
@@ -229,7 +247,8 @@ impl WordServer {
 
     /// Why the call that waits is not handed, with its transaction.
     fn refusal(&self) -> Option<(u16, Unlisted)>
-        ensures waits { (m : Message) → self.now.call ≡ Some m → result ≡ option_map (λ u. (transaction_in m, u)) (why_unlisted self.now.programs m) }
+        ensures waits { (m : Message) → self.now.call ≡ Some m
+            → result ≡ option_map (λ u. (transaction_in m, u)) (why_unlisted self.now.programs m) }
         ensures listed { (m : Message) → self.now.call ≡ Some m → result ≡ None → why_unlisted self.now.programs m ≡ None }
         ensures none { self.now.call ≡ None → result ≡ None }
     {
@@ -246,7 +265,10 @@ impl WordServer {
         transaction: u16,
         unlisted: Unlisted,
     ) -> Result<(), AllocError>
-        ensures rejected { result ≡ Ok tt → self.new ≡ record self.old { out = self.old.out ++ cut (reject_message transaction unlisted); call = None } }
+        ensures rejected { result ≡ Ok tt → self.new ≡ record self.old {
+          out = self.old.out ++ cut (reject_message transaction unlisted);
+          call = None;
+        } }
         ensures unchanged { OnErr result (self.new ≡ self.old) }
     {
         let all = reject_words(alloc, transaction, unlisted)?;
@@ -255,10 +277,11 @@ impl WordServer {
         Ok(())
     }
 
-    /// Puts out the reject of a call that waits and whose program or version is not listed: reason 0, or reason 1 with the versions that are (XSIS
-    /// 038112, Courier, Reject message). Whether there was one. The only error is want of memory: nothing is changed then.
+    /// Puts out the reject of a call that waits and whose program or version is not listed: reason 0, or reason 1 with the versions that
+    /// are (XSIS 038112, Courier, Reject message). Whether there was one. The only error is want of memory: nothing is changed then.
     pub fn reject_unlisted(&mut self, alloc: Global) -> Result<bool, AllocError>
-        ensures rejected { (m : Message) (u : Unlisted) → self.old.call ≡ Some m → why_unlisted self.old.programs m ≡ Some u → result ≡ Ok true → self.new ≡ after_reject self.old m u }
+        ensures rejected { (m : Message) (u : Unlisted) → self.old.call ≡ Some m → why_unlisted self.old.programs m ≡ Some u
+            → result ≡ Ok true → self.new ≡ after_reject self.old m u }
         ensures unlisted { (m : Message) → self.old.call ≡ Some m → result ≡ Ok false → why_unlisted self.old.programs m ≡ None }
         ensures listed { (m : Message) → self.old.call ≡ Some m → why_unlisted self.old.programs m ≡ None → result ≡ Ok false }
         ensures none { self.old.call ≡ None → result ≡ Ok false }
@@ -327,8 +350,8 @@ impl WordServer {
 
     /// Puts out the answer to the call that was handed.
     ///
-    /// It is refused, and nothing is changed, as `NoCall` where none was handed that waits for its answer; `TooLong` over 131,072 bytes; `NoMemory` where a
-    /// growth was refused.
+    /// It is refused, and nothing is changed, as `NoCall` where none was handed that waits for its answer; `TooLong` over 131,072 bytes;
+    /// `NoMemory` where a growth was refused.
     pub fn answer(
         &mut self,
         alloc: Global,
@@ -336,13 +359,15 @@ impl WordServer {
         words: &[u16],
     ) -> Result<(), AnswerRefusal>
         ensures answer { AnswerAnswers (answer_refusal self.old.asked answer words.now) result }
-        ensures answered { (k : ℕ) → self.old.asked ≡ Some k → result ≡ Ok tt → self.new ≡ answered self.old (answer_message answer k words.now) }
+        ensures answered { (k : ℕ) → self.old.asked ≡ Some k → result ≡ Ok tt
+            → self.new ≡ answered self.old (answer_message answer k words.now) }
         ensures unchanged { OnErr result (self.new ≡ self.old) }
     {
         self.answer_to(alloc, self.asked, answer, words)
     }
 
-    /// The same; but a reject also answers a call that waits, is listed and was not handed, as one that is too long for the program: it is handed no more.
+    /// The same; but a reject also answers a call that waits, is listed and was not handed, as one that is too long for the program: it is
+    /// handed no more.
     pub fn answer_or_reject(
         &mut self,
         alloc: Global,
@@ -350,7 +375,8 @@ impl WordServer {
         words: &[u16],
     ) -> Result<(), AnswerRefusal>
         ensures answer { AnswerAnswers (answer_refusal (answers_to self.old answer) answer words.now) result }
-        ensures answered { (k : ℕ) → answers_to self.old answer ≡ Some k → result ≡ Ok tt → self.new ≡ answered self.old (answer_message answer k words.now) }
+        ensures answered { (k : ℕ) → answers_to self.old answer ≡ Some k → result ≡ Ok tt
+            → self.new ≡ answered self.old (answer_message answer k words.now) }
         ensures unchanged { OnErr result (self.new ≡ self.old) }
     {
         let asked = self.answers_to(answer);
