@@ -58,7 +58,7 @@ calling_on p e w v endpoint stands handed sent made listed h =
     ∙ (ap (λ (l : List Item). at w.made (handed_at w.world A) l v.listed) sent ∙ ap (λ (n : ℕ). at w.made (handed_at w.world A) (sent_at w.world A) n) listed)) in
     record {
       stands = stands;
-      session = subst (λ (c : caller.CallerHistory). caller.StandsFor p.serving.table e.caller c) (sym same) h.session;
+      session = subst (λ (c : caller.CallerHistory). caller.CallerStandsFor p.serving.table e.caller c) (sym same) h.session;
       made = h.made ∙ sym made;
       seen = h.seen ∙ sym (ap (λ (c : caller.CallerHistory). c.handed) same);
     }

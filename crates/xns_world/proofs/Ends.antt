@@ -31,7 +31,7 @@ use Rattle.courier_messages.specs.Conversation.{Phase, conversation, conversatio
 use Rattle.courier_calls.specs.Laws.{FirstFaultStays}
 use Rattle.courier_messages.specs.Laws.{IsSendableItem}
 use Rattle.courier_calls.specs.Server as server
-use Rattle.courier_calls.specs.Server.{decided, server_items, Feeds, call_of}
+use Rattle.courier_calls.specs.Server.{decided, server_items, ServerFeeds, call_of}
 use Rattle.courier_messages.specs.declared.fault.SessionFault.{SessionFault}
 use Rattle.courier_messages.specs.declared.fault.SessionFault.TheVariants.{NoCommonVersion, BadVersions, BadMessage, WrongTransaction, BadReply, Stream, NoMemory, Failed}
 use Rattle.courier_messages.specs.Called.{server_ending, calls_of, all_calls}
@@ -74,14 +74,14 @@ some_lists p w o r within all is =
 
 pub list_some : {S : Type 0} (p : Parties S) (e f : CallingEnd) (w : CallWorld) (x : Seen) → CallsHold p w → IsCalling p e w → Some x ≡ e.caller.outcome
     → f.endpoint ≡ e.endpoint → f.made ≡ e.made → f.seen.items ≡ e.seen.items ++ x ∷ []
-    → caller.StandsFor p.serving.table f.caller (record (caller_history p w) { handed = seen_at p w ++ seen_model x ∷ [] })
+    → caller.CallerStandsFor p.serving.table f.caller (record (caller_history p w) { handed = seen_at p w ++ seen_model x ∷ [] })
     → (true ≡ has_outcome p w) × IsCalling p f (lists w)
 list_some p e f w x holds h is endpoint made seen session =
     let l = some_lists p w (option_map seen_model e.caller.outcome) (seen_model x) holds.listed h.session.outcomes (ap (option_map seen_model) is) in (
       sym l.there,
       record {
         stands = subst (λ (v : Held). StandsFor v w.world.a) (sym endpoint) h.stands;
-        session = subst (λ (rs : List SeenModel). caller.StandsFor p.serving.table f.caller (record (caller_history p w) { handed = rs })) (sym l.more) session;
+        session = subst (λ (rs : List SeenModel). caller.CallerStandsFor p.serving.table f.caller (record (caller_history p w) { handed = rs })) (sym l.more) session;
         made = made ∙ h.made;
         seen = ap (map seen_model) seen ∙ (map-append seen_model e.seen.items (x ∷ []) ∙ (ap (λ (rs : List SeenModel). rs ++ seen_model x ∷ []) h.seen ∙ sym l.more));
       },
@@ -91,16 +91,16 @@ list_some p e f w x holds h is endpoint made seen session =
 
 pub calling_sends : {S : Type 0} (p : Parties S) (e : CallingEnd) (w : CallWorld) (x : Item) (endpoint : Held) (new : caller.CallerState) → Given p → CallsHold p w → IsCalling p e w → next_out p w A ≡ Some x → is_full w.world.a ≡ false
     → StandsFor endpoint (after_send w.world.a x)
-    → caller.StandsFor p.serving.table new (record (caller_history p w) { fetched = sent_at w.world A ++ x ∷ [] })
+    → caller.CallerStandsFor p.serving.table new (record (caller_history p w) { fetched = sent_at w.world A ++ x ∷ [] })
     → IsCalling p (record e { endpoint = endpoint; caller = new }) (sends_next w A x)
 calling_sends p e w x endpoint new g holds h is full stands session =
     let a = g.answering.network.items.send w.world A x (not_refused g.answering.ends w.world.a x (next_piece p w A x g holds is) full) in
     let v : World = sends w.world A x in
-    let here : caller.StandsFor p.serving.table new (record (caller_history p w) { fetched = sent_at v A }) =
-    subst (λ (l : List Item). caller.StandsFor p.serving.table new (record (caller_history p w) { fetched = l })) (sym a.here) session in
+    let here : caller.CallerStandsFor p.serving.table new (record (caller_history p w) { fetched = sent_at v A }) =
+    subst (λ (l : List Item). caller.CallerStandsFor p.serving.table new (record (caller_history p w) { fetched = l })) (sym a.here) session in
     record {
       stands = stands;
-      session = subst (λ (l : List Item). caller.StandsFor p.serving.table new (record { made = calls_made p w; fed = l; fetched = sent_at v A; handed = take w.listed (answers p.serving.table (calls_made p w) l) })) (sym (a.handed A)) here;
+      session = subst (λ (l : List Item). caller.CallerStandsFor p.serving.table new (record { made = calls_made p w; fed = l; fetched = sent_at v A; handed = take w.listed (answers p.serving.table (calls_made p w) l) })) (sym (a.handed A)) here;
       made = h.made;
       seen = h.seen ∙ ap (λ (l : List Item). take w.listed (answers p.serving.table (calls_made p w) l)) (sym (a.handed A));
     }
@@ -117,20 +117,20 @@ calling_none p e w endpoint g h is stands =
 
 pub calling_feeds : {S : Type 0} (p : Parties S) (e : CallingEnd) (w : CallWorld) (x : Item) (endpoint : Held) (new : caller.CallerState) → Given p → CallsHold p w → IsCalling p e w → Some x ≡ take_answer w.world.a
     → StandsFor endpoint (after_take w.world.a)
-    → caller.StandsFor p.serving.table new (caller.with_item (caller_history p w) x)
+    → caller.CallerStandsFor p.serving.table new (caller.caller_with_item (caller_history p w) x)
     → (true ≡ nat_lt 0 (waiting_count w.world.a)) × IsCalling p (record e { endpoint = endpoint; caller = new }) (feeds w A)
 calling_feeds p e w x endpoint new g holds h is stands session =
     let u = g.answering.network.items.take w.world A x holds.holds (sym is) in
     let v : World = takes w.world A in
     let same : seen_at p (feeds w A) ≡ seen_at p w = front_stays w.listed (outcomes_read p w) (outcomes_read p (feeds w A)) (read_more p w A x g u) holds.listed in
-    let fed : caller.StandsFor p.serving.table new (record (caller_history p w) { fed = handed_at v A }) =
-    subst (λ (l : List Item). caller.StandsFor p.serving.table new (record (caller_history p w) { fed = l })) (sym u.here) session in
-    let put : caller.StandsFor p.serving.table new (record (caller_history p w) { fed = handed_at v A; fetched = sent_at v A }) =
-    subst (λ (l : List Item). caller.StandsFor p.serving.table new (record (caller_history p w) { fed = handed_at v A; fetched = l })) (sym (u.accepted A)) fed in (
+    let fed : caller.CallerStandsFor p.serving.table new (record (caller_history p w) { fed = handed_at v A }) =
+    subst (λ (l : List Item). caller.CallerStandsFor p.serving.table new (record (caller_history p w) { fed = l })) (sym u.here) session in
+    let put : caller.CallerStandsFor p.serving.table new (record (caller_history p w) { fed = handed_at v A; fetched = sent_at v A }) =
+    subst (λ (l : List Item). caller.CallerStandsFor p.serving.table new (record (caller_history p w) { fed = handed_at v A; fetched = l })) (sym (u.accepted A)) fed in (
       sym (waits g.answering.ends w.world.a (Some x) is),
       record {
         stands = stands;
-        session = subst (λ (l : List SeenModel). caller.StandsFor p.serving.table new (record { made = calls_made p w; fed = handed_at v A; fetched = sent_at v A; handed = l })) (sym same) put;
+        session = subst (λ (l : List SeenModel). caller.CallerStandsFor p.serving.table new (record { made = calls_made p w; fed = handed_at v A; fetched = sent_at v A; handed = l })) (sym same) put;
         made = h.made;
         seen = h.seen ∙ sym same;
       },
@@ -161,7 +161,7 @@ none_remain p e w cs h is most =
 pub calling_makes : {S : Type 0} (p : Parties S) (e f : CallingEnd) (w : CallWorld) (cs : List Call) (call : Call) → Given p → CallsHold p w → IsCalling p e w → p.calls ≡ map raw_call cs → has_outcome p w ≡ false
     → length e.seen.items ≡ e.made → e.made < length cs → slice_get cs e.made ≡ Some call
     → f.endpoint ≡ e.endpoint → f.made ≡ e.made + 1 → f.seen ≡ e.seen
-    → caller.StandsFor p.serving.table f.caller (record (caller_history p w) { made = calls_made p w ++ raw_call call ∷ [] })
+    → caller.CallerStandsFor p.serving.table f.caller (record (caller_history p w) { made = calls_made p w ++ raw_call call ∷ [] })
     → (true ≡ may_call p w) × IsCalling p f (makes w)
 calling_makes p e f w cs call g holds h are none all less there endpoint made seen session =
     let n : ℕ = length (outcomes_read p w) in
@@ -172,12 +172,12 @@ calling_makes p e f w cs call g holds h are none all less there endpoint made se
     let at : slice_get p.calls w.made ≡ Some (raw_call call) = ap (λ (k : ℕ). slice_get p.calls k) (sym h.made) ∙ (ap (λ (l : List RawCall). slice_get l e.made) are ∙ (slice_get-map raw_call cs e.made ∙ ap (option_map raw_call) there)) in
     let more : calls_made p (makes w) ≡ calls_made p w ++ raw_call call ∷ [] = one_more p.calls w.made (raw_call call) at in
     let same : seen_at p (makes w) ≡ seen_at p w = ap (take w.listed) c.same in
-    let made_now : caller.StandsFor p.serving.table f.caller (record (caller_history p w) { made = calls_made p (makes w) }) =
-    subst (λ (l : List RawCall). caller.StandsFor p.serving.table f.caller (record (caller_history p w) { made = l })) (sym more) session in (
+    let made_now : caller.CallerStandsFor p.serving.table f.caller (record (caller_history p w) { made = calls_made p (makes w) }) =
+    subst (λ (l : List RawCall). caller.CallerStandsFor p.serving.table f.caller (record (caller_history p w) { made = l })) (sym more) session in (
       sym may,
       record {
         stands = subst (λ (v : Held). StandsFor v w.world.a) (sym endpoint) h.stands;
-        session = subst (λ (l : List SeenModel). caller.StandsFor p.serving.table f.caller (record (caller_history p w) { made = calls_made p (makes w); handed = l })) (sym same) made_now;
+        session = subst (λ (l : List SeenModel). caller.CallerStandsFor p.serving.table f.caller (record (caller_history p w) { made = calls_made p (makes w); handed = l })) (sym same) made_now;
         made = omega (arith, made, h.made);
         seen = ap (λ (l : List Seen). map seen_model l) (ap (λ v. v.items) seen) ∙ (h.seen ∙ sym same);
       },
@@ -234,7 +234,7 @@ none_wrong : first_fault [] ≡ None
 unfolding conversation conversation_fault ending all_calls
 none_wrong = refl
 
-pub served_first : {S : Type 0} (serving : Serving S) (s : S) (e : ServingEnd S) (v : State) → StandsFor e.endpoint v → server.StandsFor serving e.server (server.empty_history s) → e.carried.items ≡ [] → e.fault ≡ None → e.handed ≡ []
+pub served_first : {S : Type 0} (serving : Serving S) (s : S) (e : ServingEnd S) (v : State) → StandsFor e.endpoint v → server.ServerStandsFor serving e.server (server.empty_server_history s) → e.carried.items ≡ [] → e.fault ≡ None → e.handed ≡ []
     → handed_by v ≡ [] → v.accepted ≡ [] → IsServed serving s e v
 served_first serving s e v stands session carried fault listed handed accepted =
     let first : IsHearing serving s e [] [] = record { session = session; carried = carried ∙ sym (ap (map call_of) none_decided); fault = fault ∙ sym none_wrong } in
@@ -256,7 +256,7 @@ serving_next serving s e v h =
     ∙ out_first v.accepted e.server.out
 
 pub serving_sends : {S : Type 0} (serving : Serving S) (s : S) (e : ServingEnd S) (v : State) (x : Item) (endpoint : Held) (new : server.ServerState S) → ServerLaws serving s → IsServed serving s e v → next_of serving s v ≡ Some x → is_full v ≡ false
-    → StandsFor endpoint (after_send v x) → server.StandsFor serving new (server_history s (handed_by v) (v.accepted ++ x ∷ [])) → IsServed serving s (record e { endpoint = endpoint; server = new }) (after_send v x)
+    → StandsFor endpoint (after_send v x) → server.ServerStandsFor serving new (server_history s (handed_by v) (v.accepted ++ x ∷ [])) → IsServed serving s (record e { endpoint = endpoint; server = new }) (after_send v x)
 serving_sends {S = S} serving s e v x endpoint new a h is full stands session =
     let piece : IsSendableItem x = at_place (server_items serving s (handed_by v)) (length v.accepted) x is (a.pieces.server (handed_by v) h.items) in
     let one = a.ends.accepts.accepted v x (not_refused a.ends v x piece full) in
@@ -276,7 +276,7 @@ fault_none : (F : List Item) (x : Item) (p : Phase) (r : Result Phase SessionFau
 fault_none F x p (Ok q) f was is = sym (ap fault_in is)
 fault_none F x p (Err e) f was is = absurd (let stays = f.stays F x e was in cc)
 
-pub hears_well : {S : Type 0} (serving : Serving S) (s : S) (e f : ServingEnd S) (F P : List Item) (x : Item) (o : Option Call) → FirstFaultStays → IsHearing serving s e F P → Feeds serving f.server (server_history s F P) x (Ok o)
+pub hears_well : {S : Type 0} (serving : Serving S) (s : S) (e f : ServingEnd S) (F P : List Item) (x : Item) (o : Option Call) → FirstFaultStays → IsHearing serving s e F P → ServerFeeds serving f.server (server_history s F P) x (Ok o)
     → map call_of (decided (F ++ x ∷ [])) ≡ map call_of (decided F) ++ option_to_list o → f.carried.items ≡ e.carried.items ++ option_to_list o → f.fault ≡ e.fault → IsHearing serving s f (F ++ x ∷ []) P
 hears_well serving s e f F P x o faults h fed more carried fault = record {
   session = fed.0;
@@ -285,7 +285,7 @@ hears_well serving s e f F P x o faults h fed more carried fault = record {
 }
 
 record Refused {S : Type 0} (serving : Serving S) (s : S) (f : ServingEnd S) (F P : List Item) (x : Item) (e : SessionFault) : Type 0 where
-  session : server.StandsFor serving f.server (server_history s (F ++ x ∷ []) P)
+  session : server.ServerStandsFor serving f.server (server_history s (F ++ x ∷ []) P)
   ends : server_ending (F ++ x ∷ []) ≡ Err e
   fault : f.fault ≡ Some e
 
@@ -297,7 +297,7 @@ refused serving s e f F P x fault faults h carried r = record {
   fault = r.fault ∙ sym (ap fault_in r.ends);
 }
 
-pub hears_badly : {S : Type 0} (serving : Serving S) (s : S) (e f : ServingEnd S) (F P : List Item) (x : Item) (fault : SessionFault) → FirstFaultStays → IsHearing serving s e F P → Feeds serving f.server (server_history s F P) x (Err fault)
+pub hears_badly : {S : Type 0} (serving : Serving S) (s : S) (e f : ServingEnd S) (F P : List Item) (x : Item) (fault : SessionFault) → FirstFaultStays → IsHearing serving s e F P → ServerFeeds serving f.server (server_history s F P) x (Err fault)
     → f.carried.items ≡ e.carried.items → noted fault e.fault f.fault → IsHearing serving s f (F ++ x ∷ []) P
 hears_badly serving s e f F P x NoMemory faults h fed carried n = absurd n
 hears_badly serving s e f F P x Failed faults h fed carried n =

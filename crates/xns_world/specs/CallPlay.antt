@@ -30,7 +30,7 @@ caller_history p w = record { made = calls_made p w; fed = handed_at w.world A; 
 -- the caller's end, with its session, the calls made and the outcomes listed
 pub record IsCalling {S : Type 0} (p : Parties S) (e : CallingEnd) (w : CallWorld) : Type 0 where
   pub stands : StandsFor e.endpoint w.world.a
-  pub session : caller.StandsFor p.serving.table e.caller (caller_history p w)
+  pub session : caller.CallerStandsFor p.serving.table e.caller (caller_history p w)
   pub made : e.made ≡ w.made
   pub seen : map seen_model e.seen.items ≡ seen_at p w
 

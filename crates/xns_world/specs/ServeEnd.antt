@@ -27,7 +27,7 @@ server_history s F P = record { start = s; fed = F; fetched = P }
 
 -- the session was fed the items F and has handed out the items P; the calls decided and the first fault were noted
 pub record IsHearing {S : Type 0} (serving : Serving S) (s : S) (e : ServingEnd S) (F P : List Item) : Type 0 where
-  pub session : server.StandsFor serving e.server (server_history s F P)
+  pub session : server.ServerStandsFor serving e.server (server_history s F P)
   pub carried : e.carried.items ≡ map call_of (decided F)
   pub fault : e.fault ≡ first_fault F
 

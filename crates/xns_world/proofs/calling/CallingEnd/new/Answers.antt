@@ -8,7 +8,7 @@ pub returns : goal.returns
 returns g c p serving =
     record {
       stands = c.in_ok-endpoint.ensures;
-      session = subst (λ (l : List EntryModel). caller.StandsFor l c.in_ok-caller.caller caller.empty_history) (c.requires.listed ∙ ap (λ v. v.table) (sym serving)) c.in_ok-caller.ensures.stands;
+      session = subst (λ (l : List EntryModel). caller.CallerStandsFor l c.in_ok-caller.caller caller.empty_caller_history) (c.requires.listed ∙ ap (λ v. v.table) (sym serving)) c.in_ok-caller.ensures.stands;
       made = refl;
       seen = ap (map seen_model) c.new-2.ensures.items;
     }
