@@ -20,22 +20,20 @@ impl Service {
         Ok(Service { server, endpoint })
     }
 
-    /// The packets that are to go out.
+    /// Answers what came, a call by its own words, and gives the packets that are to go out.
     pub fn packets(&mut self, alloc: Global) -> Result<Vec<Bytes>, FeedRefusal> {
+        pump(&mut self.server, alloc, &mut self.endpoint)?;
+        let _ = self.server.reject_unlisted(alloc)?;
+        if let Some(call) = self.server.take_call() {
+            let words = call.words(alloc)?;
+            let _ = self.server.answer(alloc, Answer::Return, words.as_slice());
+        }
         pump(&mut self.server, alloc, &mut self.endpoint)?;
         Ok(self.endpoint.flush(alloc)?)
     }
 
-    /// Takes in a packet, and gives its reply. A call is answered by its own words.
+    /// Takes in a packet, and gives its reply.
     pub fn receive(&mut self, alloc: Global, packet: &[u8]) -> Result<Option<Bytes>, FeedRefusal> {
-        let reply = self.endpoint.receive(alloc, packet)?.reply;
-        pump(&mut self.server, alloc, &mut self.endpoint)?;
-        let _ = self.server.reject_unlisted(alloc)?;
-        if let Some(call) = self.server.take_call() {
-            let _ = self
-                .server
-                .answer(alloc, Answer::Return, call.words(alloc)?.as_slice());
-        }
-        Ok(reply)
+        Ok(self.endpoint.receive(alloc, packet)?.reply)
     }
 }
