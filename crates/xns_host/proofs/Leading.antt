@@ -1,5 +1,5 @@
 -- What the steps of a pump do to the history of a side and its end.
-use Rattle.std.proofs.Common.{◌≡◌, ◌∙◌, ap, sym, refl, subst, ◌+◌, List, [], ◌∷◌, ◌++◌, append-nil, append_assoc, take, length, Bool, true, false, Option, Some, None, Result, Ok, Err}
+use Rattle.std.proofs.Common.{◌≡◌, ◌∙◌, ap, sym, refl, subst, ◌+◌, List, [], ◌∷◌, ◌++◌, append-nil, append_assoc, take, length, Bool, true, false, Option, Some, None, Result, Ok, Err, OnOk}
 use Rattle.std.specs.Prelude.{nat_lt, if◌then◌else◌}
 use Rattle.courier_messages.specs.declared.fault.SessionFault.{SessionFault}
 use Rattle.courier_messages.specs.declared.fault.SessionFault.TheVariants as faults
@@ -9,7 +9,7 @@ use Rattle.courier_messages.specs.Conversation.{Phase}
 use Rattle.courier_messages.specs.RawCalls.{RawCall}
 use Rattle.courier_messages.specs.Refusal.{Stops}
 use Rattle.xns_spp.specs.Growth.{Begins}
-use Rattle.xns_spp.specs.Held.{Held}
+use Rattle.xns_spp.specs.Held.{Held, StandsFor}
 use Rattle.xns_spp.specs.Laws.{TheNextItemIsHandedUp}
 use Rattle.xns_spp.specs.Sending.{send_fault, accepting, after_send, take_answer, after_take}
 use Rattle.xns_spp.specs.State.{State}
@@ -19,7 +19,7 @@ use Rattle.courier_sessions.specs.Answering as answering
 use Rattle.courier_sessions.specs.Answering.{Answering, is_busy, transaction_in, why_unlisted, reject_message, after_reject}
 use Rattle.courier_sessions.specs.Answerings.{HasAnswered}
 use Rattle.courier_sessions.specs.Feeding.{heard, longest_item}
-use Rattle.courier_sessions.specs.Pumping.{Side as PumpSide, sending, feeding, feeds, moving, caller_side, server_side, Leads, here, on, Refuses, Settles, Pumped}
+use Rattle.courier_sessions.specs.Pumping.{Side as PumpSide, sending, feeding, feeds, moving, caller_side, server_side, Leads, here, on, Refuses, Settles, Pumped, one_step}
 use Rattle.courier_sessions.specs.Talk as talk
 use Rattle.courier_sessions.specs.Talk.{Talk}
 use Rattle.courier_sessions.specs.Talks.{HasDone}
@@ -27,8 +27,8 @@ use Rattle.courier_sessions.specs.declared.feed_refusal.FeedRefusal.{FeedRefusal
 use Rattle.courier_sessions.specs.declared.feed_refusal.FeedRefusal.TheVariants.{Stopped, Busy, TooLong, Attention, Fault, NoMemory}
 use Rattle.courier_sessions.specs.declared.program.Program.{Program}
 use Rattle.courier_sessions.specs.declared.unlisted.Unlisted.{Unlisted}
-use Rattle.xns_host.specs.Story.{Story, CallerHas, ServerHas, Flows, Runs, start, sends, takes, flushes, resends, GoesOn, Moves}
-use Rattle.xns_host.specs.Telling.{Goes}
+use Rattle.xns_host.specs.Story.{Story, CallerHas, ServerHas, Flows, Runs, start, sends, takes, flushes, resends, GoesOn, Moves, IsListed, MovesAll, Calms}
+use Rattle.xns_host.specs.Telling.{Goes, Calm, CalmFrom, Tells}
 use Rattle.xns_host.specs.declared.conversation.Conversation.{Conversation}
 use Rattle.xns_host.specs.declared.side.Side.{Side}
 use Rattle.xns_host.specs.declared.side.Side.TheVariants.{Calls, Answers}
@@ -322,3 +322,43 @@ goes_not t = record { still = λ z. z; on = λ h f. (h, f, stays h) }
 
 pub goes_then : {s t u : Conversation} → Goes s t → Goes t u → Goes s u
 goes_then p q = record { still = λ z. p.still (q.still z); on = λ h f. let x = p.on h f in let y = q.on x.0 x.1 in (y.0, y.1, goes_on h x.0 y.0 x.2 y.2) }
+
+-- ---- up to where nothing moves
+
+pumped_still : {S : Type 0} (side : PumpSide S) (first : S × State) (u : Unit {0}) (n : S) (f : Held) → (p : Pumped side first (Ok u) n f) → one_step side (n, p.last.1) ≡ None
+pumped_still {S} side first u n f p = subst (λ (t : S). one_step side (t, p.last.1) ≡ None) (sym p.settled.0) p.settled.1
+
+pub caller_all : TheNextItemIsHandedUp → CallerGives → CallerFeeds → (t n : Talk) (e f : Held) (r : Result (Unit {0}) FeedRefusal) → t.failed ≡ false → ((s : State) → StandsFor e s → Pumped caller_side (t, s) r n f) → OnOk r (MovesAll (Calls t) e (Calls n) f)
+unfolding caller_pumped
+caller_all next gives feeds_one t n e f (Ok u) still pumped = record {
+  on = λ h flows.
+      let p = pumped h.state flows.stands in
+      let k = caller_pumped next gives feeds_one h t n e f (Ok u) still flows p in
+      (k.0, k.1, k.2, pumped_still caller_side (t, h.state) u n f p);
+}
+caller_all next gives feeds_one t n e f (Err x) still pumped = tt
+
+pub server_all : TheNextItemIsHandedUp → ServerGives → ServerFeeds → (a n : Answering) (e f : Held) (r : Result (Unit {0}) FeedRefusal) → a.failed ≡ false → ((s : State) → StandsFor e s → Pumped server_side (a, s) r n f) → OnOk r (MovesAll (Answers a) e (Answers n) f)
+unfolding server_pumped
+server_all next gives feeds_one a n e f (Ok u) still pumped = record {
+  on = λ h flows.
+      let p = pumped h.state flows.stands in
+      let k = server_pumped next gives feeds_one h a n e f (Ok u) still flows p in
+      (k.0, k.1, k.2, pumped_still server_side (a, h.state) u n f p);
+}
+server_all next gives feeds_one a n e f (Err x) still pumped = tt
+
+pub all_moves : {s t : Side} {e f : Held} → MovesAll s e t f → Moves s e t f
+all_moves p = record { on = λ h flows. let x = p.on h flows in (x.0, x.1, x.2) }
+
+pub moves_all : {s t u : Side} {e f g : Held} → Moves s e t f → MovesAll t f u g → MovesAll s e u g
+moves_all p q = record { on = λ h flows. let x = p.on h flows in let y = q.on x.0 x.1 in (y.0, y.1, goes_on h x.0 y.0 x.2 y.2, y.3) }
+
+pub calms_at : {s t u : Side} {e f : Held} → MovesAll s e t f → u ≡ t → IsListed t → Calms s e u f
+calms_at {s} {t} {u} {e} {f} p same listed = subst (λ (x : Side). Calms s e x f) (sym same) (record { on = λ h flows. let x = p.on h flows in (x.0, x.1, x.2, x.3, listed) })
+
+pub calm_then : {s t u : Conversation} → Goes s t → Calm t u → Calm s u
+calm_then p q = record { on = λ h f. let x = p.on h f in let y = q.on x.0 x.1 in (y.0, y.1, goes_on h x.0 y.0 x.2 y.2, y.3, y.4) }
+
+pub calm_from : {s t u : Conversation} {base : Story → Story} → ((h : Story) → Tells s h → Tells t (base h)) → Calm t u → CalmFrom s u base
+calm_from {base = base} p q = record { on = λ h f. q.on (base h) (p h f) }

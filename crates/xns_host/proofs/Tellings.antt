@@ -1,8 +1,10 @@
 -- What steps do to what a connection has done.
-use Rattle.std.proofs.Common.{◌≡◌, ◌∙◌, ap, sym, refl, subst, ℕ, ◌≤◌, List, [], ◌∷◌, ◌++◌, append-nil, append_assoc, take, drop, map, ◌-◌, length, Bool, true, false, Option, Some, None, Result, Ok, Err, OnOk, OnErr, arith}
+use Rattle.std.proofs.Common.{◌≡◌, ◌∙◌, ap, sym, refl, subst, ℕ, ◌≤◌, List, [], ◌∷◌, ◌++◌, append-nil, append_assoc, take, drop, map, ◌-◌, length, Bool, true, false, Option, Some, None, Result, Ok, Err, OnOk, OnErr, arith, ◌≢◌}
 use Rattle.std.specs.Prelude.{not, ◌&&◌, ◌||◌, if◌then◌else◌, is_ok}
 use Rattle.std.proofs.lemmas.List.{take-append-le}
 use Rattle.courier_messages.specs.declared.message.Message.{Message}
+use Rattle.courier_sessions.specs.declared.feed_refusal.FeedRefusal.{FeedRefusal}
+use Rattle.courier_sessions.specs.declared.feed_refusal.FeedRefusal.TheVariants.{NoMemory}
 use Rattle.xns_spp.specs.Growth.{Begins}
 use Rattle.xns_spp.specs.Ends.{is_open}
 use Rattle.xns_spp.specs.Held.{Held, StandsFor}
@@ -14,9 +16,9 @@ use Rattle.xns_spp.specs.Sending.{send_answer, after_send, take_answer, after_ta
 use Rattle.xns_spp.specs.State.{State, numbers_of, send_limit}
 use Rattle.xns_spp.specs.Telling.{after_resend}
 use Rattle.xns_spp.specs.declared.item.Item.{Item}
-use Rattle.xns_host.specs.Story.{Story, SideHas, Flows, Runs, start, sends, takes, flushes, resends, Moves, is_stopped, with_handed, new_story}
+use Rattle.xns_host.specs.Story.{Story, SideHas, Flows, Runs, start, sends, takes, flushes, resends, Moves, is_stopped, with_handed, new_story, Calms}
 use Rattle.xns_host.specs.Closing.{drains, closing_items, closing_item, put_if, end_stream, end_reply_stream, noted}
-use Rattle.xns_host.specs.Telling.{Tells, Goes, Rested, owes_end, owes_reply}
+use Rattle.xns_host.specs.Telling.{Tells, Goes, Rested, owes_end, owes_reply, Calm}
 use Rattle.xns_host.specs.declared.closing.Closing.{Closing}
 use Rattle.xns_host.specs.declared.closing.TheConstants.Closing.{NONE}
 use Rattle.xns_host.specs.declared.side.Side.{Side}
@@ -345,3 +347,29 @@ new_tells t s e side endpoint same closing stands has none empty = record {
   all = λ z. sym none;
   given = ap closing_items closing ∙ sym empty;
 }
+
+pub calmed : (t u : Conversation) → drains t.side t.closing ≡ false → u.closing ≡ t.closing → Calms t.side t.endpoint u.side u.endpoint → Calm t u
+calmed t u d closing calms = record {
+  on = λ h tells.
+      let k = calms.on h (flows_of t h d tells) in
+      (k.0, tells_of u k.0 (ap closing_items closing ∙ (nothing_said t.side t.closing d).1) k.1, k.2, k.3, k.4);
+}
+
+pub settle_calm : (t u v w : Conversation) (r : Result (Unit {0}) FeedRefusal) → (r ≡ Ok tt → drains u.side u.closing ≡ false → Calm t u) → (r ≡ Ok tt → v ≡ u) → (r ≢ Ok tt → r ≢ Err NoMemory → drains v.side v.closing ≡ true)
+    → Goes v w → (drains w.side w.closing ≡ false → w ≡ v) → r ≢ Err NoMemory → drains w.side w.closing ≡ false → Calm t w
+settle_calm t u v w (Ok x) calm good deaf goes idle some z =
+    let same : w ≡ u = idle z ∙ good refl in
+    subst (λ (k : Conversation). Calm t k) (sym same) (calm refl (subst (λ (k : Conversation). drains k.side k.closing ≡ false) same z))
+settle_calm t u v w (Err e) calm good deaf goes idle some z =
+    let d : drains v.side v.closing ≡ true = deaf (λ k. cc) some in
+    let f : drains v.side v.closing ≡ false = goes.still z in
+    absurd (cc)
+
+pub never_false : (a : Bool) → (a || true) ≡ false → ⊥
+never_false true z = cc
+never_false false z = cc
+
+pub never_free : (a b : Bool) → (a || (b || true)) ≡ false → ⊥
+never_free true b z = cc
+never_free false true z = cc
+never_free false false z = cc

@@ -11,6 +11,7 @@ use Rattle.xns_spp.specs.Telling.{after_resend}
 use Rattle.xns_spp.specs.declared.item.Item.{Item}
 use Rattle.courier_sessions.specs.Answering.{Answering, is_busy, is_there, why_unlisted}
 use Rattle.courier_sessions.specs.Answerings.{HasAnswered}
+use Rattle.courier_sessions.specs.Pumping.{one_step, caller_side, server_side}
 use Rattle.courier_sessions.specs.Talk.{Talk}
 use Rattle.courier_sessions.specs.Talks.{HasDone}
 use Rattle.courier_sessions.specs.declared.program.Program.{Program}
@@ -114,3 +115,23 @@ pub record GoesOn (h m : Story) : Type 0 where
 -- whatever a side and its end had done goes on so
 pub record Moves (side : Side) (endpoint : Held) (next : Side) (after : Held) : Type 0 where
   pub on : (h : Story) → Flows side endpoint h → (m : Story) × Flows next after m × GoesOn h m
+
+-- ---- what can go, goes
+
+-- no item can move between a side and its end
+abbrev pub IsMoved : Side → State → Type 0
+IsMoved (Calls t) s = one_step caller_side (t, s) ≡ None
+IsMoved (Answers a) s = one_step server_side (a, s) ≡ None
+
+-- no call waits that is to be rejected
+abbrev pub IsListed : Side → Type 0
+IsListed (Calls t) = Unit {0}
+IsListed (Answers a) = (m : Message) → a.call ≡ Some m → why_unlisted a.programs m ≡ None
+
+-- whatever a side and its end had done goes on so, up to where no item can move
+pub record MovesAll (side : Side) (endpoint : Held) (next : Side) (after : Held) : Type 0 where
+  pub on : (h : Story) → Flows side endpoint h → (m : Story) × Flows next after m × GoesOn h m × IsMoved next m.state
+
+-- and no call is to be rejected
+pub record Calms (side : Side) (endpoint : Held) (next : Side) (after : Held) : Type 0 where
+  pub on : (h : Story) → Flows side endpoint h → (m : Story) × Flows next after m × GoesOn h m × IsMoved next m.state × IsListed next

@@ -9,7 +9,7 @@ use Rattle.xns_spp.specs.Sending.{flush_answer}
 use Rattle.xns_spp.specs.State.{State}
 use Rattle.xns_spp.specs.Telling.{unacknowledged_count}
 use Rattle.xns_host.specs.Closing.{closing_items, drains}
-use Rattle.xns_host.specs.Story.{Story, SideHas, GoesOn, out_of, has_call}
+use Rattle.xns_host.specs.Story.{Story, SideHas, GoesOn, out_of, has_call, IsMoved, IsListed}
 use Rattle.xns_host.specs.declared.closing.Closing.{Closing}
 use Rattle.xns_host.specs.declared.conversation.Conversation.{Conversation}
 
@@ -53,3 +53,11 @@ pub record Hears (old new : Conversation) (bytes : List ℕ) : Type 0 where
 -- a packet of the peer has more acknowledged, or opens the connection
 abbrev pub is_progress : State → State → Bool
 is_progress s v = nat_lt (unacknowledged_count v) (unacknowledged_count s) || (is_open v.ends && not (is_open s.ends))
+
+-- the same, up to where no item can move between the side and its end, and no call is to be rejected
+pub record Calm (old new : Conversation) : Type 0 where
+  pub on : (h : Story) → Tells old h → (m : Story) × Tells new m × GoesOn h m × IsMoved new.side m.state × IsListed new.side
+
+-- the same, from where it is after something else was done
+pub record CalmFrom (old new : Conversation) (base : Story → Story) : Type 0 where
+  pub on : (h : Story) → Tells old h → (m : Story) × Tells new m × GoesOn (base h) m × IsMoved new.side m.state × IsListed new.side

@@ -7,7 +7,7 @@ ghost use Rattle.courier_messages.specs.RawCalls.{words_call};
 ghost use Rattle.courier_sessions.specs.Answering.{answer_message};
 ghost use Rattle.xns_spp.specs.Ends.{is_open};
 ghost use Rattle.xns_spp.specs.Held.{StandsFor};
-ghost use Rattle.xns_spp.specs.Receiving.{is_ours, StoresBytes};
+ghost use Rattle.xns_spp.specs.Receiving.{is_ours, after_receive, StoresBytes};
 ghost use Rattle.xns_spp.specs.Sending.{tick_answer};
 ghost use Rattle.xns_spp.specs.State.{State, initiator_state, responder_state};
 ghost use Rattle.xns_spp.specs.Telling.{own_name, peer_name, unacknowledged_count};
@@ -17,7 +17,7 @@ ghost use Rattle.xns_host.specs.Reasons.{call_fault_of, answer_fault_of};
 ghost use Rattle.xns_host.specs.Refusing.{Answers};
 ghost use Rattle.xns_host.specs.Settings.{IsFit};
 ghost use Rattle.xns_host.specs.Story.{Story, GoesOn, new_story, asked_of, waiting_message, with_handed, has_message};
-ghost use Rattle.xns_host.specs.Telling.{Tells, Goes, Rested, Hears, waits, is_over};
+ghost use Rattle.xns_host.specs.Telling.{Tells, Goes, Rested, Calm, CalmFrom, Hears, waits, is_over};
 ghost use Rattle.xns_host.specs.Waiting.{act_at, after_act, after_step, after_word, lingering, new_waiting};
 ghost use Rattle.xns_host.specs.declared.act.Act.TheVariants.{GiveUp};
 ghost use Rattle.xns_host.specs.declared.why.Why.TheVariants.{NotServed};
@@ -94,7 +94,8 @@ fn is_closing(stream: u8) -> bool
     stream == 254 || stream == 255
 }
 
-/// Why a connection is closed whose side refused an item, if it is: an item that closes it, and one for which no memory was there, are none.
+/// Why a connection is closed whose side refused an item, if it is: an item that closes it, and one for which no memory was there, close
+/// none.
 fn why_refused(refusal: FeedRefusal) -> Option<Why>
     ensures { result ≡ why_refused refusal }
 {
@@ -159,6 +160,7 @@ fn after_moving(
     ensures kept { closed ≢ None → wait.new ≡ wait.old }
     ensures waits { result ≡ None → (s : State) → StandsFor conversation.new.endpoint s → wait.new ≡ after_step wait.old (waits s) now }
     ensures lingers { closed ≡ None → result ≢ None → wait.new ≡ lingering wait.old now }
+    ensures idle { drains conversation.new.side conversation.new.closing ≡ false → conversation.new ≡ conversation.old }
 {
     if closed.is_some() {
         return closed;
@@ -196,6 +198,7 @@ fn settled(
     ensures lingers { closed ≡ None → result ≢ None → wait.new ≡ lingering wait.old now }
     ensures owed { (owed.new.again ≡ owed.old.again) × (owed.new.asks ≡ owed.old.asks) × (owed.new.fresh ≡ true) }
     ensures word { owed.old.word ≡ true → owed.new.word ≡ true }
+    ensures calm { owed.new.moving ≡ false → drains conversation.new.side conversation.new.closing ≡ false → Calm conversation.old conversation.new }
 {
     let waiting = conversation.endpoint.waiting();
     let moved = conversation.settle(alloc);
@@ -388,6 +391,7 @@ impl Connection {
     /// Moves what can move.
     fn go_on(&mut self, alloc: Global, now: u64)
         ensures goes { Goes self.old.conversation self.new.conversation }
+        ensures calm { self.new.owed.moving ≡ false → drains self.new.conversation.side self.new.conversation.closing ≡ false → Calm self.old.conversation self.new.conversation }
         ensures closed { self.old.closed ≢ None → self.new.closed ≡ self.old.closed }
         ensures told { self.new.told ≡ self.old.told }
         ensures owed { (self.new.owed.again ≡ self.old.owed.again) × (self.new.owed.asks ≡ self.old.owed.asks) × (self.new.owed.fresh ≡ true) }
@@ -406,6 +410,7 @@ impl Connection {
     /// Takes in the bytes of a packet, at this time. Where memory is refused it is as if the packet were lost.
     pub fn receive(&mut self, alloc: Global, now: u64, bytes: &[u8]) -> Result<(), AllocError>
         ensures tells { OnOk result (Hears self.old.conversation self.new.conversation bytes.now) }
+        ensures calm { OnOk result (self.new.owed.moving ≡ false → drains self.new.conversation.side self.new.conversation.closing ≡ false → CalmFrom self.old.conversation self.new.conversation (λ h. record h { state = after_receive h.state bytes.now })) }
         ensures closed { self.old.closed ≢ None → self.new.closed ≡ self.old.closed }
         ensures told { self.new.told ≡ self.old.told }
         ensures fresh { OnOk result (self.new.owed.fresh ≡ true) }
@@ -510,6 +515,7 @@ impl Connection {
     ) -> Result<(), HostFault>
         ensures answer { Answers (call_fault_of self.old.conversation (words_call program version procedure words.now)) result }
         ensures called { (h : Story) → Tells self.old.conversation h → result ≡ Ok tt → (m : Story) × Tells self.new.conversation m × GoesOn (record h { made = h.made ++ words_call program version procedure words.now ∷ [] }) m }
+        ensures calm { result ≡ Ok tt → self.new.owed.moving ≡ false → drains self.new.conversation.side self.new.conversation.closing ≡ false → CalmFrom self.old.conversation self.new.conversation (λ h. record h { made = h.made ++ words_call program version procedure words.now ∷ [] }) }
         ensures closed { self.old.closed ≢ None → self.new.closed ≡ self.old.closed }
         ensures told { self.new.told ≡ self.old.told }
         ensures fresh { result ≡ Ok tt → self.new.owed.fresh ≡ true }
@@ -539,6 +545,7 @@ impl Connection {
     ) -> Result<(), HostFault>
         ensures answer { Answers (answer_fault_of self.old.conversation kind words.now) result }
         ensures answered { (h : Story) (k : ℕ) → Tells self.old.conversation h → asked_of self.old.conversation.side ≡ Some k → result ≡ Ok tt → (m : Story) × Tells self.new.conversation m × GoesOn (record h { answers = h.answers ++ answer_message kind k words.now ∷ [] }) m }
+        ensures calm { (k : ℕ) → asked_of self.old.conversation.side ≡ Some k → result ≡ Ok tt → self.new.owed.moving ≡ false → drains self.new.conversation.side self.new.conversation.closing ≡ false → CalmFrom self.old.conversation self.new.conversation (λ h. record h { answers = h.answers ++ answer_message kind k words.now ∷ [] }) }
         ensures closed { self.old.closed ≢ None → self.new.closed ≡ self.old.closed }
         ensures told { self.new.told ≡ self.old.told }
         ensures fresh { result ≡ Ok tt → self.new.owed.fresh ≡ true }
@@ -559,6 +566,7 @@ impl Connection {
     /// Closes once all that it has to say is said.
     pub fn close(&mut self, alloc: Global, now: u64)
         ensures goes { Goes self.old.conversation self.new.conversation }
+        ensures calm { self.new.owed.moving ≡ false → drains self.new.conversation.side self.new.conversation.closing ≡ false → Calm self.old.conversation self.new.conversation }
         ensures closed { self.old.closed ≢ None → self.new.closed ≡ self.old.closed }
         ensures told { self.new.told ≡ self.old.told }
         ensures fresh { self.new.owed.fresh ≡ true }
@@ -578,6 +586,7 @@ impl Connection {
     pub fn take_message(&mut self, alloc: Global, now: u64) -> Option<PiecedMessage>
         ensures message { result ≡ waiting_message self.old.conversation.side }
         ensures handed { (h : Story) (m : Message) → Tells self.old.conversation h → result ≡ Some m → (n : Story) × Tells self.new.conversation n × GoesOn (with_handed self.old.conversation.side h m) n }
+        ensures calm { (m : Message) → result ≡ Some m → self.new.owed.moving ≡ false → drains self.new.conversation.side self.new.conversation.closing ≡ false → CalmFrom self.old.conversation self.new.conversation (λ h. with_handed self.old.conversation.side h m) }
         ensures closed { self.old.closed ≢ None → self.new.closed ≡ self.old.closed }
         ensures told { self.new.told ≡ self.old.told }
         ensures none { result ≡ None → self.new ≡ self.old }

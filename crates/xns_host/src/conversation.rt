@@ -1,8 +1,9 @@
 //! An endpoint, its side, and the closing exchange between both.
 
-ghost use Rattle.std.specs.Prelude.{◌≡◌, ◌≢◌, ℕ, [], ◌∷◌, ◌++◌, List, true, false, is_ok, IfOk, OnOk, OnErr, Some, None, Ok};
+ghost use Rattle.std.specs.Prelude.{◌≡◌, ◌≢◌, ℕ, [], ◌∷◌, ◌++◌, List, true, false, is_ok, IfOk, OnOk, OnErr, Some, None, Ok, Err};
 ghost use Rattle.courier_messages.specs.declared.message.Message.{Message};
 ghost use Rattle.courier_messages.specs.RawCalls.{words_call};
+ghost use Rattle.courier_sessions.specs.declared.feed_refusal.FeedRefusal.TheVariants.{NoMemory};
 ghost use Rattle.courier_sessions.specs.Answering.{answer_message};
 ghost use Rattle.xns_spp.specs.Held.{StandsFor};
 ghost use Rattle.xns_spp.specs.Receiving.{input_answer, after_receive, StoresBytes};
@@ -69,7 +70,7 @@ fn noted(closing: Closing, stream: u8) -> Closing
 
 impl Conversation {
     ghost use Rattle.xns_host.specs.Reasons.{call_fault_of, answer_fault_of};
-    ghost use Rattle.xns_host.specs.Telling.{Tells, Goes, Rested, owes_end, owes_reply, waits, is_over};
+    ghost use Rattle.xns_host.specs.Telling.{Tells, Goes, Rested, Calm, owes_end, owes_reply, waits, is_over};
 
     /// One in which nothing was said.
     pub fn new(alloc: Global, endpoint: Endpoint, side: Side) -> Conversation
@@ -124,7 +125,8 @@ impl Conversation {
 
     /// Takes all that waits, where it is looked at for the closing exchange alone.
     fn drain_out(&mut self)
-        ensures { Goes self.old self.new }
+        ensures goes { Goes self.old self.new }
+        ensures idle { drains self.new.side self.new.closing ≡ false → self.new ≡ self.old }
     {
         if self.drains() {
             self.drain();
@@ -153,13 +155,15 @@ impl Conversation {
         ensures answer { (s : State) → StandsFor self.old.endpoint s → result ≡ is_ok (send_answer s (closing_item stream)) }
         ensures stands { (s : State) → StandsFor self.old.endpoint s → StandsFor self.new.endpoint (after_send s (closing_item stream)) }
         ensures beside { (self.new.side ≡ self.old.side) × (self.new.closing ≡ self.old.closing) }
+        ensures refused { result ≡ false → self.new ≡ self.old }
     {
         self.endpoint.send(closing_item(alloc, stream)).is_ok()
     }
 
     /// Answers an End, once.
     fn say_reply(&mut self, alloc: Global)
-        ensures { Goes self.old self.new }
+        ensures goes { Goes self.old self.new }
+        ensures idle { drains self.new.side self.new.closing ≡ false → self.new ≡ self.old }
     {
         xns_spp::laws::items_are_accepted_or_change_nothing();
         if !self.owes_reply() {
@@ -172,7 +176,8 @@ impl Conversation {
 
     /// Asks for an end, once, where that is wanted: behind all that is out, and after the answer to a call that waits.
     fn say_end(&mut self, alloc: Global)
-        ensures { Goes self.old self.new }
+        ensures goes { Goes self.old self.new }
+        ensures idle { drains self.new.side self.new.closing ≡ false → self.new ≡ self.old }
     {
         xns_spp::laws::items_are_accepted_or_change_nothing();
         if !self.owes_end() {
@@ -185,7 +190,8 @@ impl Conversation {
 
     /// Moves items between the side and the endpoint, unless what comes is looked at for the closing exchange alone.
     fn converse(&mut self, alloc: Global) -> Result<(), FeedRefusal>
-        ensures { Goes self.old self.new }
+        ensures goes { Goes self.old self.new }
+        ensures calm { result ≡ Ok tt → drains self.new.side self.new.closing ≡ false → Calm self.old self.new }
     {
         if self.drains() {
             return Ok(());
@@ -195,7 +201,8 @@ impl Conversation {
 
     /// Says what is to be said of closing, and looks at what waits where it is looked at for that alone.
     fn close_up(&mut self, alloc: Global)
-        ensures { Goes self.old self.new }
+        ensures goes { Goes self.old self.new }
+        ensures idle { drains self.new.side self.new.closing ≡ false → self.new ≡ self.old }
     {
         self.say_end(alloc);
         self.drain_out();
@@ -213,7 +220,9 @@ impl Conversation {
 
     /// The side reads no more where it refused an item, unless memory was refused.
     fn mark(&mut self, moved: Result<(), FeedRefusal>)
-        ensures { Goes self.old self.new }
+        ensures goes { Goes self.old self.new }
+        ensures good { moved ≡ Ok tt → self.new ≡ self.old }
+        ensures deaf { moved ≢ Ok tt → moved ≢ Err NoMemory → drains self.new.side self.new.closing ≡ true }
     {
         match moved {
             Ok(()) | Err(FeedRefusal::NoMemory) => {}
@@ -224,7 +233,8 @@ impl Conversation {
     /// Moves what can move. An `Err` is why the side refused an item: it reads no more then, unless it is `NoMemory`, after which the
     /// same call goes on.
     pub fn settle(&mut self, alloc: Global) -> Result<(), FeedRefusal>
-        ensures { Goes self.old self.new }
+        ensures goes { Goes self.old self.new }
+        ensures calm { result ≢ Err NoMemory → drains self.new.side self.new.closing ≡ false → Calm self.old self.new }
     {
         let moved = self.converse(alloc);
         self.mark(moved);

@@ -1,11 +1,11 @@
 //! A side of a conversation: the one that calls or the one that is called.
 
-ghost use Rattle.std.specs.Prelude.{◌≡◌, ℕ, [], ◌∷◌, ◌++◌, false, OnErr, Some, None, Ok};
+ghost use Rattle.std.specs.Prelude.{◌≡◌, ℕ, [], ◌∷◌, ◌++◌, false, OnOk, OnErr, Some, None, Ok};
 ghost use Rattle.courier_messages.specs.declared.message.Message.{Message};
 ghost use Rattle.courier_messages.specs.RawCalls.{words_call};
 ghost use Rattle.courier_sessions.specs.Answering.{answer_message, has_items};
 ghost use Rattle.xns_spp.specs.Held.{Held};
-ghost use Rattle.xns_host.specs.Story.{Story, SideHas, Moves, is_stopped, out_of, asked_of, has_call, has_message, waiting_message, with_handed};
+ghost use Rattle.xns_host.specs.Story.{Story, SideHas, Moves, MovesAll, Calms, IsListed, is_stopped, out_of, asked_of, has_call, has_message, waiting_message, with_handed};
 ghost use Rattle.xns_host.specs.Refusing.{Answers, side_call_fault, side_answer_fault, call_result, answer_result};
 
 use crate::host_fault::HostFault;
@@ -147,7 +147,8 @@ impl Side {
     /// Moves items both ways between the side and its endpoint until nothing moves.
     fn pump(&mut self, alloc: Global, endpoint: &mut Endpoint) -> Result<(), FeedRefusal>
         requires { is_stopped self.old ≡ false }
-        ensures { Moves self.old endpoint.old self.new endpoint.new }
+        ensures moves { Moves self.old endpoint.old self.new endpoint.new }
+        ensures all { OnOk result (MovesAll self.old endpoint.old self.new endpoint.new) }
     {
         xns_spp::laws::the_next_item_is_handed_up();
         courier_sessions::laws::a_session_is_its_conversation();
@@ -161,6 +162,7 @@ impl Side {
     /// Rejects a call that waits and whose program is not listed; whether there was one.
     fn reject_unlisted(&mut self, alloc: Global) -> Result<bool, AllocError>
         ensures moves { (e : Held) → Moves self.old e self.new e }
+        ensures listed { result ≡ Ok false → (self.new ≡ self.old) × IsListed self.old }
         ensures stopped { is_stopped self.new ≡ is_stopped self.old }
     {
         courier_sessions::laws::a_server_session_is_its_conversation();
@@ -170,13 +172,16 @@ impl Side {
         }
     }
 
-    /// Moves items until nothing moves and no call is there whose program is not listed: such calls are rejected.
+    /// Moves items until nothing moves and no call is there whose program is not listed: such calls are rejected. After `NoMemory` the
+    /// same call goes on.
     pub fn converse(&mut self, alloc: Global, endpoint: &mut Endpoint) -> Result<(), FeedRefusal>
         requires { is_stopped self.old ≡ false }
-        ensures { Moves self.old endpoint.old self.new endpoint.new }
+        ensures moves { Moves self.old endpoint.old self.new endpoint.new }
+        ensures calms { result ≡ Ok tt → is_stopped self.new ≡ false → Calms self.old endpoint.old self.new endpoint.new }
     {
         self.pump(alloc, endpoint)?;
-        for _ in 0..=endpoint.waiting() {
+        // Each round but the first takes an item that waits: there are no more rounds.
+        for _ in 0..endpoint.waiting().saturating_add(2) {
             if self.is_stopped() {
                 return Ok(());
             }
@@ -185,6 +190,6 @@ impl Side {
             }
             self.pump(alloc, endpoint)?;
         }
-        Ok(())
+        Err(FeedRefusal::NoMemory)
     }
 }

@@ -1,9 +1,19 @@
+use Rattle.std.proofs.Common.{◌≡◌, false, sym, subst, rules}
+use Rattle.xns_host.specs.Closing.{drains}
+use Rattle.xns_host.specs.Telling.{Calm}
+use Rattle.xns_host.specs.declared.conversation.Conversation.{Conversation}
 use Rattle.xns_host.proofs.Leading.{goes_then}
 use Rattle.xns_host.proofs.Tellings.{drains_still}
 use Rattle.xns_host.proofs.connection.settled.Goals as goal
 
 pub after_moving-requires-clause-deaf : goal.after_moving-requires-clause-deaf
-after_moving-requires-clause-deaf c = λ some. drains_still _ _ c.settle-moved.ensures (c.requires.deaf some)
+after_moving-requires-clause-deaf c = λ some. drains_still _ _ c.settle-moved.ensures.goes (c.requires.deaf some)
 
 pub returns-clause-goes : goal.returns-clause-goes
-returns-clause-goes c = goes_then c.settle-moved.ensures c.after_moving.ensures.goes
+returns-clause-goes c = goes_then c.settle-moved.ensures.goes c.after_moving.ensures.goes
+
+pub returns-clause-calm : goal.returns-clause-calm
+returns-clause-calm c = λ still free.
+    let same = c.after_moving.ensures.idle free in
+    subst (λ (t : Conversation). Calm c.args.conversation.now t) (sym same)
+    (c.settle-moved.ensures.calm (λ refused. absurd (search rules)) (subst (λ (t : Conversation). drains t.side t.closing ≡ false) same free))

@@ -1,3 +1,4 @@
+use Rattle.xns_host.proofs.Leading.{calm_from}
 use Rattle.std.proofs.Common.{◌∙◌, ◌++◌, ◌∷◌, [], refl, subst}
 use Rattle.xns_spp.specs.Held.{Held, StandsFor}
 use Rattle.courier_sessions.specs.Answering.{answer_message}
@@ -14,3 +15,6 @@ invariant_of-self c = record {
   closed_due = c.args.self.now.closed_due;
   deaf = λ some. c.answer.ensures.drains ∙ c.args.self.now.deaf some;
 }
+
+pub returns-clause-calm : goal.returns-clause-calm
+returns-clause-calm c = λ k asked good still free. calm_from (λ h tells. c.in_ok-answer.ensures.answered h k tells asked refl) (c.settled-self.ensures.calm still free)

@@ -1,3 +1,4 @@
+use Rattle.xns_host.proofs.Leading.{calm_from}
 use Rattle.std.proofs.Common.{◌++◌, ◌∷◌, [], refl}
 use Rattle.courier_messages.specs.RawCalls.{words_call}
 use Rattle.xns_host.proofs.connection.Connection.call.Goals as goal
@@ -5,3 +6,6 @@ use Rattle.xns_host.proofs.connection.Connection.call.Goals as goal
 pub returns-clause-called : goal.returns-clause-called
 returns-clause-called c = λ h tells done.
     c.settled-self.ensures.goes.on (record h { made = h.made ++ words_call c.args.program c.args.version c.args.procedure c.args.words.now ∷ [] }) (c.in_ok-call.ensures.called h tells refl)
+
+pub returns-clause-calm : goal.returns-clause-calm
+returns-clause-calm c = λ good still free. calm_from (λ h tells. c.in_ok-call.ensures.called h tells refl) (c.settled-self.ensures.calm still free)

@@ -1,4 +1,4 @@
-use Rattle.xns_host.proofs.Leading.{goes_then}
+use Rattle.xns_host.proofs.Leading.{goes_then, calm_then}
 use Rattle.xns_host.proofs.Tellings.{drains_still}
 use Rattle.xns_host.proofs.connection.Connection.close.Goals as goal
 
@@ -7,3 +7,6 @@ returns-clause-goes c = goes_then c.close.ensures.goes c.settled-self.ensures.go
 
 pub settled-self-requires-clause-deaf : goal.settled-self-requires-clause-deaf
 settled-self-requires-clause-deaf c = λ some. drains_still _ _ c.close.ensures.goes (c.args.self.now.deaf some)
+
+pub returns-clause-calm : goal.returns-clause-calm
+returns-clause-calm c = λ still free. calm_then c.close.ensures.goes (c.settled-self.ensures.calm still free)

@@ -1,5 +1,9 @@
+use Rattle.xns_host.proofs.Leading.{calm_from}
 use Rattle.xns_spp.specs.Receiving.{after_receive}
 use Rattle.xns_host.proofs.connection.Connection.receive.Goals as goal
 
 pub returns-clause-tells : goal.returns-clause-tells
 returns-clause-tells c = record { on = λ h tells. c.settled-self.ensures.goes.on (record h { state = after_receive h.state c.args.bytes.now }) (c.in_ok-input.ensures.tells h tells) }
+
+pub returns-clause-calm : goal.returns-clause-calm
+returns-clause-calm c = λ still free. calm_from (λ h tells. c.in_ok-input.ensures.tells h tells) (c.settled-self.ensures.calm still free)

@@ -1,5 +1,9 @@
+use Rattle.xns_host.proofs.Leading.{calm_from}
 use Rattle.xns_host.specs.Story.{with_handed}
 use Rattle.xns_host.proofs.connection.Connection.take_message.Goals as goal
 
 pub returns-clause-handed : goal.returns-clause-handed
 returns-clause-handed c = λ h m tells is. c.settled-self.ensures.goes.on (with_handed c.args.self.now.conversation.side h m) (c.in_ok-message.ensures.handed h m tells is)
+
+pub returns-clause-calm : goal.returns-clause-calm
+returns-clause-calm c = λ m is still free. calm_from (λ h tells. c.in_ok-message.ensures.handed h m tells is) (c.settled-self.ensures.calm still free)

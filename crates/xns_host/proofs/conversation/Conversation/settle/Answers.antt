@@ -1,8 +1,12 @@
 use Rattle.xns_host.proofs.Leading.{goes_then}
+use Rattle.xns_host.proofs.Tellings.{settle_calm}
 use Rattle.xns_host.proofs.conversation.Conversation.settle.Goals as goal
 
-pub returns-in-Err-NoMemory : goal.returns-in-Err-NoMemory
-returns-in-Err-NoMemory c = goes_then c.converse-moved.ensures c.mark.ensures
+pub returns-in-Err-NoMemory-clause-goes : goal.returns-in-Err-NoMemory-clause-goes
+returns-in-Err-NoMemory-clause-goes c = goes_then c.converse-moved.ensures.goes c.mark.ensures.goes
 
-pub returns : goal.returns
-returns c = goes_then (goes_then c.converse-moved.ensures c.mark.ensures) c.close_up.ensures
+pub returns-clause-goes : goal.returns-clause-goes
+returns-clause-goes c = goes_then (goes_then c.converse-moved.ensures.goes c.mark.ensures.goes) c.close_up.ensures.goes
+
+pub returns-clause-calm : goal.returns-clause-calm
+returns-clause-calm c = settle_calm c.args.self.now c.converse-moved.new.self c.mark.new.self c.close_up.new.self c.converse-moved.result c.converse-moved.ensures.calm c.mark.ensures.good c.mark.ensures.deaf c.close_up.ensures.goes c.close_up.ensures.idle

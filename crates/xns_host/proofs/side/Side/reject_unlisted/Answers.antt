@@ -1,5 +1,5 @@
-use Rattle.std.proofs.Common.{◌≡◌, ◌∙◌, ap, sym, subst}
-use Rattle.xns_host.specs.Story.{Moves, is_stopped}
+use Rattle.std.proofs.Common.{◌≡◌, ◌∙◌, ap, sym, subst, refl}
+use Rattle.xns_host.specs.Story.{Moves, is_stopped, IsListed}
 use Rattle.xns_host.specs.declared.side.Side.{Side}
 use Rattle.xns_host.specs.declared.side.Side.TheVariants.{Answers}
 use Rattle.xns_host.proofs.Handing.{rejected, reject_moves, nothing_moves}
@@ -23,3 +23,11 @@ returns-in-Answers-clause-stopped c =
     let n = c.reject_unlisted.new.self in
     rejected (n.failed ≡ c.in-Answers.server.failed) c.in-Answers.server n c.reject_unlisted.result r.rejected r.listed r.none r.stays (λ m u call unlisted is. cc) (λ same. cc)
     ∙ ap is_stopped (sym c.in-Answers.is)
+
+pub returns-in-Calls-clause-listed : goal.returns-in-Calls-clause-listed
+returns-in-Calls-clause-listed c = λ is. (refl, subst (λ (x : Side). IsListed x) (sym c.in-Calls.is) tt)
+
+pub returns-in-Answers-clause-listed : goal.returns-in-Answers-clause-listed
+returns-in-Answers-clause-listed c = λ is.
+    let r = c.reject_unlisted.ensures in
+    (ap Answers (r.stays (λ z. cc)) ∙ sym c.in-Answers.is, subst (λ (x : Side). IsListed x) (sym c.in-Answers.is) (λ m call. r.unlisted m call is))
