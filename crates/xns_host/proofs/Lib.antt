@@ -1,4 +1,5 @@
 mod Agendas
+mod Apart
 mod Dues
 mod Handing
 mod Leading

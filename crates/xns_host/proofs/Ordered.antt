@@ -1,8 +1,9 @@
 -- The numbers from 1 to n, in any order.
 use Rattle.std.proofs.Common.{zero, suc, ◌≡◌, ◌≢◌, ◌∙◌, ◌⊎◌, inl, inr, sym, ap, refl, ℕ, ◌+◌, ◌-◌, ◌<◌, ◌≤◌, ◌==◌, true, false, List, [], ◌∷◌, ◌++◌, length, replicate, get_or, arith, add-one, length-append}
-use Rattle.std.specs.Prelude.{IsPermutation, Option, Some, None, position}
+use Rattle.std.specs.Prelude.{IsPermutation, slice_get, Option, Some, None, position}
 use Rattle.std.specs.Option.{is_none}
 use Rattle.std.proofs.lemmas.List.Quantifiers.{position-Some}
+use Rattle.std.proofs.lemmas.Option.{get_or_from_slice_get, slice_get_within}
 use Rattle.std.proofs.Math.ListN.{get_or-append}
 use Rattle.std.proofs.Math.Seq.{get_or-append_seam}
 use Rattle.std.proofs.lemmas.Bool.Decides.{Decides-eqb, eqb_tells}
@@ -88,3 +89,10 @@ place_within ahead owners place is = (position-Some (is_free owners) ahead place
 
 pub id_within : (ahead : List ℕ) (place d : ℕ) → IsOrder ahead → place < length ahead → get_or ahead place d < 65536
 id_within ahead place d o within = let bounds = o.within place d within in let most = bounds.1 in omega (arith, most)
+
+pub id_known : (ahead : List ℕ) (place id : ℕ) → IsOrder ahead → slice_get ahead place ≡ Some id → 0 < id
+id_known ahead place id o there =
+    let within = slice_get_within ahead place id there in
+    let least = (o.within place id within).0 in
+    let is = get_or_from_slice_get ahead place id id there in
+    omega (arith, least, is)

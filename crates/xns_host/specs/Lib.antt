@@ -1,6 +1,7 @@
 pub mod Agenda
 pub mod Closing
 pub mod Connecting
+pub mod Hosting
 pub mod Identifiers
 pub mod Reasons
 pub mod Refusing

@@ -1,6 +1,6 @@
 //! The identifiers of new connections.
 
-ghost use Rattle.std.specs.Prelude.{◌≡◌, ◌≢◌, ℕ, length, IfOk, IfSome, IsPermutation, Some, None, true, position, slice_get, slice_index_or, slice_set};
+ghost use Rattle.std.specs.Prelude.{◌≡◌, ◌≢◌, ◌<◌, ℕ, length, IfOk, IfSome, IsPermutation, Some, None, true, position, slice_get, slice_index_or, slice_set};
 ghost use Rattle.xns_host.specs.Identifiers.{IsOrder, Gives, is_free, most_id, numbers, order_of};
 
 use rand::seq::SliceRandom;
@@ -122,9 +122,11 @@ impl Identifiers {
     }
 
     /// The identifier that [`take`](Identifiers::take) gives next. A `None`: all are in use.
+    #[tactic(auto, using(crate::proofs::Ordered::id_known))]
     pub fn next(&self) -> Option<u16>
         ensures given { (place : ℕ) → position (is_free self.now.owners) self.now.ahead ≡ Some place → result ≡ slice_get self.now.ahead place }
         ensures none { position (is_free self.now.owners) self.now.ahead ≡ None → result ≡ None }
+        ensures known { IfSome result (λ id. 0 < id) }
     {
         let place = self.first_free()?;
         self.ahead.get(place).copied()

@@ -1,0 +1,145 @@
+//! A connection in its place at a host.
+
+ghost use Rattle.std.specs.Prelude.{◌≡◌, OnErr, OnOk};
+ghost use Rattle.xns_host.specs.Hosting.{facts_of, lingers_since, stranger_since};
+ghost use Rattle.courier_messages.specs.RawCalls.{words_call};
+ghost use Rattle.xns_host.specs.Reasons.{call_fault_of, answer_fault_of};
+ghost use Rattle.xns_host.specs.Refusing.{Answers};
+ghost use Rattle.xns_host.specs.Telling.{Hears};
+
+use crate::connection::Connection;
+use crate::due::Due;
+use crate::facts::Facts;
+use crate::host_fault::HostFault;
+use crate::opening_quote::OpeningQuote;
+use crate::peer::Peer;
+use courier_sessions::Answer;
+use std::alloc::{AllocError, Global};
+use xns_idp::Address;
+
+/// A connection, and what a host knows of it.
+#[derive(Drop)]
+pub struct Guest {
+    pub connection: Connection,
+    /// The program's number of the way by which its packets go out.
+    pub via: u32,
+    /// Our own identifier.
+    pub id: u16,
+    /// Whom it was opened to, or who opened it.
+    pub peer: Address,
+    /// Who opened it. `None`: we did.
+    pub opener: Option<Peer>,
+    /// Whether a packet with our identifier came.
+    pub confirmed: bool,
+    /// Whether the program was told of a call of it.
+    pub heard_of: bool,
+}
+
+impl Guest {
+    /// Takes in the bytes of a packet, at this time. Where memory is refused it is as if the packet were lost.
+    pub fn receive(
+        &mut self,
+        alloc: Global,
+        now: u64,
+        confirms: bool,
+        bytes: &[u8],
+    ) -> Result<(), AllocError>
+        ensures hears { OnOk result (Hears self.old.connection.conversation self.new.connection.conversation bytes.now) }
+        ensures unchanged { OnErr result (self.new ≡ self.old) }
+    {
+        self.connection.receive(alloc, now, bytes)?;
+        if confirms {
+            self.confirmed = true;
+        }
+        Ok(())
+    }
+
+    /// Puts out a call.
+    pub fn call(
+        &mut self,
+        alloc: Global,
+        now: u64,
+        program: u32,
+        version: u16,
+        procedure: u16,
+        words: &[u16],
+    ) -> Result<(), HostFault>
+        ensures answer { Answers (call_fault_of self.old.connection.conversation (words_call program version procedure words.now)) result }
+        ensures unchanged { OnErr result (self.new ≡ self.old) }
+    {
+        self.connection
+            .call(alloc, now, program, version, procedure, words)?;
+        Ok(())
+    }
+
+    /// Answers the call that was handed.
+    pub fn answer(
+        &mut self,
+        alloc: Global,
+        now: u64,
+        answer: Answer,
+        words: &[u16],
+    ) -> Result<(), HostFault>
+        ensures answer { Answers (answer_fault_of self.old.connection.conversation answer words.now) result }
+        ensures unchanged { OnErr result (self.new ≡ self.old) }
+    {
+        self.connection.answer(alloc, now, answer, words)?;
+        Ok(())
+    }
+
+    /// Whether a quoted packet was to open the connection, which is not open yet.
+    pub fn is_opened_by(&self, quote: &OpeningQuote) -> bool {
+        let (own, _) = self.connection.own();
+        self.opener.is_none()
+            && !self.connection.is_open()
+            && own.is_same_place(&quote.source)
+            && self.peer.is_same_place(&quote.target)
+    }
+
+    /// Since when it lingers, if it is closed and the program was told.
+    fn lingers_since(&self) -> Option<u64>
+        ensures { result ≡ lingers_since self.now.connection }
+    {
+        if self.connection.is_closed() && self.connection.is_told() {
+            self.connection.due().time()
+        } else {
+            None
+        }
+    }
+
+    /// Since when its peer is silent, which opened it and said no more.
+    fn stranger_since(&self) -> Option<u64>
+        ensures { result ≡ stranger_since self.now }
+    {
+        if self.opener.is_some()
+            && !self.confirmed
+            && !self.heard_of
+            && !self.connection.is_closed()
+            && !self.connection.has_event()
+        {
+            Some(self.connection.heard_at())
+        } else {
+            None
+        }
+    }
+
+    /// What a host has to know of it.
+    pub fn facts(&self) -> Facts
+        ensures { result ≡ facts_of self.now }
+    {
+        Facts {
+            due: self.connection.due().time(),
+            has_packet: self.connection.has_packet(),
+            has_event: self.connection.has_event(),
+            lingers_since: self.lingers_since(),
+            stranger_since: self.stranger_since(),
+        }
+    }
+
+    /// Whether it may be forgotten: it is closed, the program was told, and it lingers no more.
+    pub fn is_done(&self) -> bool {
+        self.connection.is_closed()
+            && self.connection.is_told()
+            && self.connection.due() == Due::Never
+    }
+}
