@@ -10,7 +10,6 @@ use std::alloc::AllocError;
 pub trait LinePrinter {
     ghost use Rattle.std.specs.Prelude.{◌≡◌, ◌≤◌, ◌<◌, ◌+◌, ◌++◌, ℕ, Bool, List, [], false, OnOk, length};
     ghost use Rattle.xns_lines.specs.Faults.{Begins};
-    ghost use Rattle.xns_lines.specs.Lines.{most_line_bytes};
     ghost use Rattle.xns_lines.specs.Printing.{IsBegun, IsEndPrinted, IsPrinted};
 
     // The printer has printed these lines, and so many parts of the end of the input behind them.
@@ -28,13 +27,11 @@ pub trait LinePrinter {
     // How many parts the end of the input has behind these lines.
     ghost end_count: { List (List ℕ) → ℕ };
 
-    /// Appends what the line of that number says to the page's latest line, and sets `is_refused` where it is refused. The
-    /// line has at most 4,096 bytes.
+    /// Appends what the line of that number says to the page's latest line, and sets `is_refused` where it is refused.
     ///
     /// The only error is want of memory. What there is of the line is then dropped, and no more lines come.
     fn print_line(&mut self, page: &mut Page, number: usize, line: &[u8]) -> Result<(), AllocError>
         requires few { number ≤ limit }
-        requires short { length line.now ≤ most_line_bytes }
         ensures front { page.new.text.front ≡ page.old.text.front }
         ensures ok { OnOk result ((lines : List (List ℕ)) → number ≡ length lines + 1 → IsBegun (λ xs. has_refused xs 0) page.old lines
             → has_printed self.old lines 0

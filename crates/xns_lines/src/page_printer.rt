@@ -1,6 +1,5 @@
 //! Prints lines on pages.
 ghost use Rattle.std.specs.Prelude.{◌≡◌, ◌≤◌, ◌<◌, ◌+◌, ◌++◌, ◌∷◌, [], ℕ, true, List, Option, IfErr, OnErr, OnOk, length};
-ghost use Rattle.xns_lines.specs.Lines.{most_line_bytes};
 ghost use Rattle.xns_lines.specs.Printing.{HasFailed, StandsBehind, StopsInEnd};
 
 use crate::fault::RunFault;
@@ -25,7 +24,6 @@ impl<P: LinePrinter> PagePrinter<P> {
     /// Prints the line. Where memory is refused, no text of it stays.
     fn print_line(&mut self, number: usize, line: &[u8]) -> Result<(), AllocError>
         requires few { number ≤ P.limit }
-        requires short { length line.now ≤ most_line_bytes }
         ensures ok { OnOk result ((before after : Option (List ℕ)) (lines : List (List ℕ)) → number ≡ length lines + 1
             → StandsBehind (P.has_printed self.old.printer) P.text_of P.has_refused 0 self.old.page self.old.is_lost before after lines
             → StandsBehind (P.has_printed self.new.printer) P.text_of P.has_refused 0

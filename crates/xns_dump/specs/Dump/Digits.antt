@@ -10,6 +10,6 @@ HasValues digits values =
 
 -- there is room for the values and the bytes of the longest line, and so many bytes are within theirs
 pub record HasRoom (value_room byte_room : List ℕ) (used : ℕ) : Type 0 where
-  pub values : length value_room ≡ most_line_bytes
-  pub bytes : length byte_room ≡ most_line_bytes / 2
-  pub count : used ≤ most_line_bytes / 2
+  pub values : most_line_bytes ≤ length value_room
+  pub bytes : most_line_bytes / 2 ≤ length byte_room
+  pub count : used ≤ length byte_room
