@@ -1,13 +1,13 @@
 -- Packets of no connection that are to go out.
 use Rattle.std.specs.Prelude.{◌≡◌, ℕ, ◌≤◌, List, [], ◌∷◌, ◌++◌, length, nat_lt, if◌then◌else◌}
-use Rattle.xns_host.specs.declared.stray.Stray.{Stray}
+use Rattle.xns_host.specs.declared.outgoing.Outgoing.{Outgoing}
 
 -- those that wait, the first one first, at most so many
 pub record StrayQueue : Type 0 where
   pub most : ℕ
-  pub waiting : List Stray
+  pub waiting : List Outgoing
 
-pub record HasRoom (most : ℕ) (waiting : List Stray) (count capacity : ℕ) : Type 0 where
+pub record HasRoom (most : ℕ) (waiting : List Outgoing) (count capacity : ℕ) : Type 0 where
   pub counted : count ≡ length waiting
   pub few : length waiting ≤ most
   pub room : most ≤ capacity
@@ -15,9 +15,9 @@ pub record HasRoom (most : ℕ) (waiting : List Stray) (count capacity : ℕ) : 
 abbrev pub new_strays : ℕ → StrayQueue
 new_strays most = record { most = most; waiting = [] }
 
-abbrev pub stray_of : ℕ → List ℕ → Stray
+abbrev pub stray_of : ℕ → List ℕ → Outgoing
 stray_of via packet = record { via = via; packet = packet }
 
 -- what is over is as if lost
-abbrev pub with_stray : StrayQueue → Stray → StrayQueue
+abbrev pub with_stray : StrayQueue → Outgoing → StrayQueue
 with_stray q s = if nat_lt (length q.waiting) q.most then record q { waiting = q.waiting ++ s ∷ [] } else q

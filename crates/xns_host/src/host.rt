@@ -19,11 +19,11 @@ use crate::event::Event;
 use crate::guest::Guest;
 use crate::host_fault::HostFault;
 use crate::opening_quote::{OpeningQuote, quoted_opening};
+use crate::outgoing::Outgoing;
 use crate::peer::Peer;
 use crate::register::Register;
 use crate::services::Services;
 use crate::settings::Settings;
-use crate::stray::Stray;
 use crate::strays::Strays;
 use crate::told::Told;
 use courier_messages::{Head, PiecedMessage};
@@ -169,13 +169,13 @@ fn packet_in(
     slot: &mut Option<Guest>,
     alloc: Global,
     now: u64,
-) -> Result<Option<Stray>, AllocError> {
+) -> Result<Option<Outgoing>, AllocError> {
     let Some(guest) = slot else {
         return Ok(None);
     };
     let via = guest.via;
     match guest.connection.next_packet(alloc, now)? {
-        Some(packet) => Ok(Some(Stray { via, packet })),
+        Some(packet) => Ok(Some(Outgoing { via, packet })),
         None => Ok(None),
     }
 }
@@ -701,7 +701,7 @@ impl Host {
     }
 
     /// The next packet of the connection with this number.
-    fn packet(&mut self, now: u64, number: usize) -> Result<Option<Stray>, HostFault>
+    fn packet(&mut self, now: u64, number: usize) -> Result<Option<Outgoing>, HostFault>
         ensures apart { IsApart self.old.guests.items self.new.guests.items number }
     {
         if number >= self.guests.len() {
@@ -720,7 +720,7 @@ impl Host {
     /// something is done again or [`wake`](Host::wake)'s time has come.
     ///
     /// The only error is [`HostFault::NoMemory`]: what is to go out stays so.
-    pub fn next_packet(&mut self, now: u64) -> Result<Option<Stray>, HostFault> {
+    pub fn next_packet(&mut self, now: u64) -> Result<Option<Outgoing>, HostFault> {
         let now = self.clock.tell(now);
         self.act_all(now);
         if let Some(stray) = self.strays.take() {

@@ -6,7 +6,7 @@ ghost use Rattle.xns_idp.specs.Packet.{most_data, packet_model};
 ghost use Rattle.xns_small.specs.Echo.{IsAnswered, echo_reply};
 ghost use Rattle.xns_host.specs.Strays.{new_strays, with_stray, stray_of};
 
-use crate::stray::Stray;
+use crate::outgoing::Outgoing;
 use std::alloc::{AllocError, Global};
 use std::collections::VecDeque;
 use std::marker::Model;
@@ -17,7 +17,7 @@ use xns_spp::Bytes;
 /// Packets of no connection that are to go out, in order, at most so many. What is over is as if lost.
 #[derive(Drop)]
 pub struct Strays {
-    waiting: VecDeque<Stray>,
+    waiting: VecDeque<Outgoing>,
     most: usize,
 }
 
@@ -49,7 +49,7 @@ impl Strays {
     }
 
     /// Puts one behind the others, unless there are as many as there may be.
-    pub fn push(&mut self, stray: Stray)
+    pub fn push(&mut self, stray: Outgoing)
         ensures { self.new ≡ with_stray self.old stray }
     {
         if self.waiting.len() < self.most {
@@ -58,7 +58,7 @@ impl Strays {
     }
 
     /// Takes the first.
-    pub fn take(&mut self) -> Option<Stray>
+    pub fn take(&mut self) -> Option<Outgoing>
         ensures waiting { self.old.waiting ≡ option_to_list result ++ self.new.waiting }
         ensures most { self.new.most ≡ self.old.most }
     {
@@ -83,7 +83,7 @@ impl Strays {
         let Some(reply) = answer_echo(alloc, own, packet)? else {
             return Ok(false);
         };
-        self.push(Stray {
+        self.push(Outgoing {
             via,
             packet: Bytes::new(reply),
         });
