@@ -1,5 +1,6 @@
 //! Laws of the definitions, as functions that do nothing.
-ghost use Rattle.xns_dump.specs.Laws.{FlowsAreToldApart, JoinedTextsSayRefused, OnlyRefusalsSayRefused, PlacesAreOrderedByNumbers, RefusedLinesSaySo};
+ghost use Rattle.xns_dump.specs.Laws.{FlowsAreToldApart, JoinedTextsSayRefused, OnlyRefusalsSayRefused, PlacesAreOrderedByNumbers};
+ghost use Rattle.xns_dump.specs.Laws.{RefusedLinesSaySo};
 
 /// The text of a line has the word `refused` exactly where the line is refused, whatever its number and those of items.
 pub fn refused_lines_say_so()

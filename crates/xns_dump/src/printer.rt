@@ -3,7 +3,7 @@ ghost use Rattle.std.specs.Prelude.{[], IfOk};
 ghost use Rattle.std.specs.List.{list_any};
 ghost use Rattle.xns_dump.specs.Dump.{end_count as no_ends, items_in, text_with_end};
 ghost use Rattle.xns_dump.specs.Dump.Line.{is_refused};
-ghost use Rattle.xns_dump.specs.Flows.Numbers.{StandsFor};
+ghost use Rattle.xns_dump.specs.Flows.Numbers.{NumbersStandFor};
 ghost use Rattle.xns_lines.specs.Lines.{most_lines};
 
 use crate::flows::numbers::FlowNumbers;
@@ -23,7 +23,7 @@ pub(crate) struct DumpPrinter {
 impl DumpPrinter {
     /// A printer that has printed nothing. The only error is want of memory.
     pub(crate) fn new(alloc: Global) -> Result<Self, AllocError>
-        ensures { IfOk result (λ printer. StandsFor printer.numbers.last []) }
+        ensures { IfOk result (λ printer. NumbersStandFor printer.numbers.last []) }
     {
         let appender = LineAppender::new(alloc)?;
         Ok(DumpPrinter {
@@ -38,7 +38,7 @@ impl LinePrinter for DumpPrinter {
 
     ghost end_count = { no_ends };
 
-    ghost has_printed = { λ printer lines part. StandsFor printer.numbers.last (items_in lines) };
+    ghost has_printed = { λ printer lines part. NumbersStandFor printer.numbers.last (items_in lines) };
 
     ghost text_of = { text_with_end };
 

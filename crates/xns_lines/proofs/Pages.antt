@@ -5,7 +5,7 @@ use Rattle.std.specs.Io.KnownBytes.{Appends}
 use Rattle.xns_lines.specs.Faults.{AppendsFront, AppendsPart, Begins, HasWritten}
 use Rattle.xns_lines.specs.Lines.{IsWithinLimits, lines_of}
 use Rattle.xns_lines.specs.Lines.Cutter.{Says, StandsAfter, StopsShort}
-use Rattle.xns_lines.specs.Printing.{EndCount, HasFailed, HasRefused, IsAtEnd, StandsFor, StopsAt, StopsIn, StopsInEnd, TakesAll, TakesSome, TextOf, TextWithEnd, text_to_end}
+use Rattle.xns_lines.specs.Printing.{EndCount, HasFailed, HasRefused, IsAtEnd, PrinterStandsFor, StopsAt, StopsIn, StopsInEnd, TakesAll, TakesSome, TextOf, TextWithEnd, text_to_end}
 use Rattle.xns_lines.specs.Report.{whole}
 use Rattle.xns_lines.specs.declared.fault.RunFault.{RunFault}
 use Rattle.xns_lines.specs.declared.fault.RunFault.TheVariants as fault
@@ -14,7 +14,7 @@ use Rattle.xns_lines.proofs.Writes.{appends_nothing, appends_trans, begins_trans
 
 -- nothing is printed of no lines
 pub none_printed : (has_printed : Says) (text_of : TextOf) (has_refused : HasRefused) (p : Page) (known : Option (List ℕ)) → whole p.text ≡ [] → p.is_refused ≡ false → text_of [] ≡ [] → has_refused [] ≡ false → has_printed []
-    → StandsFor has_printed text_of has_refused p false known known []
+    → PrinterStandsFor has_printed text_of has_refused p false known known []
 none_printed has_printed text_of has_refused p known text refused none none_refused begun = record {
   refused = refused ∙ sym none_refused;
   written = ([], appends_nothing known, text ∙ sym none);
@@ -23,7 +23,7 @@ none_printed has_printed text_of has_refused p known text refused none none_refu
 
 -- the page is written
 pub flushed : (has_printed : Says) (text_of : TextOf) (has_refused : HasRefused) (p p' : Page) (is_lost : Bool) (before mid after : Option (List ℕ)) (lines : List (List ℕ)) → whole p'.text ≡ [] → p'.is_refused ≡ p.is_refused
-    → Appends mid after (whole p.text) → StandsFor has_printed text_of has_refused p is_lost before mid lines → StandsFor has_printed text_of has_refused p' is_lost before after lines
+    → Appends mid after (whole p.text) → PrinterStandsFor has_printed text_of has_refused p is_lost before mid lines → PrinterStandsFor has_printed text_of has_refused p' is_lost before after lines
 flushed has_printed text_of has_refused p p' is_lost before mid after lines none same text h = record {
   refused = same ∙ h.refused;
   written = (
@@ -62,7 +62,7 @@ none_left before mid after pending text none front left =
 
 module _ (has_printed : Says) (text_of : TextOf) (has_refused : HasRefused) (p : Page) (is_lost : Bool) (mid after : Option (List ℕ)) where
   abbrev Stands : Option (List ℕ) → List (List ℕ) → Type 0
-  Stands before lines = StandsFor has_printed text_of has_refused p is_lost before mid lines
+  Stands before lines = PrinterStandsFor has_printed text_of has_refused p is_lost before mid lines
 
   abbrev Fails : Option (List ℕ) → List (List ℕ) → Type 0
   Fails before lines = HasFailed text_of p before mid lines
@@ -126,7 +126,7 @@ module _ (most : ℕ) (has_printed : List (List ℕ) → ℕ → Type 0) (text_o
   -- it stopped at the end
   pub end_short : (f : RunFault) (page : Page) (is_lost : Bool) (before after : Option (List ℕ)) (input : List ℕ) → IsWithinLimits most input
       → StopsInEnd f has_printed text_of has_refused page is_lost before after (lines_of input) (end_count (lines_of input))
-      → StopsAt most end_count f input input (λ part. StandsAfter f (StandsFor (λ xs. has_printed xs part) (λ xs. text_of xs part) (λ xs. has_refused xs part) page is_lost before after)
+      → StopsAt most end_count f input input (λ part. StandsAfter f (PrinterStandsFor (λ xs. has_printed xs part) (λ xs. text_of xs part) (λ xs. has_refused xs part) page is_lost before after)
       (HasFailed (λ xs. text_of xs part) page before after))
   end_short fault.Read page is_lost before after input within s = absurd s.2
   end_short fault.LineTooLong page is_lost before after input within s = absurd s.2

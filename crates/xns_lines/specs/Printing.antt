@@ -37,7 +37,8 @@ pub record IsBegun (has_refused : HasRefused) (page : Page) (lines : List (List 
   pub refused : page.is_refused ≡ has_refused lines
 
 -- the line behind these lines is printed: its text is what they and it say more than they
-pub record IsPrinted (has_printed : Says) (text_of : TextOf) (has_refused : HasRefused) (page : Page) (lines : List (List ℕ)) (line : List ℕ) : Type 0 where
+pub record IsPrinted (has_printed : Says) (text_of : TextOf) (has_refused : HasRefused) (page : Page) (lines : List (List ℕ))
+    (line : List ℕ) : Type 0 where
   pub printed : has_printed (lines ++ line ∷ [])
   pub text : text_of (lines ++ line ∷ []) ≡ text_of lines ++ page.text.line
   pub refused : page.is_refused ≡ has_refused (lines ++ line ∷ [])
@@ -56,7 +57,8 @@ IsWritten before after pending text = (out : List ℕ) × Appends before after o
 
 -- the writer, which held `before`, has the text of these lines but for what is on the page; the printer has printed them, until memory is
 -- refused
-pub record StandsFor (has_printed : Says) (text_of : TextOf) (has_refused : HasRefused) (page : Page) (is_lost : Bool) (before after : Option (List ℕ)) (lines : List (List ℕ)) : Type 0 where
+pub record PrinterStandsFor (has_printed : Says) (text_of : TextOf) (has_refused : HasRefused) (page : Page) (is_lost : Bool)
+    (before after : Option (List ℕ)) (lines : List (List ℕ)) : Type 0 where
   pub refused : page.is_refused ≡ has_refused lines
   pub written : IsWritten before after (whole page.text) (text_of lines)
   pub printed : is_lost ≡ false → has_printed lines
@@ -65,7 +67,7 @@ pub record StandsFor (has_printed : Says) (text_of : TextOf) (has_refused : HasR
 abbrev pub StandsBehind : (List (List ℕ) → ℕ → Type 0) → TextWithEnd → (List (List ℕ) → ℕ → Bool) → ℕ → Page → Bool → Option (List ℕ)
     → Option (List ℕ) → Says
 StandsBehind has_printed text_of has_refused part page is_lost before after lines =
-    StandsFor (λ xs. has_printed xs part) (λ xs. text_of xs part) (λ xs. has_refused xs part) page is_lost before after lines
+    PrinterStandsFor (λ xs. has_printed xs part) (λ xs. text_of xs part) (λ xs. has_refused xs part) page is_lost before after lines
 
 -- after a failed write nothing is pending, and something of the text was not written
 abbrev pub HasFailed : TextOf → Page → Option (List ℕ) → Option (List ℕ) → List (List ℕ) → Type 0
@@ -107,7 +109,8 @@ pub record StopsAt (most : ℕ) (end_count : EndCount) (f : RunFault) (input rea
 
 -- a prefix of the text of what was read is written, and that is the text of all lines before the one at which it stopped; what was read
 -- is the prefix of the input that is no longer left
-pub record StopsIn (most : ℕ) (text_of : TextWithEnd) (end_count : EndCount) (input : List ℕ) (left before after : Option (List ℕ)) (f : RunFault) : Type 0 where
+pub record StopsIn (most : ℕ) (text_of : TextWithEnd) (end_count : EndCount) (input : List ℕ) (left before after : Option (List ℕ))
+    (f : RunFault) : Type 0 where
   pub read : List ℕ
   pub consumed : Consumes (Some input) left read
   pub front : AppendsFront before after (text_to_end text_of end_count (lines_of read))

@@ -31,6 +31,6 @@ AreWords [] = Unit {0}
 AreWords (packet ∷ packets) = (packet.1 < 65536) × AreWords packets
 
 -- the map has the number of the last item of each flow of these packets
-pub record StandsFor (last : BTreeMap Flow ℕ) (packets : List DataPacket) : Type 0 where
+pub record NumbersStandFor (last : BTreeMap Flow ℕ) (packets : List DataPacket) : Type 0 where
   pub numbers : (flow : Flow) → get flow_cmp last flow ≡ last_number (fields_of flow packets)
   pub words : AreWords packets

@@ -3,7 +3,7 @@ ghost use Rattle.std.specs.Prelude.{◌≡◌, ◌++◌, [], ◌∷◌, ℕ, Lis
 ghost use Rattle.std.specs.Option.{option_to_list};
 ghost use Rattle.std.specs.BTreeMap.{IsUnchanged};
 ghost use Rattle.xns_dump.specs.Flows.{DataPacket, item_number};
-ghost use Rattle.xns_dump.specs.Flows.Numbers.{StandsFor, number_near, numbered, numbering};
+ghost use Rattle.xns_dump.specs.Flows.Numbers.{NumbersStandFor, number_near, numbered, numbering};
 
 use crate::flows::flow::Flow;
 use crate::flows::numbered::Numbered;
@@ -24,7 +24,7 @@ pub(crate) struct FlowNumbers {
 impl FlowNumbers {
     /// No flow yet.
     pub(crate) fn new(alloc: Global) -> Self
-        ensures { StandsFor result.last [] }
+        ensures { NumbersStandFor result.last [] }
     {
         FlowNumbers {
             last: BTreeMap::new(alloc),
@@ -40,9 +40,9 @@ impl FlowNumbers {
 
     /// Keeps the number of the next item of a flow. Where memory is refused, nothing has changed.
     pub(crate) fn note(&mut self, flow: Flow, sequence: u16, item: u64) -> Result<(), AllocError>
-        ensures after { OnOk result ((earlier : List DataPacket) → StandsFor self.old.last earlier → item
+        ensures after { OnOk result ((earlier : List DataPacket) → NumbersStandFor self.old.last earlier → item
             ≡ item_number earlier (flow, sequence)
-            → StandsFor self.new.last (earlier ++ (flow, sequence) ∷ [])) }
+            → NumbersStandFor self.new.last (earlier ++ (flow, sequence) ∷ [])) }
         ensures unchanged { OnErr result (IsUnchanged self.old.last self.new.last) }
     {
         // The definition names the field, and the code needs the number alone.
@@ -57,7 +57,7 @@ impl FlowNumbers {
     pub(crate) fn note_item(&mut self, item: Option<Numbered>) -> Result<(), AllocError>
         ensures after { OnOk result ((number : DataPacket → ℕ) (packet : Option DataPacket) (earlier : List DataPacket) → item
             ≡ numbered number packet → number ≡ item_number earlier
-            → StandsFor self.old.last earlier → StandsFor self.new.last (earlier ++ option_to_list packet)) }
+            → NumbersStandFor self.old.last earlier → NumbersStandFor self.new.last (earlier ++ option_to_list packet)) }
         ensures unchanged { OnErr result (IsUnchanged self.old.last self.new.last) }
     {
         match item {

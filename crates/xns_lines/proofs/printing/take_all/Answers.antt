@@ -1,7 +1,7 @@
 use Rattle.std.proofs.Common.{List, ℕ, Option, []}
 use Rattle.std.proofs.lemmas.Result.{err_from_is_err_and}
 use Rattle.xns_lines.specs.Lines.{lines_of}
-use Rattle.xns_lines.specs.Printing.{StandsFor, TakesAll, TakesSome}
+use Rattle.xns_lines.specs.Printing.{PrinterStandsFor, TakesAll, TakesSome}
 use Rattle.xns_lines.proofs.Pages.{end_short, if_some, lines_short}
 use Rattle.xns_lines.proofs.Writes.{if_err_1, on_ok_1}
 use Rattle.xns_lines.proofs.printing.take_all.Goals as goal
@@ -13,7 +13,7 @@ returns-in_err-take_lines-clause-err g c =
     let old = c.args.taker.now in
     let new = c.take_lines.new.taker in
     let begun = λ (before : Option (List ℕ)).
-    StandsFor (λ xs. printer.has_printed old.printer xs 0) (λ xs. printer.text_of xs 0) (λ xs. printer.has_refused xs 0) old.page old.is_lost before (g.W.Write.contents c.args.writer.now) [] in
+    PrinterStandsFor (λ xs. printer.has_printed old.printer xs 0) (λ xs. printer.text_of xs 0) (λ xs. printer.has_refused xs 0) old.page old.is_lost before (g.W.Write.contents c.args.writer.now) [] in
     rw (p.1, p.2) (if_some _
     (λ (input : List ℕ). TakesSome c.args.most (printer.has_printed new.printer) printer.text_of printer.has_refused printer.end_count new.page new.is_lost begun
     (g.R.Read.remaining c.take_lines.new.reader) (g.W.Write.contents c.take_lines.new.writer) c.in_err-take_lines.field-0.0 input)
@@ -30,7 +30,7 @@ returns-clause-ok g c =
     let old = c.args.taker.now in
     let new = c.finish.new.self in
     let begun = λ (before : Option (List ℕ)).
-    StandsFor (λ xs. printer.has_printed old.printer xs 0) (λ xs. printer.text_of xs 0) (λ xs. printer.has_refused xs 0) old.page old.is_lost before (g.W.Write.contents c.args.writer.now) [] in
+    PrinterStandsFor (λ xs. printer.has_printed old.printer xs 0) (λ xs. printer.text_of xs 0) (λ xs. printer.has_refused xs 0) old.page old.is_lost before (g.W.Write.contents c.args.writer.now) [] in
     on_ok_1 _ _ c.finish.result c.finish.ensures.ok (λ ok.
     if_some _
     (λ (input : List ℕ). TakesAll c.args.most (printer.has_printed new.printer) printer.text_of printer.has_refused printer.end_count new.page new.is_lost begun
@@ -43,7 +43,7 @@ returns-clause-err g c =
     let old = c.args.taker.now in
     let new = c.finish.new.self in
     let begun = λ (before : Option (List ℕ)).
-    StandsFor (λ xs. printer.has_printed old.printer xs 0) (λ xs. printer.text_of xs 0) (λ xs. printer.has_refused xs 0) old.page old.is_lost before (g.W.Write.contents c.args.writer.now) [] in
+    PrinterStandsFor (λ xs. printer.has_printed old.printer xs 0) (λ xs. printer.text_of xs 0) (λ xs. printer.has_refused xs 0) old.page old.is_lost before (g.W.Write.contents c.args.writer.now) [] in
     if_err_1 _ _ c.finish.result c.finish.ensures.err (λ fault err.
     if_some _
     (λ (input : List ℕ). TakesSome c.args.most (printer.has_printed new.printer) printer.text_of printer.has_refused printer.end_count new.page new.is_lost begun

@@ -1,6 +1,6 @@
 use Rattle.std.proofs.Common.{arith, ◌≡◌, ◌<◌, subst}
 use Rattle.std.proofs.lemmas.Result.{err_from_is_err_and}
-use Rattle.xns_lines.specs.Printing.{StandsFor}
+use Rattle.xns_lines.specs.Printing.{PrinterStandsFor}
 use Rattle.xns_lines.proofs.page_printer.PagePrinter.finish.Goals as goal
 
 pub returns-then-self-clause-err : goal.returns-then-self-clause-err
@@ -27,5 +27,5 @@ returns-clause-ok g c = λ before lines h.
     let printer = g.P.LinePrinter in
     let count = c.count_ends-part-end.ensures lines (h.printed c.if-self.false) in
     let all : c.loop-part.part ≡ printer.end_count lines = omega (arith, count) in
-    subst (λ n. StandsFor (λ xs. printer.has_printed c.loop-part.self.printer xs n) (λ xs. printer.text_of xs n) (λ xs. printer.has_refused xs n) c.loop-part.self.page c.loop-part.self.is_lost before (g.W.Write.contents c.loop-part.writer) lines) all
+    subst (λ n. PrinterStandsFor (λ xs. printer.has_printed c.loop-part.self.printer xs n) (λ xs. printer.text_of xs n) (λ xs. printer.has_refused xs n) c.loop-part.self.page c.loop-part.self.is_lost before (g.W.Write.contents c.loop-part.writer) lines) all
     (c.loop-part.invariant before lines h)
