@@ -60,7 +60,8 @@ acknowledged_event heading (Some number) = acknowledged heading number ∷ []
 abbrev pub read_on_over : Heading → List Early → Told → Told
 read_on_over heading [] t = t
 read_on_over heading (early ∷ rest) t =
-    if early.number == t.track.next then read_on_over heading rest (read_next heading (early.number + 1) early.item (record t { track = record t.track { early = rest } }))
+    if early.number == t.track.next then read_on_over heading rest
+    (read_next heading (early.number + 1) early.item (record t { track = record t.track { early = rest } }))
     else t
 
 abbrev pub read_on : Heading → Told → Told

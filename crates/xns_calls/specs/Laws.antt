@@ -12,8 +12,10 @@ use Rattle.xns_dump.specs.Dump.Line.{has_word}
 use Rattle.xns_dump.specs.Flows.{flow_of}
 use Rattle.xns_calls.specs.Calls.{calls_text, has_refusal}
 use Rattle.xns_calls.specs.Capture.{Known, after_sequenced, flow_behind, place_of}
-use Rattle.xns_calls.specs.Events.{AreWithinReach, Event, IsAmong, acknowledged_event, after_event, after_events, after_whole_event, after_whole_events, captured, captured_in, own_events, with_captured}
-use Rattle.xns_calls.specs.Exchange.{Scene, after_acknowledge, after_packet, after_told, first_track, of_other, seen_from_other, take_number, told_of}
+use Rattle.xns_calls.specs.Events.{AreWithinReach, Event, IsAmong, acknowledged_event, after_event, after_events, after_whole_event}
+use Rattle.xns_calls.specs.Events.{after_whole_events, captured, captured_in, own_events, with_captured}
+use Rattle.xns_calls.specs.Exchange.{Scene, after_acknowledge, after_packet, after_told, first_track, of_other, seen_from_other}
+use Rattle.xns_calls.specs.Exchange.{take_number, told_of}
 use Rattle.xns_calls.specs.Listening.{AreFaultless, heard_at_lines, message_lines, messages_heard, said_items}
 use Rattle.xns_calls.specs.Numbers.{near}
 use Rattle.xns_calls.specs.Reading.{Told}
@@ -49,10 +51,12 @@ AnItemIsAnEvent = (h : Heading) (f : Header) (item : Item) (s : Scene) (track : 
 pub record PacketsAreEvents : Type 0 where
   pub own : (h : Heading) (packet : PacketModel) (f : Header) (content : List ℕ) (s : Scene) (track : Track) → s.own.track ≡ Some track
       → after_packet h packet f content s
-      ≡ after_told (after_events (own_events h f content track (after_acknowledge h f.acknowledge s)) (told_of track s)) (after_acknowledge h f.acknowledge s)
+      ≡ after_told (after_events (own_events h f content track (after_acknowledge h f.acknowledge s)) (told_of track s))
+      (after_acknowledge h f.acknowledge s)
   pub behind : (h : Heading) (field : ℕ) (s : Scene) (track : Track) → s.other.track ≡ Some track
       → after_acknowledge h field s
-      ≡ seen_from_other (after_told (after_events (acknowledged_event (of_other h) (near track.next field)) (told_of track (seen_from_other s))) (seen_from_other s))
+      ≡ seen_from_other (after_told (after_events (acknowledged_event (of_other h) (near track.next field))
+      (told_of track (seen_from_other s))) (seen_from_other s))
   pub only : (h : Heading) (packet : PacketModel) (f : Header) (content : List ℕ) (s : Scene)
       → (after_packet h packet f content s).other.track ≡ (after_acknowledge h f.acknowledge s).other.track
 

@@ -1,7 +1,9 @@
 //! What a packet does to the flows of its connection.
 ghost use Rattle.std.specs.Prelude.{◌≡◌, ◌<◌, IfOk, IfSome, OnOk};
 ghost use Rattle.xns_idp.specs.Packet.{packet_model};
-ghost use Rattle.xns_calls.specs.Exchange.{acknowledged as acknowledged_of, advanced, after_acknowledge, after_new, after_packet, behind_last as behind_last_of, begun as begun_of, ended, first_track, new_number as new_number_of, scene};
+ghost use Rattle.xns_calls.specs.Exchange.{acknowledged as acknowledged_of, advanced, after_acknowledge, after_new, after_packet};
+ghost use Rattle.xns_calls.specs.Exchange.{behind_last as behind_last_of, begun as begun_of, ended, first_track};
+ghost use Rattle.xns_calls.specs.Exchange.{new_number as new_number_of, scene};
 ghost use Rattle.xns_calls.specs.Numbers.{most_numbers};
 
 use crate::bringing::{bring, read_or_keep};

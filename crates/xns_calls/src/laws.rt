@@ -1,5 +1,7 @@
 //! Laws of the definitions, as functions that do nothing.
-ghost use Rattle.xns_calls.specs.Laws.{AnItemIsAnEvent, HeardMessagesArePrinted, MissingItemsAreBeforeCapturedOnes, NothingIsMissing, NumbersAreReadBack, OtherConnectionsStay, PacketsAreEvents, RepeatsSayNothing, TheAnswerSaysRefused, WhatIsHeardIsTheConversation, WholeFlowsSayTheirConversation};
+ghost use Rattle.xns_calls.specs.Laws.{AnItemIsAnEvent, HeardMessagesArePrinted, MissingItemsAreBeforeCapturedOnes, NothingIsMissing};
+ghost use Rattle.xns_calls.specs.Laws.{NumbersAreReadBack, OtherConnectionsStay, PacketsAreEvents, RepeatsSayNothing, TheAnswerSaysRefused};
+ghost use Rattle.xns_calls.specs.Laws.{WhatIsHeardIsTheConversation, WholeFlowsSayTheirConversation};
 
 use courier_messages::laws::{conversation_is_read_sign_by_sign, one_item_more, signs_run_on};
 use xns_dump::laws::{joined_texts_say_refused, only_refusals_say_refused};

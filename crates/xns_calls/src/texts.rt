@@ -3,7 +3,8 @@ ghost use Rattle.std.specs.Prelude.{◌++◌};
 ghost use Rattle.std.specs.Fmt.{decimal};
 ghost use Rattle.xns_idp.specs.Packet.{packet_model};
 ghost use Rattle.xns_lines.specs.Report.{Adds};
-ghost use Rattle.xns_calls.specs.Texts.{answer_text, call_text, end_text, flow_line, heading_text, missing_line, reason_text, refused_line, words_end};
+ghost use Rattle.xns_calls.specs.Texts.{answer_text, call_text, end_text, flow_line, heading_text, missing_line, reason_text, refused_line};
+ghost use Rattle.xns_calls.specs.Texts.{words_end};
 
 use crate::heading::Heading;
 use courier_messages::{MessageFault, SessionFault};
