@@ -16,6 +16,7 @@ mod packet;
 mod scripting;
 mod service;
 mod simulating;
+mod two_hosts;
 mod values;
 mod words;
 
@@ -27,6 +28,7 @@ fn main(rt: HostRuntime) -> Result<(), anyhow::Error> {
     values::show(&rt, rt.alloc())?;
     calls::converse(&rt)?;
     words::call(&rt)?;
+    two_hosts::talk(&rt)?;
     network::play(&rt)?;
     counting_lines::count(&rt)?;
     scripting::read(&rt)?;
