@@ -28,6 +28,10 @@ stranger_since g =
 abbrev pub facts_of : Guest → Facts
 facts_of g = record { due = due_time g.connection.wait.due; has_packet = g.connection.owed.fresh; has_event = tells g.connection; lingers_since = lingers_since g.connection; stranger_since = stranger_since g }
 
+-- it may be forgotten: it is closed, the program was told, and it lingers no more
+abbrev pub may_go : Connection → Bool
+may_go c = is_some c.closed && (c.told && is_none (due_time c.wait.due))
+
 -- ---- one connection of them
 
 -- there is a connection with this number

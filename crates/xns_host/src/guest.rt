@@ -1,14 +1,13 @@
 //! A connection in its place at a host.
 
 ghost use Rattle.std.specs.Prelude.{◌≡◌, OnErr, OnOk};
-ghost use Rattle.xns_host.specs.Hosting.{facts_of, lingers_since, stranger_since};
+ghost use Rattle.xns_host.specs.Hosting.{facts_of, lingers_since, may_go, stranger_since};
 ghost use Rattle.courier_messages.specs.RawCalls.{words_call};
 ghost use Rattle.xns_host.specs.Reasons.{call_fault_of, answer_fault_of};
 ghost use Rattle.xns_host.specs.Refusing.{Answers};
 ghost use Rattle.xns_host.specs.Telling.{Hears};
 
 use crate::connection::Connection;
-use crate::due::Due;
 use crate::facts::Facts;
 use crate::host_fault::HostFault;
 use crate::opening_quote::OpeningQuote;
@@ -137,9 +136,11 @@ impl Guest {
     }
 
     /// Whether it may be forgotten: it is closed, the program was told, and it lingers no more.
-    pub fn is_done(&self) -> bool {
+    pub fn is_done(&self) -> bool
+        ensures { result ≡ may_go self.now.connection }
+    {
         self.connection.is_closed()
             && self.connection.is_told()
-            && self.connection.due() == Due::Never
+            && self.connection.due().time().is_none()
     }
 }

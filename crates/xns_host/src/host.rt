@@ -1,6 +1,6 @@
 //! Many connections behind one address.
 
-ghost use Rattle.std.specs.Prelude.{◌≡◌, ◌≢◌, ◌<◌, ◌≤◌, ℕ, length, false, IfOk, IfSome, OnErr, Some, None, Ok, Err, replicate, slice_get};
+ghost use Rattle.std.specs.Prelude.{◌≡◌, ◌≢◌, ◌<◌, ◌≤◌, ℕ, [], length, true, false, IfOk, IfSome, OnErr, Some, None, Ok, Err, replicate, slice_get};
 ghost use Rattle.courier_messages.specs.RawCalls.{words_call};
 ghost use Rattle.xns_idp.specs.Packet.{most_data};
 ghost use Rattle.xns_host.specs.Hosting.{IsApart, has_guest};
@@ -8,6 +8,7 @@ ghost use Rattle.xns_host.specs.Reasons.{call_fault_of, answer_fault_of};
 ghost use Rattle.xns_host.specs.Refusing.{Answers};
 ghost use Rattle.xns_host.specs.Settings.{IsFit, most_connections, wrong_setting};
 ghost use Rattle.xns_host.specs.Times.{HasEarliest};
+ghost use Rattle.xns_host.specs.Turns.{has_turn};
 ghost use Rattle.xns_host.specs.declared.guest.Guest.{Guest};
 ghost use Rattle.xns_host.specs.declared.host_fault.HostFault.TheVariants.{NoConnection, OutOfRange};
 ghost use Rattle.xns_host.specs.declared.setting.Setting.{Setting};
@@ -285,7 +286,10 @@ impl Host {
     /// handed. If the socket is served already, its list is replaced for new connections.
     ///
     /// An `Err` is [`HostFault::TooManyServices`] where 16 other sockets are served, or [`HostFault::NoMemory`].
-    pub fn serve(&mut self, socket: u16, programs: &[Program]) -> Result<(), HostFault> {
+    pub fn serve(&mut self, socket: u16, programs: &[Program]) -> Result<(), HostFault>
+        ensures guests { self.new.guests ≡ self.old.guests }
+        ensures agenda { self.new.agenda ≡ self.old.agenda }
+    {
         match Vec::from_slice(self.alloc, programs) {
             Ok(programs) => self.services.serve(socket, programs),
             Err(_) => Err(HostFault::NoMemory),
@@ -490,7 +494,9 @@ impl Host {
 
     /// Takes a packet in that came by this `via`, and says whether it was for the host. One that was not changes nothing: it is the
     /// program's to use.
-    pub fn receive(&mut self, now: u64, via: u32, bytes: &[u8]) -> bool {
+    pub fn receive(&mut self, now: u64, via: u32, bytes: &[u8]) -> bool
+        ensures unchanged { result ≡ false → (k : ℕ) → slice_get self.new.guests.items k ≡ slice_get self.old.guests.items k }
+    {
         let now = self.clock.tell(now);
         let Ok((packet, _)) = decode(bytes) else {
             return false;
@@ -517,7 +523,9 @@ impl Host {
     }
 
     /// Closes the connection whose opening packet an Error packet quotes; whether there is one that is not open yet.
-    fn refused(&mut self, now: u64, packet: &Packet<'_>) -> bool {
+    fn refused(&mut self, now: u64, packet: &Packet<'_>) -> bool
+        ensures unchanged { result ≡ false → (k : ℕ) → slice_get self.new.guests.items k ≡ slice_get self.old.guests.items k }
+    {
         if packet.target.host != self.host {
             return false;
         }
@@ -544,7 +552,9 @@ impl Host {
     }
 
     /// Takes a sequenced packet in; whether it was for the host.
-    fn sequenced(&mut self, now: u64, via: u32, bytes: &[u8]) -> bool {
+    fn sequenced(&mut self, now: u64, via: u32, bytes: &[u8]) -> bool
+        ensures unchanged { result ≡ false → (k : ℕ) → slice_get self.new.guests.items k ≡ slice_get self.old.guests.items k }
+    {
         let Ok(packet) = read_packet(bytes) else {
             return false;
         };
@@ -585,7 +595,9 @@ impl Host {
         opener: Peer,
         packet: &SppPacket<'_>,
         bytes: &[u8],
-    ) -> bool {
+    ) -> bool
+        ensures unchanged { result ≡ false → (k : ℕ) → slice_get self.new.guests.items k ≡ slice_get self.old.guests.items k }
+    {
         let Some((peer, peer_id)) = packet.opener() else {
             return false;
         };
@@ -740,7 +752,9 @@ impl Host {
     /// When [`next_packet`](Host::next_packet) wants to be asked at the latest; 0, which is at once, where something may be to go out.
     /// `None`: never, until something is done.
     pub fn wake(&self) -> Option<u64>
-        ensures { HasEarliest self.now.agenda.dues result }
+        ensures due { HasEarliest self.now.agenda.dues result }
+        ensures packet { (k : ℕ) → has_turn self.now.agenda.packets k ≡ true → result ≡ Some 0 }
+        ensures stray { self.now.strays.waiting ≢ [] → result ≡ Some 0 }
     {
         if !self.strays.is_empty() {
             return Some(0);
@@ -754,7 +768,10 @@ impl Host {
     }
 
     /// Whom the connection with this number was opened to, or who opened it. `None`: there is no such connection.
-    pub fn peer(&self, number: usize) -> Option<Address> {
+    pub fn peer(&self, number: usize) -> Option<Address>
+        ensures some { (g : Guest) → slice_get self.now.guests.items number ≡ Some (Some g) → result ≡ Some g.peer }
+        ensures none { has_guest (slice_get self.now.guests.items number) ≡ false → result ≡ None }
+    {
         match self.guests.get(number) {
             Some(Some(guest)) => Some(guest.peer),
             _ => None,
