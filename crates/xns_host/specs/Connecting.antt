@@ -1,7 +1,8 @@
 -- A connection: what is due, why it is closed, and what is owed.
 use Rattle.std.specs.Prelude.{ℕ, Bool, true, false, ◌||◌, ◌==◌, if◌then◌else◌, Option, Some, None, Result, Ok, Err}
 use Rattle.courier_messages.specs.declared.fault.SessionFault.{SessionFault}
-use Rattle.courier_messages.specs.declared.fault.SessionFault.TheVariants.{NoCommonVersion, BadVersions, BadMessage, WrongTransaction, BadReply, Stream, Failed}
+use Rattle.courier_messages.specs.declared.fault.SessionFault.TheVariants.{NoCommonVersion, BadVersions, BadMessage, WrongTransaction}
+use Rattle.courier_messages.specs.declared.fault.SessionFault.TheVariants.{BadReply, Stream, Failed}
 use Rattle.courier_messages.specs.declared.fault.SessionFault.TheVariants as faults
 use Rattle.courier_sessions.specs.declared.feed_refusal.FeedRefusal.{FeedRefusal}
 use Rattle.courier_sessions.specs.declared.feed_refusal.FeedRefusal.TheVariants.{Stopped, Busy, TooLong, Attention, Fault, NoMemory}
@@ -53,7 +54,8 @@ why_given_up c = if c.reply_sent then why_over c else Silent
 abbrev pub is_closing : ℕ → Bool
 is_closing stream = (stream == end_stream) || (stream == end_reply_stream)
 
--- why a connection is closed whose side refused an item, if it is: an item of the closing exchange, and one for which no memory was there, are none
+-- why a connection is closed whose side refused an item, if it is: an item of the closing exchange, and one for which no memory was there,
+-- are none
 abbrev pub why_fault : SessionFault → Option Why
 why_fault NoCommonVersion = Some (Refused (Fault NoCommonVersion))
 why_fault BadVersions = Some (Refused (Fault BadVersions))

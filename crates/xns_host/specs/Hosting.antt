@@ -1,5 +1,6 @@
 -- Many connections behind one address.
-use Rattle.std.specs.Prelude.{◌≡◌, ◌≢◌, ℕ, Bool, true, false, not, ◌&&◌, ◌||◌, ◌==◌, nat_lt, List, length, if◌then◌else◌, Option, Some, None, slice_get, slice_index_or, drop}
+use Rattle.std.specs.Prelude.{◌≡◌, ◌≢◌, ℕ, Bool, true, false, not, ◌&&◌, ◌||◌, ◌==◌, nat_lt, List, length, if◌then◌else◌, Option, Some}
+use Rattle.std.specs.Prelude.{None, slice_get, slice_index_or, drop}
 use Rattle.std.specs.Option.{is_some, is_none}
 use Rattle.std.specs.Result.{result_ok}
 use Rattle.xns_idp.specs.Reading.{word_at, address_at}
@@ -23,10 +24,17 @@ lingers_since c = if is_some c.closed && c.told then due_time c.wait.due else No
 -- since when its peer is silent, which opened it and said no more; nothing came of it yet
 abbrev pub stranger_since : Guest → Option ℕ
 stranger_since g =
-    if is_some g.opener && (not g.confirmed && (not g.heard_of && (not (is_some g.connection.closed) && not (tells g.connection)))) then Some g.connection.wait.heard_at else None
+    if is_some g.opener && (not g.confirmed && (not g.heard_of &&
+    (not (is_some g.connection.closed) && not (tells g.connection)))) then Some g.connection.wait.heard_at else None
 
 abbrev pub facts_of : Guest → Facts
-facts_of g = record { due = due_time g.connection.wait.due; has_packet = g.connection.owed.fresh; has_event = tells g.connection; lingers_since = lingers_since g.connection; stranger_since = stranger_since g }
+facts_of g = record {
+  due = due_time g.connection.wait.due;
+  has_packet = g.connection.owed.fresh;
+  has_event = tells g.connection;
+  lingers_since = lingers_since g.connection;
+  stranger_since = stranger_since g;
+}
 
 -- it may be forgotten: it is closed, the program was told, and it lingers no more
 abbrev pub may_go : Connection → Bool

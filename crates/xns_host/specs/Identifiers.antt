@@ -1,5 +1,6 @@
 -- The identifiers of new connections (XSIS 028112, Sequenced Packet Protocol, Connection Identifiers).
-use Rattle.std.specs.Prelude.{◌≡◌, ℕ, suc, zero, ◌+◌, ◌≤◌, Bool, List, [], ◌∷◌, ◌++◌, length, take, drop, AllPairs, Contains, All, ◌≢◌, Option, Some, None, slice_get, slice_set, slice_index_or}
+use Rattle.std.specs.Prelude.{◌≡◌, ℕ, suc, zero, ◌+◌, ◌≤◌, Bool, List, [], ◌∷◌, ◌++◌, length, take, drop, AllPairs, Contains, All, ◌≢◌}
+use Rattle.std.specs.Prelude.{Option, Some, None, slice_get, slice_set, slice_index_or}
 use Rattle.std.specs.Option.{is_none}
 use Rattle.rand_core.specs.Steps.{stream_of, steps_u32}
 use Rattle.rand_chacha.specs.ChaCha.{next_word, of_seed}

@@ -9,7 +9,8 @@ use Rattle.courier_sessions.specs.declared.answer_refusal.AnswerRefusal.TheVaria
 use Rattle.courier_sessions.specs.declared.call_refusal.CallRefusal.{CallRefusal}
 use Rattle.courier_sessions.specs.declared.call_refusal.CallRefusal.TheVariants as uncalled
 use Rattle.xns_host.specs.declared.host_fault.HostFault.{HostFault}
-use Rattle.xns_host.specs.declared.host_fault.HostFault.TheVariants.{OutOfRange, NoConnection, NoRoom, TooManyServices, Busy, PeerCalls, NoCall, Closing, TooLong, NoMemory}
+use Rattle.xns_host.specs.declared.host_fault.HostFault.TheVariants.{OutOfRange, NoConnection, NoRoom, TooManyServices, Busy, PeerCalls}
+use Rattle.xns_host.specs.declared.host_fault.HostFault.TheVariants.{NoCall, Closing, TooLong, NoMemory}
 use Rattle.xns_host.specs.declared.side.Side.{Side}
 use Rattle.xns_host.specs.declared.side.Side.TheVariants as sides
 

@@ -10,7 +10,16 @@ use Rattle.xns_host.specs.declared.settings.Settings.{Settings}
 
 -- times are in milliseconds
 abbrev pub usual_settings : Settings
-usual_settings = record { connections = 64; window = 8; backlog = 16; first_wait = 250; longest_wait = 8000; idle = 10000; tries = 8; strays = 16 }
+usual_settings = record {
+  connections = 64;
+  window = 8;
+  backlog = 16;
+  first_wait = 250;
+  longest_wait = 8000;
+  idle = 10000;
+  tries = 8;
+  strays = 16;
+}
 
 -- numbers of connections have 16 bits
 abbrev pub most_connections : ℕ

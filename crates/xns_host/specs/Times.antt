@@ -1,5 +1,6 @@
 -- A time for some of the connections, and the earliest.
-use Rattle.std.specs.Prelude.{◌≡◌, ◌≢◌, ℕ, ◌+◌, ◌-◌, ◌*◌, ◌<◌, ◌≤◌, nat_le, nat_lt, List, length, if◌then◌else◌, Option, Some, None, slice_get, slice_index_or}
+use Rattle.std.specs.Prelude.{◌≡◌, ◌≢◌, ℕ, ◌+◌, ◌-◌, ◌*◌, ◌<◌, ◌≤◌, nat_le, nat_lt, List, length, if◌then◌else◌, Option, Some, None}
+use Rattle.std.specs.Prelude.{slice_get, slice_index_or}
 
 -- there is a time, no later than this one
 abbrev pub IsBy : Option ℕ → ℕ → Type 0
@@ -33,7 +34,8 @@ node tree times i = if nat_lt i (length tree) then slice_index_or tree i None el
 -- each node above the times has the sooner time of the two below it, but the one above a node that was changed
 pub record IsTreeBut (tree times : List (Option ℕ)) (changed : ℕ) : Type 0 where
   pub same : length tree ≡ length times
-  pub rule : (i : ℕ) → 1 ≤ i → i < length tree → changed ≢ 2 * i → changed ≢ 2 * i + 1 → slice_index_or tree i None ≡ sooner (node tree times (2 * i)) (node tree times (2 * i + 1))
+  pub rule : (i : ℕ) → 1 ≤ i → i < length tree → changed ≢ 2 * i → changed ≢ 2 * i + 1
+      → slice_index_or tree i None ≡ sooner (node tree times (2 * i)) (node tree times (2 * i + 1))
 
 -- each node above the times does
 pub record IsTree (tree times : List (Option ℕ)) : Type 0 where

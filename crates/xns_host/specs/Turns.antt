@@ -1,5 +1,6 @@
 -- Which connections have a turn, and whose is first.
-use Rattle.std.specs.Prelude.{◌≡◌, ℕ, ◌+◌, Bool, true, false, min, List, if◌then◌else◌, Option, Some, None, replicate, slice_index_or, slice_set}
+use Rattle.std.specs.Prelude.{◌≡◌, ℕ, ◌+◌, Bool, true, false, min, List, if◌then◌else◌, Option, Some, None, replicate, slice_index_or}
+use Rattle.std.specs.Prelude.{slice_set}
 use Rattle.std.specs.Option.{is_some}
 use Rattle.xns_host.specs.Times.{HasEarliest}
 use Rattle.xns_host.specs.Waiting.{last_time}

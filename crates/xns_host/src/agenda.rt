@@ -33,9 +33,23 @@ impl Model for Agenda {
 
     ghost Value = { Plan };
 
-    ghost view = { λ a. record { dues = a.dues; packets = a.packets; events = a.events; closed = a.places.closed; strangers = a.places.strangers; free = a.free } };
+    ghost view = { λ a. record {
+      dues = a.dues;
+      packets = a.packets;
+      events = a.events;
+      closed = a.places.closed;
+      strangers = a.places.strangers;
+      free = a.free;
+    } };
 
-    ghost invariant = { λ a. IsFor (record { dues = a.dues; packets = a.packets; events = a.events; closed = a.places.closed; strangers = a.places.strangers; free = a.free }) (length a.dues) };
+    ghost invariant = { λ a. IsFor (record {
+      dues = a.dues;
+      packets = a.packets;
+      events = a.events;
+      closed = a.places.closed;
+      strangers = a.places.strangers;
+      free = a.free;
+    }) (length a.dues) };
 }
 
 /// So many numbers, each free.

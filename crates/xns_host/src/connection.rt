@@ -1,6 +1,7 @@
 //! A conversation with its waits.
 
-ghost use Rattle.std.specs.Prelude.{◌≡◌, ◌≢◌, ◌<◌, ◌&&◌, ◌||◌, ◌∷◌, ◌++◌, [], ℕ, not, nat_lt, if◌then◌else◌, true, false, OnOk, OnErr, IfOk, Some, None, Ok};
+ghost use Rattle.std.specs.Prelude.{◌≡◌, ◌≢◌, ◌<◌, ◌&&◌, ◌||◌, ◌∷◌, ◌++◌, [], ℕ, not, nat_lt, if◌then◌else◌, true, false, OnOk, OnErr};
+ghost use Rattle.std.specs.Prelude.{IfOk, Some, None, Ok};
 ghost use Rattle.std.specs.Option.{is_some};
 ghost use Rattle.courier_messages.specs.declared.message.Message.{Message};
 ghost use Rattle.courier_messages.specs.RawCalls.{words_call};
@@ -12,7 +13,8 @@ ghost use Rattle.xns_spp.specs.Sending.{tick_answer};
 ghost use Rattle.xns_spp.specs.State.{State, initiator_state, responder_state};
 ghost use Rattle.xns_spp.specs.Telling.{own_name, peer_name, unacknowledged_count};
 ghost use Rattle.xns_host.specs.Closing.{drains};
-ghost use Rattle.xns_host.specs.Connecting.{is_again, is_open_due, is_closed_due, why_over, why_given_up, is_closing, why_refused, why_after, owed_after, is_foreign};
+ghost use Rattle.xns_host.specs.Connecting.{is_again, is_open_due, is_closed_due, why_over, why_given_up, is_closing, why_refused};
+ghost use Rattle.xns_host.specs.Connecting.{why_after, owed_after, is_foreign};
 ghost use Rattle.xns_host.specs.Reasons.{call_fault_of, answer_fault_of};
 ghost use Rattle.xns_host.specs.Refusing.{Answers};
 ghost use Rattle.xns_host.specs.Settings.{IsFit};
@@ -115,7 +117,8 @@ fn why_refused(refusal: FeedRefusal) -> Option<Why>
 
 /// Why a connection is closed after its items moved, if it is.
 fn why_after(conversation: &Conversation, moved: Result<(), FeedRefusal>) -> Option<Why>
-    ensures { (s : State) → StandsFor conversation.now.endpoint s → result ≡ why_after conversation.now.closing (is_over conversation.now.closing s) moved }
+    ensures { (s : State) → StandsFor conversation.now.endpoint s
+        → result ≡ why_after conversation.now.closing (is_over conversation.now.closing s) moved }
 {
     match moved {
         Err(refusal) => why_refused(refusal),
@@ -152,8 +155,10 @@ fn after_moving(
     requires closed_due { closed ≢ None → is_closed_due wait.old.due ≡ true }
     ensures goes { Goes conversation.old conversation.new }
     ensures closed { closed ≢ None → result ≡ closed }
-    ensures why { closed ≡ None → (s : State) → StandsFor conversation.old.endpoint s → result ≡ why_after conversation.old.closing (is_over conversation.old.closing s) moved }
-    ensures timed { result ≡ None → (s : State) → StandsFor conversation.new.endpoint s → tick_answer s ≢ [] → is_again wait.new.due ≡ true }
+    ensures why { closed ≡ None → (s : State) → StandsFor conversation.old.endpoint s
+        → result ≡ why_after conversation.old.closing (is_over conversation.old.closing s) moved }
+    ensures timed { result ≡ None → (s : State) → StandsFor conversation.new.endpoint s → tick_answer s ≢ []
+        → is_again wait.new.due ≡ true }
     ensures open_due { result ≡ None → is_open_due wait.new.due ≡ true }
     ensures closed_due { result ≢ None → is_closed_due wait.new.due ≡ true }
     ensures deaf { result ≢ None → drains conversation.new.side conversation.new.closing ≡ true }
@@ -189,7 +194,8 @@ fn settled(
     requires closed_due { closed ≢ None → is_closed_due wait.old.due ≡ true }
     ensures goes { Goes conversation.old conversation.new }
     ensures closed { closed ≢ None → result ≡ closed }
-    ensures timed { result ≡ None → (s : State) → StandsFor conversation.new.endpoint s → tick_answer s ≢ [] → is_again wait.new.due ≡ true }
+    ensures timed { result ≡ None → (s : State) → StandsFor conversation.new.endpoint s → tick_answer s ≢ []
+        → is_again wait.new.due ≡ true }
     ensures open_due { result ≡ None → is_open_due wait.new.due ≡ true }
     ensures closed_due { result ≢ None → is_closed_due wait.new.due ≡ true }
     ensures deaf { result ≢ None → drains conversation.new.side conversation.new.closing ≡ true }
@@ -198,7 +204,8 @@ fn settled(
     ensures lingers { closed ≡ None → result ≢ None → wait.new ≡ lingering wait.old now }
     ensures owed { (owed.new.again ≡ owed.old.again) × (owed.new.asks ≡ owed.old.asks) × (owed.new.fresh ≡ true) }
     ensures word { owed.old.word ≡ true → owed.new.word ≡ true }
-    ensures calm { owed.new.moving ≡ false → drains conversation.new.side conversation.new.closing ≡ false → Calm conversation.old conversation.new }
+    ensures calm { owed.new.moving ≡ false → drains conversation.new.side conversation.new.closing ≡ false
+        → Calm conversation.old conversation.new }
 {
     let waiting = conversation.endpoint.waiting();
     let moved = conversation.settle(alloc);
@@ -210,7 +217,8 @@ fn settled(
 
 /// Whether a packet of the peer has more acknowledged, or opens the connection.
 fn is_progress(conversation: &Conversation, before: usize, was_open: bool) -> bool
-    ensures { (s : State) → StandsFor conversation.now.endpoint s → result ≡ nat_lt (unacknowledged_count s) before || (is_open s.ends && not was_open) }
+    ensures { (s : State) → StandsFor conversation.now.endpoint s
+        → result ≡ nat_lt (unacknowledged_count s) before || (is_open s.ends && not was_open) }
 {
     conversation.endpoint.unacknowledged() < before
         || (conversation.endpoint.is_open() && !was_open)
@@ -259,7 +267,8 @@ fn wait_unless(conversation: &Conversation, closed: Option<Why>, wait: &mut Wait
     requires open_due { closed ≡ None → is_open_due wait.old.due ≡ true }
     ensures kept { closed ≢ None → wait.new ≡ wait.old }
     ensures waits { closed ≡ None → (s : State) → StandsFor conversation.now.endpoint s → wait.new ≡ after_step wait.old (waits s) now }
-    ensures timed { closed ≡ None → (s : State) → StandsFor conversation.now.endpoint s → tick_answer s ≢ [] → is_again wait.new.due ≡ true }
+    ensures timed { closed ≡ None → (s : State) → StandsFor conversation.now.endpoint s → tick_answer s ≢ []
+        → is_again wait.new.due ≡ true }
     ensures open_due { closed ≡ None → is_open_due wait.new.due ≡ true }
 {
     if closed.is_some() {
@@ -327,7 +336,8 @@ impl Connection {
     ) -> Result<Connection, AllocError>
         requires settings { IsFit settings.now }
         requires id { 0 < id }
-        ensures tells { IfOk result (λ t. Tells t.conversation (new_story (initiator_state own id peer settings.now.window settings.now.backlog))) }
+        ensures tells { IfOk result (λ t. Tells t.conversation
+            (new_story (initiator_state own id peer settings.now.window settings.now.backlog))) }
         ensures open { IfOk result (λ t. (t.closed ≡ None) × (t.owed.again ≡ true)) }
     {
         courier_sessions::laws::a_session_is_its_conversation();
@@ -364,7 +374,8 @@ impl Connection {
         requires settings { IsFit settings.now }
         requires id { 0 < id }
         requires peer_id { 0 < peer_id }
-        ensures tells { IfOk result (λ t. Tells t.conversation (new_story (responder_state own id peer peer_id settings.now.window settings.now.backlog))) }
+        ensures tells { IfOk result (λ t. Tells t.conversation
+            (new_story (responder_state own id peer peer_id settings.now.window settings.now.backlog))) }
         ensures open { IfOk result (λ t. (t.closed ≡ None) × (t.owed.again ≡ false)) }
     {
         courier_sessions::laws::a_server_session_is_its_conversation();
@@ -391,10 +402,12 @@ impl Connection {
     /// Moves what can move.
     fn go_on(&mut self, alloc: Global, now: u64)
         ensures goes { Goes self.old.conversation self.new.conversation }
-        ensures calm { self.new.owed.moving ≡ false → drains self.new.conversation.side self.new.conversation.closing ≡ false → Calm self.old.conversation self.new.conversation }
+        ensures calm { self.new.owed.moving ≡ false → drains self.new.conversation.side self.new.conversation.closing ≡ false
+            → Calm self.old.conversation self.new.conversation }
         ensures closed { self.old.closed ≢ None → self.new.closed ≡ self.old.closed }
         ensures told { self.new.told ≡ self.old.told }
-        ensures owed { (self.new.owed.again ≡ self.old.owed.again) × (self.new.owed.asks ≡ self.old.owed.asks) × (self.new.owed.fresh ≡ true) }
+        ensures owed { (self.new.owed.again ≡ self.old.owed.again) × (self.new.owed.asks ≡ self.old.owed.asks)
+            × (self.new.owed.fresh ≡ true) }
         ensures word { self.old.owed.word ≡ true → self.new.owed.word ≡ true }
     {
         self.closed = settled(
@@ -410,7 +423,8 @@ impl Connection {
     /// Takes in the bytes of a packet, at this time. Where memory is refused it is as if the packet were lost.
     pub fn receive(&mut self, alloc: Global, now: u64, bytes: &[u8]) -> Result<(), AllocError>
         ensures tells { OnOk result (Hears self.old.conversation self.new.conversation bytes.now) }
-        ensures calm { OnOk result (self.new.owed.moving ≡ false → drains self.new.conversation.side self.new.conversation.closing ≡ false → CalmFrom self.old.conversation self.new.conversation (λ h. record h { state = after_receive h.state bytes.now })) }
+        ensures calm { OnOk result (self.new.owed.moving ≡ false → drains self.new.conversation.side self.new.conversation.closing ≡ false
+            → CalmFrom self.old.conversation self.new.conversation (λ h. record h { state = after_receive h.state bytes.now })) }
         ensures closed { self.old.closed ≢ None → self.new.closed ≡ self.old.closed }
         ensures told { self.new.told ≡ self.old.told }
         ensures fresh { OnOk result (self.new.owed.fresh ≡ true) }
@@ -454,7 +468,8 @@ impl Connection {
         ensures owed { self.new.owed ≡ owed_after self.old.owed result }
         ensures goes { Goes self.old.conversation self.new.conversation }
         ensures same { result ≢ GiveUp → (self.new.conversation ≡ self.old.conversation) × (self.new.closed ≡ self.old.closed) }
-        ensures given_up { result ≡ GiveUp → (self.old.closed ≡ None) × (self.new.closed ≡ Some (why_given_up self.old.conversation.closing)) }
+        ensures given_up { result ≡ GiveUp → (self.old.closed ≡ None)
+            × (self.new.closed ≡ Some (why_given_up self.old.conversation.closing)) }
         ensures told { self.new.told ≡ self.old.told }
     {
         let act = self.wait.act(now);
@@ -472,7 +487,8 @@ impl Connection {
         ensures goes { Goes self.old.conversation self.new.conversation }
         ensures closed { self.old.closed ≢ None → self.new ≡ self.old }
         ensures open { (s : State) → StandsFor self.old.conversation.endpoint s → is_open s.ends ≡ true → self.new ≡ self.old }
-        ensures not_served { (s : State) → StandsFor self.old.conversation.endpoint s → is_open s.ends ≡ false → self.old.closed ≡ None → (self.new.closed ≡ Some NotServed) × (self.new.wait ≡ lingering self.old.wait now) }
+        ensures not_served { (s : State) → StandsFor self.old.conversation.endpoint s → is_open s.ends ≡ false → self.old.closed ≡ None
+            → (self.new.closed ≡ Some NotServed) × (self.new.wait ≡ lingering self.old.wait now) }
         ensures told { self.new.told ≡ self.old.told }
     {
         if self.conversation.endpoint.is_open() {
@@ -491,7 +507,8 @@ impl Connection {
     pub fn next_packet(&mut self, alloc: Global, now: u64) -> Result<Option<Bytes>, AllocError>
         ensures goes { Goes self.old.conversation self.new.conversation }
         ensures rested { result ≡ Ok None → Rested self.old.conversation self.new.conversation }
-        ensures none { result ≡ Ok None → (self.new.owed.again ≡ false) × (self.new.owed.asks ≡ false) × (self.new.owed.word ≡ false) × (self.new.owed.fresh ≡ self.new.owed.moving) }
+        ensures none { result ≡ Ok None → (self.new.owed.again ≡ false) × (self.new.owed.asks ≡ false) × (self.new.owed.word ≡ false)
+            × (self.new.owed.fresh ≡ self.new.owed.moving) }
         ensures closed { self.old.closed ≢ None → self.new.closed ≡ self.old.closed }
         ensures told { self.new.told ≡ self.old.told }
     {
@@ -514,8 +531,12 @@ impl Connection {
         words: &[u16],
     ) -> Result<(), HostFault>
         ensures answer { Answers (call_fault_of self.old.conversation (words_call program version procedure words.now)) result }
-        ensures called { (h : Story) → Tells self.old.conversation h → result ≡ Ok tt → (m : Story) × Tells self.new.conversation m × GoesOn (record h { made = h.made ++ words_call program version procedure words.now ∷ [] }) m }
-        ensures calm { result ≡ Ok tt → self.new.owed.moving ≡ false → drains self.new.conversation.side self.new.conversation.closing ≡ false → CalmFrom self.old.conversation self.new.conversation (λ h. record h { made = h.made ++ words_call program version procedure words.now ∷ [] }) }
+        ensures called { (h : Story) → Tells self.old.conversation h → result ≡ Ok tt → (m : Story) × Tells self.new.conversation m
+            × GoesOn (record h { made = h.made ++ words_call program version procedure words.now ∷ [] }) m }
+        ensures calm { result ≡ Ok tt → self.new.owed.moving ≡ false
+            → drains self.new.conversation.side self.new.conversation.closing ≡ false
+            → CalmFrom self.old.conversation self.new.conversation
+            (λ h. record h { made = h.made ++ words_call program version procedure words.now ∷ [] }) }
         ensures closed { self.old.closed ≢ None → self.new.closed ≡ self.old.closed }
         ensures told { self.new.told ≡ self.old.told }
         ensures fresh { result ≡ Ok tt → self.new.owed.fresh ≡ true }
@@ -544,8 +565,13 @@ impl Connection {
         words: &[u16],
     ) -> Result<(), HostFault>
         ensures answer { Answers (answer_fault_of self.old.conversation kind words.now) result }
-        ensures answered { (h : Story) (k : ℕ) → Tells self.old.conversation h → asked_of self.old.conversation.side ≡ Some k → result ≡ Ok tt → (m : Story) × Tells self.new.conversation m × GoesOn (record h { answers = h.answers ++ answer_message kind k words.now ∷ [] }) m }
-        ensures calm { (k : ℕ) → asked_of self.old.conversation.side ≡ Some k → result ≡ Ok tt → self.new.owed.moving ≡ false → drains self.new.conversation.side self.new.conversation.closing ≡ false → CalmFrom self.old.conversation self.new.conversation (λ h. record h { answers = h.answers ++ answer_message kind k words.now ∷ [] }) }
+        ensures answered { (h : Story) (k : ℕ) → Tells self.old.conversation h → asked_of self.old.conversation.side ≡ Some k
+            → result ≡ Ok tt → (m : Story) × Tells self.new.conversation m
+            × GoesOn (record h { answers = h.answers ++ answer_message kind k words.now ∷ [] }) m }
+        ensures calm { (k : ℕ) → asked_of self.old.conversation.side ≡ Some k → result ≡ Ok tt → self.new.owed.moving ≡ false
+            → drains self.new.conversation.side self.new.conversation.closing ≡ false
+            → CalmFrom self.old.conversation self.new.conversation
+            (λ h. record h { answers = h.answers ++ answer_message kind k words.now ∷ [] }) }
         ensures closed { self.old.closed ≢ None → self.new.closed ≡ self.old.closed }
         ensures told { self.new.told ≡ self.old.told }
         ensures fresh { result ≡ Ok tt → self.new.owed.fresh ≡ true }
@@ -566,7 +592,8 @@ impl Connection {
     /// Closes once all that it has to say is said.
     pub fn close(&mut self, alloc: Global, now: u64)
         ensures goes { Goes self.old.conversation self.new.conversation }
-        ensures calm { self.new.owed.moving ≡ false → drains self.new.conversation.side self.new.conversation.closing ≡ false → Calm self.old.conversation self.new.conversation }
+        ensures calm { self.new.owed.moving ≡ false → drains self.new.conversation.side self.new.conversation.closing ≡ false
+            → Calm self.old.conversation self.new.conversation }
         ensures closed { self.old.closed ≢ None → self.new.closed ≡ self.old.closed }
         ensures told { self.new.told ≡ self.old.told }
         ensures fresh { self.new.owed.fresh ≡ true }
@@ -585,8 +612,11 @@ impl Connection {
     /// The message that waits for the program, once: an answer, or a call. `None` where none waits.
     pub fn take_message(&mut self, alloc: Global, now: u64) -> Option<PiecedMessage>
         ensures message { result ≡ waiting_message self.old.conversation.side }
-        ensures handed { (h : Story) (m : Message) → Tells self.old.conversation h → result ≡ Some m → (n : Story) × Tells self.new.conversation n × GoesOn (with_handed self.old.conversation.side h m) n }
-        ensures calm { (m : Message) → result ≡ Some m → self.new.owed.moving ≡ false → drains self.new.conversation.side self.new.conversation.closing ≡ false → CalmFrom self.old.conversation self.new.conversation (λ h. with_handed self.old.conversation.side h m) }
+        ensures handed { (h : Story) (m : Message) → Tells self.old.conversation h → result ≡ Some m → (n : Story)
+            × Tells self.new.conversation n × GoesOn (with_handed self.old.conversation.side h m) n }
+        ensures calm { (m : Message) → result ≡ Some m → self.new.owed.moving ≡ false
+            → drains self.new.conversation.side self.new.conversation.closing ≡ false
+            → CalmFrom self.old.conversation self.new.conversation (λ h. with_handed self.old.conversation.side h m) }
         ensures closed { self.old.closed ≢ None → self.new.closed ≡ self.old.closed }
         ensures told { self.new.told ≡ self.old.told }
         ensures none { result ≡ None → self.new ≡ self.old }
@@ -634,7 +664,8 @@ impl Connection {
     /// What is due, and when. Where something waits for the peer of a connection that is not closed, it goes out again at that time.
     pub fn due(&self) -> Due
         ensures due { result ≡ self.now.wait.due }
-        ensures timed { self.now.closed ≡ None → (s : State) → StandsFor self.now.conversation.endpoint s → tick_answer s ≢ [] → is_again result ≡ true }
+        ensures timed { self.now.closed ≡ None → (s : State) → StandsFor self.now.conversation.endpoint s → tick_answer s ≢ []
+            → is_again result ≡ true }
         ensures open { self.now.closed ≡ None → is_open_due result ≡ true }
         ensures closed { self.now.closed ≢ None → is_closed_due result ≡ true }
     {

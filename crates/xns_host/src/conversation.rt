@@ -256,7 +256,8 @@ impl Conversation {
     /// Takes in the bytes of a packet. The only error is want of memory: it is as if the packet were lost.
     pub fn receive(&mut self, alloc: Global, bytes: &[u8]) -> Result<Input, AllocError>
         ensures answer { IfOk result (λ i. (s : State) → StandsFor self.old.endpoint s → i ≡ input_answer s bytes.now) }
-        ensures tells { OnOk result ((h : Story) → Tells self.old h → Tells self.new (record h { state = after_receive h.state bytes.now })) }
+        ensures tells { OnOk result ((h : Story) → Tells self.old h
+            → Tells self.new (record h { state = after_receive h.state bytes.now })) }
         ensures beside { (self.new.side ≡ self.old.side) × (self.new.closing ≡ self.old.closing) }
         ensures unchanged { OnErr result (self.new ≡ self.old) }
         ensures memory { OnErr result ((s : State) → StandsFor self.old.endpoint s → StoresBytes s bytes.now) }
@@ -292,7 +293,8 @@ impl Conversation {
         words: &[u16],
     ) -> Result<(), HostFault>
         ensures answer { Answers (call_fault_of self.old (words_call program version procedure words.now)) result }
-        ensures called { (h : Story) → Tells self.old h → result ≡ Ok tt → Tells self.new (record h { made = h.made ++ words_call program version procedure words.now ∷ [] }) }
+        ensures called { (h : Story) → Tells self.old h → result ≡ Ok tt
+            → Tells self.new (record h { made = h.made ++ words_call program version procedure words.now ∷ [] }) }
         ensures drains { drains self.new.side self.new.closing ≡ drains self.old.side self.old.closing }
         ensures endpoint { self.new.endpoint ≡ self.old.endpoint }
         ensures unchanged { OnErr result (self.new ≡ self.old) }
@@ -310,7 +312,8 @@ impl Conversation {
     /// `TooLong`; `NoMemory`.
     pub fn answer(&mut self, alloc: Global, answer: Answer, words: &[u16]) -> Result<(), HostFault>
         ensures answer { Answers (answer_fault_of self.old answer words.now) result }
-        ensures answered { (h : Story) (k : ℕ) → Tells self.old h → asked_of self.old.side ≡ Some k → result ≡ Ok tt → Tells self.new (record h { answers = h.answers ++ answer_message answer k words.now ∷ [] }) }
+        ensures answered { (h : Story) (k : ℕ) → Tells self.old h → asked_of self.old.side ≡ Some k → result ≡ Ok tt
+            → Tells self.new (record h { answers = h.answers ++ answer_message answer k words.now ∷ [] }) }
         ensures drains { drains self.new.side self.new.closing ≡ drains self.old.side self.old.closing }
         ensures endpoint { self.new.endpoint ≡ self.old.endpoint }
         ensures unchanged { OnErr result (self.new ≡ self.old) }
@@ -390,7 +393,8 @@ impl Conversation {
     /// The packet without an item that is owed.
     fn system_packet(&self, alloc: Global, owed: &mut Owed) -> Result<Option<Bytes>, AllocError>
         ensures none { result ≡ Ok None → (owed.new.asks ≡ false) × (owed.new.word ≡ false) }
-        ensures answer { (s : State) (b : List ℕ) → StandsFor self.now.endpoint s → result ≡ Ok (Some b) → told_answer s owed.old.asks ≡ Some b }
+        ensures answer { (s : State) (b : List ℕ) → StandsFor self.now.endpoint s → result ≡ Ok (Some b)
+            → told_answer s owed.old.asks ≡ Some b }
         ensures beside { (owed.new.again ≡ owed.old.again) × (owed.new.moving ≡ owed.old.moving) × (owed.new.fresh ≡ owed.old.fresh) }
         ensures refused { OnErr result (owed.new ≡ owed.old) }
     {

@@ -1,6 +1,7 @@
 //! Many connections behind one address.
 
-ghost use Rattle.std.specs.Prelude.{◌≡◌, ◌≢◌, ◌<◌, ◌≤◌, ℕ, [], length, true, false, IfOk, IfSome, OnErr, Some, None, Ok, Err, replicate, slice_get};
+ghost use Rattle.std.specs.Prelude.{◌≡◌, ◌≢◌, ◌<◌, ◌≤◌, ℕ, [], length, true, false, IfOk, IfSome, OnErr, Some, None, Ok, Err, replicate};
+ghost use Rattle.std.specs.Prelude.{slice_get};
 ghost use Rattle.courier_messages.specs.RawCalls.{words_call};
 ghost use Rattle.xns_idp.specs.Packet.{most_data};
 ghost use Rattle.xns_host.specs.Hosting.{IsApart, has_guest};
@@ -82,7 +83,8 @@ fn call_in(
     words: &[u16],
 ) -> Result<(), HostFault>
     ensures none { slot.old ≡ None → result ≡ Err (NoConnection number) }
-    ensures answer { (g : Guest) → slot.old ≡ Some g → Answers (call_fault_of g.connection.conversation (words_call program version procedure words.now)) result }
+    ensures answer { (g : Guest) → slot.old ≡ Some g → Answers
+        (call_fault_of g.connection.conversation (words_call program version procedure words.now)) result }
     ensures unchanged { OnErr result (slot.new ≡ slot.old) }
 {
     let Some(guest) = slot else {
@@ -420,7 +422,8 @@ impl Host {
     ) -> Result<(), HostFault>
         ensures apart { IsApart self.old.guests.items self.new.guests.items number }
         ensures none { has_guest (slice_get self.old.guests.items number) ≡ false → result ≡ Err (NoConnection number) }
-        ensures answer { (g : Guest) → slice_get self.old.guests.items number ≡ Some (Some g) → Answers (call_fault_of g.connection.conversation (words_call program version procedure words.now)) result }
+        ensures answer { (g : Guest) → slice_get self.old.guests.items number ≡ Some (Some g)
+            → Answers (call_fault_of g.connection.conversation (words_call program version procedure words.now)) result }
         ensures unchanged { OnErr result ((k : ℕ) → slice_get self.new.guests.items k ≡ slice_get self.old.guests.items k) }
         ensures agenda { OnErr result (self.new.agenda ≡ self.old.agenda) }
     {
@@ -456,7 +459,8 @@ impl Host {
     ) -> Result<(), HostFault>
         ensures apart { IsApart self.old.guests.items self.new.guests.items number }
         ensures none { has_guest (slice_get self.old.guests.items number) ≡ false → result ≡ Err (NoConnection number) }
-        ensures answer { (g : Guest) → slice_get self.old.guests.items number ≡ Some (Some g) → Answers (answer_fault_of g.connection.conversation answer words.now) result }
+        ensures answer { (g : Guest) → slice_get self.old.guests.items number ≡ Some (Some g)
+            → Answers (answer_fault_of g.connection.conversation answer words.now) result }
         ensures unchanged { OnErr result ((k : ℕ) → slice_get self.new.guests.items k ≡ slice_get self.old.guests.items k) }
         ensures agenda { OnErr result (self.new.agenda ≡ self.old.agenda) }
     {

@@ -1,6 +1,7 @@
 //! The identifiers of new connections.
 
-ghost use Rattle.std.specs.Prelude.{◌≡◌, ◌≢◌, ◌<◌, ℕ, length, IfOk, IfSome, IsPermutation, Some, None, true, position, slice_get, slice_index_or, slice_set};
+ghost use Rattle.std.specs.Prelude.{◌≡◌, ◌≢◌, ◌<◌, ℕ, length, IfOk, IfSome, IsPermutation, Some, None, true, position, slice_get};
+ghost use Rattle.std.specs.Prelude.{slice_index_or, slice_set};
 ghost use Rattle.xns_host.specs.Identifiers.{IsOrder, Gives, is_free, most_id, numbers, order_of};
 
 use rand::seq::SliceRandom;
@@ -14,7 +15,8 @@ use std::marker::Model;
 const MOST_ID: u16 = 65_535;
 
 /// The identifiers from 1 to 65,535, in an order that a secret gives, and which connection has each. The first that is not in use is
-/// given, and stands behind all others then, with those before it, which are in use. A connection is found by its identifier without a walk.
+/// given, and stands behind all others then, with those before it, which are in use. A connection is found by its identifier without a
+/// walk.
 #[derive(Drop)]
 pub struct Identifiers {
     /// All of them, in the order in which they come next.
@@ -124,7 +126,8 @@ impl Identifiers {
     /// The identifier that [`take`](Identifiers::take) gives next. A `None`: all are in use.
     #[tactic(auto, using(crate::proofs::Ordered::id_known))]
     pub fn next(&self) -> Option<u16>
-        ensures given { (place : ℕ) → position (is_free self.now.owners) self.now.ahead ≡ Some place → result ≡ slice_get self.now.ahead place }
+        ensures given { (place : ℕ) → position (is_free self.now.owners) self.now.ahead ≡ Some place
+            → result ≡ slice_get self.now.ahead place }
         ensures none { position (is_free self.now.owners) self.now.ahead ≡ None → result ≡ None }
         ensures known { IfSome result (λ id. 0 < id) }
     {
@@ -134,7 +137,8 @@ impl Identifiers {
 
     /// The next identifier that no connection has: the one with this number has it from then on. A `None`: all are in use.
     pub fn take(&mut self, number: u16) -> Option<u16>
-        ensures given { (place : ℕ) → position (is_free self.old.owners) self.old.ahead ≡ Some place → IfSome result (Gives self.old self.new place number) }
+        ensures given { (place : ℕ) → position (is_free self.old.owners) self.old.ahead ≡ Some place
+            → IfSome result (Gives self.old self.new place number) }
         ensures some { (place : ℕ) → position (is_free self.old.owners) self.old.ahead ≡ Some place → result ≢ None }
         ensures none { position (is_free self.old.owners) self.old.ahead ≡ None → (result ≡ None) × (self.new ≡ self.old) }
         // Each identifier comes, and none twice, before one comes again.

@@ -8,7 +8,8 @@ ghost use Rattle.xns_host.specs.declared.due.Due.TheVariants.{AgainAt};
 /// Between two words of the peer at most as many packets go out by the time alone as are borne, whatever else is done. Each
 /// counts as one miss.
 pub fn a_silent_peer_is_given_up()
-    ensures { (w v : Waiting) (n : ℕ) → w.misses ≤ w.pace.tries → Silence w n v → (w.misses + n ≡ v.misses) × (w.misses + n ≤ w.pace.tries) }
+    ensures { (w v : Waiting) (n : ℕ) → w.misses ≤ w.pace.tries → Silence w n v → (w.misses + n ≡ v.misses)
+        × (w.misses + n ≤ w.pace.tries) }
 {}
 
 /// When something goes out again, the wait that begins is as long as the one before had said, and the next one is twice as long,

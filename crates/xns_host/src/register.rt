@@ -45,7 +45,8 @@ impl Register {
 
     /// The identifier that [`take`](Register::take) gives next. A `None`: all are in use.
     pub fn next(&self) -> Option<u16>
-        ensures given { (place : ℕ) → position (is_free self.now.identifiers.owners) self.now.identifiers.ahead ≡ Some place → result ≡ slice_get self.now.identifiers.ahead place }
+        ensures given { (place : ℕ) → position (is_free self.now.identifiers.owners) self.now.identifiers.ahead ≡ Some place
+            → result ≡ slice_get self.now.identifiers.ahead place }
         ensures none { position (is_free self.now.identifiers.owners) self.now.identifiers.ahead ≡ None → result ≡ None }
         ensures known { IfSome result (λ id. 0 < id) }
     {
@@ -61,8 +62,10 @@ impl Register {
 
     /// The next identifier that no connection has: the one with this number has it from then on. A `None`: all are in use.
     pub fn take(&mut self, number: u16) -> Option<u16>
-        ensures given { (place : ℕ) → position (is_free self.old.identifiers.owners) self.old.identifiers.ahead ≡ Some place → IfSome result (Gives self.old.identifiers self.new.identifiers place number) }
-        ensures none { position (is_free self.old.identifiers.owners) self.old.identifiers.ahead ≡ None → (result ≡ None) × (self.new.identifiers ≡ self.old.identifiers) }
+        ensures given { (place : ℕ) → position (is_free self.old.identifiers.owners) self.old.identifiers.ahead ≡ Some place
+            → IfSome result (Gives self.old.identifiers self.new.identifiers place number) }
+        ensures none { position (is_free self.old.identifiers.owners) self.old.identifiers.ahead ≡ None → (result ≡ None)
+            × (self.new.identifiers ≡ self.old.identifiers) }
         ensures peers { self.new.peers ≡ self.old.peers }
     {
         self.identifiers.take(number)

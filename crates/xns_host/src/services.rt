@@ -38,8 +38,10 @@ impl Services {
     #[tactic(auto, using(crate::proofs::Serving::serves))]
     pub fn serve(&mut self, socket: u16, programs: Vec<Program>) -> Result<(), HostFault>
         ensures served { OnOk result (Serves self.old.programs self.new.programs socket programs.items) }
-        ensures full { result ≡ Err TooManyServices → (programs_at self.old.programs socket ≡ None) × (btree_map_len self.old.programs ≡ most_services) }
-        ensures room { programs_at self.old.programs socket ≡ None → btree_map_len self.old.programs ≡ most_services → result ≡ Err TooManyServices }
+        ensures full { result ≡ Err TooManyServices → (programs_at self.old.programs socket ≡ None)
+            × (btree_map_len self.old.programs ≡ most_services) }
+        ensures room { programs_at self.old.programs socket ≡ None → btree_map_len self.old.programs ≡ most_services
+            → result ≡ Err TooManyServices }
         ensures unchanged { OnErr result (self.new.programs.entries ≡ self.old.programs.entries) }
     {
         if self.programs.len() == MOST_SERVICES && !self.programs.contains_key(&socket) {

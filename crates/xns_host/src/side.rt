@@ -5,7 +5,8 @@ ghost use Rattle.courier_messages.specs.declared.message.Message.{Message};
 ghost use Rattle.courier_messages.specs.RawCalls.{words_call};
 ghost use Rattle.courier_sessions.specs.Answering.{answer_message, has_items};
 ghost use Rattle.xns_spp.specs.Held.{Held};
-ghost use Rattle.xns_host.specs.Story.{Story, SideHas, Moves, MovesAll, Calms, IsListed, is_stopped, out_of, asked_of, has_call, has_message, waiting_message, with_handed};
+ghost use Rattle.xns_host.specs.Story.{Story, SideHas, Moves, MovesAll, Calms, IsListed, is_stopped, out_of, asked_of, has_call};
+ghost use Rattle.xns_host.specs.Story.{has_message, waiting_message, with_handed};
 ghost use Rattle.xns_host.specs.Refusing.{Answers, side_call_fault, side_answer_fault, call_result, answer_result};
 
 use crate::host_fault::HostFault;
@@ -102,7 +103,8 @@ impl Side {
         words: &[u16],
     ) -> Result<(), HostFault>
         ensures answer { Answers (side_call_fault self.old (words_call program version procedure words.now)) result }
-        ensures called { (h : Story) → SideHas h self.old → is_stopped self.old ≡ false → result ≡ Ok tt → SideHas (record h { made = h.made ++ words_call program version procedure words.now ∷ [] }) self.new }
+        ensures called { (h : Story) → SideHas h self.old → is_stopped self.old ≡ false → result ≡ Ok tt
+            → SideHas (record h { made = h.made ++ words_call program version procedure words.now ∷ [] }) self.new }
         ensures stopped { is_stopped self.new ≡ is_stopped self.old }
         ensures unchanged { OnErr result (self.new ≡ self.old) }
     {
@@ -118,7 +120,8 @@ impl Side {
     /// Answers the call that was handed.
     pub fn answer(&mut self, alloc: Global, answer: Answer, words: &[u16]) -> Result<(), HostFault>
         ensures answer { Answers (side_answer_fault self.old answer words.now) result }
-        ensures answered { (h : Story) (k : ℕ) → SideHas h self.old → is_stopped self.old ≡ false → asked_of self.old ≡ Some k → result ≡ Ok tt → SideHas (record h { answers = h.answers ++ answer_message answer k words.now ∷ [] }) self.new }
+        ensures answered { (h : Story) (k : ℕ) → SideHas h self.old → is_stopped self.old ≡ false → asked_of self.old ≡ Some k
+            → result ≡ Ok tt → SideHas (record h { answers = h.answers ++ answer_message answer k words.now ∷ [] }) self.new }
         ensures stopped { is_stopped self.new ≡ is_stopped self.old }
         ensures unchanged { OnErr result (self.new ≡ self.old) }
     {

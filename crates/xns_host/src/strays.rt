@@ -75,7 +75,8 @@ impl Strays {
         packet: &Packet<'_>,
     ) -> Result<bool, AllocError>
         requires { length packet.now.body.now ≤ most_data }
-        ensures answered { IfOk result (λ b. b ≡ true → IsAnswered own (packet_model packet.now) × (self.new ≡ with_stray self.old (stray_of via (echo_reply own (packet_model packet.now))))) }
+        ensures answered { IfOk result (λ b. b ≡ true → IsAnswered own (packet_model packet.now)
+            × (self.new ≡ with_stray self.old (stray_of via (echo_reply own (packet_model packet.now))))) }
         ensures none { IfOk result (λ b. b ≡ false → (IsAnswered own (packet_model packet.now) → ⊥) × (self.new ≡ self.old)) }
         ensures memory { OnErr result (IsAnswered own (packet_model packet.now)) }
         ensures unchanged { OnErr result (self.new ≡ self.old) }

@@ -1,6 +1,7 @@
 //! A time for some of the connections, and which is the earliest.
 
-ghost use Rattle.std.specs.Prelude.{◌≡◌, ◌≢◌, ◌≤◌, ◌<◌, ◌+◌, ◌*◌, ℕ, length, replicate, true, false, IfOk, Some, None, slice_get, slice_set};
+ghost use Rattle.std.specs.Prelude.{◌≡◌, ◌≢◌, ◌≤◌, ◌<◌, ◌+◌, ◌*◌, ℕ, length, replicate, true, false, IfOk, Some, None, slice_get};
+ghost use Rattle.std.specs.Prelude.{slice_set};
 ghost use Rattle.xns_host.specs.Times.{HasEarliest, HasNoneBy, IsEarliest, IsTree, IsTreeBut, node, sooner};
 
 use std::alloc::{AllocError, Global};

@@ -71,7 +71,8 @@ fn idle_due(pace: &Pace, heard_at: u64) -> Due
 }
 
 impl Wait {
-    ghost use Rattle.xns_host.specs.Waiting.{new_waiting, act_at, after_act, after_step, after_word, begun, missed, rested, lingering, waiting_on, idling};
+    ghost use Rattle.xns_host.specs.Waiting.{new_waiting, act_at, after_act, after_step, after_word, begun, missed, rested, lingering};
+    ghost use Rattle.xns_host.specs.Waiting.{waiting_on, idling};
 
     /// The waits of a connection that is made at this time.
     pub fn new(pace: Pace, now: u64) -> Wait
