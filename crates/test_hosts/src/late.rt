@@ -1,0 +1,8 @@
+/// An answer that is given at its time.
+#[derive(Drop)]
+pub struct Late {
+    pub at: u64,
+    /// Of the connection.
+    pub number: usize,
+    pub words: Vec<u16>,
+}

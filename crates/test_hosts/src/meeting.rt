@@ -1,0 +1,196 @@
+use crate::manner::Manner;
+use crate::player::SERVER;
+use std::alloc::{AllocError, Global};
+use xns_host::{Event, Host, Settings, Why};
+use xns_idp::Address;
+use xns_spp::{Bytes, Endpoint, Item, opening};
+
+/// Where the peer is.
+const PEER: Address = Address {
+    network: 1,
+    host: [0, 0, 170, 0, 3, 0],
+    socket: 3_000,
+};
+
+/// How long a meeting is, in milliseconds.
+const LONGEST: u64 = 600_000;
+
+/// The datastream types of the items that close.
+const END: u8 = 254;
+
+const END_REPLY: u8 = 255;
+
+/// A call's beginning: versions 3 to 3, a call, transaction 0, program 7.
+const HALF_A_CALL: [u8; 12] = [0, 3, 0, 3, 0, 0, 0, 0, 0, 0, 0, 7];
+
+/// A host, and a peer that is odd.
+#[derive(Drop)]
+pub struct Meeting {
+    alloc: Global,
+    manner: Manner,
+    host: Host,
+    /// `None`: it was not called yet.
+    peer: Option<Endpoint>,
+    /// What the peer said first.
+    first: Option<Bytes>,
+    now: u64,
+    packets: usize,
+    closed: Option<Why>,
+}
+
+fn item_of(alloc: Global, stream: u8, bytes: &[u8]) -> Result<Item, AllocError> {
+    Ok(Item {
+        stream,
+        attention: false,
+        last: stream != 0,
+        body: Bytes::new(Vec::from_slice(alloc, bytes)?),
+    })
+}
+
+impl Meeting {
+    pub fn new(alloc: Global, manner: Manner) -> Result<Meeting, anyhow::Error> {
+        let host = Host::new(
+            alloc,
+            SERVER.network,
+            SERVER.host,
+            Settings::default(),
+            [1; 32],
+        )?;
+        let mut meeting = Meeting {
+            alloc,
+            manner,
+            host,
+            peer: None,
+            first: None,
+            now: 0,
+            packets: 0,
+            closed: None,
+        };
+        if manner == Manner::ClosesInACall {
+            meeting.be_called()?;
+        } else {
+            meeting.call()?;
+        }
+        Ok(meeting)
+    }
+
+    /// The host calls the peer, by more words than the peer has room for.
+    fn call(&mut self) -> Result<(), anyhow::Error> {
+        let number = self.host.connect(0, 0, 1_024, PEER)?;
+        self.host.call(0, number, 7, 2, 1, &[7; 5_000])?;
+        Ok(())
+    }
+
+    /// The peer opens a connection to the host.
+    fn be_called(&mut self) -> Result<(), anyhow::Error> {
+        self.host.serve(SERVER.socket, &[])?;
+        let mut peer = Endpoint::initiator(self.alloc, PEER, 9, SERVER, 8, 16)?;
+        for packet in &peer.tick(self.alloc)? {
+            self.host.receive(0, 0, packet.as_slice());
+        }
+        let _ = peer.send(item_of(self.alloc, 0, &HALF_A_CALL)?);
+        let _ = peer.send(item_of(self.alloc, END, &[])?);
+        let _ = peer.send(item_of(self.alloc, END_REPLY, &[])?);
+        self.peer = Some(peer);
+        Ok(())
+    }
+
+    /// The peer hears the packet that opens the connection, and answers.
+    fn open(&mut self, bytes: &[u8]) -> Result<(), AllocError> {
+        let Some((caller, id)) = opening(bytes) else {
+            return Ok(());
+        };
+        if id == 0 {
+            return Ok(());
+        }
+        let mut peer = Endpoint::responder(self.alloc, PEER, 9, caller, id, 8, 16)?;
+        self.first = peer.receive(self.alloc, bytes)?.reply;
+        self.peer = Some(peer);
+        self.say_again();
+        Ok(())
+    }
+
+    /// The peer says what it said first.
+    fn say_again(&mut self) {
+        if let Some(first) = &self.first {
+            self.host.receive(self.now, 0, first.as_slice());
+        }
+    }
+
+    /// The peer hears a packet, and what it says comes to the host.
+    fn hear(&mut self, bytes: &[u8]) -> Result<(), AllocError> {
+        let Some(peer) = &mut self.peer else {
+            return self.open(bytes);
+        };
+        match self.manner {
+            Manner::FallsSilent => {}
+            Manner::AcknowledgesNothing => self.say_again(),
+            Manner::GivesNoRoom | Manner::ClosesInACall => {
+                if let Some(reply) = peer.receive(self.alloc, bytes)?.reply {
+                    self.host.receive(self.now, 0, reply.as_slice());
+                }
+                for packet in &peer.flush(self.alloc)? {
+                    self.host.receive(self.now, 0, packet.as_slice());
+                }
+            }
+        }
+        Ok(())
+    }
+
+    /// The host's next packet comes to the peer; whether there was one.
+    fn step(&mut self) -> Result<bool, anyhow::Error> {
+        let Some(out) = self.host.next_packet(self.now)? else {
+            return Ok(false);
+        };
+        self.packets = self.packets.saturating_add(1);
+        self.hear(out.packet.as_slice())?;
+        Ok(true)
+    }
+
+    /// What the host tells.
+    fn listen(&mut self) {
+        if let Some(Event::Closed { why, .. }) = self.host.next_event() {
+            self.closed = Some(why);
+        }
+    }
+
+    /// Lets them talk while the host has packets, and goes on to when it wants to be asked again; whether there is such a time.
+    fn talk(&mut self) -> Result<bool, anyhow::Error> {
+        for _ in 0..100 {
+            if !self.step()? {
+                break;
+            }
+        }
+        self.listen();
+        let Some(at) = self.host.wake() else {
+            return Ok(false);
+        };
+        self.now = self.now.max(at);
+        Ok(self.now <= LONGEST)
+    }
+
+    /// Lets them talk until the host is at rest, or for ten minutes.
+    fn run(&mut self) -> Result<(), anyhow::Error> {
+        for _ in 0..1_000 {
+            if !self.talk()? {
+                break;
+            }
+        }
+        Ok(())
+    }
+
+    /// Puts what came of it.
+    fn tell(&self, text: &mut String) -> Result<(), AllocError> {
+        match self.closed {
+            Some(why) => write!(text, "closed, {why:?}, ")?,
+            None => text.push_str("open, ")?,
+        }
+        write!(text, "{} packets, {} ms", self.packets, self.now)
+    }
+
+    /// Runs it to its end, and puts what came of it.
+    pub fn run_and_tell(&mut self, text: &mut String) -> Result<(), anyhow::Error> {
+        self.run()?;
+        Ok(self.tell(text)?)
+    }
+}

@@ -1,0 +1,45 @@
+use xns_host::Why;
+
+/// What came of a play.
+#[derive(Clone, Copy, Default)]
+pub struct Outcome {
+    /// Answers that were those wanted.
+    pub right: usize,
+    /// Answers that were not, and calls of a host that were refused.
+    pub wrong: usize,
+    /// Connections that were closed because the program asked for it, because the peer did, and else.
+    pub asked: usize,
+    pub by_peer: usize,
+    pub otherwise: usize,
+}
+
+impl Outcome {
+    /// An answer came, which is right or not.
+    pub fn answered(&mut self, is_right: bool) {
+        if is_right {
+            self.right = self.right.saturating_add(1);
+        } else {
+            self.wrong = self.wrong.saturating_add(1);
+        }
+    }
+
+    /// A connection is closed.
+    pub fn closed(&mut self, why: Why) {
+        match why {
+            Why::Asked => self.asked = self.asked.saturating_add(1),
+            Why::ByPeer => self.by_peer = self.by_peer.saturating_add(1),
+            Why::Silent | Why::NotServed | Why::Refused(_) => {
+                self.otherwise = self.otherwise.saturating_add(1);
+            }
+        }
+    }
+
+    /// Takes another's counts besides.
+    pub fn add(&mut self, other: &Outcome) {
+        self.right = self.right.saturating_add(other.right);
+        self.wrong = self.wrong.saturating_add(other.wrong);
+        self.asked = self.asked.saturating_add(other.asked);
+        self.by_peer = self.by_peer.saturating_add(other.by_peer);
+        self.otherwise = self.otherwise.saturating_add(other.otherwise);
+    }
+}

@@ -1,0 +1,203 @@
+use crate::network::{Flying, Network};
+use crate::outcome::Outcome;
+use crate::player::{Player, SERVER, earlier};
+use crate::scene::Scene;
+use crate::{put_count, strangers};
+use courier_sessions::Program;
+use std::alloc::{AllocError, Global};
+
+/// The program that the server has.
+const LISTED: [Program; 1] = [Program {
+    number: 7,
+    lowest: 1,
+    highest: 3,
+}];
+
+/// From when on strangers come, in milliseconds.
+const STRANGERS_COME: u64 = 5_000;
+
+/// How long a play is, in milliseconds.
+const LONGEST: u64 = 600_000;
+
+/// Player 0 is called, the others call.
+#[derive(Drop)]
+pub struct Play {
+    alloc: Global,
+    scene: Scene,
+    players: Vec<Player>,
+    network: Network,
+    now: u64,
+    /// How many strangers have come.
+    strangers: usize,
+}
+
+impl Play {
+    pub fn new(alloc: Global, scene: Scene) -> Result<Play, anyhow::Error> {
+        let mut play = Play {
+            alloc,
+            scene,
+            players: Vec::new(alloc),
+            network: Network::new(alloc, scene),
+            now: 0,
+            strangers: 0,
+        };
+        play.enter_server()?;
+        for number in 0..scene.clients {
+            play.enter_client(number.saturating_add(1))?;
+        }
+        Ok(play)
+    }
+
+    fn enter_server(&mut self) -> Result<(), anyhow::Error> {
+        let mut player = Player::new(self.alloc, self.scene, 0)?;
+        player.host.serve(SERVER.socket, &LISTED)?;
+        self.players.push(player)?;
+        Ok(())
+    }
+
+    fn enter_client(&mut self, number: usize) -> Result<(), anyhow::Error> {
+        let mut player = Player::new(self.alloc, self.scene, number)?;
+        player.begin(0)?;
+        self.players.push(player)?;
+        Ok(())
+    }
+
+    fn outcome(&self) -> Outcome {
+        let mut all = Outcome::default();
+        for player in &self.players {
+            all.add(&player.outcome);
+        }
+        all
+    }
+
+    /// Puts what came of it.
+    fn tell(&self, text: &mut String) -> Result<(), AllocError> {
+        let outcome = self.outcome();
+        put_count(text, outcome.right, "right")?;
+        put_count(text, outcome.wrong, "wrong")?;
+        put_count(text, outcome.asked, "closed as asked")?;
+        put_count(text, outcome.by_peer, "by the peer")?;
+        put_count(text, outcome.otherwise, "else")?;
+        put_count(text, self.network.packets(), "packets")?;
+        write!(text, "{} ms", self.now)
+    }
+
+    /// Lets a player do one thing; whether there was one.
+    fn step(&mut self, place: usize) -> Result<bool, anyhow::Error> {
+        let Some(player) = self.players.get_mut(place) else {
+            return Ok(false);
+        };
+        if let Some(event) = player.host.next_event() {
+            player.hear(self.now, event)?;
+            return Ok(true);
+        }
+        if player.answer(self.now) {
+            return Ok(true);
+        }
+        let Some(out) = player.host.next_packet(self.now)? else {
+            return Ok(false);
+        };
+        self.network
+            .send(self.now, place, out.via as usize, out.packet.as_slice())?;
+        Ok(true)
+    }
+
+    /// Lets a player do what it can.
+    fn turn(&mut self, place: usize) -> Result<(), anyhow::Error> {
+        for _ in 0..10_000 {
+            if !self.step(place)? {
+                break;
+            }
+        }
+        Ok(())
+    }
+
+    /// When something happens next.
+    fn next_time(&self) -> Option<u64> {
+        let mut first = self.network.next_time();
+        for player in &self.players {
+            first = earlier(first, player.next_time());
+        }
+        first
+    }
+
+    /// A packet comes to a player, if there is one, who does what it can.
+    fn deliver(&mut self, packet: Flying) -> Result<(), anyhow::Error> {
+        let to = packet.to;
+        if let Some(player) = self.players.get_mut(to) {
+            let via = (packet.from % 65_536) as u32;
+            player.host.receive(self.now, via, packet.bytes.as_slice());
+        }
+        self.turn(to)
+    }
+
+    /// Lets a player do what it can, if its time has come.
+    fn wake(&mut self, place: usize) -> Result<(), anyhow::Error> {
+        let is_due = match self.players.get(place) {
+            Some(player) => player.is_due(self.now),
+            None => false,
+        };
+        if is_due {
+            self.turn(place)?;
+        }
+        Ok(())
+    }
+
+    /// Ten strangers come, while there are some left, once the clients had time to begin.
+    fn come(&mut self) -> Result<(), AllocError> {
+        if self.now < STRANGERS_COME {
+            return Ok(());
+        }
+        for _ in 0..10 {
+            if self.strangers >= self.scene.strangers {
+                return Ok(());
+            }
+            if let Some(server) = self.players.first_mut() {
+                strangers::come(self.alloc, self.now, self.strangers, &mut server.host)?;
+            }
+            self.strangers = self.strangers.saturating_add(1);
+        }
+        Ok(())
+    }
+
+    /// What happens at the next time; whether there is one.
+    fn advance(&mut self) -> Result<bool, anyhow::Error> {
+        let Some(at) = self.next_time() else {
+            return Ok(false);
+        };
+        self.now = self.now.max(at);
+        self.come()?;
+        for _ in 0..10_000 {
+            let Some(packet) = self.network.arrived(self.now) else {
+                break;
+            };
+            self.deliver(packet)?;
+        }
+        Ok(self.now <= LONGEST)
+    }
+
+    /// Whether all clients are done, and the server knows.
+    fn is_over(&self) -> bool {
+        let outcome = self.outcome();
+        outcome.asked >= self.scene.clients && outcome.by_peer >= self.scene.clients
+    }
+
+    /// Plays until all is done, or for ten minutes.
+    fn run(&mut self) -> Result<(), anyhow::Error> {
+        for _ in 0..1_000_000 {
+            for place in 0..self.players.len() {
+                self.wake(place)?;
+            }
+            if self.is_over() || !self.advance()? {
+                break;
+            }
+        }
+        Ok(())
+    }
+
+    /// Runs it to its end, and puts what came of it.
+    pub fn run_and_tell(&mut self, text: &mut String) -> Result<(), anyhow::Error> {
+        self.run()?;
+        Ok(self.tell(text)?)
+    }
+}

@@ -1,0 +1,31 @@
+use std::alloc::{AllocError, Global};
+
+/// The words of a client's call: at most so many.
+pub fn words_of(
+    alloc: Global,
+    client: usize,
+    call: usize,
+    most: usize,
+) -> Result<Vec<u16>, AllocError> {
+    let mut words = Vec::new(alloc);
+    let seed = call
+        .wrapping_mul(7_919)
+        .wrapping_add(client.wrapping_mul(31));
+    let count = seed.checked_rem(most.saturating_add(1)).unwrap_or(0);
+    for place in 0..count {
+        words.push((seed.wrapping_add(place) % 65_536) as u16)?;
+    }
+    Ok(words)
+}
+
+/// What is answered to these words: their sum before them.
+pub fn answer_to(alloc: Global, words: &[u16]) -> Result<Vec<u16>, AllocError> {
+    let mut answer = Vec::new(alloc);
+    let mut sum: u16 = 1;
+    for word in words {
+        sum = sum.wrapping_add(*word);
+    }
+    answer.push(sum)?;
+    answer.extend_from_slice(words)?;
+    Ok(answer)
+}
