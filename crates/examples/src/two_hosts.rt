@@ -11,21 +11,26 @@ const LISTED: Program = Program {
     highest: 2,
 };
 
-/// Makes a call, and prints what comes of it.
+/// Makes two hosts, and lets them meet.
 pub fn talk(rt: &HostRuntime) -> Result<(), anyhow::Error> {
     let alloc = rt.alloc();
     let usual = Settings::default();
     let mut service = Host::new(alloc, SERVER.network, SERVER.host, usual, [1; 32])?;
-    service.serve(SERVER.socket, &[LISTED])?;
     let mut client = Host::new(alloc, CALLER.network, CALLER.host, usual, [2; 32])?;
+    meet(rt, &mut client, &mut service)
+}
+
+/// Makes a call, and prints what comes of it.
+fn meet(rt: &HostRuntime, client: &mut Host, service: &mut Host) -> Result<(), anyhow::Error> {
+    service.serve(SERVER.socket, &[LISTED])?;
     let number = client.connect(0, 0, CALLER.socket, SERVER)?;
     client.call(0, number, 7, 2, 1, &[1, 2, 3])?;
     let mut now = 0;
     for _ in 0..40 {
-        carry(now, &mut client, &mut service)?;
-        answer(rt, now, &mut service)?;
-        carry(now, &mut service, &mut client)?;
-        hear(rt, now, &mut client)?;
+        carry(now, client, service)?;
+        answer(rt, now, service)?;
+        carry(now, service, client)?;
+        hear(rt, now, client)?;
         match earlier(client.wake(), service.wake()) {
             Some(wake) => now = now.max(wake),
             None => break,
