@@ -4,7 +4,7 @@ use Rattle.std.specs.Prelude.{length, map, nat_lt, take, true, false, slice_get,
 use Rattle.xns_idp.specs.Packet.{PacketModel, AreBytes, IsAddress, IsPacketAtFront}
 use Rattle.xns_idp.specs.Reading.{made_even}
 use Rattle.xns_idp.specs.declared.address.Address.{Address}
-use Rattle.xns_spp.specs.Ends.{IsEnds, is_open, most_pending}
+use Rattle.xns_spp.specs.Ends.{IsEnds, is_open, is_for_responder, most_pending}
 use Rattle.xns_spp.specs.Growth.{IsFresh, Grows, Stays, HearsNothing, HasCome, Takes, Acknowledges, IsOwnPacket}
 use Rattle.xns_spp.specs.Header.{IsHeader, SpellsHeader, header_spelling, header_of, system_bit, reply_control, has_bit, is_system}
 use Rattle.xns_spp.specs.Header.{brings_item, wants_reply}
@@ -48,6 +48,11 @@ pub record PacketAtFrontIsItsSpelling : Type 0 where
 
 abbrev pub OursIsAPacketAtTheFront : Type 0
 OursIsAPacketAtTheFront = (s : State) (b : List ℕ) → AreBytes b → (IsTrue (is_ours s b) ↔ IsOursAtFront s b)
+
+-- what a packet is asked by a responder's addresses and identifiers, its end says of the packet's bytes
+abbrev pub APacketForAResponderIsItsOwn : Type 0
+APacketForAResponderIsItsOwn = (s : State) (b : List ℕ) (p : SppPacketModel) → s.ends.role ≡ Responder → spp_packet_of b ≡ Ok p →
+    is_ours s b ≡ is_for_responder s.ends.own s.ends.id s.ends.peer s.ends.peer_id p
 
 pub record ForeignBytesChangeNothing : Type 0 where
   pub after : (s : State) (b : List ℕ) → is_ours s b ≡ false → after_receive s b ≡ s
