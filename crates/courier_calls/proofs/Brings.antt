@@ -20,7 +20,7 @@ use Rattle.courier_messages.specs.Bounds.{bytes_in}
 use Rattle.courier_messages.specs.Laws.{IsShort, OneItemMore, AServerHearsOneItemMore, WhatIsHeardHasNumbers}
 use Rattle.courier_messages.specs.Called.{calls_of, raws, server_ending}
 use Rattle.courier_calls.specs.Laws.{BringsNone, BringsOne, BringsAtMostOne}
-use Rattle.courier_calls.proofs.Lists.{all_front}
+use Rattle.xns_spp.specs.Fronts.{all_front}
 use Rattle.courier_calls.proofs.Lawful.{Values, keeps, keeps_all}
 use Rattle.courier_calls.proofs.Numbers.{IsHeard, heard_numbers}
 use Rattle.courier_calls.proofs.Sent.{raws_words}

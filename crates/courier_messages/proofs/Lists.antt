@@ -1,10 +1,8 @@
 -- One list begins another.
-use Rattle.std.proofs.Common.{◌≡◌, List, [], ◌∷◌, refl, ap}
+use Rattle.std.proofs.Common.{◌≡◌, List, [], ◌∷◌, refl}
 use Rattle.std.specs.Prelude.{map}
+use Rattle.xns_spp.specs.Fronts.{begins_cons}
 use Rattle.xns_spp.specs.Growth.{Begins}
-
-pub begins_cons : {X : Type 0} (x : X) (xs ys : List X) → Begins xs ys → Begins (x ∷ xs) (x ∷ ys)
-begins_cons {X} x xs ys p = (p.0, ap (λ (l : List X). x ∷ l) p.1)
 
 -- a prefix of a map is a map of a prefix
 pub front_of_map : {X Y : Type 0} (f : X → Y) (ys : List Y) (xs : List X) → Begins ys (map f xs) → (zs : List X) × (ys ≡ map f zs) × Begins zs xs

@@ -3,6 +3,7 @@ use Rattle.std.proofs.Common.{◌≡◌, sym, subst, refl, ℕ, zero, suc, ◌^�
 use Rattle.std.specs.Prelude.{if◌then◌else◌, ◌==◌}
 use Rattle.std.specs.List.{AllByRecursion}
 use Rattle.std.proofs.lemmas.List.Elements.{All-append, recursion_from_All}
+use Rattle.xns_spp.specs.Fronts.{all_append}
 use Rattle.xns_spp.specs.declared.item.Item.{Item}
 use Rattle.xns_spp.specs.Item.{IsItem}
 use Rattle.courier_types.specs.Spelling.{AreBytes}
@@ -17,10 +18,6 @@ use Rattle.courier_messages.specs.Conversation.{versions_fault, Phase, opening, 
 use Rattle.courier_messages.specs.Phases.{fresh_unless, opened, closed, step, ended, good, ◌then◌, onwards, said}
 use Rattle.courier_messages.proofs.Signs.{conversation_is}
 use Rattle.courier_messages.proofs.MessageWords.{read_is_spelled, byte_words}
-
-pub all_append : {X : Type 0} (P : X → Type 0) (xs ys : List X) → AllByRecursion P xs → AllByRecursion P ys → AllByRecursion P (xs ++ ys)
-all_append P [] ys h k = k
-all_append P (x ∷ xs) ys h k = (h.0, all_append P xs ys h.1 k)
 
 no_bytes : AreBytes []
 no_bytes i d lt = absurd (omega arith)

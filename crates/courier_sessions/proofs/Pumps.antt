@@ -1,5 +1,6 @@
 -- What holds while items move.
-use Rattle.std.proofs.Common.{◌≡◌, ℕ, ◌+◌, ◌<◌, ◌≤◌, ◌≢◌, ◌⊎◌, inl, inr, get_or, slice_get, List, [], ◌∷◌, length, Option, Some, None, Ok, Err, refl, sym, ◌∙◌, ap, subst, arith}
+use Rattle.std.proofs.Common.{◌≡◌, ℕ, ◌+◌, ◌<◌, ◌≤◌, ◌≢◌, ◌⊎◌, inl, inr, get_or, slice_get, List, [], ◌∷◌, length, Option, Some, None, Ok}
+use Rattle.std.proofs.Common.{Err, refl, sym, ◌∙◌, ap, subst, arith}
 use Rattle.std.proofs.lemmas.Option.{slice_get_past, slice_get_cases}
 use Rattle.xns_spp.specs.Held.{Held, StandsFor}
 use Rattle.xns_spp.specs.Sending.{send_fault, after_send, take_answer, handing, after_take}
@@ -22,7 +23,8 @@ pub record Feeding {S : Type 0} (side : Side S) (first : S × State) (session : 
   pub stands : StandsFor endpoint end
   pub left : length end.taken + fed ≡ end.handed + all
 
-there_in : {X : Type 0} (xs : List X) (i : ℕ) → i < length xs → ((x : X) × (i < length xs) × (slice_get xs i ≡ Some x) × (get_or xs i x ≡ x)) ⊎ ((length xs ≤ i) × (slice_get xs i ≡ None)) → (x : X) × (slice_get xs i ≡ Some x)
+there_in : {X : Type 0} (xs : List X) (i : ℕ) → i < length xs → ((x : X) × (i < length xs) × (slice_get xs i ≡ Some x)
+    × (get_or xs i x ≡ x)) ⊎ ((length xs ≤ i) × (slice_get xs i ≡ None)) → (x : X) × (slice_get xs i ≡ Some x)
 there_in xs i h (inl k) = (k.0, k.2)
 there_in xs i h (inr k) = absurd (omega (arith, h, k.0))
 
@@ -33,22 +35,31 @@ there_is xs i h = there_in xs i h (slice_get_cases xs i).1
 module _ {S : Type 0} (side : Side S) where
   -- ---- items that are sent
 
-  sends : (t : S) (v : State) (x : Item) (xs : List Item) → side.out t ≡ x ∷ xs → send_fault v x ≡ None → one_step side (t, v) ≡ Some (Ok (side.with_out t xs, after_send v x))
+  sends : (t : S) (v : State) (x : Item) (xs : List Item) → side.out t ≡ x ∷ xs → send_fault v x ≡ None →
+      one_step side (t, v) ≡ Some (Ok (side.with_out t xs, after_send v x))
   sends t v x xs is none =
       ap (λ (o : List Item). moving side t v o) is ∙ ap (λ (f : Option SendFault). sending f (side.with_out t xs) (after_send v x)) none
 
-  sent_from : (first : S × State) (t n : S) (e f : Held) (now : List Item) → side.out t ≡ now → length (side.out n) < length now → n ≡ side.with_out t (side.out n)
-      → ((s : State) (x : Item) (xs : List Item) → StandsFor e s → side.out t ≡ x ∷ xs → (send_fault s x ≡ None) × (side.out n ≡ xs) × StandsFor f (after_send s x))
+  sent_from : (first : S × State) (t n : S) (e f : Held) (now : List Item) → side.out t ≡ now → length (side.out n) < length now →
+      n ≡ side.with_out t (side.out n)
+      → ((s : State) (x : Item) (xs : List Item) → StandsFor e s → side.out t ≡ x ∷ xs → (send_fault s x ≡ None) × (side.out n ≡ xs)
+      × StandsFor f (after_send s x))
       → Going side first t e → Going side first n f
   sent_from first t n e f [] is fewer beside h g = absurd (omega (arith, fewer))
   sent_from first t n e f (x ∷ xs) is fewer beside h g =
       let k = h g.end x xs g.stands is in
       let same : side.with_out t xs ≡ n = ap (λ (o : List Item). side.with_out t o) (sym k.1) ∙ sym beside in
-      record { end = after_send g.end x; leads = on g.leads (sends t g.end x xs is k.0 ∙ ap (λ (m : S). Some (Ok (m, after_send g.end x))) same); stands = k.2 }
+      record {
+        end = after_send g.end x;
+        leads = on g.leads (sends t g.end x xs is k.0
+            ∙ ap (λ (m : S). Some (Ok (m, after_send g.end x))) same);
+        stands = k.2;
+      }
 
   -- one more item was sent
   pub sent : (first : S × State) (t n : S) (e f : Held) → length (side.out n) < length (side.out t) → n ≡ side.with_out t (side.out n)
-      → ((s : State) (x : Item) (xs : List Item) → StandsFor e s → side.out t ≡ x ∷ xs → (send_fault s x ≡ None) × (side.out n ≡ xs) × StandsFor f (after_send s x))
+      → ((s : State) (x : Item) (xs : List Item) → StandsFor e s → side.out t ≡ x ∷ xs → (send_fault s x ≡ None) × (side.out n ≡ xs)
+      × StandsFor f (after_send s x))
       → Going side first t e → Going side first n f
   sent first t n e f fewer beside h g = sent_from first t n e f (side.out t) refl fewer beside h g
 
@@ -56,7 +67,8 @@ module _ {S : Type 0} (side : Side S) where
   held_back t n v w None some = absurd (some refl)
   held_back t n v w (Some f) some = refl
 
-  no_send : (t : S) (v : State) (now : List Item) → side.out t ≡ now → side.out t ≢ [] → ((x : Item) (xs : List Item) → side.out t ≡ x ∷ xs → send_fault v x ≢ None) → moving side t v now ≡ None
+  no_send : (t : S) (v : State) (now : List Item) → side.out t ≡ now → side.out t ≢ [] →
+      ((x : Item) (xs : List Item) → side.out t ≡ x ∷ xs → send_fault v x ≢ None) → moving side t v now ≡ None
   no_send t v [] is some h = absurd (some is)
   no_send t v (x ∷ xs) is some h = held_back t (side.with_out t xs) v (after_send v x) (send_fault v x) (h x xs is)
 
@@ -90,13 +102,21 @@ module _ {S : Type 0} (side : Side S) where
       record { end = after_take g.end; leads = on g.leads (feeding_step t g.end none ∙ more.0); stands = more.1; left = left }
 
   -- the next item is refused
-  pub refused : (first : S × State) (t n : S) (e f : Held) (all k : ℕ) (refusal : FeedRefusal) → side.out t ≡ [] → f ≡ e → ((s : State) → StandsFor e s → Refuses side t (take_answer s) refusal n)
+  pub refused : (first : S × State) (t n : S) (e f : Held) (all k : ℕ) (refusal : FeedRefusal) → side.out t ≡ [] → f ≡ e →
+      ((s : State) → StandsFor e s → Refuses side t (take_answer s) refusal n)
       → Feeding side first t e all k → Pumped side first (Err refusal) n f
   refused first t n e f all k refusal none still h g =
-      record { last = (t, g.end); leads = g.leads; stands = subst (λ (d : Held). StandsFor d g.end) (sym still) g.stands; settled = (none, h g.end g.stands) }
+      record {
+        last = (t, g.end);
+        leads = g.leads;
+        stands = subst (λ (d : Held). StandsFor d g.end) (sym still) g.stands;
+        settled =
+            (none, h g.end g.stands);
+      }
 
   -- no step applies any more
-  pub settles : (first : S × State) (t n : S) (e f : Held) (all k : ℕ) → n ≡ t → f ≡ e → side.out t ≡ [] → ((s : State) → StandsFor e s → feeds side t s (take_answer s) ≡ None)
+  pub settles : (first : S × State) (t n : S) (e f : Held) (all k : ℕ) → n ≡ t → f ≡ e → side.out t ≡ [] →
+      ((s : State) → StandsFor e s → feeds side t s (take_answer s) ≡ None)
       → Feeding side first t e all k → Pumped side first (Ok tt) n f
   settles first t n e f all k same still none h g =
       record {
@@ -107,7 +127,8 @@ module _ {S : Type 0} (side : Side S) where
       }
 
   -- all that waited was fed
-  pub all_fed : (first : S × State) (t : S) (e : Held) (all k : ℕ) → side.out t ≡ [] → all ≤ k → Feeding side first t e all k → Pumped side first (Ok tt) t e
+  pub all_fed : (first : S × State) (t : S) (e : Held) (all k : ℕ) → side.out t ≡ [] → all ≤ k → Feeding side first t e all k →
+      Pumped side first (Ok tt) t e
   all_fed first t e all k none most g =
       let nothing : take_answer g.end ≡ None = slice_get_past g.end.taken g.end.handed (omega (arith, most, g.left)) in
       record {

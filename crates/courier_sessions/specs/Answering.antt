@@ -1,6 +1,7 @@
 -- The side of a Courier conversation that is called, over words (XSIS 038112, Courier).
 use Rattle.std.specs.Prelude.{◌≡◌, ℕ, List, [], ◌∷◌, ◌++◌, length, Bool, true, false, ◌||◌, ◌==◌, nat_lt, if◌then◌else◌, Option, Some, None}
 use Rattle.std.specs.Prelude.{Result, Ok, Err}
+use Rattle.std.specs.Option.{is_some}
 use Rattle.xns_spp.specs.declared.item.Item.{Item}
 use Rattle.courier_messages.specs.declared.fault.SessionFault.{SessionFault}
 use Rattle.courier_messages.specs.declared.message.Message.{Message}
@@ -13,7 +14,7 @@ use Rattle.courier_messages.specs.Called.{heard}
 use Rattle.courier_messages.specs.Rejects.{no_such_program, no_such_version, is_outside, version_words}
 use Rattle.courier_messages.specs.Text.{signs}
 use Rattle.courier_sessions.specs.Feeding as feeding
-use Rattle.courier_sessions.specs.Feeding.{longest_item}
+use Rattle.courier_sessions.specs.Feeding.{most_item}
 use Rattle.courier_sessions.specs.declared.answer.Answer.{Answer}
 use Rattle.courier_sessions.specs.declared.answer.Answer.TheVariants as answers
 use Rattle.courier_sessions.specs.declared.answer_refusal.AnswerRefusal.{AnswerRefusal}
@@ -50,17 +51,13 @@ new_answering programs = record {
 
 -- an item that comes
 
-abbrev pub is_there : {A : Type 0} → Option A → Bool
-is_there None = false
-is_there (Some m) = true
-
 abbrev pub has_items : List Item → Bool
 has_items [] = false
 has_items (x ∷ xs) = true
 
 -- what was put out, or a call, has to be fetched or answered first
 abbrev pub is_busy : Answering → Bool
-is_busy a = is_there a.call || is_there a.asked || has_items a.out
+is_busy a = is_some a.call || is_some a.asked || has_items a.out
 
 -- with the messages that an item ended, of which there is at most one
 abbrev pub with_call : Answering → List Message → Answering
@@ -81,7 +78,7 @@ fed a x =
     if a.failed then Err unfed.Stopped
     else if is_busy a then Err unfed.Busy
     else if x.attention then Err unfed.Attention
-    else if nat_lt longest_item (length x.body) then Err unfed.TooLong
+    else if nat_lt most_item (length x.body) then Err unfed.TooLong
     else feeding.heard (after_item a x)
 
 -- stopped
@@ -143,7 +140,7 @@ answer_message (answers.Abort error) transaction words = Abort transaction error
 -- the transaction of a call that waits to be handed, and that is listed
 abbrev pub unread : List Program → Option Message → Option ℕ
 unread programs None = None
-unread programs (Some m) = if is_there (why_unlisted programs m) then None else Some (transaction_in m)
+unread programs (Some m) = if is_some (why_unlisted programs m) then None else Some (transaction_in m)
 
 abbrev pub is_reject : Answer → Bool
 is_reject (answers.Reject reason) = true
@@ -152,7 +149,7 @@ is_reject (answers.Abort error) = false
 
 -- the call that an answer is for: the one that was handed; a reject is also for one that is not handed yet
 abbrev pub answers_to : Answering → Answer → Option ℕ
-answers_to a answer = if is_there a.asked then a.asked else if is_reject answer then unread a.programs a.call else None
+answers_to a answer = if is_some a.asked then a.asked else if is_reject answer then unread a.programs a.call else None
 
 abbrev pub length_refusal : Message → Option AnswerRefusal
 length_refusal m = if nat_lt most_words (length (message_words m)) then Some refusals.TooLong else None

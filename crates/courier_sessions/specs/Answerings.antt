@@ -1,17 +1,17 @@
 -- What a session that answers calls, and goes on, has done.
 use Rattle.std.specs.Prelude.{◌≡◌, ◌++◌, List, map, Bool, false, not, None, Ok, IfSome}
 use Rattle.std.specs.List.{filter, AllByRecursion}
-use Rattle.std.specs.Option.{option_to_list}
+use Rattle.std.specs.Option.{is_some, option_to_list}
 use Rattle.xns_spp.specs.declared.item.Item.{Item}
 use Rattle.courier_messages.specs.declared.message.Message.{Message}
 use Rattle.courier_messages.specs.Conversation.{conversation}
 use Rattle.courier_messages.specs.Laws.{items_of, IsShort}
 use Rattle.courier_messages.specs.Called.{server_ending}
 use Rattle.courier_sessions.specs.declared.program.Program.{Program}
-use Rattle.courier_sessions.specs.Answering.{Answering, transaction_in, is_there, is_a_call, why_unlisted}
+use Rattle.courier_sessions.specs.Answering.{Answering, transaction_in, is_a_call, why_unlisted}
 
 abbrev pub is_listed : List Program → Message → Bool
-is_listed programs m = not (is_there (why_unlisted programs m))
+is_listed programs m = not (is_some (why_unlisted programs m))
 
 -- no call, and at most 131,072 bytes
 abbrev pub IsAnswer : Message → Type 0

@@ -11,8 +11,8 @@ use Rattle.courier_sessions.specs.declared.feed_refusal.FeedRefusal.{FeedRefusal
 use Rattle.courier_sessions.specs.declared.feed_refusal.FeedRefusal.TheVariants.{Fault, NoMemory}
 
 -- no item has more bytes than the versions and the longest message
-abbrev pub longest_item : ℕ
-longest_item = 4 + most_bytes
+abbrev pub most_item : ℕ
+most_item = 4 + most_bytes
 
 -- a side with one more item of its peer's, or the first fault
 abbrev pub heard : {S : Type 0} → Result S SessionFault → Result S FeedRefusal

@@ -1,6 +1,7 @@
 -- The side of a Courier conversation that calls, over words (XSIS 038112, Courier).
 use Rattle.std.specs.Prelude.{◌≡◌, ℕ, ◌+◌, ◌%◌, List, [], ◌∷◌, ◌++◌, length, Bool, true, false, ◌&&◌, ◌||◌, ◌==◌, nat_lt, if◌then◌else◌}
 use Rattle.std.specs.Prelude.{Option, Some, None, Result, Ok, Err}
+use Rattle.std.specs.Option.{is_some}
 use Rattle.xns_spp.specs.declared.item.Item.{Item}
 use Rattle.courier_messages.specs.declared.fault.SessionFault.{SessionFault}
 use Rattle.courier_messages.specs.declared.fault.SessionFault.TheVariants.{WrongTransaction, BadReply}
@@ -12,7 +13,7 @@ use Rattle.courier_messages.specs.Cutting.{cut, versions_item}
 use Rattle.courier_messages.specs.RawCalls.{call_message}
 use Rattle.courier_messages.specs.Phases.{run, said, ◌then◌}
 use Rattle.courier_messages.specs.Text.{signs}
-use Rattle.courier_sessions.specs.Feeding.{longest_item, heard}
+use Rattle.courier_sessions.specs.Feeding.{most_item, heard}
 use Rattle.courier_sessions.specs.declared.call_refusal.CallRefusal.{CallRefusal}
 use Rattle.courier_sessions.specs.declared.call_refusal.CallRefusal.TheVariants as refusals
 use Rattle.courier_sessions.specs.declared.feed_refusal.FeedRefusal.{FeedRefusal}
@@ -42,15 +43,11 @@ next_transaction t = (t.transaction + 1) % 65536
 abbrev pub called : Talk → RawCall → Talk
 called t c = record t { out = t.out ++ cut (call_message (next_transaction t) c); transaction = next_transaction t; waiting = true }
 
-abbrev pub is_there : Option Message → Bool
-is_there None = false
-is_there (Some m) = true
-
 -- why a call may not be made
 abbrev pub call_refusal : Talk → RawCall → Option CallRefusal
 call_refusal t c =
     if t.failed then Some refusals.Stopped
-    else if t.waiting || is_there t.outcome then Some refusals.Busy
+    else if t.waiting || is_some t.outcome then Some refusals.Busy
     else if nat_lt most_call_words (length c.words) then Some refusals.TooLong
     else None
 
@@ -90,7 +87,7 @@ abbrev pub fed : Talk → Item → Result Talk FeedRefusal
 fed t x =
     if t.failed then Err unfed.Stopped
     else if x.attention then Err unfed.Attention
-    else if nat_lt longest_item (length x.body) then Err unfed.TooLong
+    else if nat_lt most_item (length x.body) then Err unfed.TooLong
     else heard (after_item t x)
 
 -- stopped: what is out and the answer that is there stay

@@ -13,7 +13,7 @@ ghost use Rattle.courier_sessions.specs.Talk.{Talk, new_talk, called, call_refus
 
 use crate::call_refusal::CallRefusal;
 use crate::feed_refusal::FeedRefusal;
-use crate::outgoing::{LONGEST_ITEM, copied_item, put_message};
+use crate::outgoing::{MOST_ITEM, copied_item, put_message};
 use crate::side::{WordSide, told};
 use courier_messages::{Head, Incoming, MOST_BYTES, PiecedMessage, SessionFault, versions};
 use std::alloc::{AllocError, Global};
@@ -230,7 +230,7 @@ impl WordCaller {
             self.failed = true;
             return Err(FeedRefusal::Attention);
         }
-        if body.len() > LONGEST_ITEM {
+        if body.len() > MOST_ITEM {
             return Err(FeedRefusal::TooLong);
         }
         told(self.hear(alloc, stream, last, body), &mut self.failed)

@@ -13,7 +13,7 @@ use std::collections::VecDeque;
 use xns_spp::{Bytes, Item};
 
 /// The most bytes that an item may have: the versions and the longest message.
-pub const LONGEST_ITEM: usize = 4 + MOST_BYTES;
+pub const MOST_ITEM: usize = 4 + MOST_BYTES;
 
 /// An item of datastream 0 or another, which is no attention item, whose bytes are copied. It is refused memory only where there are some.
 pub fn copied_item(alloc: Global, stream: u8, last: bool, body: &[u8]) -> Result<Item, AllocError>

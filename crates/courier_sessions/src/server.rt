@@ -3,6 +3,7 @@
 
 ghost use Rattle.std.specs.Prelude.{◌≡◌, ◌≢◌, ◌<◌, ◌++◌, ℕ, List, length, true, false, OnErr, IfOk, IsOk, Some, None, Ok, Err, option_map};
 ghost use Rattle.std.specs.Prelude.{option_copied, nat_lt};
+ghost use Rattle.std.specs.Option.{is_some};
 ghost use Rattle.courier_messages.specs.declared.fault.SessionFault.TheVariants.{NoMemory};
 ghost use Rattle.courier_messages.specs.declared.message.Message.{Message};
 ghost use Rattle.courier_messages.specs.Cutting.{cut};
@@ -11,7 +12,7 @@ ghost use Rattle.courier_messages.specs.Message.{message_words, most_words};
 ghost use Rattle.courier_messages.specs.Refusal.{Follows};
 ghost use Rattle.courier_messages.specs.Text.{item_of};
 ghost use Rattle.courier_sessions.specs.Feeding.{Judges};
-ghost use Rattle.courier_sessions.specs.Answering.{Answering, new_answering, is_busy, is_there, after_item, is_a_call, transaction_in};
+ghost use Rattle.courier_sessions.specs.Answering.{Answering, new_answering, is_busy, after_item, is_a_call, transaction_in};
 ghost use Rattle.courier_sessions.specs.Answering.{after_call, why_unlisted, reject_message, after_reject, answer_message, answers_to};
 ghost use Rattle.courier_sessions.specs.Answering.{is_reject, answer_refusal, AnswerAnswers, answered};
 ghost use Rattle.courier_sessions.specs.Pumping.{server_side, IsFed};
@@ -20,7 +21,7 @@ ghost use Rattle.courier_sessions.specs.declared.unlisted.Unlisted.{Unlisted};
 use crate::answer::Answer;
 use crate::answer_refusal::AnswerRefusal;
 use crate::feed_refusal::FeedRefusal;
-use crate::outgoing::{LONGEST_ITEM, copied_item, put_message};
+use crate::outgoing::{MOST_ITEM, copied_item, put_message};
 use crate::program::Program;
 use crate::side::{WordSide, told};
 use crate::unlisted::{Unlisted, refusal, reject_words};
@@ -202,7 +203,7 @@ impl WordServer {
             self.failed = true;
             return Err(FeedRefusal::Attention);
         }
-        if body.len() > LONGEST_ITEM {
+        if body.len() > MOST_ITEM {
             return Err(FeedRefusal::TooLong);
         }
         told(self.hear(alloc, stream, last, body), &mut self.failed)
@@ -217,7 +218,7 @@ impl WordServer {
 
     /// Whether a call was handed and waits for its answer.
     pub fn is_asked(&self) -> bool
-        ensures { result ≡ is_there self.now.asked }
+        ensures { result ≡ is_some self.now.asked }
     {
         self.asked.is_some()
     }

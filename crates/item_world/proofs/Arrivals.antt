@@ -17,7 +17,7 @@ use Rattle.xns_spp.specs.declared.item.Item.{Item}
 use Rattle.item_world.specs.EndLaws.{EndLaws}
 use Rattle.item_world.proofs.Moves.{IsProper, Sends, sent_close, system_proper}
 use Rattle.item_world.specs.Invariant.{IsSound, IsSoundSpelling, WentOut, Stands}
-use Rattle.item_world.specs.Fronts.{begins_more}
+use Rattle.xns_spp.specs.Fronts.{begins_more}
 use Rattle.item_world.specs.World.{moment, lifetime, is_past}
 use Rattle.item_world.specs.declared.emitted.Emitted.{Emitted}
 use Rattle.item_world.specs.declared.moment.Moment.{Moment}

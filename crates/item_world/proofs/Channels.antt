@@ -2,7 +2,7 @@
 use Rattle.std.proofs.Common.{◌≡◌, ℕ, zero, suc, List, [], ◌∷◌, ◌++◌, refl, sym, subst}
 use Rattle.xns_spp.specs.Growth.{Begins}
 use Rattle.xns_spp.specs.declared.item.Item.{Item}
-use Rattle.item_world.specs.Fronts.{begins_then, begins_more}
+use Rattle.xns_spp.specs.Fronts.{begins_then, begins_more}
 use Rattle.item_world.proofs.Sides.{other_other}
 use Rattle.item_world.specs.Channel.{Channel, Move, quiet, accepts, hands_up, IsHistory}
 use Rattle.item_world.specs.Side.{other}

@@ -1,15 +1,11 @@
 -- A list that goes on with another.
-use Rattle.std.proofs.Common.{refl, ◌<◌, length, arith, ◌≡◌, ℕ, zero, suc, List, [], ◌∷◌, ◌++◌, map, Some, sym, ◌∙◌, ap, subst}
+use Rattle.std.proofs.Common.{refl, ◌<◌, length, arith, ◌≡◌, ℕ, zero, suc, List, [], ◌∷◌, ◌++◌, Some, sym, subst}
 use Rattle.std.specs.Prelude.{slice_get}
-use Rattle.std.proofs.lemmas.List.{map-append}
 use Rattle.xns_spp.specs.Growth.{Begins}
-use Rattle.item_world.specs.Fronts.{begins_itself}
+use Rattle.xns_spp.specs.Fronts.{begins_itself}
 
 pub begins_same : {X : Type 0} (xs ys : List X) → ys ≡ xs → Begins xs ys
 begins_same {X} xs ys h = subst (λ (l : List X). Begins xs l) (sym h) (begins_itself xs)
-
-pub begins_map : {X Y : Type 0} (f : X → Y) (xs ys : List X) → Begins xs ys → Begins (map f xs) (map f ys)
-begins_map f xs ys b = (map f b.0, sym (map-append f xs b.0) ∙ ap (map f) b.1)
 
 -- an element of a prefix
 pub front_get : {X : Type 0} (xs ys : List X) (k : ℕ) (x : X) → slice_get xs k ≡ Some x → slice_get (xs ++ ys) k ≡ Some x

@@ -5,7 +5,7 @@ use Rattle.item_world.specs.Landing.{answered, landing, reached}
 use Rattle.xns_spp.specs.Growth.{Begins, IsFresh, Grows}
 use Rattle.item_world.proofs.Sides.{each_side, placed, has_landed, noise_changes_nothing}
 use Rattle.item_world.proofs.Moves.{IsProper, Sends, stays_sound, flush_sends, tick_sends, take_sends, send_sends, resend_sends, told_sends}
-use Rattle.item_world.specs.Fronts.{begins_then, front_begins, begins_length}
+use Rattle.xns_spp.specs.Fronts.{begins_then, front_begins, begins_length}
 use Rattle.item_world.proofs.Fronts.{begins_get}
 use Rattle.std.specs.Option.{option_to_list}
 use Rattle.std.specs.Prelude.{slice_get, All, false}

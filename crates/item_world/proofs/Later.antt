@@ -8,8 +8,8 @@ use Rattle.xns_spp.specs.Receiving.{after_receive}
 use Rattle.xns_spp.specs.Sending.{after_send, after_tick, after_take}
 use Rattle.xns_spp.specs.State.{State}
 use Rattle.xns_spp.specs.Telling.{after_resend}
-use Rattle.item_world.specs.Fronts.{begins_itself, begins_then, begins_length}
-use Rattle.item_world.proofs.Fronts.{begins_same, begins_map, begins_get}
+use Rattle.xns_spp.specs.Fronts.{begins_itself, begins_then, begins_map, begins_length}
+use Rattle.item_world.proofs.Fronts.{begins_same, begins_get}
 use Rattle.item_world.proofs.Sides.{each_end, same_marked, has_landed, noise_changes_nothing}
 use Rattle.item_world.specs.EndLaws.{EndLaws}
 use Rattle.item_world.specs.Events.{Step, arrival, noise, sending, taking, flushing, ticking, resending, telling, stepped, all_stepped, steps_of, happens, run}

@@ -16,7 +16,7 @@ use Rattle.item_world.specs.EndLaws.{EndLaws}
 use Rattle.item_world.specs.Invariant.{IsClose, IsCloseTo, IsSound, Stands}
 use Rattle.item_world.specs.World.{moment}
 use Rattle.item_world.specs.declared.moment.Moment.{Moment}
-use Rattle.item_world.specs.Fronts.{begins_itself, begins_length}
+use Rattle.xns_spp.specs.Fronts.{begins_itself, begins_length}
 use Rattle.item_world.proofs.Fronts.{begins_get}
 
 -- a packet that is sent

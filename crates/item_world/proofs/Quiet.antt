@@ -13,7 +13,7 @@ use Rattle.xns_spp.specs.declared.send_fault.SendFault.{SendFault}
 use Rattle.item_world.specs.EndLaws.{EndLaws}
 use Rattle.item_world.specs.Going.{Continues}
 use Rattle.item_world.specs.declared.participant.Participant.{Participant}
-use Rattle.item_world.specs.Fronts.{begins_itself, last_of}
+use Rattle.xns_spp.specs.Fronts.{begins_itself, last_of}
 use Rattle.item_world.proofs.Fronts.{begins_same}
 use Rattle.item_world.specs.Play.{IsParticipant}
 use Rattle.std.specs.Option.{option_to_list}

@@ -1,5 +1,4 @@
 pub mod Side
-pub mod Fronts
 pub mod EndLaws
 pub mod Setup
 pub mod World

@@ -4,7 +4,7 @@ use Rattle.std.proofs.lemmas.List.{take-append-le}
 use Rattle.std.proofs.lemmas.Option.{slice_get_cases, slice_get_within, get_or_from_slice_get}
 use Rattle.std.specs.Prelude.{slice_get, is_ok, All, nat_lt, ◌==◌, is_some}
 use Rattle.xns_spp.specs.Growth.{Begins}
-use Rattle.item_world.specs.Fronts.{front_begins, front_of, begins_itself, begins_then, one_more, begins_more, begins_length}
+use Rattle.xns_spp.specs.Fronts.{front_begins, front_of, begins_itself, begins_then, one_more, begins_more, begins_length}
 use Rattle.courier_messages.specs.Laws.{IsSendableItem}
 use Rattle.xns_spp.specs.Sending.{is_full, send_answer, take_answer, waiting_count, after_send, after_take}
 use Rattle.xns_spp.specs.State.{State, IsState}

@@ -20,7 +20,7 @@ use Rattle.item_world.specs.declared.side.Side.TheVariants.{A, B}
 use Rattle.xns_world.proofs.CallCarries.{faces, begun_items, next_piece, read_more, feeds_hold, calls, not_refused, waiting_item, shorter_begins, front_stays, element_at}
 use Rattle.xns_world.proofs.CallRuns.{step_holds, outcomes_begin}
 use Rattle.xns_world.proofs.Stepping.{by_step}
-use Rattle.item_world.specs.Fronts.{begins_then, front_begins, one_more, last_of}
+use Rattle.xns_spp.specs.Fronts.{begins_then, front_begins, one_more, last_of}
 use Rattle.xns_world.specs.CallLaws.{Given}
 use Rattle.xns_world.specs.CallOrder.{decides, ledger_of, CallsHold}
 use Rattle.xns_world.specs.CallWorld.{Parties, CallWorld, calls_made, outcomes_read, in_world, feeds, lists, makes, has_outcome, may_call, call_start, carried_at, seen_at, step, CallStep, arrival, noise, ticking, acting, flushing, resending, telling, call_stepped, all_call_stepped}

@@ -34,7 +34,7 @@ use Rattle.item_world.specs.Events.{undelivered}
 use Rattle.item_world.specs.Network.{IsNetwork, IsEnd, unsettled}
 use Rattle.item_world.specs.Side.{other}
 use Rattle.xns_world.specs.CallLaws.{ServerLaws, Given}
-use Rattle.item_world.specs.Fronts.{begins_then}
+use Rattle.xns_spp.specs.Fronts.{begins_then}
 use Rattle.xns_world.specs.CallOrder.{decides, ledger_of, IsBetween}
 use Rattle.xns_world.specs.Ledger.{Ledger, IsInOrder}
 use Rattle.xns_world.specs.CallPlay.{endpoint_at, with_endpoint, Acts, IsCalling, caller_history, IsServing, IsAtSide, IsCallPair, IsCallPlaying, IsReady, IsCallTrace, ledger_in, IsOnceInOrder, parties}

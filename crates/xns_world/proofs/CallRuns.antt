@@ -18,7 +18,7 @@ use Rattle.courier_calls.specs.Caller.{answers}
 use Rattle.courier_calls.specs.Server.{decided}
 use Rattle.xns_spp.specs.Sending.{after_send, after_take}
 use Rattle.xns_spp.specs.State.{State}
-use Rattle.item_world.specs.Fronts.{begins_length}
+use Rattle.xns_spp.specs.Fronts.{begins_length}
 use Rattle.item_world.specs.declared.event.Event.{Event}
 use Rattle.item_world.specs.declared.event.Event.TheVariants.{Deliver, Rest, Tick, Foreign, Send, Take}
 use Rattle.item_world.specs.declared.setup.Setup.{Setup}

@@ -16,7 +16,7 @@ use Rattle.xns_spp.specs.Sending.{is_full, waiting_count, after_send, take_answe
 use Rattle.xns_spp.specs.State.{State, IsState}
 use Rattle.xns_spp.specs.declared.item.Item.{Item}
 use Rattle.xns_world.proofs.CallCarries.{next_piece, calls, read_more, not_refused, front_stays, at_place}
-use Rattle.item_world.specs.Fronts.{one_more}
+use Rattle.xns_spp.specs.Fronts.{one_more}
 use Rattle.xns_world.specs.declared.calling.CallingEnd.{CallingEnd}
 use Rattle.item_world.specs.declared.side.Side.TheVariants.{A, B}
 use Rattle.xns_world.specs.CallLaws.{Given, ServerLaws}

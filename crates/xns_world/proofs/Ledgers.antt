@@ -2,7 +2,7 @@
 use Rattle.std.proofs.Common.{ℕ, zero, suc, List, [], ◌∷◌, ◌++◌, refl, sym, ◌∙◌, ap, subst}
 use Rattle.std.proofs.lemmas.List.Sums.{fold-append}
 use Rattle.xns_spp.specs.Growth.{Begins}
-use Rattle.item_world.specs.Fronts.{begins_then, begins_more}
+use Rattle.xns_spp.specs.Fronts.{begins_then, begins_more}
 use Rattle.xns_world.specs.Ledger.{Ledger, Entry, quiet, makes, carries, sees, IsHistory, decided_then, IsInOrder}
 
 -- what begins a list begins the longer one too

@@ -24,7 +24,7 @@ use Rattle.courier_messages.specs.declared.fault.SessionFault.{SessionFault}
 use Rattle.courier_messages.specs.declared.fault.SessionFault.TheVariants.{BadReply}
 use Rattle.xns_spp.specs.Growth.{Begins}
 use Rattle.xns_spp.specs.Receiving.{after_receive}
-use Rattle.item_world.specs.Fronts.{front_of}
+use Rattle.xns_spp.specs.Fronts.{front_of}
 use Rattle.item_world.specs.EndLaws.{EndLaws}
 use Rattle.xns_world.specs.Serve.{Served, serve_settles, serve_receives, serve_hears}
 

@@ -3,7 +3,7 @@ use Rattle.std.proofs.lemmas.Result.{IfOk-weaker}
 use Rattle.xns_world.proofs.CallPlays.{once_along}
 use Rattle.xns_world.proofs.CallEntries.{in_order}
 use Rattle.xns_world.proofs.CallRuns.{start_between, always_between}
-use Rattle.item_world.specs.Fronts.{front_begins}
+use Rattle.xns_spp.specs.Fronts.{front_begins}
 use Rattle.xns_world.specs.CallPlay.{IsReady, parties}
 use Rattle.xns_world.specs.CallWorld.{call_start, run_calls}
 use Rattle.xns_world.specs.CallLaws.{Given}

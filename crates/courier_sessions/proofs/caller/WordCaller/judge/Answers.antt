@@ -13,4 +13,6 @@ returns-in-Some-reply_fault c =
 pub returns-in-None : goal.returns-in-None
 returns-in-None c =
     let k = c.in_ok-head.ensures in
-    rw (← c.self.view_is) (right_answer _ (item_of c.args.stream c.args.last c.args.body.now) c.in-Some.head c.reply_fault.result c.in-None.is k.0 (k.1 ∙ ap (λ (o : Option Head). option_to_list o) c.in-Some.is) c.reply_fault.ensures.fault)
+    rw (← c.self.view_is) (right_answer _
+    (item_of c.args.stream c.args.last c.args.body.now) c.in-Some.head c.reply_fault.result c.in-None.is k.0
+    (k.1 ∙ ap (λ (o : Option Head). option_to_list o) c.in-Some.is) c.reply_fault.ensures.fault)

@@ -11,20 +11,27 @@ use Rattle.courier_sessions.proofs.server.WordServer.judge.Goals as goal
 pub returns-in_err-head : goal.returns-in_err-head
 returns-in_err-head c =
     let w : c.from_residual.result ≡ Err c.in_err-head.field-0.0 = search rules in
-    subst (λ (r : Result (Unit {0}) SessionFault). Judges r (after_item c.args.self.now (item_of c.args.stream c.args.last c.args.body.now))) (sym w)
-    (rw (← c.self.view_is) (fault_first _ c.in_err-head.field-0.0 (item_of c.args.stream c.args.last c.args.body.now) c.in_err-head.ensures))
+    subst (λ (r : Result (Unit {0}) SessionFault). Judges r (after_item c.args.self.now
+    (item_of c.args.stream c.args.last c.args.body.now))) (sym w)
+    (rw (← c.self.view_is) (fault_first _ c.in_err-head.field-0.0
+    (item_of c.args.stream c.args.last c.args.body.now) c.in_err-head.ensures))
 
 pub returns-in_default : goal.returns-in_default
 returns-in_default c =
     let k = c.in_ok-head.ensures in
-    rw (← c.self.view_is) (no_call_yet _ (item_of c.args.stream c.args.last c.args.body.now) k.0 (k.1 ∙ ap (λ (o : Option Head). option_to_list o) c.in_default.is))
+    rw (← c.self.view_is) (no_call_yet _ (item_of c.args.stream c.args.last c.args.body.now) k.0
+    (k.1 ∙ ap (λ (o : Option Head). option_to_list o) c.in_default.is))
 
 pub returns-then-is_call : goal.returns-then-is_call
 returns-then-is_call c =
     let k = c.in_ok-head.ensures in
-    rw (← c.self.view_is) (one_call _ (item_of c.args.stream c.args.last c.args.body.now) c.in-Some.head c.is_call.result c.if-is_call.true k.0 (k.1 ∙ ap (λ (o : Option Head). option_to_list o) c.in-Some.is) c.is_call.ensures)
+    rw (← c.self.view_is) (one_call _
+    (item_of c.args.stream c.args.last c.args.body.now) c.in-Some.head c.is_call.result c.if-is_call.true k.0
+    (k.1 ∙ ap (λ (o : Option Head). option_to_list o) c.in-Some.is) c.is_call.ensures)
 
 pub returns-else-is_call : goal.returns-else-is_call
 returns-else-is_call c =
     let k = c.in_ok-head.ensures in
-    rw (← c.self.view_is) (another_message _ (item_of c.args.stream c.args.last c.args.body.now) c.in-Some.head c.is_call.result c.if-is_call.false k.0 (k.1 ∙ ap (λ (o : Option Head). option_to_list o) c.in-Some.is) c.is_call.ensures)
+    rw (← c.self.view_is) (another_message _
+    (item_of c.args.stream c.args.last c.args.body.now) c.in-Some.head c.is_call.result c.if-is_call.false k.0
+    (k.1 ∙ ap (λ (o : Option Head). option_to_list o) c.in-Some.is) c.is_call.ensures)

@@ -14,16 +14,21 @@ returns-in_err-message-clause-hears c =
 pub returns-in_default-clause-hears : goal.returns-in_default-clause-hears
 returns-in_default-clause-hears c =
     let k = c.in_ok-message.ensures.takes in
-    rw (← c.self.view_is) (silent _ _ c.args.item c.take.new.self refl k.0 (k.1 ∙ ap (λ (o : Option Message). option_to_list o) c.in_default.is))
+    rw (← c.self.view_is) (silent _ _ c.args.item c.take.new.self refl k.0
+    (k.1 ∙ ap (λ (o : Option Message). option_to_list o) c.in_default.is))
 
 pub returns-then-not-is_call-clause-hears : goal.returns-then-not-is_call-clause-hears
 returns-then-not-is_call-clause-hears c =
     let k = c.in_ok-message.ensures.takes in
-    let is : is_a_call c.in-Some.message ≡ c.is_call.result = ap is_a_call c.head.ensures ∙ sym (c.is_call.ensures (words_in c.in-Some.message)) in
-    rw (← c.self.view_is) (no_call _ _ c.args.item c.take.new.self c.in-Some.message (is ∙ c.if-not-is_call.true) refl k.0 (k.1 ∙ ap (λ (o : Option Message). option_to_list o) c.in-Some.is))
+    let is : is_a_call c.in-Some.message ≡ c.is_call.result = ap is_a_call c.head.ensures
+    ∙ sym (c.is_call.ensures (words_in c.in-Some.message)) in
+    rw (← c.self.view_is) (no_call _ _ c.args.item c.take.new.self c.in-Some.message (is ∙ c.if-not-is_call.true) refl k.0
+    (k.1 ∙ ap (λ (o : Option Message). option_to_list o) c.in-Some.is))
 
 pub returns-clause-hears : goal.returns-clause-hears
 returns-clause-hears c =
     let k = c.in_ok-message.ensures.takes in
-    let is : is_a_call c.in-Some.message ≡ c.is_call.result = ap is_a_call c.head.ensures ∙ sym (c.is_call.ensures (words_in c.in-Some.message)) in
-    rw (← c.self.view_is) (asked _ _ c.args.item c.take.new.self c.in-Some.message (is ∙ c.if-not-is_call.false) refl k.0 (k.1 ∙ ap (λ (o : Option Message). option_to_list o) c.in-Some.is))
+    let is : is_a_call c.in-Some.message ≡ c.is_call.result = ap is_a_call c.head.ensures
+    ∙ sym (c.is_call.ensures (words_in c.in-Some.message)) in
+    rw (← c.self.view_is) (asked _ _ c.args.item c.take.new.self c.in-Some.message (is ∙ c.if-not-is_call.false) refl k.0
+    (k.1 ∙ ap (λ (o : Option Message). option_to_list o) c.in-Some.is))

@@ -1,9 +1,11 @@
--- What it is that one list begins another: for the proofs of this crate and those above it.
-use Rattle.std.specs.Prelude.{◌≡◌, ◌≤◌, ℕ, ◌+◌, List, [], ◌∷◌, ◌++◌, length, take, drop, slice_get, Some}
+-- What it is that one list begins another, and what holds of all of both: for the proofs of this crate and those above it.
+use Rattle.std.specs.Prelude.{◌≡◌, ◌≤◌, ℕ, ◌+◌, List, [], ◌∷◌, ◌++◌, length, map, take, drop, slice_get, Some}
+use Rattle.std.specs.List.{flat_map, AllByRecursion}
 use Rattle.std.proofs.Common.{refl, sym, ◌∙◌, ap, subst, append_assoc, append-nil, length-append, take-append-drop}
 use Rattle.std.proofs.Math.Nat.{le-add_right}
 use Rattle.std.proofs.Math.Seq.{take-append_seam}
-use Rattle.std.proofs.lemmas.List.{take_more}
+use Rattle.std.proofs.lemmas.List.{map-append, take_more}
+use Rattle.std.proofs.lemmas.List.Concat.{flat_map-append}
 use Rattle.std.proofs.lemmas.Option.{slice_get_within, get_or_from_slice_get}
 use Rattle.xns_spp.specs.Growth.{Begins}
 
@@ -12,6 +14,24 @@ begins_itself xs = ([], append-nil xs)
 
 pub begins_then : {X : Type 0} (xs ys zs : List X) → Begins xs ys → Begins ys zs → Begins xs zs
 begins_then {X} xs ys zs p q = (p.0 ++ q.0, sym (append_assoc xs p.0 q.0) ∙ (ap (λ (l : List X). l ++ q.0) p.1 ∙ q.1))
+
+pub begins_cons : {X : Type 0} (x : X) (xs ys : List X) → Begins xs ys → Begins (x ∷ xs) (x ∷ ys)
+begins_cons {X} x xs ys p = (p.0, ap (λ (l : List X). x ∷ l) p.1)
+
+pub begins_map : {X Y : Type 0} (f : X → Y) (xs ys : List X) → Begins xs ys → Begins (map f xs) (map f ys)
+begins_map f xs ys p = (map f p.0, sym (map-append f xs p.0) ∙ ap (map f) p.1)
+
+pub begins_flat_map : {X Y : Type 0} (f : X → List Y) (xs ys : List X) → Begins xs ys → Begins (flat_map f xs) (flat_map f ys)
+begins_flat_map f xs ys p = (flat_map f p.0, sym (flat_map-append f xs p.0) ∙ ap (flat_map f) p.1)
+
+-- what holds of all of a list holds of all of a list that begins it
+pub all_front : {X : Type 0} (P : X → Type 0) (xs more : List X) → AllByRecursion P (xs ++ more) → AllByRecursion P xs
+all_front P [] more h = tt
+all_front P (x ∷ xs) more h = (h.0, all_front P xs more h.1)
+
+pub all_append : {X : Type 0} (P : X → Type 0) (xs ys : List X) → AllByRecursion P xs → AllByRecursion P ys → AllByRecursion P (xs ++ ys)
+all_append P [] ys h k = k
+all_append P (x ∷ xs) ys h k = (h.0, all_append P xs ys h.1 k)
 
 pub front_begins : {X : Type 0} (n : ℕ) (xs : List X) → Begins (take n xs) xs
 front_begins n xs = (drop n xs, take-append-drop n xs)
