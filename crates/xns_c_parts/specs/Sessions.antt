@@ -1,10 +1,11 @@
 -- The sides of a Courier conversation as C has them: what they answer, by number.
 use Rattle.std.specs.Prelude.{◌≡◌, ◌≢◌, ◌⊎◌, ℕ, ◌==◌, if◌then◌else◌, List, Option, Some, None, Result, Ok, Err}
+use Rattle.std.specs.Option.{is_some}
 use Rattle.xns_spp.specs.Held.{Held}
 use Rattle.xns_spp.specs.State.{State}
 use Rattle.xns_spp.specs.declared.item.Item.{Item}
 use Rattle.courier_messages.specs.RawCalls.{RawCall}
-use Rattle.courier_sessions.specs.Answering.{Answering, is_there, answers_to, answer_refusal}
+use Rattle.courier_sessions.specs.Answering.{Answering, answers_to, answer_refusal}
 use Rattle.courier_sessions.specs.Pumping.{Side, Pumped}
 use Rattle.courier_sessions.specs.Talk.{Talk, call_refusal}
 use Rattle.courier_sessions.specs.declared.answer.Answer.{Answer}
@@ -99,5 +100,5 @@ unless_unanswered (Some e) = answer_refusal_number e
 
 -- whether an answer may be given
 abbrev pub answer_number : Answering → Option Answer → List ℕ → ℕ
-answer_number a None words = if is_there a.asked then bad_argument else nothing
+answer_number a None words = if is_some a.asked then bad_argument else nothing
 answer_number a (Some answer) words = unless_unanswered (answer_refusal (answers_to a answer) answer words)

@@ -1,5 +1,5 @@
 -- What the steps of a pump do to the history of a side and its end.
-use Rattle.std.proofs.Common.{◌≡◌, ◌∙◌, ap, sym, refl, subst, ◌+◌, List, [], ◌∷◌, ◌++◌, append-nil, append_assoc, take, length, Bool, true, false, Option, Some, None, Result, Ok, Err, OnOk}
+use Rattle.std.proofs.Common.{◌≡◌, ◌∙◌, ap, sym, refl, subst, ◌+◌, List, [], ◌∷◌, ◌++◌, append-nil, take, length, Bool, true, false, Option, Some, None, Result, Ok, Err, OnOk}
 use Rattle.std.specs.Prelude.{nat_lt, if◌then◌else◌}
 use Rattle.courier_messages.specs.declared.fault.SessionFault.{SessionFault}
 use Rattle.courier_messages.specs.declared.fault.SessionFault.TheVariants as faults
@@ -8,7 +8,7 @@ use Rattle.courier_messages.specs.declared.message.Message.{Message}
 use Rattle.courier_messages.specs.Conversation.{Phase}
 use Rattle.courier_messages.specs.RawCalls.{RawCall}
 use Rattle.courier_messages.specs.Refusal.{Stops}
-use Rattle.xns_spp.specs.Growth.{Begins}
+use Rattle.xns_spp.specs.Fronts.{begins_then}
 use Rattle.xns_spp.specs.Held.{Held, StandsFor}
 use Rattle.xns_spp.specs.Laws.{TheNextItemIsHandedUp}
 use Rattle.xns_spp.specs.Sending.{send_fault, accepting, after_send, take_answer, after_take}
@@ -18,7 +18,7 @@ use Rattle.xns_spp.specs.declared.send_fault.SendFault.{SendFault}
 use Rattle.courier_sessions.specs.Answering as answering
 use Rattle.courier_sessions.specs.Answering.{Answering, is_busy, transaction_in, why_unlisted, reject_message, after_reject}
 use Rattle.courier_sessions.specs.Answerings.{HasAnswered}
-use Rattle.courier_sessions.specs.Feeding.{heard, longest_item}
+use Rattle.courier_sessions.specs.Feeding.{heard, most_item}
 use Rattle.courier_sessions.specs.Pumping.{Side as PumpSide, sending, feeding, feeds, moving, caller_side, server_side, Leads, here, on, Refuses, Settles, Pumped, one_step}
 use Rattle.courier_sessions.specs.Talk as talk
 use Rattle.courier_sessions.specs.Talk.{Talk}
@@ -118,7 +118,7 @@ module _ (next : TheNextItemIsHandedUp) (gives : CallerGives) (feeds_one : Calle
   caller_fed : (t : Talk) (s : State) (o : Option Item) (z : Talk × State) → take_answer s ≡ o → CallerOver made handed (t, s)
       → feeds caller_side t s o ≡ Some (Ok z) → CallerOver made handed z
   caller_fed t s None z is h e = absurd (cc)
-  caller_fed t s (Some x) z is h e = caller_goes t s x t.failed x.attention (nat_lt longest_item (length x.body)) z is h e
+  caller_fed t s (Some x) z is h e = caller_goes t s x t.failed x.attention (nat_lt most_item (length x.body)) z is h e
 
   caller_moves : (t : Talk) (s : State) (now : List Item) (z : Talk × State) → t.out ≡ now → CallerOver made handed (t, s) → moving caller_side t s now ≡ Some (Ok z) → CallerOver made handed z
   caller_moves t s [] z is h e = caller_fed t s (take_answer s) z refl h e
@@ -162,7 +162,7 @@ module _ (next : TheNextItemIsHandedUp) (gives : ServerGives) (feeds_one : Serve
   server_fed : (a : Answering) (s : State) (o : Option Item) (z : Answering × State) → take_answer s ≡ o → ServerOver programs taken handed answers (a, s)
       → feeds server_side a s o ≡ Some (Ok z) → ServerOver programs taken handed answers z
   server_fed a s None z is h e = absurd (cc)
-  server_fed a s (Some x) z is h e = server_goes a s x a.failed (is_busy a) x.attention (nat_lt longest_item (length x.body)) z is refl h e
+  server_fed a s (Some x) z is h e = server_goes a s x a.failed (is_busy a) x.attention (nat_lt most_item (length x.body)) z is refl h e
 
   server_moves : (a : Answering) (s : State) (now : List Item) (z : Answering × State) → a.out ≡ now → ServerOver programs taken handed answers (a, s) → moving server_side a s now ≡ Some (Ok z) → ServerOver programs taken handed answers z
   server_moves a s [] z is h e = server_fed a s (take_answer s) z refl h e
@@ -199,9 +199,6 @@ ends_at P side last (Err e) n s same stop = refused_at P side last.0 (take_answe
 
 -- ---- what goes on
 
-pub begins_on : {X : Type 0} (xs ys zs : List X) → Begins xs ys → Begins ys zs → Begins xs zs
-begins_on {X} xs ys zs p q = (p.0 ++ q.0, sym (append_assoc xs p.0 q.0) ∙ ap (λ (l : List X). l ++ q.0) p.1 ∙ q.1)
-
 -- only the end's own steps were made
 pub same_messages : (h m : Story) → Runs h.state m.state → m.made ≡ h.made → m.handed ≡ h.handed → m.taken ≡ h.taken → m.answers ≡ h.answers → GoesOn h m
 same_messages h m path made handed taken answers = record { path = path; made = made; handed = handed; taken = ([], append-nil h.taken ∙ sym taken); answers = ([], append-nil h.answers ∙ sym answers) }
@@ -211,8 +208,8 @@ goes_on h m n p q = record {
   path = runs_on p.path q.path;
   made = q.made ∙ p.made;
   handed = q.handed ∙ p.handed;
-  taken = begins_on h.taken m.taken n.taken p.taken q.taken;
-  answers = begins_on h.answers m.answers n.answers p.answers q.answers;
+  taken = begins_then h.taken m.taken n.taken p.taken q.taken;
+  answers = begins_then h.answers m.answers n.answers p.answers q.answers;
 }
 
 pub stays : (h : Story) → GoesOn h h

@@ -5,6 +5,7 @@ use Rattle.std.proofs.lemmas.List.{take-append-le}
 use Rattle.courier_messages.specs.declared.message.Message.{Message}
 use Rattle.courier_sessions.specs.declared.feed_refusal.FeedRefusal.{FeedRefusal}
 use Rattle.courier_sessions.specs.declared.feed_refusal.FeedRefusal.TheVariants.{NoMemory}
+use Rattle.xns_spp.specs.Fronts.{begins_then}
 use Rattle.xns_spp.specs.Growth.{Begins}
 use Rattle.xns_spp.specs.Ends.{is_open}
 use Rattle.xns_spp.specs.Held.{Held, StandsFor}
@@ -24,7 +25,7 @@ use Rattle.xns_host.specs.declared.closing.TheConstants.Closing.{NONE}
 use Rattle.xns_host.specs.declared.side.Side.{Side}
 use Rattle.xns_host.specs.declared.side.Side.TheVariants.{Calls, Answers}
 use Rattle.xns_host.specs.declared.conversation.Conversation.{Conversation}
-use Rattle.xns_host.proofs.Leading.{begins_on, same_messages, goes_on}
+use Rattle.xns_host.proofs.Leading.{same_messages, goes_on}
 
 -- ---- the end moves, and the side stays
 
@@ -43,7 +44,7 @@ pub carried : (t u : Conversation) (h : Story) (v : State) → u.side ≡ t.side
 carried t u h v same drain c tells = record {
   stands = c.stands;
   has = subst (λ (x : Side). SideHas (record h { state = v }) x) (sym same) (has_at v h t.side tells.has);
-  fed = begins_on h.fed (take h.state.handed h.state.taken) (take v.handed v.taken) tells.fed c.fed;
+  fed = begins_then h.fed (take h.state.handed h.state.taken) (take v.handed v.taken) tells.fed c.fed;
   all = λ z. tells.all (drain z) ∙ sym (c.all z);
   given = c.given h.given tells.given;
 }

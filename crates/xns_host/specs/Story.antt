@@ -1,5 +1,6 @@
 -- What one connection has done: the history of its end and of its side.
 use Rattle.std.specs.Prelude.{◌≡◌, ℕ, List, [], ◌∷◌, ◌++◌, Bool, false, if◌then◌else◌, take, Option, Some, None}
+use Rattle.std.specs.Option.{is_some}
 use Rattle.courier_messages.specs.declared.message.Message.{Message}
 use Rattle.courier_messages.specs.Conversation.{Phase}
 use Rattle.courier_messages.specs.RawCalls.{RawCall}
@@ -9,7 +10,7 @@ use Rattle.xns_spp.specs.Sending.{after_send, after_take, after_flush}
 use Rattle.xns_spp.specs.State.{State}
 use Rattle.xns_spp.specs.Telling.{after_resend}
 use Rattle.xns_spp.specs.declared.item.Item.{Item}
-use Rattle.courier_sessions.specs.Answering.{Answering, is_busy, is_there, why_unlisted}
+use Rattle.courier_sessions.specs.Answering.{Answering, is_busy, why_unlisted}
 use Rattle.courier_sessions.specs.Answerings.{HasAnswered}
 use Rattle.courier_sessions.specs.Pumping.{one_step, caller_side, server_side}
 use Rattle.courier_sessions.specs.Talk.{Talk}
@@ -72,7 +73,7 @@ has_call (Answers a) = is_busy a
 -- a call whose program and version are listed
 abbrev pub listed_call : List Program → Option Message → Option Message
 listed_call programs None = None
-listed_call programs (Some m) = if is_there (why_unlisted programs m) then None else Some m
+listed_call programs (Some m) = if is_some (why_unlisted programs m) then None else Some m
 
 -- what there is for the program: an answer, or a call
 abbrev pub waiting_message : Side → Option Message
@@ -81,8 +82,8 @@ waiting_message (Answers a) = listed_call a.programs a.call
 
 -- there is one, or a call that is to be rejected
 abbrev pub has_message : Side → Bool
-has_message (Calls t) = is_there t.outcome
-has_message (Answers a) = is_there a.call
+has_message (Calls t) = is_some t.outcome
+has_message (Answers a) = is_some a.call
 
 -- the program was handed it
 abbrev pub with_handed : Side → Story → Message → Story
