@@ -3,7 +3,6 @@ use Rattle.std.proofs.Common.{◌≡◌, ◌∙◌, ap, subst, sym, List, [], �
 use Rattle.std.specs.Prelude.{is_ok}
 use Rattle.xns_spp.specs.declared.item.Item.{Item}
 use Rattle.courier_messages.specs.declared.fault.SessionFault.{SessionFault}
-use Rattle.courier_messages.specs.declared.fault.SessionFault.TheVariants.{NoCommonVersion, BadVersions, BadMessage, WrongTransaction, BadReply, Stream, NoMemory, Failed}
 use Rattle.courier_messages.specs.declared.head.Head.{Head}
 use Rattle.courier_messages.specs.declared.message.Message.{Message}
 use Rattle.courier_messages.specs.Conversation.{Phase}
@@ -11,7 +10,7 @@ use Rattle.courier_messages.specs.Head.{head_in}
 use Rattle.courier_messages.specs.Phases.{step, ended, run, said, onwards, ◌then◌}
 use Rattle.courier_messages.specs.Refusal.{Foresees, Stops}
 use Rattle.courier_messages.specs.Text.{Sign, byte, mark, signs, end_of}
-use Rattle.courier_messages.proofs.Runs.{signs_open, run_append, said_append, said_bytes, run_mark, said_mark, without_mark}
+use Rattle.courier_messages.proofs.Runs.{signs_open, run_append, said_append, said_bytes, run_mark, said_mark, without_mark, weaker}
 
 pub foreseen_open : (p q : Phase) (x : Item) → x.stream ≡ 0 → x.last ≡ false → run p (map byte x.body) ≡ Ok q → Foresees (Ok None) (run p (signs x)) (said p (signs x))
 foreseen_open p q x h l r =
@@ -34,23 +33,13 @@ foreseen_mark seen p q x h l r f =
     subst (λ (t : Result Phase SessionFault). Foresees seen t (said p (signs x))) (sym ran) (subst (λ (ms : List Message). Foresees seen (step q mark) ms) (sym brought) f)
 
 pub foreseen_fault : (e : SessionFault) (p : Phase) (x : Item) → x.stream ≡ 0 → Stops e ⊥ (run p (map byte x.body) ≡ Err e) → Foresees (Err e) (run p (signs x)) (said p (signs x))
-foreseen_fault e p x h stops = on e stops where
+foreseen_fault e p x h = weaker e (λ u. u) on_fault where
   bytes : List Sign
   bytes = map byte x.body
 
-  on_fault : (f : SessionFault) → run p bytes ≡ Err f → (run p (signs x) ≡ Err f) × (said p (signs x) ≡ [])
-  on_fault f r = (
+  on_fault : run p bytes ≡ Err e → (run p (signs x) ≡ Err e) × (said p (signs x) ≡ [])
+  on_fault r = (
     ap (run p) (signs_open x h) ∙ run_append p bytes (end_of x.last) ∙ ap (λ (t : Result Phase SessionFault). t then λ q. run q (end_of x.last)) r,
     ap (said p) (signs_open x h) ∙ said_append p bytes (end_of x.last) ∙ ap (λ (ms : List Message). ms ++ onwards (run p bytes) (λ q. said q (end_of x.last))) (said_bytes p x.body)
         ∙ ap (λ (t : Result Phase SessionFault). onwards t (λ q. said q (end_of x.last))) r,
   )
-
-  on : (f : SessionFault) → Stops f ⊥ (run p bytes ≡ Err f) → Stops f ⊥ ((run p (signs x) ≡ Err f) × (said p (signs x) ≡ []))
-  on NoMemory w = w
-  on NoCommonVersion w = on_fault NoCommonVersion w
-  on BadVersions w = on_fault BadVersions w
-  on (BadMessage m) w = on_fault (BadMessage m) w
-  on WrongTransaction w = on_fault WrongTransaction w
-  on BadReply w = on_fault BadReply w
-  on (Stream kind) w = on_fault (Stream kind) w
-  on Failed w = w

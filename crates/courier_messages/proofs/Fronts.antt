@@ -1,6 +1,6 @@
 -- What a message begins with, of which its first six words tell.
 use Rattle.std.proofs.Common.{◌≡◌, ◌∙◌, ap, sym, refl, ℕ, zero, suc, ◌+◌, ◌*◌, ◌-◌, ◌/◌, ◌%◌, ◌<◌, ◌≤◌, Bool, true, false, List, [], ◌∷◌, ◌++◌, length, take, drop, get_or, arith, length-append, Result, Ok, Err}
-use Rattle.std.specs.Prelude.{if◌then◌else◌, ◌==◌, slice_get, Some, None}
+use Rattle.std.specs.Prelude.{if◌then◌else◌, ◌==◌, slice_get, Option, Some, None}
 use Rattle.courier_types.specs.Pieces.{words_of}
 use Rattle.courier_messages.specs.declared.fault.MessageFault.{MessageFault}
 use Rattle.courier_messages.specs.declared.fault.MessageFault.TheVariants.{UnknownKind}
@@ -9,7 +9,7 @@ use Rattle.courier_messages.specs.declared.message.Message.TheVariants as messag
 use Rattle.courier_messages.specs.Head.{heads_in}
 use Rattle.courier_messages.specs.Inside.{IsSkipped}
 use Rattle.courier_messages.specs.Message.{call_in, reject_in, abort_in, message_in, message_of, unless_long}
-use Rattle.courier_messages.proofs.Heads.{even_message, short_message, length_behind, skipped_within}
+use Rattle.courier_messages.proofs.Heads.{dropped_length, even_message, short_message, skipped_within}
 use Rattle.courier_messages.proofs.Wholes.{half}
 
 -- one word
@@ -19,45 +19,40 @@ nth_drop zero xs k = let e : k ≡ 0 + k = omega arith in ap (slice_get xs) e
 nth_drop (suc n) [] k = refl
 nth_drop (suc n) (x ∷ xs) k = let e : suc (n + k) ≡ suc n + k = omega arith in nth_drop n xs k ∙ ap (slice_get (x ∷ xs)) e
 
-word_in : (bytes : List ℕ) (i p h l : ℕ) → p ≡ 2 * i → slice_get bytes p ≡ Some h → slice_get bytes (suc p) ≡ Some l → get_or (words_of bytes) i 0 ≡ h * 256 + l
-word_in [] i p h l e x y = absurd cc
-word_in (a ∷ []) i zero h l e x y = absurd cc
-word_in (a ∷ []) i (suc p) h l e x y = absurd cc
-word_in (a ∷ b ∷ bytes) zero zero h l e x y = let s : a ≡ h = cc in let t : b ≡ l = cc in rw (s, t) refl
-word_in (a ∷ b ∷ bytes) zero (suc p) h l e x y = absurd (omega (arith, e))
-word_in (a ∷ b ∷ bytes) (suc i) zero h l e x y = absurd (omega (arith, e))
-word_in (a ∷ b ∷ bytes) (suc i) (suc zero) h l e x y = absurd (omega (arith, e))
-word_in (a ∷ b ∷ bytes) (suc i) (suc (suc p)) h l e x y = word_in bytes i p h l (omega (arith, e)) x y
+-- the word of a low and a high byte, 0 where there is none
+abbrev word_of : Option ℕ → Option ℕ → ℕ
+word_of None high = 0
+word_of (Some low) None = 0
+word_of (Some low) (Some high) = high * 256 + low
 
-none_in : (bytes : List ℕ) (i p : ℕ) → p ≡ 2 * i → slice_get bytes (suc p) ≡ None → get_or (words_of bytes) i 0 ≡ 0
-none_in [] i p e x = refl
-none_in (a ∷ []) i p e x = refl
-none_in (a ∷ b ∷ bytes) zero zero e x = absurd cc
-none_in (a ∷ b ∷ bytes) zero (suc p) e x = absurd (omega (arith, e))
-none_in (a ∷ b ∷ bytes) (suc i) zero e x = absurd (omega (arith, e))
-none_in (a ∷ b ∷ bytes) (suc i) (suc zero) e x = absurd (omega (arith, e))
-none_in (a ∷ b ∷ bytes) (suc i) (suc (suc p)) e x = none_in bytes i p (omega (arith, e)) x
+no_word_of : (low : Option ℕ) → word_of low None ≡ 0
+no_word_of None = refl
+no_word_of (Some low) = refl
+
+word_in : (bytes : List ℕ) (i : ℕ) → get_or (words_of bytes) i 0 ≡ word_of (slice_get bytes (suc (2 * i))) (slice_get bytes (2 * i))
+word_in [] i = refl
+word_in (a ∷ []) i = refl
+word_in (a ∷ b ∷ bytes) zero = refl
+word_in (a ∷ b ∷ bytes) (suc i) =
+    let e : suc (suc (2 * i)) ≡ 2 * suc i = omega arith in
+    word_in bytes i ∙ ap (λ (p : ℕ). word_of (slice_get (a ∷ b ∷ bytes) (suc p)) (slice_get (a ∷ b ∷ bytes) p)) e
+
+low_in : (bytes : List ℕ) (n i q : ℕ) → q ≡ n + 2 * i + 1 → slice_get (drop n bytes) (suc (2 * i)) ≡ slice_get bytes q
+low_in bytes n i q f = let u : n + suc (2 * i) ≡ q = omega (arith, f) in nth_drop n bytes (suc (2 * i)) ∙ ap (slice_get bytes) u
+
+high_in : (bytes : List ℕ) (n i p : ℕ) → p ≡ n + 2 * i → slice_get (drop n bytes) (2 * i) ≡ slice_get bytes p
+high_in bytes n i p e = nth_drop n bytes (2 * i) ∙ ap (slice_get bytes) (sym e)
 
 pub word_is : (bytes : List ℕ) (n i p q h l : ℕ) → p ≡ n + 2 * i → q ≡ n + 2 * i + 1 → slice_get bytes p ≡ Some h → slice_get bytes q ≡ Some l → get_or (words_of (drop n bytes)) i 0 ≡ h * 256 + l
-word_is bytes n i p q h l e f x y =
-    let u : n + suc (2 * i) ≡ q = omega (arith, f) in
-    word_in (drop n bytes) i (2 * i) h l refl (nth_drop n bytes (2 * i) ∙ ap (slice_get bytes) (sym e) ∙ x) (nth_drop n bytes (suc (2 * i)) ∙ ap (slice_get bytes) u ∙ y)
+word_is bytes n i p q h l e f x y = word_in (drop n bytes) i ∙ (λ j. word_of ((low_in bytes n i q f ∙ y) j) ((high_in bytes n i p e ∙ x) j))
 
 pub no_word : (bytes : List ℕ) (n i q : ℕ) → q ≡ n + 2 * i + 1 → slice_get bytes q ≡ None → get_or (words_of (drop n bytes)) i 0 ≡ 0
-no_word bytes n i q f y =
-    let u : n + suc (2 * i) ≡ q = omega (arith, f) in
-    none_in (drop n bytes) i (2 * i) refl (nth_drop n bytes (suc (2 * i)) ∙ ap (slice_get bytes) u ∙ y)
-
-no_first : (bytes : List ℕ) (i p : ℕ) → p ≡ 2 * i → slice_get bytes p ≡ None → get_or (words_of bytes) i 0 ≡ 0
-no_first [] i p e x = refl
-no_first (a ∷ []) i p e x = refl
-no_first (a ∷ b ∷ bytes) i zero e x = absurd cc
-no_first (a ∷ b ∷ bytes) i (suc zero) e x = absurd cc
-no_first (a ∷ b ∷ bytes) zero (suc (suc p)) e x = absurd (omega (arith, e))
-no_first (a ∷ b ∷ bytes) (suc i) (suc (suc p)) e x = no_first bytes i p (omega (arith, e)) x
+no_word bytes n i q f y = word_in (drop n bytes) i ∙ ap (λ (low : Option ℕ). word_of low (slice_get (drop n bytes) (2 * i))) (low_in bytes n i q f ∙ y)
 
 pub no_high : (bytes : List ℕ) (n i p : ℕ) → p ≡ n + 2 * i → slice_get bytes p ≡ None → get_or (words_of (drop n bytes)) i 0 ≡ 0
-no_high bytes n i p e x = no_first (drop n bytes) i (2 * i) refl (nth_drop n bytes (2 * i) ∙ ap (slice_get bytes) (sym e) ∙ x)
+no_high bytes n i p e x =
+    let low = slice_get (drop n bytes) (suc (2 * i)) in
+    word_in (drop n bytes) i ∙ ap (λ (high : Option ℕ). word_of low high) (high_in bytes n i p e ∙ x) ∙ no_word_of low
 
 -- the first six
 
@@ -95,9 +90,6 @@ short_head bytes (Err e) h = refl
 
 pub even_head : (bytes : List ℕ) → (length bytes % 2 ≡ 1 → ⊥) → length bytes ≤ 131072 → heads_in (message_of bytes) ≡ heads_in (message_in (words_of bytes))
 even_head bytes odd size = ap heads_in (even_message bytes odd) ∙ short_head bytes (message_in (words_of bytes)) size
-
-pub dropped_length : (n : ℕ) (kept more : List ℕ) → n ≤ length kept + length more → length (drop n (kept ++ more)) + n ≡ length kept + length more
-dropped_length n kept more h = let all = length-append kept more in length_behind n (kept ++ more) (omega (arith, all)) ∙ all
 
 pub short_front : (skipped n : ℕ) (kept more : List ℕ) (a b c d e f : ℕ) → IsSkipped skipped (kept ++ more) → n ≡ length kept + length more - skipped → (n % 2 ≡ 1 → ⊥) → length kept + length more ≤ 131072 + skipped → n / 2 < 6
     → a ≡ get_or (words_of (drop skipped (kept ++ more))) 0 0 → b ≡ get_or (words_of (drop skipped (kept ++ more))) 1 0 → c ≡ get_or (words_of (drop skipped (kept ++ more))) 2 0

@@ -1,5 +1,5 @@
 -- The words behind a message's head.
-use Rattle.std.proofs.Common.{◌≡◌, ◌∙◌, ap, sym, subst, refl, ℕ, zero, suc, ◌+◌, ◌-◌, ◌*◌, ◌/◌, ◌%◌, ◌≤◌, inl, inr, Bool, true, false, List, [], ◌∷◌, length, drop, arith, le-ltb, ne_eqb, eq-eqb, Result, Ok, Err}
+use Rattle.std.proofs.Common.{◌≡◌, ◌∙◌, ap, sym, subst, refl, ℕ, suc, ◌+◌, ◌-◌, ◌*◌, ◌/◌, ◌%◌, ◌≤◌, inl, inr, Bool, true, false, List, [], ◌∷◌, ◌++◌, length, drop, arith, length-append, length-drop, le-ltb, ne_eqb, eq-eqb, Result, Ok, Err}
 use Rattle.std.specs.Prelude.{if◌then◌else◌, ◌==◌}
 use Rattle.courier_types.specs.Pieces.{words_of}
 use Rattle.courier_messages.specs.declared.fault.MessageFault.{MessageFault}
@@ -8,49 +8,51 @@ use Rattle.courier_messages.specs.declared.message.Message.{Message}
 use Rattle.courier_messages.specs.declared.message.Message.TheVariants as messages
 use Rattle.courier_messages.specs.declared.head.Head.{Head}
 use Rattle.courier_messages.specs.declared.head.Head.TheVariants as heads
-use Rattle.courier_messages.specs.Message.{call_in, reject_in, abort_in, message_in, unless_long, message_of}
+use Rattle.courier_messages.specs.Message.{message_words, call_in, reject_in, abort_in, message_in, unless_long, message_of}
 use Rattle.courier_messages.specs.Head.{with_words, words_in, head_size, size_of, ReadsHead}
 use Rattle.courier_messages.specs.Inside.{IsSkipped}
 
-abbrev read_as : Message → Result Message MessageFault
+abbrev pub read_as : Message → Result Message MessageFault
 read_as m = Ok m
 
-same_message : (m n : Message) → read_as m ≡ read_as n → m ≡ n
+pub same_message : (m n : Message) → read_as m ≡ read_as n → m ≡ n
 same_message m n h = cc
 
 -- how many words stand before a message's own
-abbrev size_before : Message → ℕ
+abbrev pub size_before : Message → ℕ
 size_before (messages.Call t p v q words) = 6
 size_before (messages.Reject t r words) = 3
 size_before (messages.Return t words) = 2
 size_before (messages.Abort t e words) = 3
 
-record IsBehind (m : Message) (words : List ℕ) : Type 0 where
-  tail : words_in m ≡ drop (size_before m) words
+-- a message that these words say
+pub record IsBehind (m : Message) (words : List ℕ) : Type 0 where
+  pub count : length (message_words m) ≡ length words
+  pub tail : words_in m ≡ drop (size_before m) words
 
 call_behind : (t : ℕ) (ws : List ℕ) (m : Message) (k : ℕ) → call_in t ws ≡ Ok m → IsBehind m (k ∷ t ∷ ws)
 call_behind t [] m k e = absurd cc
 call_behind t (a ∷ []) m k e = absurd cc
 call_behind t (a ∷ b ∷ []) m k e = absurd cc
 call_behind t (a ∷ b ∷ c ∷ []) m k e = absurd cc
-call_behind t (a ∷ b ∷ v ∷ q ∷ ws) m k e = subst (λ (n : Message). IsBehind n (k ∷ t ∷ a ∷ b ∷ v ∷ q ∷ ws)) (same_message (messages.Call t (a * 65536 + b) v q ws) m e) (record { tail = refl })
+call_behind t (a ∷ b ∷ v ∷ q ∷ ws) m k e = subst (λ (n : Message). IsBehind n (k ∷ t ∷ a ∷ b ∷ v ∷ q ∷ ws)) (same_message (messages.Call t (a * 65536 + b) v q ws) m e) (record { count = omega arith; tail = refl })
 
 reject_behind : (t : ℕ) (ws : List ℕ) (m : Message) (k : ℕ) → reject_in t ws ≡ Ok m → IsBehind m (k ∷ t ∷ ws)
 reject_behind t [] m k e = absurd cc
-reject_behind t (r ∷ ws) m k e = subst (λ (n : Message). IsBehind n (k ∷ t ∷ r ∷ ws)) (same_message (messages.Reject t r ws) m e) (record { tail = refl })
+reject_behind t (r ∷ ws) m k e = subst (λ (n : Message). IsBehind n (k ∷ t ∷ r ∷ ws)) (same_message (messages.Reject t r ws) m e) (record { count = omega arith; tail = refl })
 
 abort_behind : (t : ℕ) (ws : List ℕ) (m : Message) (k : ℕ) → abort_in t ws ≡ Ok m → IsBehind m (k ∷ t ∷ ws)
 abort_behind t [] m k e = absurd cc
-abort_behind t (r ∷ ws) m k e = subst (λ (n : Message). IsBehind n (k ∷ t ∷ r ∷ ws)) (same_message (messages.Abort t r ws) m e) (record { tail = refl })
+abort_behind t (r ∷ ws) m k e = subst (λ (n : Message). IsBehind n (k ∷ t ∷ r ∷ ws)) (same_message (messages.Abort t r ws) m e) (record { count = omega arith; tail = refl })
 
 by_kind : (k t : ℕ) (ws : List ℕ) (m : Message) (x y z u : Bool) → (if x then call_in t ws else if y then reject_in t ws else if z then Ok (messages.Return t ws) else if u then abort_in t ws else Err (UnknownKind k)) ≡ Ok m → IsBehind m (k ∷ t ∷ ws)
 by_kind k t ws m true y z u e = call_behind t ws m k e
 by_kind k t ws m false true z u e = reject_behind t ws m k e
-by_kind k t ws m false false true u e = subst (λ (n : Message). IsBehind n (k ∷ t ∷ ws)) (same_message (messages.Return t ws) m e) (record { tail = refl })
+by_kind k t ws m false false true u e = subst (λ (n : Message). IsBehind n (k ∷ t ∷ ws)) (same_message (messages.Return t ws) m e) (record { count = omega arith; tail = refl })
 by_kind k t ws m false false false true e = abort_behind t ws m k e
 by_kind k t ws m false false false false e = absurd cc
 
-behind : (words : List ℕ) (m : Message) → message_in words ≡ Ok m → IsBehind m words
+pub behind : (words : List ℕ) (m : Message) → message_in words ≡ Ok m → IsBehind m words
 behind [] m e = absurd cc
 behind (k ∷ []) m e = absurd cc
 behind (k ∷ t ∷ ws) m e = by_kind k t ws m (k == 0) (k == 1) (k == 2) (k == 3) e
@@ -68,7 +70,7 @@ words_are (heads.Return t) rest = refl
 words_are (heads.Abort t e) rest = refl
 
 -- behind the version range
-range_dropped : (bytes : List ℕ) (n : ℕ) → 4 ≤ length bytes → drop n (words_of (drop 4 bytes)) ≡ drop (suc (suc n)) (words_of bytes)
+pub range_dropped : (bytes : List ℕ) (n : ℕ) → 4 ≤ length bytes → drop n (words_of (drop 4 bytes)) ≡ drop (suc (suc n)) (words_of bytes)
 range_dropped [] n h = absurd (omega arith)
 range_dropped (a ∷ []) n h = absurd (omega arith)
 range_dropped (a ∷ b ∷ []) n h = absurd (omega arith)
@@ -85,9 +87,10 @@ words_dropped skipped bytes n (inr h) =
     ap (λ (s : ℕ). drop n (words_of (drop s bytes))) e ∙ range_dropped bytes n (omega (arith, h.1)) ∙ ap (λ (i : ℕ). drop i (words_of bytes)) k
 
 pub length_behind : (n : ℕ) (bytes : List ℕ) → n ≤ length bytes → length (drop n bytes) + n ≡ length bytes
-length_behind zero bytes h = omega arith
-length_behind (suc n) [] h = absurd (omega arith)
-length_behind (suc n) (b ∷ bytes) h = let k = length_behind n bytes (omega arith) in omega (arith, k)
+length_behind n bytes h = omega (arith, length-drop n bytes)
+
+pub dropped_length : (n : ℕ) (kept more : List ℕ) → n ≤ length kept + length more → length (drop n (kept ++ more)) + n ≡ length kept + length more
+dropped_length n kept more h = omega (arith, length-drop n (kept ++ more), length-append kept more)
 
 pub skipped_within : (skipped : ℕ) (bytes : List ℕ) → IsSkipped skipped bytes → skipped ≤ length bytes
 skipped_within skipped bytes h = grind arith

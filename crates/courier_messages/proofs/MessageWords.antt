@@ -11,6 +11,8 @@ use Rattle.courier_messages.specs.Refusal.{Reads}
 use Rattle.courier_messages.specs.declared.message.Message.{Message}
 use Rattle.courier_messages.specs.declared.message.Message.TheVariants.{Call, Reject, Return, Abort}
 use Rattle.courier_messages.specs.Message.{message_words, call_in, reject_in, abort_in, message_in, unless_long, message_of, IsMessage, SpellsMessage}
+use Rattle.courier_messages.proofs.Heads.{behind, read_as, same_message}
+use Rattle.courier_messages.proofs.Wholes.{half}
 
 -- words that are read as a message are the words that say it
 
@@ -23,12 +25,6 @@ head_word w ws h = h 0 0 (omega arith)
 
 tail_words : (w : ℕ) (ws : List ℕ) → AreWords (w ∷ ws) → AreWords ws
 tail_words w ws h i d lt = h (suc i) d (omega arith)
-
-abbrev read_as : Message → Result Message MessageFault
-read_as m = Ok m
-
-same_message : (m n : Message) → read_as m ≡ read_as n → m ≡ n
-same_message m n h = cc
 
 high_word : (h l : ℕ) → l < 2 ^ 16 → (h * 65536 + l) / 65536 ≡ h
 high_word h l lt = omega arith
@@ -80,35 +76,28 @@ written_in (k ∷ t ∷ ws) m h e =
     let h1 = tail_words k (t ∷ ws) h in
     by_kind k t ws m (head_word t ws h1) (tail_words t ws h1) (k == 0) (k == 1) (k == 2) (k == 3) refl refl refl refl e
 
-words_count : (bytes : List ℕ) → 2 * length (words_of bytes) ≤ length bytes
-words_count [] = omega arith
-words_count (b ∷ []) = omega arith
-words_count (b ∷ c ∷ bytes) = let h = words_count bytes in omega (arith, h)
+-- what is read of bytes is read of their words, and they are not too many
+read_is_in : (bytes : List ℕ) (m : Message) → message_of bytes ≡ Ok m → (message_in (words_of bytes) ≡ Ok m) × (length bytes ≤ 131072)
+unfolding message_of
+read_is_in bytes m e = kept (length bytes % 2 == 1) (message_in (words_of bytes)) e where
+  kept_by : (long : Bool) (n : Message) → nat_lt 131072 (length bytes) ≡ long → (if long then Err TooLong else Ok n) ≡ Ok m → (read_as n ≡ Ok m) × (length bytes ≤ 131072)
+  kept_by true n size k = absurd cc
+  kept_by false n size k = (k, ltb-false 131072 (length bytes) size)
 
-abbrev unless_long_by : Bool → Result Message MessageFault → Result Message MessageFault
-unless_long_by b (Ok m) = if b then Err TooLong else Ok m
-unless_long_by b (Err e) = Err e
+  kept : (odd : Bool) (o : Result Message MessageFault) → (if odd then Err OddLength else unless_long bytes o) ≡ Ok m → (o ≡ Ok m) × (length bytes ≤ 131072)
+  kept true o k = absurd cc
+  kept false (Err f) k = absurd cc
+  kept false (Ok n) k = kept_by (nat_lt 131072 (length bytes)) n refl k
 
-unless_is : (bytes : List ℕ) (o : Result Message MessageFault) → unless_long_by (nat_lt 131072 (length bytes)) o ≡ unless_long bytes o
-unless_is bytes (Ok m) = refl
-unless_is bytes (Err e) = refl
+pub read_is_short : (bytes : List ℕ) (m : Message) → message_of bytes ≡ Ok m → length (message_words m) ≤ 65536
+read_is_short bytes m e = let k = read_is_in bytes m e in omega (arith, k.1, half bytes, (behind (words_of bytes) m k.0).count)
 
 -- what is read of bytes is what their words say
 pub read_is_spelled : (bytes : List ℕ) (m : Message) → AreWords (words_of bytes) → message_of bytes ≡ Ok m → SpellsMessage m (words_of bytes)
-unfolding message_of
-read_is_spelled bytes m h e = by_length (length bytes % 2 == 1) e where
-  by_size : (o : Result Message MessageFault) → message_in (words_of bytes) ≡ o → (b : Bool) → nat_lt 131072 (length bytes) ≡ b → unless_long_by b o ≡ Ok m → SpellsMessage m (words_of bytes)
-  by_size (Ok n) is true size k = absurd cc
-  by_size (Ok n) is false size k =
-      let same = same_message n m k in
-      let w = written_in (words_of bytes) m h (is ∙ ap read_as same) in
-      let few = ltb-false 131072 (length bytes) size in
-      record { spells = w.spells; numbers = w.numbers; size = omega (arith, few, words_count bytes) }
-  by_size (Err f) is b size k = absurd cc
-
-  by_length : (b : Bool) → (if b then Err OddLength else unless_long bytes (message_in (words_of bytes))) ≡ Ok m → SpellsMessage m (words_of bytes)
-  by_length true k = absurd cc
-  by_length false k = by_size (message_in (words_of bytes)) refl (nat_lt 131072 (length bytes)) refl (unless_is bytes (message_in (words_of bytes)) ∙ k)
+read_is_spelled bytes m h e =
+    let k = read_is_in bytes m e in
+    let w = written_in (words_of bytes) m h k.0 in
+    record { spells = w.spells; numbers = w.numbers; size = omega (arith, k.1, half bytes) }
 
 no_words : AreWords []
 no_words i d lt = absurd (omega arith)

@@ -7,14 +7,12 @@ use Rattle.courier_messages.specs.declared.message.Message.{Message}
 use Rattle.courier_messages.specs.Text.{Sign, written, signs, byte, mark, foreign, end_of}
 use Rattle.courier_messages.specs.Conversation.{Phase, opening, conversation, ending, fresh, inside}
 use Rattle.courier_messages.specs.Phases.{run, said, onwards, ◌then◌, step, ended, closed, good}
-use Rattle.courier_messages.specs.RawCalls.{RawCall, transaction_of}
+use Rattle.courier_messages.specs.RawCalls.{RawCall, transaction_of, call_message, call_items, caller_items}
 use Rattle.courier_messages.specs.Cutting.{cut, versions_item}
-use Rattle.courier_messages.specs.RawCalls.{call_message}
 use Rattle.courier_messages.proofs.Runs.{run_append, run_mark, said_append, said_bytes, said_mark, said_stream}
 use Rattle.courier_messages.proofs.Signs.{conversation_is, ending_is}
 use Rattle.courier_messages.specs.declared.fault.MessageFault.{MessageFault}
 use Rattle.courier_messages.specs.Message.{message_of}
-use Rattle.courier_messages.specs.RawCalls.{call_items, caller_items}
 use Rattle.xns_spp.specs.Growth.{Begins}
 
 -- ---- the conversation goes on

@@ -1,16 +1,21 @@
 -- How bytes go into a conversation, many at a time.
-use Rattle.std.proofs.Common.{◌≡◌, ◌∙◌, ap, sym, refl, inl, inr, ℕ, zero, suc, ◌+◌, ◌*◌, ◌<◌, ◌≤◌, Bool, true, false, List, [], ◌∷◌, ◌++◌, length, map, drop, append_assoc, append-nil, arith, length-append, ne_eqb, Result, Ok, Err}
+use Rattle.std.proofs.Common.{◌≡◌, ◌∙◌, ap, sym, refl, ℕ, ◌+◌, ◌*◌, ◌<◌, ◌≤◌, Bool, true, false, List, [], ◌∷◌, ◌++◌, length, map, drop, append_assoc, append-nil, arith, length-append, ne_eqb, Result, Ok, Err}
 use Rattle.std.proofs.lemmas.Bool.{eqb-false}
+use Rattle.std.proofs.lemmas.List.{drop-append-le, drop_all, map-append}
+use Rattle.std.proofs.lemmas.Grind.{elements}
+use Rattle.std.proofs.lemmas.Option.{slice_get-get_or}
 use Rattle.std.specs.Prelude.{if◌then◌else◌, ◌==◌, slice_get, Some, None}
 use Rattle.courier_types.specs.Pieces.{words_of}
 use Rattle.courier_messages.specs.declared.fault.MessageFault.TheVariants.{TooLong}
 use Rattle.courier_messages.specs.declared.fault.SessionFault.{SessionFault}
-use Rattle.courier_messages.specs.declared.fault.SessionFault.TheVariants.{NoCommonVersion, BadVersions, BadMessage, WrongTransaction, BadReply, Stream, NoMemory, Failed}
-use Rattle.courier_messages.specs.Text.{Sign, byte}
+use Rattle.courier_messages.specs.declared.fault.SessionFault.TheVariants.{BadMessage}
+use Rattle.courier_messages.specs.Text.{byte}
 use Rattle.courier_messages.specs.Conversation.{Phase, opening, fresh, inside}
-use Rattle.courier_messages.specs.Phases.{agreement, opened, step, ◌then◌, run}
+use Rattle.courier_messages.specs.Phases.{agreement, opened, ◌then◌, run}
 use Rattle.courier_messages.specs.Inside.{IsSkipped}
 use Rattle.courier_messages.specs.Refusal.{UnlessMemory}
+use Rattle.courier_messages.proofs.Heads.{dropped_length, length_behind, range_dropped, skipped_within}
+use Rattle.courier_messages.proofs.Runs.{run_append, weaker}
 
 -- within a message
 
@@ -40,31 +45,12 @@ inside_too_many bytes (b ∷ more) h k = by_size (λ x y. inside_too_many (bytes
 
 -- behind bytes that are skipped
 
-skipped_within : (skipped : ℕ) (bytes : List ℕ) → IsSkipped skipped bytes → skipped ≤ length bytes
-skipped_within skipped bytes h = grind arith
-
-length_behind : (n : ℕ) (bytes : List ℕ) → n ≤ length bytes → length (drop n bytes) + n ≡ length bytes
-length_behind zero bytes h = omega arith
-length_behind (suc n) [] h = absurd (omega arith)
-length_behind (suc n) (b ∷ bytes) h = let k = length_behind n bytes (omega arith) in omega (arith, k)
-
-behind_append : (n : ℕ) (bytes more : List ℕ) → n ≤ length bytes → drop n (bytes ++ more) ≡ drop n bytes ++ more
-behind_append zero bytes more h = refl
-behind_append (suc n) [] more h = absurd (omega arith)
-behind_append (suc n) (b ∷ bytes) more h = behind_append n bytes more (omega arith)
-
--- bytes are left behind those that are skipped
-pub some_left : (skipped : ℕ) (bytes : List ℕ) → IsSkipped skipped bytes → 0 < length bytes → 0 < length (drop skipped bytes)
-some_left skipped bytes (inl e) some = let same : length (drop skipped bytes) ≡ length bytes = ap (λ (n : ℕ). length (drop n bytes)) e in omega (arith, same, some)
-some_left skipped bytes (inr h) some =
-    let n = length_behind skipped bytes (omega (arith, h.0, h.1)) in omega (arith, n, h.0, h.1)
-
 pub more_bytes : (skipped : ℕ) (bytes more new : List ℕ) → IsSkipped skipped bytes → length bytes + length more ≤ 131072 + skipped → new ≡ bytes ++ more → run (inside (drop skipped bytes)) (map byte more) ≡ Ok (inside (drop skipped new))
 more_bytes skipped bytes more new h size e =
     let within = skipped_within skipped bytes h in
     let n = length_behind skipped bytes within in
     inside_bytes (drop skipped bytes) more (omega (arith, n))
-    ∙ ap (λ (l : List ℕ). Ok (inside l)) (sym (behind_append skipped bytes more within) ∙ ap (drop skipped) (sym e))
+    ∙ ap (λ (l : List ℕ). Ok (inside l)) (sym (drop-append-le skipped bytes more within) ∙ ap (drop skipped) (sym e))
 
 pub too_many_bytes : (skipped : ℕ) (bytes more : List ℕ) → IsSkipped skipped bytes → length bytes ≤ 131072 + skipped → 131072 + skipped < length bytes + length more → run (inside (drop skipped bytes)) (map byte more) ≡ Err (BadMessage TooLong)
 too_many_bytes skipped bytes more h size over =
@@ -74,14 +60,6 @@ too_many_bytes skipped bytes more h size over =
 
 -- the version range
 
-run_from : (p : Phase) (xs : List Sign) (q : Phase) (ys : List Sign) → run p xs ≡ Ok q → run p (xs ++ ys) ≡ run q ys
-unfolding run
-run_from p [] q ys h = let e : p ≡ q = cc in ap (λ (t : Phase). run t ys) e
-run_from p (x ∷ xs) q ys h = from_step (λ t e. run_from t xs q ys e) (step p x) h where
-  from_step : ((t : Phase) → run t xs ≡ Ok q → run t (xs ++ ys) ≡ run q ys) → (r : Result Phase SessionFault) → (r then λ t. run t xs) ≡ Ok q → (r then λ t. run t (xs ++ ys)) ≡ run q ys
-  from_step rec (Ok t) e = rec t e
-  from_step rec (Err f) e = absurd cc
-
 few_bytes : (bytes : List ℕ) → length bytes < 4 → run (opening []) (map byte bytes) ≡ Ok (opening bytes)
 unfolding run
 few_bytes [] h = refl
@@ -90,12 +68,9 @@ few_bytes (a ∷ b ∷ []) h = refl
 few_bytes (a ∷ b ∷ c ∷ []) h = refl
 few_bytes (a ∷ b ∷ c ∷ d ∷ bytes) h = absurd (omega arith)
 
-map_bytes : (bytes more : List ℕ) → map byte (bytes ++ more) ≡ map byte bytes ++ map byte more
-map_bytes [] more = refl
-map_bytes (b ∷ bytes) more = ap (λ (ss : List Sign). byte b ∷ ss) (map_bytes bytes more)
-
 opening_on : (bytes more : List ℕ) → length bytes < 4 → run (opening bytes) (map byte more) ≡ run (opening []) (map byte (bytes ++ more))
-opening_on bytes more h = sym (ap (run (opening [])) (map_bytes bytes more) ∙ run_from (opening []) (map byte bytes) (opening bytes) (map byte more) (few_bytes bytes h))
+opening_on bytes more h =
+    sym (ap (run (opening [])) (map-append byte bytes more) ∙ run_append (opening []) (map byte bytes) (map byte more) ∙ ap (λ (r : Result Phase SessionFault). r then λ q. run q (map byte more)) (few_bytes bytes h))
 
 range_first : (all : List ℕ) → 4 ≤ length all → run (opening []) (map byte all) ≡ (opened all then λ q. run q (map byte (drop 4 all)))
 unfolding run
@@ -120,27 +95,7 @@ range_refused bytes more f h enough r = from_range bytes more h enough ∙ ap (�
 
 pub range_faulty : (bytes more : List ℕ) (e : SessionFault) (q : Result Phase SessionFault) → length bytes < 4 → 4 ≤ length bytes + length more → opened (bytes ++ more) ≡ q → UnlessMemory e (q ≡ Err e)
     → UnlessMemory e (run (opening bytes) (map byte more) ≡ Err e)
-range_faulty bytes more e q h enough r stops = unless e stops where
-  refused : q ≡ Err e → run (opening bytes) (map byte more) ≡ Err e
-  refused w = range_refused bytes more e h enough (r ∙ w)
-
-  unless : (f : SessionFault) → UnlessMemory f (q ≡ Err e) → UnlessMemory f (run (opening bytes) (map byte more) ≡ Err e)
-  unless NoMemory w = w
-  unless NoCommonVersion w = refused w
-  unless BadVersions w = refused w
-  unless (BadMessage m) w = refused w
-  unless WrongTransaction w = refused w
-  unless BadReply w = refused w
-  unless (Stream kind) w = refused w
-  unless Failed w = absurd w
-
-nothing_behind : (new : List ℕ) → length new ≡ 4 → drop 4 new ≡ []
-nothing_behind [] h = refl
-nothing_behind (a ∷ []) h = refl
-nothing_behind (a ∷ b ∷ []) h = refl
-nothing_behind (a ∷ b ∷ c ∷ []) h = refl
-nothing_behind (a ∷ b ∷ c ∷ d ∷ []) h = refl
-nothing_behind (a ∷ b ∷ c ∷ d ∷ x ∷ bytes) h = absurd (omega arith)
+range_faulty bytes more e q h enough r = weaker e (λ u. u) (λ w. range_refused bytes more e h enough (r ∙ w))
 
 pub range_alone : (bytes more : List ℕ) → length bytes < 4 → length bytes + length more ≡ 4 → opened (bytes ++ more) ≡ Ok fresh → run (opening bytes) (map byte more) ≡ Ok fresh
 unfolding run
@@ -148,12 +103,12 @@ range_alone bytes more h four r =
     let all = length-append bytes more in
     from_range bytes more h (omega (arith, four))
     ∙ ap (λ (x : Result Phase SessionFault). x then λ q. run q (map byte (drop 4 (bytes ++ more)))) r
-    ∙ ap (λ (l : List ℕ). run fresh (map byte l)) (nothing_behind (bytes ++ more) (omega (arith, all, four)))
+    ∙ ap (λ (l : List ℕ). run fresh (map byte l)) (drop_all 4 (bytes ++ more) (omega (arith, all, four)))
 
-fresh_is_inside : (more : List ℕ) → 0 < length more → run fresh (map byte more) ≡ run (inside []) (map byte more)
+pub fresh_bytes : (more : List ℕ) → 0 < length more → run fresh (map byte more) ≡ run (inside []) (map byte more)
 unfolding run
-fresh_is_inside [] h = absurd (omega arith)
-fresh_is_inside (b ∷ more) h = refl
+fresh_bytes [] h = absurd (omega arith)
+fresh_bytes (b ∷ more) h = refl
 
 -- what comes behind the version range is the front of a message
 range_then : (bytes more : List ℕ) → length bytes < 4 → 4 < length bytes + length more → opened (bytes ++ more) ≡ Ok fresh → run (opening bytes) (map byte more) ≡ run (inside []) (map byte (drop 4 (bytes ++ more)))
@@ -163,24 +118,17 @@ range_then bytes more h over r =
     let n = length_behind 4 new (omega (arith, all)) in
     from_range bytes more h (omega arith)
     ∙ ap (λ (x : Result Phase SessionFault). x then λ q. run q (map byte (drop 4 new))) r
-    ∙ fresh_is_inside (drop 4 new) (omega (arith, n, all))
-
--- how much it is
-count_behind : (bytes more : List ℕ) → 4 < length bytes + length more → length (drop 4 (bytes ++ more)) + 4 ≡ length bytes + length more
-count_behind bytes more over = let all = length-append bytes more in length_behind 4 (bytes ++ more) (omega (arith, all)) ∙ all
+    ∙ fresh_bytes (drop 4 new) (omega (arith, n, all))
 
 pub range_and_more : (bytes more : List ℕ) → length bytes < 4 → 4 < length bytes + length more → length bytes + length more ≤ 131076 → opened (bytes ++ more) ≡ Ok fresh → run (opening bytes) (map byte more) ≡ Ok (inside (drop 4 (bytes ++ more)))
 range_and_more bytes more h over size r =
-    let n = count_behind bytes more over in
+    let n = dropped_length 4 bytes more (omega arith) in
     range_then bytes more h over r ∙ inside_bytes [] (drop 4 (bytes ++ more)) (omega (arith, n))
 
 pub range_and_too_much : (bytes more : List ℕ) → length bytes < 4 → 131076 < length bytes + length more → opened (bytes ++ more) ≡ Ok fresh → run (opening bytes) (map byte more) ≡ Err (BadMessage TooLong)
 range_and_too_much bytes more h over r =
-    let n = count_behind bytes more (omega arith) in
+    let n = dropped_length 4 bytes more (omega arith) in
     range_then bytes more h (omega arith) r ∙ inside_too_many [] (drop 4 (bytes ++ more)) (omega arith) (omega (arith, n))
-
-pub fresh_bytes : (more : List ℕ) → 0 < length more → run fresh (map byte more) ≡ run (inside []) (map byte more)
-fresh_bytes = fresh_is_inside
 
 pub no_more_bytes : (p : Phase) (more : List ℕ) → length more ≡ 0 → run p (map byte more) ≡ Ok p
 unfolding run
@@ -209,17 +157,8 @@ range_bytes kept more a b c d p q r s =
         let h : z ≡ d = cc in
         (omega arith, rw (e, f, g, h) refl)
 
-slice_get_none : (bytes : List ℕ) (i : ℕ) → slice_get bytes i ≡ None → length bytes ≤ i
-slice_get_none [] i none = omega arith
-slice_get_none (b ∷ bytes) zero none = absurd cc
-slice_get_none (b ∷ bytes) (suc i) none = let rest = slice_get_none bytes i none in omega (arith, rest)
-
 pub range_cut : (kept more : List ℕ) (i : ℕ) → i < 4 → slice_get (kept ++ more) i ≡ None → length kept + length more < 4
-range_cut kept more i h none = let all = length-append kept more in let n = slice_get_none (kept ++ more) i none in omega (arith, all, n)
+range_cut kept more i h none = grind (arith, elements, slice_get-get_or, length-append)
 
 pub words_skipped : (bytes : List ℕ) (x y : ℕ) (rest : List ℕ) → 4 ≤ length bytes → words_of bytes ≡ x ∷ y ∷ rest → words_of (drop 4 bytes) ≡ rest
-words_skipped [] x y rest h e = absurd (omega arith)
-words_skipped (a ∷ []) x y rest h e = absurd (omega arith)
-words_skipped (a ∷ b ∷ []) x y rest h e = absurd (omega arith)
-words_skipped (a ∷ b ∷ c ∷ []) x y rest h e = absurd (omega arith)
-words_skipped (a ∷ b ∷ c ∷ d ∷ bytes) x y rest h e = cc
+words_skipped bytes x y rest h e = range_dropped bytes 0 h ∙ ap (drop 2) e

@@ -4,6 +4,7 @@ use Rattle.std.specs.Prelude.{Result}
 use Rattle.xns_spp.specs.declared.item.Item.{Item}
 use Rattle.courier_messages.specs.declared.fault.SessionFault.{SessionFault}
 use Rattle.courier_messages.specs.declared.fault.SessionFault.TheVariants as faults
+use Rattle.courier_messages.specs.Refusal.{Stops}
 use Rattle.courier_messages.specs.declared.message.Message.{Message}
 use Rattle.courier_messages.specs.Text.{Sign, byte, mark, foreign, signs, end_of}
 use Rattle.courier_messages.specs.Conversation.{Phase, opening, fresh, inside}
@@ -77,3 +78,14 @@ pub without_mark : (p q : Phase) (x : Item) → x.stream ≡ 0 → x.last ≡ fa
 without_mark p q x h l r =
     let e : signs x ≡ map byte x.body = signs_open x h ∙ (ap (λ (b : Bool). map byte x.body ++ end_of b) l ∙ append-nil (map byte x.body)) in
     (ap (λ (ss : List Sign). run p ss) e ∙ r, ap (λ (ss : List Sign). said p ss) e ∙ said_bytes p x.body)
+
+-- what follows from a fault, and from a want of memory
+pub weaker : {M N P Q : Type 0} (e : SessionFault) → (M → N) → (P → Q) → Stops e M P → Stops e N Q
+weaker faults.NoCommonVersion g f h = f h
+weaker faults.BadVersions g f h = f h
+weaker (faults.BadMessage m) g f h = f h
+weaker faults.WrongTransaction g f h = f h
+weaker faults.BadReply g f h = f h
+weaker (faults.Stream kind) g f h = f h
+weaker faults.NoMemory g f h = g h
+weaker faults.Failed g f h = h

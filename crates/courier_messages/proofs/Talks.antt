@@ -1,40 +1,23 @@
 -- What is heard first stays.
-use Rattle.std.proofs.Common.{◌≡◌, List, [], ◌∷◌, ◌++◌, Result, Ok, Err, refl, sym, ◌∙◌, ap, subst, append_assoc}
+use Rattle.std.proofs.Common.{List, [], ◌++◌, Result, Ok, Err, sym, ◌∙◌, ap, subst}
 use Rattle.std.proofs.lemmas.List.Concat.{flat_map-append}
 use Rattle.xns_spp.specs.declared.item.Item.{Item}
 use Rattle.courier_messages.specs.declared.fault.SessionFault.{SessionFault}
 use Rattle.courier_messages.specs.declared.message.Message.{Message}
-use Rattle.courier_messages.specs.Text.{Sign, signs, written}
+use Rattle.courier_messages.specs.Text.{signs, written}
 use Rattle.courier_messages.specs.Conversation.{Phase, opening, conversation, ending}
-use Rattle.courier_messages.specs.Phases.{step, ended, ◌then◌, run, onwards, said}
+use Rattle.courier_messages.specs.Phases.{◌then◌, run, onwards, said}
 use Rattle.xns_spp.specs.Growth.{Begins}
 use Rattle.courier_messages.specs.Laws.{IsFaultless}
+use Rattle.courier_messages.proofs.Runs.{run_append, said_append}
 use Rattle.courier_messages.proofs.Signs.{conversation_is, ending_is}
-
-pub run-append : (p : Phase) (xs ys : List Sign) → run p (xs ++ ys) ≡ run p xs then (λ q. run q ys)
-unfolding run
-run-append p [] ys = refl
-run-append p (x ∷ xs) ys =
-    elim (step p x) as (λ r. (r then (λ q. run q (xs ++ ys))) ≡ ((r then (λ q. run q xs)) then (λ q. run q ys))) [
-      | Ok q ↦ run-append q xs ys
-      | Err e ↦ refl
-    ]
-
-pub said-append : (p : Phase) (xs ys : List Sign) → said p (xs ++ ys) ≡ said p xs ++ onwards (run p xs) (λ q. said q ys)
-unfolding run said
-said-append p [] ys = refl
-said-append p (x ∷ xs) ys =
-    elim (step p x) as (λ r. ended p x ++ onwards r (λ q. said q (xs ++ ys)) ≡ (ended p x ++ onwards r (λ q. said q xs)) ++ onwards (r then (λ q. run q xs)) (λ q. said q ys)) [
-      | Ok q ↦ ap (λ (l : List Message). ended p x ++ l) (said-append q xs ys) ∙ sym (append_assoc (ended p x) (said q xs) (onwards (run q xs) (λ q. said q ys)))
-      | Err e ↦ sym (append_assoc (ended p x) [] [])
-    ]
 
 pub messages_begin : (xs ys : List Item) → Begins xs ys → Begins (conversation xs) (conversation ys)
 messages_begin xs ys p = (
   onwards (ending xs) (λ q. said q (written p.0)),
   ap (λ (ms : List Message). ms ++ onwards (ending xs) (λ q. said q (written p.0))) (conversation_is xs)
       ∙ ap (λ (r : Result Phase SessionFault). said (opening []) (written xs) ++ onwards r (λ q. said q (written p.0))) (ending_is xs)
-      ∙ sym (said-append (opening []) (written xs) (written p.0)) ∙ ap (said (opening [])) (sym (flat_map-append signs xs p.0)) ∙ sym (conversation_is (xs ++ p.0)) ∙ ap conversation p.1,
+      ∙ sym (said_append (opening []) (written xs) (written p.0)) ∙ ap (said (opening [])) (sym (flat_map-append signs xs p.0)) ∙ sym (conversation_is (xs ++ p.0)) ∙ ap conversation p.1,
 )
 
 well_front : (r : Result Phase SessionFault) (f : Phase → Result Phase SessionFault) → IsFaultless (r then f) → IsFaultless r
@@ -45,4 +28,4 @@ pub well_begins : (xs ys : List Item) → Begins xs ys → IsFaultless (ending y
 well_begins xs ys p h =
     subst IsFaultless (sym (ending_is xs))
     (well_front (run (opening []) (written xs)) (λ q. run q (written p.0))
-    (subst IsFaultless (sym (ap ending p.1) ∙ ending_is (xs ++ p.0) ∙ ap (run (opening [])) (flat_map-append signs xs p.0) ∙ run-append (opening []) (written xs) (written p.0)) h))
+    (subst IsFaultless (sym (ap ending p.1) ∙ ending_is (xs ++ p.0) ∙ ap (run (opening [])) (flat_map-append signs xs p.0) ∙ run_append (opening []) (written xs) (written p.0)) h))

@@ -1,5 +1,5 @@
 -- What is cut from messages is heard as those messages.
-use Rattle.std.proofs.Common.{◌≡◌, ℕ, zero, suc, ◌+◌, ◌-◌, ◌*◌, ◌≤◌, Bool, false, cond, List, [], ◌∷◌, ◌++◌, length, take, drop, Result, Ok, Err, refl, sym, ◌∙◌, ap, subst, arith, append_assoc, length-append, take-append-drop}
+use Rattle.std.proofs.Common.{◌≡◌, ℕ, zero, suc, ◌+◌, ◌-◌, ◌*◌, ◌≤◌, Bool, false, cond, List, [], ◌∷◌, ◌++◌, length, take, drop, Result, Ok, Err, refl, sym, ◌∙◌, ap, subst, arith, append_assoc, take-append-drop}
 use Rattle.std.specs.Prelude.{map, nat_lt, ◌/◌, ◌%◌, ◌==◌}
 use Rattle.std.specs.List.{flat_map, AllByRecursion}
 use Rattle.std.proofs.lemmas.Bool.{ne_eqb, le-ltb}
@@ -8,7 +8,6 @@ use Rattle.std.proofs.lemmas.List.Concat.{flat_map-append}
 use Rattle.courier_messages.specs.declared.fault.MessageFault.{MessageFault}
 use Rattle.courier_messages.specs.declared.fault.MessageFault.TheVariants.{OddLength, TooLong}
 use Rattle.courier_messages.specs.declared.fault.SessionFault.{SessionFault}
-use Rattle.courier_messages.specs.declared.fault.SessionFault.TheVariants.{BadMessage}
 use Rattle.courier_messages.specs.declared.message.Message.{Message}
 use Rattle.courier_messages.specs.declared.message.Message.TheVariants.{Call, Reject, Return, Abort}
 use Rattle.courier_types.specs.Pieces.{words_of}
@@ -20,7 +19,8 @@ use Rattle.courier_messages.specs.Conversation.{Phase, opening, inside, conversa
 use Rattle.courier_messages.specs.Phases.{closed, good, ◌then◌, run, onwards, said}
 use Rattle.courier_messages.specs.Cutting.{cut_items, cut_bytes, cut}
 use Rattle.courier_messages.specs.Laws.{IsShort, items_of}
-use Rattle.courier_messages.proofs.Talks.{run-append, said-append}
+use Rattle.courier_messages.proofs.Ranges.{inside_bytes}
+use Rattle.courier_messages.proofs.Runs.{run_append, said_append, said_bytes}
 use Rattle.courier_messages.proofs.Signs.{conversation_is, ending_is}
 use Rattle.courier_messages.proofs.Cuts.{bytes_length}
 
@@ -71,23 +71,14 @@ pub record Leads (p : Phase) (xs : List Sign) (q : Phase) (ms : List Message) : 
 
 pub leads_then : (p q r : Phase) (xs ys : List Sign) (ms ns : List Message) → Leads p xs q ms → Leads q ys r ns → Leads p (xs ++ ys) r (ms ++ ns)
 leads_then p q r xs ys ms ns g h = record {
-  run = run-append p xs ys ∙ ap (λ (o : Result Phase SessionFault). o then (λ q. run q ys)) g.run ∙ h.run;
-  said = said-append p xs ys ∙ ap (λ (o : Result Phase SessionFault). said p xs ++ onwards o (λ q. said q ys)) g.run
+  run = run_append p xs ys ∙ ap (λ (o : Result Phase SessionFault). o then (λ q. run q ys)) g.run ∙ h.run;
+  said = said_append p xs ys ∙ ap (λ (o : Result Phase SessionFault). said p xs ++ onwards o (λ q. said q ys)) g.run
       ∙ ap (λ (l : List Message). l ++ said q ys) g.said ∙ ap (λ (l : List Message). ms ++ l) h.said;
 }
 
 -- bytes within a message
 pub leads_bytes : (bytes more : List ℕ) → length bytes + length more ≤ 131072 → Leads (inside bytes) (map byte more) (inside (bytes ++ more)) []
-unfolding run said
-leads_bytes bytes [] h = record { run = ap (λ (l : List ℕ). Ok (inside l)) (sym (append-nil bytes)); said = refl }
-leads_bytes bytes (b ∷ more) h =
-    let room : (length bytes == 131072) ≡ false = ne_eqb (length bytes) 131072 (λ e. omega (arith, e)) in
-    let longer = length-append bytes (b ∷ []) in
-    let next = leads_bytes (bytes ++ b ∷ []) more (omega arith) in
-    record {
-      run = ap (λ (v : Bool). cond v (Err (BadMessage TooLong)) (Ok (inside (bytes ++ b ∷ []))) then (λ q. run q (map byte more))) room ∙ next.run ∙ ap (λ (l : List ℕ). Ok (inside l)) (append_assoc bytes (b ∷ []) more);
-      said = ap (λ (v : Bool). onwards (cond v (Err (BadMessage TooLong)) (Ok (inside (bytes ++ b ∷ [])))) (λ q. said q (map byte more))) room ∙ next.said;
-    }
+leads_bytes bytes more h = record { run = inside_bytes bytes more h; said = said_bytes (inside bytes) more }
 
 leads_mark : (m : Message) (bytes : List ℕ) → message_of bytes ≡ Ok m → Leads (inside bytes) (mark ∷ []) (inside []) (m ∷ [])
 unfolding run said

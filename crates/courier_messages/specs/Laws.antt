@@ -67,6 +67,7 @@ pub record HearsCalls (fed : List Item) (made : List RawCall) : Type 0 where
 pub record MessageIsSpelled : Type 0 where
   pub said : (m : Message) (bytes : List ℕ) → length bytes % 2 ≡ 0 → SpellsMessage m (words_of bytes) → message_of bytes ≡ Ok m
   pub written : (m : Message) (words : List ℕ) → SpellsMessage m words → message_of (message_bytes m) ≡ Ok m
+  pub short : (bytes : List ℕ) (m : Message) → message_of bytes ≡ Ok m → IsShort m
 
 abbrev pub WholeValueIsSpelled : Type 0
 WholeValueIsSpelled = (shape : ShapeModel) (value : ValueModel) (words : List ℕ) → AreWords words

@@ -8,7 +8,7 @@ ghost use Rattle.courier_messages.specs.Laws.{MoreCallsGoOut, AFrontIsHeard, Cal
 use courier_types::laws::value_of_is_spelled;
 
 /// Bytes are read as a message exactly where their words say it: here, that what is said is read; `read_message` tells
-/// the other way.
+/// the other way. A message that is read has at most 131,072 bytes.
 pub fn message_is_spelled()
     ensures { MessageIsSpelled }
 {}
