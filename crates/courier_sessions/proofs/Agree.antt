@@ -11,14 +11,11 @@ use Rattle.xns_spp.specs.declared.item.Item.{Item}
 use Rattle.courier_messages.specs.declared.fault.SessionFault.{SessionFault}
 use Rattle.courier_messages.specs.declared.message.Message.{Message}
 use Rattle.courier_messages.specs.declared.message.Message.TheVariants.{Call, Reject, Return, Abort}
-use Rattle.courier_messages.specs.RawCalls.{RawCall}
-use Rattle.courier_messages.specs.RawCalls.{caller_items}
+use Rattle.courier_messages.specs.RawCalls.{RawCall, caller_items, call_message, numbered, numbered_message}
 use Rattle.courier_messages.specs.Conversation.{conversation}
-use Rattle.courier_messages.specs.RawCalls.{call_message}
 use Rattle.courier_messages.specs.Laws.{items_of, IsShort, IsFaultless, Hears, HearsCalls, AFrontIsHeard, CallsAreHeard, OneItemMore}
 use Rattle.courier_messages.specs.Laws.{AServerHearsOneItemMore}
 use Rattle.courier_messages.specs.Called.{server_ending}
-use Rattle.courier_messages.specs.RawCalls.{numbered, numbered_message}
 use Rattle.courier_sessions.specs.declared.program.Program.{Program}
 use Rattle.courier_sessions.specs.Answering.{Answering, transaction_in, is_a_call, after_item as after_heard}
 use Rattle.courier_sessions.specs.Answerings.{HasAnswered, IsAnswer}
@@ -26,6 +23,7 @@ use Rattle.courier_sessions.specs.Talk.{Talk, wrong_unless, reply_fault, after_i
 use Rattle.courier_sessions.specs.Talks.{HasDone, Refuses, made_messages, count_if}
 use Rattle.courier_sessions.proofs.Answered.{stops}
 use Rattle.courier_sessions.proofs.Done.{refuses}
+use Rattle.courier_sessions.proofs.Room.{last_is}
 
 made_are : (k : ℕ) (cs : List RawCall) → made_messages k cs ≡ map numbered_message (numbered k cs)
 unfolding made_messages numbered numbered_message
@@ -112,10 +110,6 @@ number_at k (c ∷ cs) (m ∷ ns) n p =
     let r = number_at (k + 1) cs ns n (p.0, rest) in
     let few = r.1 in
     (r.0 ∙ ap (λ (i : ℕ). i % 65536) (let z : k + 1 + length ns ≡ k + length (m ∷ ns) = omega arith in z), omega (arith, few))
-
-last_is : {X : Type 0} (P : X → Type 0) (xs : List X) (x : X) → AllByRecursion P (xs ++ x ∷ []) → P x
-last_is P [] x h = h.0
-last_is P (y ∷ xs) x h = last_is P xs x h.1
 
 waits : (w : Bool) (n k : ℕ) → n ≡ k + count_if w → k < n → (w ≡ true) × (n ≡ 1 + k)
 waits true n k e few = (refl, omega (arith, e))

@@ -8,11 +8,9 @@ use Rattle.xns_spp.specs.declared.item.Item.{Item}
 use Rattle.courier_messages.specs.declared.fault.SessionFault.{SessionFault}
 use Rattle.courier_messages.specs.declared.message.Message.{Message}
 use Rattle.courier_messages.specs.declared.message.Message.TheVariants.{Call, Reject, Return, Abort}
-use Rattle.courier_messages.specs.RawCalls.{RawCall, IsShortCall, most_call_words}
-use Rattle.courier_messages.specs.RawCalls.{caller_items, call_items}
+use Rattle.courier_messages.specs.RawCalls.{RawCall, IsShortCall, most_call_words, caller_items, call_items, call_message}
 use Rattle.courier_messages.specs.Conversation.{Phase, conversation, conversation_fault, ending}
 use Rattle.courier_messages.specs.Cutting.{cut, versions_item}
-use Rattle.courier_messages.specs.RawCalls.{call_message}
 use Rattle.courier_messages.specs.Phases.{run, said, onwards, ◌then◌}
 use Rattle.courier_messages.specs.Text.{signs}
 use Rattle.courier_messages.specs.Laws.{MoreCallsGoOut, OneItemMore}

@@ -9,7 +9,7 @@ use Rattle.courier_messages.specs.declared.message.Message.{Message}
 use Rattle.courier_messages.specs.declared.message.Message.TheVariants.{Call, Reject, Return, Abort}
 use Rattle.courier_messages.specs.Conversation.{Phase}
 use Rattle.courier_messages.specs.Phases.{run, said, ◌then◌}
-use Rattle.courier_messages.specs.Refusal.{Follows, UnlessMemory}
+use Rattle.courier_messages.specs.Refusal.{Follows, Stops, UnlessMemory}
 use Rattle.courier_messages.specs.Called.{all_calls}
 use Rattle.courier_messages.specs.Text.{signs}
 use Rattle.courier_sessions.specs.Answering.{Answering, after_messages, after_item, is_a_call}
@@ -47,21 +47,22 @@ pub no_call : (a : Answering) (x y : Item) (p : Phase) (m : Message) → is_a_ca
 no_call a x y p m is e r s = item_is a x y (m ∷ []) (Ok p) e r s ∙ one_said a m (Ok p)
     ∙ ap (λ (b : Bool). (if b then Ok p else Err BadReply) then λ p. Ok (record a { phase = p; call = Some m })) is
 
+-- what follows from a fault, and from a want of memory
+pub weaker : {M N P Q : Type 0} (e : SessionFault) → (M → N) → (P → Q) → Stops e M P → Stops e N Q
+weaker NoCommonVersion g f h = f h
+weaker BadVersions g f h = f h
+weaker (BadMessage m) g f h = f h
+weaker WrongTransaction g f h = f h
+weaker BadReply g f h = f h
+weaker (Stream kind) g f h = f h
+weaker NoMemory g f h = g h
+weaker Failed g f h = h
+
 stops_by : (a : Answering) (x y : Item) (e : SessionFault) → y ≡ x → (run a.phase (signs y) ≡ Err e) × (said a.phase (signs y) ≡ []) →
     after_item a x ≡ Err e
 stops_by a x y e same h = item_is a x y [] (Err e) same h.0 h.1 ∙ nothing_said a (Err e)
 
-stops : (a : Answering) (x y : Item) (e : SessionFault) → y ≡ x → UnlessMemory e
-    ((run a.phase (signs y) ≡ Err e) × (said a.phase (signs y) ≡ [])) → UnlessMemory e (after_item a x ≡ Err e)
-stops a x y NoCommonVersion same h = stops_by a x y NoCommonVersion same h
-stops a x y BadVersions same h = stops_by a x y BadVersions same h
-stops a x y (BadMessage f) same h = stops_by a x y (BadMessage f) same h
-stops a x y WrongTransaction same h = stops_by a x y WrongTransaction same h
-stops a x y BadReply same h = stops_by a x y BadReply same h
-stops a x y (Stream kind) same h = stops_by a x y (Stream kind) same h
-stops a x y NoMemory same h = tt
-stops a x y Failed same h = h
-
 pub stopped : (a n : Answering) (x y : Item) (e : SessionFault) (r : Result (Unit {0}) SessionFault) → r ≡ Err e → y ≡ x →
     UnlessMemory e ((run a.phase (signs y) ≡ Err e) × (said a.phase (signs y) ≡ [])) → Follows r (after_item a x) n
-stopped a n x y e r is same h = subst (λ (r : Result (Unit {0}) SessionFault). Follows r (after_item a x) n) (sym is) (stops a x y e same h)
+stopped a n x y e r is same h = subst (λ (r : Result (Unit {0}) SessionFault). Follows r (after_item a x) n) (sym is)
+    (weaker e (λ u. u) (stops_by a x y e same) h)

@@ -2,8 +2,7 @@
 use Rattle.std.proofs.Common.{◌≡◌, ◌∙◌, ap, sym, refl, subst, ℕ, List, [], ◌∷◌, map, Bool, true, false, Some, None, Option, Result, Ok, Err}
 use Rattle.std.specs.Prelude.{if◌then◌else◌, IsOk, is_ok}
 use Rattle.courier_messages.specs.declared.fault.SessionFault.{SessionFault}
-use Rattle.courier_messages.specs.declared.fault.SessionFault.TheVariants.{NoCommonVersion, BadVersions, BadMessage, WrongTransaction}
-use Rattle.courier_messages.specs.declared.fault.SessionFault.TheVariants.{BadReply, Stream, NoMemory, Failed}
+use Rattle.courier_messages.specs.declared.fault.SessionFault.TheVariants.{WrongTransaction, BadReply}
 use Rattle.courier_messages.specs.declared.head.Head.{Head}
 use Rattle.courier_messages.specs.declared.message.Message.{Message}
 use Rattle.courier_messages.specs.declared.message.Message.TheVariants.{Call, Reject, Return, Abort}
@@ -16,17 +15,7 @@ use Rattle.courier_messages.specs.Refusal.{Stops}
 use Rattle.courier_sessions.specs.Answering as answering
 use Rattle.courier_sessions.specs.Answering.{Answering, is_a_call, after_messages}
 use Rattle.courier_sessions.specs.Talk.{Talk, reply_fault, wrong_unless, answered_unless, answered, after_item}
-use Rattle.courier_sessions.proofs.Hearing.{nothing_said, one_said}
-
-pub stops_on : {P Q : Type 0} → (e : SessionFault) → (P → Q) → Stops e ⊥ P → Stops e ⊥ Q
-stops_on NoMemory f w = w
-stops_on NoCommonVersion f w = f w
-stops_on BadVersions f w = f w
-stops_on (BadMessage m) f w = f w
-stops_on WrongTransaction f w = f w
-stops_on BadReply f w = f w
-stops_on (Stream kind) f w = f w
-stops_on Failed f w = w
+use Rattle.courier_sessions.proofs.Hearing.{nothing_said, one_said, weaker}
 
 whole : (m : Message) → m ≡ with_words (head_in m) (words_in m)
 whole (Call t p v q words) = refl
@@ -84,7 +73,7 @@ wrong_answer t x head o e some k h f =
 
 pub fault_first : (a : Answering) (e : SessionFault) (x : Item) → Stops e ⊥
     ((run a.phase (signs x) ≡ Err e) × (said a.phase (signs x) ≡ [])) → Stops e ⊥ (answering.after_item a x ≡ Err e)
-fault_first a e x = stops_on e (λ h. (λ i. after_messages a (h.1 i) (h.0 i)) ∙ nothing_said a (Err e))
+fault_first a e x = weaker e (λ u. u) (λ h. (λ i. after_messages a (h.1 i) (h.0 i)) ∙ nothing_said a (Err e))
 
 nothing_yet : (a : Answering) (q : Result Phase SessionFault) (ms : List Message) → IsOk q → map head_in ms ≡ [] →
     IsOk (after_messages a ms q)

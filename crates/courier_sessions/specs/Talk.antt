@@ -7,10 +7,9 @@ use Rattle.courier_messages.specs.declared.fault.SessionFault.{SessionFault}
 use Rattle.courier_messages.specs.declared.fault.SessionFault.TheVariants.{WrongTransaction, BadReply}
 use Rattle.courier_messages.specs.declared.message.Message.{Message}
 use Rattle.courier_messages.specs.declared.message.Message.TheVariants.{Call, Reject, Return, Abort}
-use Rattle.courier_messages.specs.RawCalls.{RawCall, most_call_words}
+use Rattle.courier_messages.specs.RawCalls.{RawCall, most_call_words, call_message}
 use Rattle.courier_messages.specs.Conversation.{Phase, opening}
 use Rattle.courier_messages.specs.Cutting.{cut, versions_item}
-use Rattle.courier_messages.specs.RawCalls.{call_message}
 use Rattle.courier_messages.specs.Phases.{run, said, ◌then◌}
 use Rattle.courier_messages.specs.Text.{signs}
 use Rattle.courier_sessions.specs.Feeding.{most_item, heard}

@@ -7,9 +7,7 @@ use Rattle.courier_messages.specs.declared.fault.SessionFault.{SessionFault}
 use Rattle.courier_messages.specs.declared.message.Message.{Message}
 use Rattle.courier_messages.specs.declared.message.Message.TheVariants.{Call, Reject, Return, Abort}
 use Rattle.std.specs.List.{AllByRecursion}
-use Rattle.courier_messages.specs.RawCalls.{RawCall, IsShortCall}
-use Rattle.courier_messages.specs.RawCalls.{caller_items}
-use Rattle.courier_messages.specs.RawCalls.{call_message}
+use Rattle.courier_messages.specs.RawCalls.{RawCall, IsShortCall, caller_items, call_message}
 use Rattle.courier_messages.specs.Conversation.{conversation, ending}
 use Rattle.courier_sessions.specs.Talk.{Talk, reply_fault}
 

@@ -112,4 +112,6 @@ pub fn words_have_their_room()
         → HasAnswered programs fed given taken handed answers a → a.call ≡ Some m → length (words_in m) ≤ most_call_words }
     ensures outcome { (made : List RawCall) (fed given : List Item) (handed : List Message) (t : Talk) (m : Message)
         → HasDone made fed given handed t → t.outcome ≡ Some m → HasRoom m }
-{}
+{
+    courier_messages::laws::message_is_spelled();
+}
