@@ -24,11 +24,8 @@ all_split (Reject t r w ∷ ms) ns = refl
 all_split (Return t w ∷ ms) ns = refl
 all_split (Abort t e w ∷ ms) ns = refl
 
-all_append : (ms ns : List Message) → all_calls ms ≡ true → all_calls (ms ++ ns) ≡ all_calls ns
-all_append ms ns h = all_split ms ns ∙ ap (λ (b : Bool). if b then all_calls ns else false) h
-
-not_all_append : (ms ns : List Message) → all_calls ms ≡ false → all_calls (ms ++ ns) ≡ false
-not_all_append ms ns h = all_split ms ns ∙ ap (λ (b : Bool). if b then all_calls ns else false) h
+all_append : (b : Bool) (ms ns : List Message) → all_calls ms ≡ b → all_calls (ms ++ ns) ≡ (if b then all_calls ns else false)
+all_append b ms ns h = all_split ms ns ∙ ap (λ (c : Bool). if c then all_calls ns else false) h
 
 -- the calls of messages behind others, whose calls are all their messages or not
 abbrev calls_behind : Bool → List Message → List (ℕ × RawCall)
@@ -55,14 +52,11 @@ heard_by : (b : Bool) (q : Result Phase SessionFault) (p : Phase) → (if b then
 heard_by true q p h = (refl, h)
 heard_by false q p h = cc
 
-heard_ok : (ms : List Message) (q : Result Phase SessionFault) (p : Phase) → heard ms q ≡ Ok p → (all_calls ms ≡ true) × (q ≡ Ok p)
-heard_ok ms q p h = heard_by (all_calls ms) q p h
-
 -- one more item
 
 pub goes : (F : List Item) (p : Phase) (x : Item) → server_ending F ≡ Ok p → GoesOn F p x
 goes F p x h =
-    let was = heard_ok (conversation F) (ending F) p h in
+    let was = heard_by (all_calls (conversation F)) (ending F) p h in
     let c : conversation (F ++ x ∷ []) ≡ conversation F ++ said p (signs x) =
     conversation_more F x ∙ ap (λ (r : Result Phase SessionFault). conversation F ++ onwards r (λ t. said t (signs x))) was.1 in
     let e : ending (F ++ x ∷ []) ≡ run p (signs x) =
@@ -70,7 +64,7 @@ goes F p x h =
     record {
       said_then = c;
       ends = ap (λ (ms : List Message). heard ms (ending (F ++ x ∷ []))) c
-          ∙ (ap (λ (b : Bool). if b then ending (F ++ x ∷ []) else Err BadReply) (all_append (conversation F) (said p (signs x)) was.0)
+          ∙ (ap (λ (b : Bool). if b then ending (F ++ x ∷ []) else Err BadReply) (all_append true (conversation F) (said p (signs x)) was.0)
           ∙ ap (λ (r : Result Phase SessionFault). heard (said p (signs x)) r) e);
       calls_then = ap (λ (ms : List Message). calls_of ms) c ∙ calls_append (conversation F) (said p (signs x)) was.0;
     }
@@ -91,7 +85,7 @@ stays_by F x e false a h =
     let more = onwards (ending F) (λ t. said t (signs x)) in
     record {
       calls = ap (λ (ms : List Message). calls_of ms) (conversation_more F x) ∙ calls_stay (conversation F) more a;
-      ending = ap (λ (b : Bool). if b then ending (F ++ x ∷ []) else Err BadReply) (ap (λ (ms : List Message). all_calls ms) (conversation_more F x) ∙ not_all_append (conversation F) more a)
+      ending = ap (λ (b : Bool). if b then ending (F ++ x ∷ []) else Err BadReply) (ap (λ (ms : List Message). all_calls ms) (conversation_more F x) ∙ all_append false (conversation F) more a)
           ∙ (sym (ap (λ (b : Bool). if b then ending F else Err BadReply) a) ∙ h);
     }
 

@@ -20,10 +20,10 @@ record IsWritten (m : Message) (words : List ℕ) : Type 0 where
   spells : words ≡ message_words m
   numbers : IsMessage m
 
-head_word : (w : ℕ) (ws : List ℕ) → AreWords (w ∷ ws) → w < 2 ^ 16
+pub head_word : (w : ℕ) (ws : List ℕ) → AreWords (w ∷ ws) → w < 2 ^ 16
 head_word w ws h = h 0 0 (omega arith)
 
-tail_words : (w : ℕ) (ws : List ℕ) → AreWords (w ∷ ws) → AreWords ws
+pub tail_words : (w : ℕ) (ws : List ℕ) → AreWords (w ∷ ws) → AreWords ws
 tail_words w ws h i d lt = h (suc i) d (omega arith)
 
 high_word : (h l : ℕ) → l < 2 ^ 16 → (h * 65536 + l) / 65536 ≡ h
@@ -102,7 +102,7 @@ read_is_spelled bytes m h e =
 no_words : AreWords []
 no_words i d lt = absurd (omega arith)
 
-cons_words : (w : ℕ) (ws : List ℕ) → w < 2 ^ 16 → AreWords ws → AreWords (w ∷ ws)
+pub cons_words : (w : ℕ) (ws : List ℕ) → w < 2 ^ 16 → AreWords ws → AreWords (w ∷ ws)
 cons_words w ws h k zero d lt = h
 cons_words w ws h k (suc i) d lt = k i d (omega arith)
 

@@ -8,16 +8,7 @@ use Rattle.courier_types.specs.Source.{bytes_of}
 use Rattle.courier_messages.specs.Message.{message_words, message_bytes, IsMessage}
 use Rattle.courier_messages.specs.Cutting.{message_item, cut_items, cut_bytes, cut, versions_item}
 use Rattle.courier_messages.specs.Laws.{IsSendableItem}
-
-head_word : (w : ℕ) (ws : List ℕ) → AreWords (w ∷ ws) → w < 2 ^ 16
-head_word w ws h = h 0 0 (omega arith)
-
-tail_words : (w : ℕ) (ws : List ℕ) → AreWords (w ∷ ws) → AreWords ws
-tail_words w ws h i d lt = h (suc i) d (omega arith)
-
-cons_words : (w : ℕ) (ws : List ℕ) → w < 2 ^ 16 → AreWords ws → AreWords (w ∷ ws)
-cons_words w ws h k zero d lt = h
-cons_words w ws h k (suc i) d lt = k i d (omega arith)
+use Rattle.courier_messages.proofs.MessageWords.{head_word, tail_words, cons_words}
 
 no_bytes : AreBytes []
 no_bytes i d lt = absurd (omega arith)

@@ -23,6 +23,7 @@ use Rattle.courier_messages.proofs.Ranges.{inside_bytes}
 use Rattle.courier_messages.proofs.Runs.{run_append, said_append, said_bytes}
 use Rattle.courier_messages.proofs.Signs.{conversation_is, ending_is}
 use Rattle.courier_messages.proofs.Cuts.{bytes_length}
+use Rattle.courier_messages.proofs.Wholes.{half}
 
 two_bytes : (w : ℕ) → (w / 256) * 256 + w % 256 ≡ w
 two_bytes w = omega arith
@@ -113,11 +114,6 @@ pub record AreHeard (ms : List Message) : Type 0 where
 pub leads_items : (ms : List Message) → AllByRecursion IsShort ms → AreHeard ms
 leads_items ms h = let g = leads_all ms h in record { said = conversation_is (items_of ms) ∙ g.said; run = ending_is (items_of ms) ∙ g.run }
 
-even_count : (bytes : List ℕ) → length bytes % 2 ≡ 0 → length bytes ≡ 2 * length (words_of bytes)
-even_count [] h = refl
-even_count (b ∷ []) h = absurd (omega (arith, h))
-even_count (b ∷ c ∷ bytes) h = let k = even_count bytes (omega (arith, h)) in omega (arith, k)
-
 -- bytes whose words say a message are read as it
 pub spelled_is_read : (bytes : List ℕ) (m : Message) → length bytes % 2 ≡ 0 → SpellsMessage m (words_of bytes) → message_of bytes ≡ Ok m
 spelled_is_read bytes m even h =
@@ -125,4 +121,4 @@ spelled_is_read bytes m even h =
     even_message bytes (λ odd. omega (arith, even, odd))
     ∙ ap (λ (ws : List ℕ). unless_long bytes (message_in ws)) h.spells
     ∙ ap (unless_long bytes) (message_back m)
-    ∙ short_message bytes m (omega (arith, size, even_count bytes even))
+    ∙ short_message bytes m (omega (arith, size, even, half bytes))
