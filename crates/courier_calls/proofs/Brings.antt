@@ -81,7 +81,7 @@ brings messages again laws serving IsServiceState law s F x can items = by_front
       let heard = subst (AllByRecursion IsHeard) more (heard_numbers messages.numbers (F ++ x ∷ []) items) in
       let here = (keeps_all laws serving IsServiceState law s can (decided F) (raws_words before (all_front IsHeard before (c ∷ []) heard))).after in
       let one = last_heard before c heard in
-      (reply_read again serving (server_state serving s F) c.0 c.1 (keeps laws serving IsServiceState law (server_state serving s F) here c.1 one.words).well).0
+      (reply_read again serving law.table (server_state serving s F) c.0 c.1 (keeps laws serving IsServiceState law (server_state serving s F) here c.1 one.words).well).0
 
   by_calls : (cs : List (ℕ × RawCall)) → length cs ≤ 1 → calls_of (conversation (F ++ x ∷ [])) ≡ before ++ cs → BringsAtMostOne serving s F (F ++ x ∷ [])
   by_calls [] few more = inl (brings_none serving s F (F ++ x ∷ []) (more ∙ append-nil before))
