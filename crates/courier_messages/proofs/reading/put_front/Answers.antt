@@ -1,9 +1,0 @@
-use Rattle.std.proofs.lemmas.Grind.{common_steps}
-use Rattle.std.proofs.Common.{arith}
-use Rattle.courier_messages.proofs.reading.put_front.Goals as goal
-
-pub loop-word-preserved : goal.loop-word-preserved
-loop-word-preserved g c = grind (arith, common_steps)
-
-pub returns : goal.returns
-returns g c = grind (arith, common_steps)
