@@ -54,6 +54,7 @@ fn make_table(alloc: Global) -> Result<Table, AllocError>
 
 /// The table of the tally: program 7, versions 1 to 2. Procedure 1 adds a cardinal, 2 tells the total; error 1, with
 /// the total, where it would be over a million.
+#[tactic(auto, using(crate::proofs::Tallies::checked_if_named))]
 pub fn tally_table(alloc: Global) -> Result<Table, AllocError>
     ensures names { IfOk result (λ t. table_model t ≡ tally.table) }
     ensures checked { IfOk result (λ t. IsCheckedTable (table_model t)) }
