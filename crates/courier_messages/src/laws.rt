@@ -5,7 +5,7 @@ ghost use Rattle.courier_messages.specs.Laws.{WhatIsKeptIsBounded, MessageItemsC
 ghost use Rattle.courier_messages.specs.Laws.{WhatIsSentIsHeard, AConversationOnlyGrows, SignsRunOn, OneItemMore, AServerHearsOneItemMore};
 ghost use Rattle.courier_messages.specs.Laws.{MoreCallsGoOut, AFrontIsHeard, CallsAreHeard};
 
-use courier_types::laws::value_of_is_spelled;
+use courier_types::laws::words_are_read_whole;
 
 /// Bytes are read as a message exactly where their words say it: here, that what is said is read; `read_message` tells
 /// the other way. A message that is read has at most 131,072 bytes.
@@ -14,10 +14,11 @@ pub fn message_is_spelled()
 {}
 
 /// A value is read whole exactly where all the words spell it.
+#[tactic(auto, using(crate::proofs::Wholes::whole_is_spelled))]
 pub fn whole_value_is_spelled()
     ensures { WholeValueIsSpelled }
 {
-    value_of_is_spelled();
+    words_are_read_whole();
 }
 
 /// A text without items of other datastreams is its pieces, each with its mark, and what is left.
@@ -31,6 +32,7 @@ pub fn conversation_is_read_sign_by_sign()
 {}
 
 /// What a session keeps of the items is at most a message, or less than a version range.
+#[tactic(auto, using(crate::proofs::Bounds::ending_bound))]
 pub fn what_is_kept_is_bounded()
     ensures { WhatIsKeptIsBounded }
 {}
@@ -42,6 +44,7 @@ pub fn message_items_can_be_sent()
 {}
 
 /// The messages of items of bytes have numbers within their types' bounds.
+#[tactic(auto, using(crate::proofs::Numbers::conversation_numbers))]
 pub fn what_is_heard_has_numbers()
     ensures { WhatIsHeardHasNumbers }
 {}
