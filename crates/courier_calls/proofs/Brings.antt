@@ -4,6 +4,7 @@ use Rattle.std.specs.List.{AllByRecursion}
 use Rattle.std.proofs.lemmas.List.{map-append}
 use Rattle.xns_spp.specs.declared.item.Item.{Item}
 use Rattle.xns_spp.specs.Item.{IsItem}
+use Rattle.courier_types.specs.Laws.{WrittenValueIsRead}
 use Rattle.courier_messages.specs.declared.fault.SessionFault.{SessionFault}
 use Rattle.courier_messages.specs.declared.message.Message.{Message}
 use Rattle.courier_messages.specs.declared.message.Message.TheVariants.{Call, Reject, Return, Abort}
@@ -25,7 +26,7 @@ use Rattle.courier_calls.proofs.Lawful.{Values, keeps, keeps_all}
 use Rattle.courier_calls.proofs.Numbers.{IsHeard, heard_numbers}
 use Rattle.courier_calls.proofs.Sent.{raws_words}
 use Rattle.courier_calls.proofs.Serves.{answers_append}
-use Rattle.courier_calls.proofs.Sides.{IsReadAgain, reply_read}
+use Rattle.courier_calls.proofs.Sides.{reply_read}
 
 -- ---- the calls of one item
 
@@ -70,7 +71,7 @@ last_heard : (cs : List (ℕ × RawCall)) (c : ℕ × RawCall) → AllByRecursio
 last_heard [] c h = h.0
 last_heard (d ∷ cs) c h = last_heard cs c h.1
 
-pub brings : {S : Type 0} → Messages → IsReadAgain → Values → (serving : Serving S) (IsServiceState : S → Type 0) → IsLawful serving IsServiceState → (s : S) (F : List Item) (x : Item) → IsServiceState s → AllByRecursion IsItem (F ++ x ∷ [])
+pub brings : {S : Type 0} → Messages → WrittenValueIsRead → Values → (serving : Serving S) (IsServiceState : S → Type 0) → IsLawful serving IsServiceState → (s : S) (F : List Item) (x : Item) → IsServiceState s → AllByRecursion IsItem (F ++ x ∷ [])
     → BringsAtMostOne serving s F (F ++ x ∷ [])
 brings messages again laws serving IsServiceState law s F x can items = by_front (server_ending F) refl where
   before : List (ℕ × RawCall)

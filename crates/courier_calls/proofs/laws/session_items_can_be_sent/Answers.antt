@@ -18,7 +18,7 @@ returns-clause-caller g c calls fit =
 
 pub returns-clause-server : goal.returns-clause-server
 returns-clause-server g c s can =
-    let sent = server_sent c.message_items_can_be_sent.ensures (record { spelled = c.whole_value_is_spelled.ensures; fits = c.spelled_value_fits.ensures.fits }) c.fitting_value_is_spelled.ensures.words g.S.Service.serving g.S.Service.IsServiceState g.met.S.Service.lawful s can in
+    let sent = server_sent c.message_items_can_be_sent.ensures (record { spelled = c.whole_value_is_spelled.ensures; fits = c.spelled_value_fits.ensures }) c.fitting_value_is_spelled.ensures g.S.Service.serving g.S.Service.IsServiceState g.met.S.Service.lawful s can in
     let items = λ (f : List Item). All-from_recursion IsSendableItem (server_items g.S.Service.serving s f) in
     record {
       server = λ f bytes. items f (sent (calls_of (conversation f)) (heard_numbers c.what_is_heard_has_numbers.ensures f (recursion_from_All IsItem f bytes)));
