@@ -1,17 +1,22 @@
 -- What a side that is called does with the call that waits: it hands it, or rejects it.
-use Rattle.std.proofs.Common.{◌≡◌, ◌≢◌, ap, sym, refl, subst, List, [], ◌∷◌, ◌++◌, Bool, true, false, Option, Some, None, Result, Ok, Err}
+use Rattle.std.proofs.Common.{◌≡◌, ◌≢◌, ap, sym, refl, subst, ℕ, List, [], ◌∷◌, ◌++◌, Bool, true, false, Option, Some, None, Result, Ok, Err}
 use Rattle.std.specs.Option.{is_some}
 use Rattle.std.specs.declared.alloc.AllocError.{AllocError}
 use Rattle.courier_messages.specs.declared.message.Message.{Message}
 use Rattle.xns_spp.specs.Held.{Held}
 use Rattle.xns_spp.specs.declared.item.Item.{Item}
-use Rattle.courier_sessions.specs.Answering.{Answering, has_items, why_unlisted, after_call, after_reject}
+use Rattle.courier_sessions.specs.Answering.{Answering, has_items, why_unlisted, after_call, after_reject, answer_message, answer_refusal, answered, AnswerAnswers}
 use Rattle.courier_sessions.specs.Answerings.{HasAnswered}
+use Rattle.courier_sessions.specs.declared.answer.Answer.{Answer}
+use Rattle.courier_sessions.specs.declared.answer_refusal.AnswerRefusal.{AnswerRefusal}
+use Rattle.courier_sessions.specs.declared.answer_refusal.AnswerRefusal.TheVariants.{NoCall, TooLong, NoMemory}
 use Rattle.courier_sessions.specs.declared.program.Program.{Program}
 use Rattle.courier_sessions.specs.declared.unlisted.Unlisted.{Unlisted}
+use Rattle.xns_host.specs.Refusing.{answer_result}
 use Rattle.xns_host.specs.Story.{Story, ServerHas, Moves, with_handed}
 use Rattle.xns_host.specs.declared.side.Side.TheVariants.{Answers}
 use Rattle.xns_host.proofs.Leading.{ServerRejects, server_rejected, moves_same}
+use Rattle.xns_host.proofs.Rejecting.{one_handed, one_answered}
 
 -- ---- a call is handed
 
@@ -36,8 +41,31 @@ ServerHands = (programs : List Program) (fed given : List Item) (taken handed an
 pub hands : ServerHands → (h : Story) (a n : Answering) (m : Message) → a.call ≡ Some m → why_unlisted a.programs m ≡ None → n ≡ after_call a m → ServerHas h a → ServerHas (with_handed (Answers a) h m) n
 hands law h a n m call listed is has =
     let done = law a.programs h.fed h.given h.taken h.handed h.answers (record a { failed = false; phase = has.phase }) m has.done call listed in
-    let there : ServerHas (with_handed (Answers a) h m) (after_call a m) = record { phase = has.phase; done = done; going = has.going } in
+    let rejected = one_handed a.programs h.taken h.answers m listed has.rejected in
+    let there : ServerHas (with_handed (Answers a) h m) (after_call a m) = record { phase = has.phase; done = done; going = has.going; table = has.table; rejected = rejected } in
     subst (λ (b : Answering). ServerHas (with_handed (Answers a) h m) b) (sym is) there
+
+-- ---- a call is answered
+
+abbrev pub ServerAnswers : Type 0
+ServerAnswers = (programs : List Program) (fed given : List Item) (taken handed answers : List Message) (a : Answering) (answer : Answer) (k : ℕ) (words : List ℕ) → HasAnswered programs fed given taken handed answers a → a.asked ≡ Some k → answer_refusal a.asked answer words ≡ None
+    → HasAnswered programs fed given taken handed (answers ++ answer_message answer k words ∷ []) (answered a (answer_message answer k words))
+
+-- an answer that was told to be given was
+pub was_given : (r : Result (Unit {0}) AnswerRefusal) (f : Option AnswerRefusal) → answer_result r ≡ Ok tt → AnswerAnswers f r → (r ≡ Ok tt) × (f ≡ None)
+was_given (Ok u) f is none = (refl, none)
+was_given (Err NoCall) f is none = absurd (cc)
+was_given (Err TooLong) f is none = absurd (cc)
+was_given (Err NoMemory) f is none = absurd (cc)
+
+pub answers : ServerAnswers → (h : Story) (a n : Answering) (answer : Answer) (k : ℕ) (words : List ℕ) → a.asked ≡ Some k → answer_refusal a.asked answer words ≡ None → n ≡ answered a (answer_message answer k words) → ServerHas h a
+    → ServerHas (record h { answers = h.answers ++ answer_message answer k words ∷ [] }) n
+answers law h a n answer k words asked right is has =
+    let m : Message = answer_message answer k words in
+    let done = law a.programs h.fed h.given h.taken h.handed h.answers (record a { failed = false; phase = has.phase }) answer k words has.done asked right in
+    let rejected = one_answered a.programs h.taken h.answers (m ∷ []) has.rejected in
+    let there : ServerHas (record h { answers = h.answers ++ m ∷ [] }) (answered a m) = record { phase = has.phase; done = done; going = has.going; table = has.table; rejected = rejected } in
+    subst (λ (b : Answering). ServerHas (record h { answers = h.answers ++ m ∷ [] }) b) (sym is) there
 
 -- ---- a call is rejected
 

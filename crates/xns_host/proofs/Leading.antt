@@ -1,5 +1,6 @@
 -- What the steps of a pump do to the history of a side and its end.
-use Rattle.std.proofs.Common.{◌≡◌, ◌∙◌, ap, sym, refl, subst, ◌+◌, List, [], ◌∷◌, ◌++◌, append-nil, take, length, Bool, true, false, Option, Some, None, Result, Ok, Err, OnOk}
+use Rattle.std.proofs.Common.{◌≡◌, ◌∙◌, ap, sym, refl, subst, ◌+◌, List, [], ◌∷◌, ◌++◌, append-nil, take, length, length-append, Bool, true, false}
+use Rattle.std.proofs.Common.{Option, Some, None, Result, Ok, Err, OnOk, arith}
 use Rattle.std.specs.Prelude.{nat_lt, if◌then◌else◌}
 use Rattle.courier_messages.specs.declared.fault.SessionFault.{SessionFault}
 use Rattle.courier_messages.specs.declared.fault.SessionFault.TheVariants as faults
@@ -27,11 +28,12 @@ use Rattle.courier_sessions.specs.declared.feed_refusal.FeedRefusal.{FeedRefusal
 use Rattle.courier_sessions.specs.declared.feed_refusal.FeedRefusal.TheVariants.{Stopped, Busy, TooLong, Attention, Fault, NoMemory}
 use Rattle.courier_sessions.specs.declared.program.Program.{Program}
 use Rattle.courier_sessions.specs.declared.unlisted.Unlisted.{Unlisted}
-use Rattle.xns_host.specs.Story.{Story, CallerHas, ServerHas, Flows, Runs, start, sends, takes, flushes, resends, GoesOn, Moves, IsListed, MovesAll, Calms}
+use Rattle.xns_host.specs.Story.{Story, CallerHas, ServerHas, AreRejected, Flows, Runs, start, sends, takes, flushes, resends, GoesOn, Moves, IsListed, MovesAll, Calms}
 use Rattle.xns_host.specs.Telling.{Goes, Calm, CalmFrom, Tells}
 use Rattle.xns_host.specs.declared.conversation.Conversation.{Conversation}
 use Rattle.xns_host.specs.declared.side.Side.{Side}
 use Rattle.xns_host.specs.declared.side.Side.TheVariants.{Calls, Answers}
+use Rattle.xns_host.proofs.Rejecting.{all_answered, one_rejected}
 
 -- ---- an end's own steps
 
@@ -200,39 +202,49 @@ ends_at P side last (Err e) n s same stop = refused_at P side last.0 (take_answe
 -- ---- what goes on
 
 -- only the end's own steps were made
-pub same_messages : (h m : Story) → Runs h.state m.state → m.made ≡ h.made → m.handed ≡ h.handed → m.taken ≡ h.taken → m.answers ≡ h.answers → GoesOn h m
-same_messages h m path made handed taken answers = record { path = path; made = made; handed = handed; taken = ([], append-nil h.taken ∙ sym taken); answers = ([], append-nil h.answers ∙ sym answers) }
+pub same_messages : (h m : Story) → Runs h.state m.state → m.programs ≡ h.programs → m.made ≡ h.made → m.handed ≡ h.handed → m.taken ≡ h.taken → m.answers ≡ h.answers → GoesOn h m
+same_messages h m path programs made handed taken answers = record {
+  programs = programs;
+  path = path;
+  made = made;
+  handed = handed;
+  taken = ([], append-nil h.taken ∙ sym taken);
+  answers = ([], append-nil h.answers ∙ sym answers);
+  even = ap (λ (l : List Message). length l + length h.answers) taken ∙ ap (λ (l : List Message). length h.taken + length l) (sym answers);
+}
 
 pub goes_on : (h m n : Story) → GoesOn h m → GoesOn m n → GoesOn h n
 goes_on h m n p q = record {
+  programs = q.programs ∙ p.programs;
   path = runs_on p.path q.path;
   made = q.made ∙ p.made;
   handed = q.handed ∙ p.handed;
   taken = begins_then h.taken m.taken n.taken p.taken q.taken;
   answers = begins_then h.answers m.answers n.answers p.answers q.answers;
+  even = let a = p.even in let b = q.even in omega (arith, a, b);
 }
 
 pub stays : (h : Story) → GoesOn h h
-stays h = same_messages h h start refl refl refl refl
+stays h = same_messages h h start refl refl refl refl refl
 
 -- ---- the side that calls
 
 goes : (t : Talk) → t.failed ≡ false → record t { failed = false; phase = t.phase } ≡ t
 goes t e = ap (λ (b : Bool). record t { failed = b }) (sym e)
 
-pub going : (h : Story) (t : Talk) → HasDone h.made h.fed h.given h.handed t → CallerHas h t
-going h t d = record { phase = t.phase; done = subst (λ (u : Talk). HasDone h.made h.fed h.given h.handed u) (sym (goes t d.going)) d; going = λ z. refl }
+pub going : (h : Story) (t : Talk) → HasDone h.made h.fed h.given h.handed t → h.programs ≡ None → CallerHas h t
+going h t d table = record { phase = t.phase; done = subst (λ (u : Talk). HasDone h.made h.fed h.given h.handed u) (sym (goes t d.going)) d; going = λ z. refl; table = table }
 
 pub gone : (h : Story) (t : Talk) → CallerHas h t → t.failed ≡ false → HasDone h.made h.fed h.given h.handed t
 gone h t c e =
     let same : record t { failed = false; phase = c.phase } ≡ t = ap (λ (p : Phase). record t { failed = false; phase = p }) (sym (c.going e)) ∙ goes t e in
     subst (λ (u : Talk). HasDone h.made h.fed h.given h.handed u) same c.done
 
-pub stopped_at : (h : Story) (t n : Talk) → HasDone h.made h.fed h.given h.handed t → talk.IsStopped t n → CallerHas h n
-stopped_at h t n d is =
+pub stopped_at : (h : Story) (t n : Talk) → HasDone h.made h.fed h.given h.handed t → talk.IsStopped t n → h.programs ≡ None → CallerHas h n
+stopped_at h t n d is table =
     let same : t ≡ record n { failed = false; phase = t.phase } = sym (goes t d.going) ∙ ap (λ (u : Talk). record u { failed = false; phase = t.phase }) (sym is) in
     let fails : n.failed ≡ true = ap (λ (u : Talk). u.failed) is in
-    record { phase = t.phase; done = subst (λ (u : Talk). HasDone h.made h.fed h.given h.handed u) same d; going = λ z. absurd (cc) }
+    record { phase = t.phase; done = subst (λ (u : Talk). HasDone h.made h.fed h.given h.handed u) same d; going = λ z. absurd (cc); table = table }
 
 pub caller_pumped : TheNextItemIsHandedUp → CallerGives → CallerFeeds → (h : Story) (t n : Talk) (e f : Held) (r : Result (Unit {0}) FeedRefusal) → t.failed ≡ false → Flows (Calls t) e h → Pumped caller_side (t, h.state) r n f
     → (m : Story) × Flows (Calls n) f m × GoesOn h m
@@ -242,20 +254,22 @@ caller_pumped next gives feeds_one h t n e f r still flows p =
     let before : CallerOver h.made h.handed (t, h.state) = subst (λ (xs : List Item). HasDone h.made xs h.state.accepted h.handed t) flows.fed (subst (λ (xs : List Item). HasDone h.made h.fed xs h.handed t) flows.given (gone h t flows.has still)) in
     let after : HasDone h.made (take s.handed s.taken) s.accepted h.handed p.last.0 = caller_leads next gives feeds_one h.made h.handed p.leads before in
     let has : CallerHas m n = ends_at (CallerHas m n) caller_side p.last r n p.settled
-    (λ is. going m n (subst (λ (u : Talk). HasDone m.made m.fed m.given m.handed u) (sym is) after)) (λ is. stopped_at m p.last.0 n after is) in
-    (m, record { stands = p.stands; has = has; fed = refl; given = refl }, same_messages h m (leads_run caller_side p.leads) refl refl refl refl)
+    (λ is. going m n (subst (λ (u : Talk). HasDone m.made m.fed m.given m.handed u) (sym is) after) flows.has.table) (λ is. stopped_at m p.last.0 n after is flows.has.table) in
+    (m, record { stands = p.stands; has = has; fed = refl; given = refl }, same_messages h m (leads_run caller_side p.leads) refl refl refl refl refl)
 
 -- ---- the side that is called
 
 server_is : (a : Answering) → a.failed ≡ false → record a { failed = false; phase = a.phase } ≡ a
 server_is a e = ap (λ (b : Bool). record a { failed = b }) (sym e)
 
-pub server_going : (h : Story) (programs : List Program) (a : Answering) → HasAnswered programs h.fed h.given h.taken h.handed h.answers a → ServerHas h a
-server_going h programs a d =
+pub server_going : (h : Story) (programs : List Program) (a : Answering) → HasAnswered programs h.fed h.given h.taken h.handed h.answers a → h.programs ≡ Some programs → AreRejected programs h.taken h.answers → ServerHas h a
+server_going h programs a d table rejected =
     record {
       phase = a.phase;
       done = subst (λ (u : Answering). HasAnswered a.programs h.fed h.given h.taken h.handed h.answers u) (sym (server_is a d.going)) (subst (λ (ps : List Program). HasAnswered ps h.fed h.given h.taken h.handed h.answers a) (sym d.table) d);
       going = λ z. refl;
+      table = subst (λ (ps : List Program). h.programs ≡ Some ps) (sym d.table) table;
+      rejected = subst (λ (ps : List Program). AreRejected ps h.taken h.answers) (sym d.table) rejected;
     }
 
 pub server_gone : (h : Story) (a : Answering) → ServerHas h a → a.failed ≡ false → HasAnswered a.programs h.fed h.given h.taken h.handed h.answers a
@@ -263,8 +277,8 @@ server_gone h a c e =
     let same : record a { failed = false; phase = c.phase } ≡ a = ap (λ (p : Phase). record a { failed = false; phase = p }) (sym (c.going e)) ∙ server_is a e in
     subst (λ (u : Answering). HasAnswered a.programs h.fed h.given h.taken h.handed h.answers u) same c.done
 
-pub server_stopped_at : (h : Story) (programs : List Program) (a n : Answering) → HasAnswered programs h.fed h.given h.taken h.handed h.answers a → answering.IsStopped a n → ServerHas h n
-server_stopped_at h programs a n d is =
+pub server_stopped_at : (h : Story) (programs : List Program) (a n : Answering) → HasAnswered programs h.fed h.given h.taken h.handed h.answers a → answering.IsStopped a n → h.programs ≡ Some programs → AreRejected programs h.taken h.answers → ServerHas h n
+server_stopped_at h programs a n d is listed rejected =
     let same : a ≡ record n { failed = false; phase = a.phase } = sym (server_is a d.going) ∙ ap (λ (u : Answering). record u { failed = false; phase = a.phase }) (sym is) in
     let fails : n.failed ≡ true = ap (λ (u : Answering). u.failed) is in
     let table : programs ≡ n.programs = sym d.table ∙ sym (ap (λ (u : Answering). u.programs) is) in
@@ -272,6 +286,8 @@ server_stopped_at h programs a n d is =
       phase = a.phase;
       done = subst (λ (ps : List Program). HasAnswered ps h.fed h.given h.taken h.handed h.answers (record n { failed = false; phase = a.phase })) table (subst (λ (u : Answering). HasAnswered programs h.fed h.given h.taken h.handed h.answers u) same d);
       going = λ z. absurd (cc);
+      table = subst (λ (ps : List Program). h.programs ≡ Some ps) table listed;
+      rejected = subst (λ (ps : List Program). AreRejected ps h.taken h.answers) table rejected;
     }
 
 pub server_pumped : TheNextItemIsHandedUp → ServerGives → ServerFeeds → (h : Story) (a n : Answering) (e f : Held) (r : Result (Unit {0}) FeedRefusal) → a.failed ≡ false → Flows (Answers a) e h → Pumped server_side (a, h.state) r n f
@@ -282,8 +298,9 @@ server_pumped next gives feeds_one h a n e f r still flows p =
     let before : ServerOver a.programs h.taken h.handed h.answers (a, h.state) = subst (λ (xs : List Item). HasAnswered a.programs xs h.state.accepted h.taken h.handed h.answers a) flows.fed (subst (λ (xs : List Item). HasAnswered a.programs h.fed xs h.taken h.handed h.answers a) flows.given (server_gone h a flows.has still)) in
     let after : HasAnswered a.programs (take s.handed s.taken) s.accepted h.taken h.handed h.answers p.last.0 = server_leads next gives feeds_one a.programs h.taken h.handed h.answers p.leads before in
     let has : ServerHas m n = ends_at (ServerHas m n) server_side p.last r n p.settled
-    (λ is. server_going m a.programs n (subst (λ (u : Answering). HasAnswered a.programs m.fed m.given m.taken m.handed m.answers u) (sym is) after)) (λ is. server_stopped_at m a.programs p.last.0 n after is) in
-    (m, record { stands = p.stands; has = has; fed = refl; given = refl }, same_messages h m (leads_run server_side p.leads) refl refl refl refl)
+    (λ is. server_going m a.programs n (subst (λ (u : Answering). HasAnswered a.programs m.fed m.given m.taken m.handed m.answers u) (sym is) after) flows.has.table flows.has.rejected)
+    (λ is. server_stopped_at m a.programs p.last.0 n after is flows.has.table flows.has.rejected) in
+    (m, record { stands = p.stands; has = has; fed = refl; given = refl }, same_messages h m (leads_run server_side p.leads) refl refl refl refl refl)
 
 -- ---- a reject
 
@@ -296,11 +313,15 @@ pub server_rejected : ServerRejects → (h : Story) (a n : Answering) (e : Held)
     → (k : Story) × Flows (Answers n) e k × GoesOn h k
 server_rejected rejects h a n e m u flows call unlisted is =
     let k : Story = record h { taken = h.taken ++ m ∷ []; answers = h.answers ++ reject_message (transaction_in m) u ∷ [] } in
-    let done = rejects a.programs h.fed h.given h.taken h.handed h.answers (record a { failed = false; phase = flows.has.phase }) m u flows.has.done call unlisted in
-    let has : ServerHas k (after_reject a m u) = record { phase = flows.has.phase; done = done; going = flows.has.going } in (
+    let has = flows.has in
+    let done = rejects a.programs h.fed h.given h.taken h.handed h.answers (record a { failed = false; phase = has.phase }) m u has.done call unlisted in
+    let rejected = one_rejected a.programs h.taken h.answers m u (all_answered m has.done call) unlisted has.rejected in
+    let more : ServerHas k (after_reject a m u) = record { phase = has.phase; done = done; going = has.going; table = has.table; rejected = rejected } in
+    let one = length-append h.taken (m ∷ []) in
+    let other = length-append h.answers (reject_message (transaction_in m) u ∷ []) in (
       k,
-      record { stands = flows.stands; has = subst (λ (b : Answering). ServerHas k b) (sym is) has; fed = flows.fed; given = flows.given },
-      record { path = start; made = refl; handed = refl; taken = (m ∷ [], refl); answers = (reject_message (transaction_in m) u ∷ [], refl) },
+      record { stands = flows.stands; has = subst (λ (b : Answering). ServerHas k b) (sym is) more; fed = flows.fed; given = flows.given },
+      record { programs = refl; path = start; made = refl; handed = refl; taken = (m ∷ [], refl); answers = (reject_message (transaction_in m) u ∷ [], refl); even = omega (arith, one, other) },
     )
 
 -- ---- moves, one after the other

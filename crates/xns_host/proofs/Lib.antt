@@ -3,7 +3,10 @@ mod Apart
 mod Dues
 mod Handing
 mod Leading
+mod Lives
 mod Ordered
+mod Peers
+mod Rejecting
 mod Serving
 mod Silent
 mod Tellings

@@ -5,6 +5,7 @@ use Rattle.std.proofs.lemmas.List.{take-append-le}
 use Rattle.courier_messages.specs.declared.message.Message.{Message}
 use Rattle.courier_sessions.specs.declared.feed_refusal.FeedRefusal.{FeedRefusal}
 use Rattle.courier_sessions.specs.declared.feed_refusal.FeedRefusal.TheVariants.{NoMemory}
+use Rattle.courier_sessions.specs.declared.program.Program.{Program}
 use Rattle.xns_spp.specs.Fronts.{begins_then}
 use Rattle.xns_spp.specs.Growth.{Begins}
 use Rattle.xns_spp.specs.Ends.{is_open}
@@ -30,8 +31,8 @@ use Rattle.xns_host.proofs.Leading.{same_messages, goes_on}
 -- ---- the end moves, and the side stays
 
 pub has_at : (s : State) (h : Story) (side : Side) → SideHas h side → SideHas (record h { state = s }) side
-has_at s h (Calls t) c = record { phase = c.phase; done = c.done; going = c.going }
-has_at s h (Answers a) c = record { phase = c.phase; done = c.done; going = c.going }
+has_at s h (Calls t) c = record { phase = c.phase; done = c.done; going = c.going; table = c.table }
+has_at s h (Answers a) c = record { phase = c.phase; done = c.done; going = c.going; table = c.table; rejected = c.rejected }
 
 -- what an end's step does for a side that stays
 pub record Carries (t u : Conversation) (s v : State) : Type 0 where
@@ -53,7 +54,7 @@ pub goes_by : (t u : Conversation) → u.side ≡ t.side → (drains u.side u.cl
 goes_by t u same drain step = record {
   still = drain;
   on = λ h tells. let k = step h.state tells.stands in
-      (record h { state = k.0 }, carried t u h k.0 same drain k.1 tells, same_messages h (record h { state = k.0 }) k.2 refl refl refl refl);
+      (record h { state = k.0 }, carried t u h k.0 same drain k.1 tells, same_messages h (record h { state = k.0 }) k.2 refl refl refl refl refl);
 }
 
 -- ---- an item is taken
@@ -303,7 +304,7 @@ flushes_all stay hear t u same closing step = record {
       let drain : drains u.side u.closing ≡ false → drains t.side t.closing ≡ false = λ z. ap (λ (e : Closing). drains t.side e) (sym closing) ∙ ap (λ (y : Side). drains y u.closing) (sym same) ∙ z in (
         m,
         carried t u h (after_flush s) same drain (same_items t u s (after_flush s) (ap closing_items closing) (stay.flush s).accepted (stay.flush s).handed (hear.flush s).taken (step s tells.stands)) tells,
-        same_messages h m (flushes start) refl refl refl refl,
+        same_messages h m (flushes start) refl refl refl refl refl,
         flushed_out s,
       );
 }
@@ -340,10 +341,11 @@ rested_same {s} {t} {u} p same closing stay = record { on = λ h f. let x = p.on
 
 -- ---- a new connection
 
-pub new_tells : (t : Conversation) (s : State) (e : Held) (side : Side) → t.endpoint ≡ e → t.side ≡ side → t.closing ≡ NONE → StandsFor e s → SideHas (new_story s) side → take s.handed s.taken ≡ [] → s.accepted ≡ [] → Tells t (new_story s)
-new_tells t s e side endpoint same closing stands has none empty = record {
+pub new_tells : (t : Conversation) (programs : Option (List Program)) (s : State) (e : Held) (side : Side) → t.endpoint ≡ e → t.side ≡ side → t.closing ≡ NONE → StandsFor e s → SideHas (new_story programs s) side → take s.handed s.taken ≡ [] → s.accepted ≡ []
+    → Tells t (new_story programs s)
+new_tells t programs s e side endpoint same closing stands has none empty = record {
   stands = subst (λ (f : Held). StandsFor f s) (sym endpoint) stands;
-  has = subst (λ (x : Side). SideHas (new_story s) x) (sym same) has;
+  has = subst (λ (x : Side). SideHas (new_story programs s) x) (sym same) has;
   fed = (take s.handed s.taken, refl);
   all = λ z. sym none;
   given = ap closing_items closing ∙ sym empty;

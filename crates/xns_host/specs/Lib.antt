@@ -1,8 +1,10 @@
 pub mod Agenda
+pub mod Agreeing
 pub mod Closing
 pub mod Connecting
 pub mod Hosting
 pub mod Identifiers
+pub mod Living
 pub mod Reasons
 pub mod Refusing
 pub mod Register

@@ -1,5 +1,5 @@
 -- What one connection has done: the history of its end and of its side.
-use Rattle.std.specs.Prelude.{◌≡◌, ℕ, List, [], ◌∷◌, ◌++◌, Bool, false, if◌then◌else◌, take, Option, Some, None}
+use Rattle.std.specs.Prelude.{◌≡◌, ℕ, ◌+◌, List, [], ◌∷◌, ◌++◌, Bool, false, if◌then◌else◌, length, take, slice_get, Option, Some, None}
 use Rattle.std.specs.Option.{is_some}
 use Rattle.courier_messages.specs.declared.message.Message.{Message}
 use Rattle.courier_messages.specs.Conversation.{Phase}
@@ -10,16 +10,19 @@ use Rattle.xns_spp.specs.Sending.{after_send, after_take, after_flush}
 use Rattle.xns_spp.specs.State.{State}
 use Rattle.xns_spp.specs.Telling.{after_resend}
 use Rattle.xns_spp.specs.declared.item.Item.{Item}
-use Rattle.courier_sessions.specs.Answering.{Answering, is_busy, why_unlisted}
+use Rattle.courier_sessions.specs.Answering.{Answering, is_busy, why_unlisted, reject_message, transaction_in}
 use Rattle.courier_sessions.specs.Answerings.{HasAnswered}
 use Rattle.courier_sessions.specs.Pumping.{one_step, caller_side, server_side}
 use Rattle.courier_sessions.specs.Talk.{Talk}
 use Rattle.courier_sessions.specs.Talks.{HasDone}
 use Rattle.courier_sessions.specs.declared.program.Program.{Program}
+use Rattle.courier_sessions.specs.declared.unlisted.Unlisted.{Unlisted}
 use Rattle.xns_host.specs.declared.side.Side.{Side}
 use Rattle.xns_host.specs.declared.side.Side.TheVariants.{Calls, Answers}
 
 pub record Story : Type 0 where
+  -- the programs that can be called, or that the side calls
+  pub programs : Option (List Program)
   -- the end, with all its history
   pub state : State
   -- the items that the side was fed, and those of its that the end accepted
@@ -33,8 +36,22 @@ pub record Story : Type 0 where
   pub handed : List Message
 
 -- nothing has happened yet
-abbrev pub new_story : State → Story
-new_story s = record { state = s; fed = []; given = []; made = []; taken = []; answers = []; handed = [] }
+abbrev pub new_story : Option (List Program) → State → Story
+new_story programs s = record {
+  programs = programs;
+  state = s;
+  fed = [];
+  given = [];
+  made = [];
+  taken = [];
+  answers = [];
+  handed = [];
+}
+
+-- each call taken that is not listed has its reject as its answer
+abbrev pub AreRejected : List Program → (taken answers : List Message) → Type 0
+AreRejected programs taken answers = (k : ℕ) (m : Message) (u : Unlisted) → slice_get taken k ≡ Some m
+    → why_unlisted programs m ≡ Some u → slice_get answers k ≡ Some (reject_message (transaction_in m) u)
 
 -- the side has done all that; one that has stopped reads no further
 
@@ -42,11 +59,14 @@ pub record CallerHas (h : Story) (t : Talk) : Type 0 where
   pub phase : Phase
   pub done : HasDone h.made h.fed h.given h.handed (record t { failed = false; phase = phase })
   pub going : t.failed ≡ false → t.phase ≡ phase
+  pub table : h.programs ≡ None
 
 pub record ServerHas (h : Story) (a : Answering) : Type 0 where
   pub phase : Phase
   pub done : HasAnswered a.programs h.fed h.given h.taken h.handed h.answers (record a { failed = false; phase = phase })
   pub going : a.failed ≡ false → a.phase ≡ phase
+  pub table : h.programs ≡ Some a.programs
+  pub rejected : AreRejected a.programs h.taken h.answers
 
 abbrev pub SideHas : Story → Side → Type 0
 SideHas h (Calls t) = CallerHas h t
@@ -105,13 +125,15 @@ pub data Runs (s : State) : State → Type 0 where
   flushes : {v : State} → Runs s v → Runs s (after_flush v)
   resends : {v : State} → Runs s v → Runs s (after_resend v)
 
--- the program made no call, and was handed nothing
+-- the program made no call, was handed nothing and gave no answer: as many calls were answered as were taken
 pub record GoesOn (h m : Story) : Type 0 where
+  pub programs : m.programs ≡ h.programs
   pub path : Runs h.state m.state
   pub made : m.made ≡ h.made
   pub handed : m.handed ≡ h.handed
   pub taken : Begins h.taken m.taken
   pub answers : Begins h.answers m.answers
+  pub even : length m.taken + length h.answers ≡ length h.taken + length m.answers
 
 -- whatever a side and its end had done goes on so
 pub record Moves (side : Side) (endpoint : Held) (next : Side) (after : Held) : Type 0 where

@@ -337,7 +337,7 @@ impl Connection {
         requires settings { IsFit settings.now }
         requires id { 0 < id }
         ensures tells { IfOk result (λ t. Tells t.conversation
-            (new_story (initiator_state own id peer settings.now.window settings.now.backlog))) }
+            (new_story None (initiator_state own id peer settings.now.window settings.now.backlog))) }
         ensures open { IfOk result (λ t. (t.closed ≡ None) × (t.owed.again ≡ true)) }
     {
         courier_sessions::laws::a_session_is_its_conversation();
@@ -375,7 +375,8 @@ impl Connection {
         requires id { 0 < id }
         requires peer_id { 0 < peer_id }
         ensures tells { IfOk result (λ t. Tells t.conversation
-            (new_story (responder_state own id peer peer_id settings.now.window settings.now.backlog))) }
+            (new_story (Some programs.items)
+            (responder_state own id peer peer_id settings.now.window settings.now.backlog))) }
         ensures open { IfOk result (λ t. (t.closed ≡ None) × (t.owed.again ≡ false)) }
     {
         courier_sessions::laws::a_server_session_is_its_conversation();

@@ -1,9 +1,22 @@
 //! What the definitions imply, each as the contract of a function that does nothing.
 
-ghost use Rattle.std.specs.Prelude.{◌≡◌, ◌≤◌, ◌+◌, ℕ, true};
+ghost use Rattle.std.specs.Prelude.{◌≡◌, ◌⊎◌, ◌≤◌, ◌+◌, ◌∷◌, ◌++◌, [], ℕ, List, Option, Some, None, Ok, true, false};
+ghost use Rattle.courier_sessions.specs.Answering.{Answering, after_item as after_heard};
+ghost use Rattle.courier_sessions.specs.Talk.{Talk, after_item};
+ghost use Rattle.courier_sessions.specs.declared.program.Program.{Program};
+ghost use Rattle.xns_spp.specs.State.{State};
+ghost use Rattle.xns_spp.specs.Growth.{Begins};
+ghost use Rattle.xns_spp.specs.declared.item.Item.{Item};
+ghost use Rattle.xns_host.specs.Agreeing.{handed_up, HasCalled, HasServed, ArePeers, IsClosing, Agree};
+ghost use Rattle.xns_host.specs.Closing.{drains};
+ghost use Rattle.xns_host.specs.Living.{Deeds, Lives, IsLived, ProgramsAgree};
+ghost use Rattle.xns_host.specs.Story.{Story};
+ghost use Rattle.xns_host.specs.Telling.{Tells};
 ghost use Rattle.xns_host.specs.Waiting.{Waiting, Silence, act_at, after_act, later, next_length};
 ghost use Rattle.xns_host.specs.declared.act.Act.TheVariants.{Again};
+ghost use Rattle.xns_host.specs.declared.conversation.Conversation.{Conversation};
 ghost use Rattle.xns_host.specs.declared.due.Due.TheVariants.{AgainAt};
+ghost use Rattle.xns_host.specs.declared.side.Side.TheVariants.{Calls, Answers};
 
 /// Between two words of the peer at most as many packets go out by the time alone as are borne, whatever else is done. Each
 /// counts as one miss.
@@ -18,3 +31,64 @@ pub fn each_wait_is_twice_the_last()
     ensures due { (w : Waiting) (now : ℕ) → act_at w now ≡ Again → (after_act w now).due ≡ AgainAt (later now w.length) }
     ensures next { (w : Waiting) (now : ℕ) → act_at w now ≡ Again → (after_act w now).length ≡ next_length w.pace w.length }
 {}
+
+/// A connection that calls has put out the versions and its calls, in order; the answers that the program was handed are the messages
+/// that the peer's items say, in order, each once, and the k-th is to the k-th call. One that is called has taken the calls that the
+/// peer's items say, in order, each once; the program was handed the listed ones, and the k-th answer that was put out is to the k-th
+/// call. Each has put out its closing items behind all that.
+pub fn a_connection_is_its_conversation()
+    ensures calls { (c : Conversation) (h : Story) (t : Talk) → Tells c h → c.side ≡ Calls t → HasCalled c.closing h }
+    ensures answers { (c : Conversation) (h : Story) (a : Answering) → Tells c h → c.side ≡ Answers a
+        → HasServed a.programs c.closing h }
+{
+    courier_messages::laws::a_conversation_only_grows();
+}
+
+/// Two connections that are peers, where what the end of each handed up begins what the other's accepted: the calls that the one was
+/// handed are those that the other made and that are listed, in order, as far as they came; and the k-th answer that the caller was
+/// handed is the one that was put out to its k-th call. Closing items change nothing of that.
+pub fn connections_agree()
+    ensures { (c d : Conversation) (h g : Story) (t : Talk) (a : Answering) → Tells c h → Tells d g → c.side ≡ Calls t
+        → d.side ≡ Answers a → ArePeers h g → Agree a.programs h g }
+{
+    courier_messages::laws::one_item_more();
+    courier_messages::laws::a_conversation_only_grows();
+    courier_sessions::laws::sessions_agree();
+}
+
+/// A connection has a story at every moment, whatever steps led to it, in any order: `Tells`, from which the laws above say what it has
+/// done. Its end came from a new one by an end's steps alone, and by packets. The calls that were made and the messages that were handed grow by the program's steps alone, and the answers that the program
+/// gave are those to the listed calls. The steps are those that the clauses of `Connection` name: `calling` and `answering`: `tells`;
+/// `receive`: `tells`; `call`: `called`; `answer`: `answered`; `take_message`: `message`, `handed`; `act`, `not_served`, `next_packet`
+/// and `close`: `goes`.
+pub fn a_connection_always_has_a_story()
+    ensures { (programs : Option (List Program)) (start : State) (c : Conversation) (l : Deeds) → Lives programs start c l
+        → IsLived programs start c l }
+{}
+
+/// Two programs whose connections are peers, where what the end of each handed up begins what the other's accepted: the one that is
+/// called was handed the listed calls that the other made, in order, as far as they came. The one that calls was handed the answers that
+/// the other gave to them, in order, as far as they came, and a reject for each call that is not listed.
+pub fn two_programs_agree()
+    ensures { (s v : State) (c d : Conversation) (l r : Deeds) (programs : List Program) (here : IsLived None s c l)
+        (there : IsLived (Some programs) v d r) → ArePeers here.story there.story → ProgramsAgree programs l r }
+{
+    courier_messages::laws::one_item_more();
+    courier_messages::laws::a_conversation_only_grows();
+    courier_sessions::laws::sessions_agree();
+}
+
+/// Of two connections that are peers none stops at an item of the other's: the next one that waits is of the closing exchange, or the
+/// session goes on with it.
+pub fn peers_go_on()
+    ensures calls { (c d : Conversation) (h g : Story) (t : Talk) (a : Answering) (x : Item) → Tells c h → Tells d g
+        → c.side ≡ Calls t → d.side ≡ Answers a → ArePeers h g → drains c.side c.closing ≡ false
+        → Begins (handed_up h ++ x ∷ []) g.state.accepted → IsClosing x ⊎ ((n : Talk) × (after_item t x ≡ Ok n)) }
+    ensures answers { (c d : Conversation) (h g : Story) (t : Talk) (a : Answering) (x : Item) → Tells c h → Tells d g
+        → c.side ≡ Calls t → d.side ≡ Answers a → drains d.side d.closing ≡ false
+        → Begins (handed_up g ++ x ∷ []) h.state.accepted → IsClosing x ⊎ ((n : Answering) × (after_heard a x ≡ Ok n)) }
+{
+    courier_messages::laws::one_item_more();
+    courier_messages::laws::a_conversation_only_grows();
+    courier_sessions::laws::sessions_agree();
+}

@@ -1,15 +1,18 @@
-use Rattle.std.proofs.Common.{[], refl, sym, subst}
+use Rattle.std.proofs.Common.{List, [], Some, refl, sym, subst}
 use Rattle.courier_messages.specs.Conversation.{opening}
 use Rattle.courier_sessions.specs.Answering.{Answering, new_answering}
 use Rattle.xns_spp.specs.State.{State, responder_state}
 use Rattle.xns_host.specs.Story.{ServerHas, new_story}
 use Rattle.xns_host.specs.declared.side.Side.TheVariants.{Answers}
+use Rattle.courier_sessions.specs.declared.program.Program.{Program}
+use Rattle.xns_host.proofs.Rejecting.{nothing_rejected}
 use Rattle.xns_host.proofs.Tellings.{new_tells}
 use Rattle.xns_host.proofs.connection.Connection.answering.Goals as goal
 
 pub returns-clause-tells : goal.returns-clause-tells
 returns-clause-tells c =
+    let programs : List Program = c.args.programs.items in
     let s : State = responder_state c.args.own c.args.id c.args.peer c.args.peer_id c.args.settings.now.window c.args.settings.now.backlog in
-    let new : ServerHas (new_story s) (new_answering c.args.programs.items) = record { phase = opening []; done = c.a_server_session_is_its_conversation.ensures.start c.args.programs.items; going = λ z. refl } in
-    let has : ServerHas (new_story s) c.in_ok-server.server = subst (λ (a : Answering). ServerHas (new_story s) a) (sym c.in_ok-server.ensures) new in
-    new_tells c.new-2.result.conversation s c.in_ok-endpoint.endpoint (Answers c.in_ok-server.server) c.new-2.ensures.endpoint c.new-2.ensures.side c.new-2.ensures.closing c.in_ok-endpoint.ensures has refl refl
+    let new : ServerHas (new_story (Some programs) s) (new_answering programs) = record { phase = opening []; done = c.a_server_session_is_its_conversation.ensures.start programs; going = λ z. refl; table = refl; rejected = nothing_rejected programs } in
+    let has : ServerHas (new_story (Some programs) s) c.in_ok-server.server = subst (λ (a : Answering). ServerHas (new_story (Some programs) s) a) (sym c.in_ok-server.ensures) new in
+    new_tells c.new-2.result.conversation (Some programs) s c.in_ok-endpoint.endpoint (Answers c.in_ok-server.server) c.new-2.ensures.endpoint c.new-2.ensures.side c.new-2.ensures.closing c.in_ok-endpoint.ensures has refl refl

@@ -1,4 +1,4 @@
-use Rattle.std.proofs.Common.{[], refl, sym, subst}
+use Rattle.std.proofs.Common.{[], None, refl, sym, subst}
 use Rattle.courier_messages.specs.Conversation.{opening}
 use Rattle.courier_sessions.specs.Talk.{Talk, new_talk}
 use Rattle.xns_spp.specs.State.{State, initiator_state}
@@ -10,6 +10,6 @@ use Rattle.xns_host.proofs.connection.Connection.calling.Goals as goal
 pub returns-clause-tells : goal.returns-clause-tells
 returns-clause-tells c =
     let s : State = initiator_state c.args.own c.args.id c.args.peer c.args.settings.now.window c.args.settings.now.backlog in
-    let new : CallerHas (new_story s) new_talk = record { phase = opening []; done = c.a_session_is_its_conversation.ensures.start; going = λ z. refl } in
-    let has : CallerHas (new_story s) c.in_ok-caller.caller = subst (λ (t : Talk). CallerHas (new_story s) t) (sym c.in_ok-caller.ensures) new in
-    new_tells c.new-2.result.conversation s c.in_ok-endpoint.endpoint (Calls c.in_ok-caller.caller) c.new-2.ensures.endpoint c.new-2.ensures.side c.new-2.ensures.closing c.in_ok-endpoint.ensures has refl refl
+    let new : CallerHas (new_story None s) new_talk = record { phase = opening []; done = c.a_session_is_its_conversation.ensures.start; going = λ z. refl; table = refl } in
+    let has : CallerHas (new_story None s) c.in_ok-caller.caller = subst (λ (t : Talk). CallerHas (new_story None s) t) (sym c.in_ok-caller.ensures) new in
+    new_tells c.new-2.result.conversation None s c.in_ok-endpoint.endpoint (Calls c.in_ok-caller.caller) c.new-2.ensures.endpoint c.new-2.ensures.side c.new-2.ensures.closing c.in_ok-endpoint.ensures has refl refl
