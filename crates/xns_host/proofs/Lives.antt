@@ -2,17 +2,18 @@
 use Rattle.std.proofs.Common.{◌≡◌, ◌∙◌, ap, sym, refl, subst, ℕ, ◌+◌, ◌≤◌, List, [], ◌∷◌, ◌++◌, append-nil, length, length-append, Bool, true, false, Option, Some, None, arith}
 use Rattle.std.specs.Prelude.{slice_get, if◌then◌else◌}
 use Rattle.std.specs.List.{filter}
-use Rattle.std.specs.Option.{option_to_list}
+use Rattle.std.specs.Option.{is_some, option_to_list}
 use Rattle.std.proofs.lemmas.List.Elements.{filter-append}
 use Rattle.courier_messages.specs.Laws.{OneItemMore, AConversationOnlyGrows}
 use Rattle.courier_messages.specs.RawCalls.{RawCall}
 use Rattle.courier_messages.specs.declared.message.Message.{Message}
-use Rattle.courier_sessions.specs.Answering.{Answering, transaction_in, is_there, why_unlisted, reject_message, answer_message}
+use Rattle.courier_sessions.specs.Answering.{Answering, transaction_in, why_unlisted, reject_message, answer_message}
 use Rattle.courier_sessions.specs.Answerings.{is_listed}
 use Rattle.courier_sessions.specs.Talk.{Talk}
 use Rattle.courier_sessions.specs.Talks.{made_messages}
 use Rattle.courier_sessions.specs.declared.program.Program.{Program}
 use Rattle.courier_sessions.specs.declared.unlisted.Unlisted.{Unlisted}
+use Rattle.xns_spp.specs.Fronts.{begins_length}
 use Rattle.xns_spp.specs.Growth.{Begins}
 use Rattle.xns_spp.specs.Receiving.{after_receive}
 use Rattle.xns_spp.specs.State.{State}
@@ -23,7 +24,7 @@ use Rattle.xns_host.specs.Telling.{Tells}
 use Rattle.xns_host.specs.declared.conversation.Conversation.{Conversation}
 use Rattle.xns_host.specs.declared.side.Side.{Side}
 use Rattle.xns_host.specs.declared.side.Side.TheVariants.{Calls, Answers}
-use Rattle.xns_host.proofs.Peers.{CallsAgree, AnswersAgree, agree, begins_length, one_at_most}
+use Rattle.xns_host.proofs.Peers.{CallsAgree, AnswersAgree, agree, one_at_most}
 use Rattle.xns_host.proofs.Rejecting.{no_calls, count_of, all_answered, is_listed_by, filter_takes, unanswered_behind, more_answers, one_given, nothing_given}
 
 -- ---- which side it is
@@ -124,7 +125,7 @@ called_base call b = record {
 waiting : (programs : List Program) (o : Option Message) (m : Message) → listed_call programs o ≡ Some m → (o ≡ Some m) × (why_unlisted programs m ≡ None)
 waiting programs None m e = absurd (cc)
 waiting programs (Some n) m e = by (why_unlisted programs n) refl e where
-  by : (w : Option Unlisted) → why_unlisted programs n ≡ w → (if is_there w then None else Some n) ≡ Some m → (Some n ≡ Some m) × (why_unlisted programs m ≡ None)
+  by : (w : Option Unlisted) → why_unlisted programs n ≡ w → (if is_some w then None else Some n) ≡ Some m → (Some n ≡ Some m) × (why_unlisted programs m ≡ None)
   by None is f = (f, ap (why_unlisted programs) (let same : m ≡ n = cc in same) ∙ is)
   by (Some u) is f = absurd (cc)
 

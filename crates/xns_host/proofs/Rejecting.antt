@@ -2,13 +2,13 @@
 use Rattle.std.proofs.Common.{◌≡◌, ◌∙◌, ap, sym, refl, subst, ℕ, zero, suc, ◌+◌, ◌≤◌, List, [], ◌∷◌, ◌++◌, append-nil, length, length-append, map, Bool, true, false, get_or, Option, Some, None, arith, ◌⊎◌, inl, inr}
 use Rattle.std.specs.Prelude.{slice_get, IfSome, not}
 use Rattle.std.specs.List.{filter}
-use Rattle.std.specs.Option.{option_to_list}
+use Rattle.std.specs.Option.{is_some, option_to_list}
 use Rattle.std.proofs.lemmas.Bool.{cases_Bool, cond-true, cond-false}
 use Rattle.std.proofs.lemmas.List.{length-map}
 use Rattle.std.proofs.lemmas.List.Elements.{filter-append}
 use Rattle.std.proofs.lemmas.Option.{slice_get-get_or, slice_get_within}
 use Rattle.courier_messages.specs.declared.message.Message.{Message}
-use Rattle.courier_sessions.specs.Answering.{Answering, transaction_in, is_there, why_unlisted, reject_message}
+use Rattle.courier_sessions.specs.Answering.{Answering, transaction_in, why_unlisted, reject_message}
 use Rattle.courier_sessions.specs.Answerings.{HasAnswered, is_listed}
 use Rattle.courier_sessions.specs.declared.program.Program.{Program}
 use Rattle.courier_sessions.specs.declared.unlisted.Unlisted.{Unlisted}
@@ -88,7 +88,7 @@ one_answered programs taken answers more all = λ k c w at is. front_get answers
 -- ---- the answers to the listed calls
 
 pub is_listed_by : (programs : List Program) (m : Message) → (why_unlisted programs m ≡ None → is_listed programs m ≡ true) × ((u : Unlisted) → why_unlisted programs m ≡ Some u → is_listed programs m ≡ false)
-is_listed_by programs m = (λ e. ap (λ (o : Option Unlisted). not (is_there o)) e, λ u e. ap (λ (o : Option Unlisted). not (is_there o)) e)
+is_listed_by programs m = (λ e. ap (λ (o : Option Unlisted). not (is_some o)) e, λ u e. ap (λ (o : Option Unlisted). not (is_some o)) e)
 
 pub why_not : (programs : List Program) (m : Message) → is_listed programs m ≡ false → (u : Unlisted) × (why_unlisted programs m ≡ Some u)
 why_not programs m e = by (why_unlisted programs m) refl where
