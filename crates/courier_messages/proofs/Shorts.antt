@@ -1,6 +1,8 @@
 -- The items that a session puts out.
 use Rattle.std.proofs.Common.{ℕ, zero, suc, ◌+◌, ◌*◌, ◌-◌, ◌/◌, ◌%◌, ◌^◌, ◌<◌, ◌≤◌, Bool, true, false, List, [], ◌∷◌, length, take, drop, arith, refl, length-drop}
 use Rattle.std.specs.List.{AllByRecursion}
+use Rattle.std.proofs.lemmas.List.{length-take}
+use Rattle.std.proofs.lemmas.List.Elements.{All-drop, All-take}
 use Rattle.courier_types.specs.Spelling.{AreBytes, AreWords}
 use Rattle.courier_messages.specs.declared.message.Message.{Message}
 use Rattle.courier_messages.specs.declared.message.Message.TheVariants.{Call, Reject, Return, Abort}
@@ -17,30 +19,9 @@ cons_bytes : (b : ℕ) (bs : List ℕ) → b < 2 ^ 8 → AreBytes bs → AreByte
 cons_bytes b bs h k zero d lt = h
 cons_bytes b bs h k (suc i) d lt = k i d (omega arith)
 
-tail_bytes : (b : ℕ) (bs : List ℕ) → AreBytes (b ∷ bs) → AreBytes bs
-tail_bytes b bs h i d lt = h (suc i) d (omega arith)
-
-head_byte : (b : ℕ) (bs : List ℕ) → AreBytes (b ∷ bs) → b < 2 ^ 8
-head_byte b bs h = h 0 0 (omega arith)
-
 words_bytes : (ws : List ℕ) → AreWords ws → AreBytes (bytes_of ws)
 words_bytes [] h = no_bytes
 words_bytes (w ∷ ws) h = let lt = head_word w ws h in cons_bytes (w / 256) (w % 256 ∷ bytes_of ws) (omega arith) (cons_bytes (w % 256) (bytes_of ws) (omega arith) (words_bytes ws (tail_words w ws h)))
-
-front_bytes : (n : ℕ) (bs : List ℕ) → AreBytes bs → AreBytes (take n bs)
-front_bytes zero bs h = no_bytes
-front_bytes (suc n) [] h = no_bytes
-front_bytes (suc n) (b ∷ bs) h = cons_bytes b (take n bs) (head_byte b bs h) (front_bytes n bs (tail_bytes b bs h))
-
-back_bytes : (n : ℕ) (bs : List ℕ) → AreBytes bs → AreBytes (drop n bs)
-back_bytes zero bs h = h
-back_bytes (suc n) [] h = h
-back_bytes (suc n) (b ∷ bs) h = back_bytes n bs (tail_bytes b bs h)
-
-front_short : (n : ℕ) (bs : List ℕ) → length (take n bs) ≤ n
-front_short zero bs = omega arith
-front_short (suc n) [] = omega arith
-front_short (suc n) (b ∷ bs) = let h = front_short n bs in omega (arith, h)
 
 part_short : (last : Bool) (body : List ℕ) → AreBytes body → length body ≤ 534 → IsSendableItem (message_item last body)
 part_short last body h k = record { short = record { fits = record { stream = omega arith; body = h }; size = k }; plain = refl; stream = refl }
@@ -50,7 +31,7 @@ unfolding cut_items
 parts_short zero bytes h k = (part_short true bytes h (omega arith), tt)
 parts_short (suc n) bytes h k =
     let less = length-drop 534 bytes in
-    (part_short false (take 534 bytes) (front_bytes 534 bytes h) (front_short 534 bytes), parts_short n (drop 534 bytes) (back_bytes 534 bytes h) (omega (arith, less)))
+    (part_short false (take 534 bytes) (All-take (λ b. b < 2 ^ 8) 534 bytes h) (omega (arith, length-take 534 bytes)), parts_short n (drop 534 bytes) (All-drop (λ b. b < 2 ^ 8) 534 bytes h) (omega (arith, less)))
 
 cut_bytes_short : (bytes : List ℕ) → AreBytes bytes → AllByRecursion IsSendableItem (cut_bytes bytes)
 unfolding cut_bytes
