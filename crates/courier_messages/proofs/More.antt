@@ -4,35 +4,24 @@ use Rattle.std.specs.Prelude.{if◌then◌else◌, ◌==◌}
 use Rattle.xns_spp.specs.declared.item.Item.{Item}
 use Rattle.courier_messages.specs.declared.fault.SessionFault.{SessionFault}
 use Rattle.courier_messages.specs.declared.message.Message.{Message}
-use Rattle.courier_messages.specs.Text.{Sign, written, signs, byte, mark, foreign, end_of}
+use Rattle.courier_messages.specs.Text.{Sign, signs, byte, mark, foreign, end_of}
 use Rattle.courier_messages.specs.Conversation.{Phase, opening, conversation, ending, fresh, inside}
 use Rattle.courier_messages.specs.Phases.{run, said, onwards, ◌then◌, step, ended, closed, good}
 use Rattle.courier_messages.specs.RawCalls.{RawCall, transaction_of, call_message, call_items, caller_items}
 use Rattle.courier_messages.specs.Cutting.{cut, versions_item}
 use Rattle.courier_messages.proofs.Runs.{run_append, run_mark, said_append, said_bytes, said_mark, said_stream}
-use Rattle.courier_messages.proofs.Signs.{conversation_is, ending_is}
+use Rattle.courier_messages.proofs.Talks.{conversation_append, ending_append}
 use Rattle.courier_messages.specs.declared.fault.MessageFault.{MessageFault}
 use Rattle.courier_messages.specs.Message.{message_of}
 use Rattle.xns_spp.specs.Growth.{Begins}
 
 -- ---- the conversation goes on
 
-written_more : (items : List Item) (x : Item) → written (items ++ x ∷ []) ≡ written items ++ signs x
-written_more [] x = append-nil (signs x)
-written_more (y ∷ items) x = ap (λ (ss : List Sign). signs y ++ ss) (written_more items x) ∙ sym (append_assoc (signs y) (written items) (signs x))
-
 pub conversation_more : (items : List Item) (x : Item) → conversation (items ++ x ∷ []) ≡ conversation items ++ onwards (ending items) (λ p. said p (signs x))
-conversation_more items x =
-    conversation_is (items ++ x ∷ [])
-    ∙ ap (λ (ss : List Sign). said (opening []) ss) (written_more items x) ∙ said_append (opening []) (written items) (signs x)
-    ∙ ap (λ (ms : List Message). ms ++ onwards (run (opening []) (written items)) (λ p. said p (signs x))) (sym (conversation_is items))
-    ∙ ap (λ (r : Result Phase SessionFault). conversation items ++ onwards r (λ p. said p (signs x))) (sym (ending_is items))
+conversation_more items x = conversation_append items (x ∷ []) ∙ ap (λ (ss : List Sign). conversation items ++ onwards (ending items) (λ p. said p ss)) (append-nil (signs x))
 
 pub ending_more : (items : List Item) (x : Item) → ending (items ++ x ∷ []) ≡ (ending items then λ p. run p (signs x))
-ending_more items x =
-    ending_is (items ++ x ∷ [])
-    ∙ ap (λ (ss : List Sign). run (opening []) ss) (written_more items x) ∙ run_append (opening []) (written items) (signs x)
-    ∙ ap (λ (r : Result Phase SessionFault). r then λ p. run p (signs x)) (sym (ending_is items))
+ending_more items x = ending_append items (x ∷ []) ∙ ap (λ (ss : List Sign). ending items then λ p. run p ss) (append-nil (signs x))
 
 -- ---- one item ends at most one message
 
