@@ -10,8 +10,8 @@ use Rattle.xns_idp.specs.declared.fault.IdpFault.{IdpFault}
 use Rattle.xns_idp.specs.declared.fault.IdpFault.TheVariants.{Short}
 use Rattle.xns_c.specs.declared.packet.XnsPacket.{XnsPacket}
 use Rattle.xns_c.specs.Views.{packet_in}
-use Rattle.xns_c_parts.specs.Given.{is_yes, as_byte}
-use Rattle.xns_c_parts.specs.Views.{address_in}
+use Rattle.xns_c.specs.Given.{is_yes, as_byte}
+use Rattle.xns_c.specs.Structs.{address_in}
 use Rattle.xns_spp.specs.declared.header.Header.{Header}
 use Rattle.xns_spp.specs.Header.{header_of, header_fault, header_fields}
 

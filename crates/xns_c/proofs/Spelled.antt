@@ -7,8 +7,8 @@ use Rattle.courier_types.specs.Shape.{ShapeModel}
 use Rattle.courier_types.specs.Spelling.{bytes_spelling}
 use Rattle.courier_types.specs.Value.{ValueModel}
 use Rattle.xns_c.specs.Cursor.{moved, faulted, IsRead}
-use Rattle.xns_c_parts.specs.Given.{is_yes}
-use Rattle.xns_c_parts.specs.Results.{ok, truncated, not_boolean}
+use Rattle.xns_c.specs.Given.{is_yes}
+use Rattle.xns_c.specs.Results.{ok, truncated, not_boolean}
 use Rattle.xns_c.specs.declared.cursor.XnsCursor.{XnsCursor}
 
 one_fewer : (words : List ℕ) → suc (length words) - length words ≡ 1

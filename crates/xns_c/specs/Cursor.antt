@@ -4,7 +4,7 @@ use Rattle.courier_types.specs.declared.read_fault.ReadFault.{ReadFault}
 use Rattle.courier_types.specs.declared.read_fault.Reason.{Reason}
 use Rattle.courier_types.specs.declared.read_fault.Reason.TheVariants.{Truncated, NotBoolean, NotListed, OverMaximum}
 use Rattle.courier_types.specs.Value.{ValueModel}
-use Rattle.xns_c_parts.specs.Results.{ok, short_buffer, truncated, not_boolean, over_maximum, not_listed}
+use Rattle.xns_c.specs.Results.{ok, short_buffer, truncated, not_boolean, over_maximum, not_listed}
 use Rattle.xns_c.specs.declared.cursor.XnsCursor.{XnsCursor}
 
 -- why words are no value

@@ -2,8 +2,8 @@
 use Rattle.std.specs.Prelude.{ℕ, ◌+◌, List, slice_range}
 use Rattle.xns_idp.specs.Packet.{PacketModel}
 use Rattle.xns_spp.specs.declared.header.Header.{Header}
-use Rattle.xns_c_parts.specs.Given.{is_yes}
-use Rattle.xns_c_parts.specs.Views.{address_in}
+use Rattle.xns_c.specs.Given.{is_yes}
+use Rattle.xns_c.specs.Structs.{address_in}
 use Rattle.xns_c.specs.declared.header.XnsHeader.{XnsHeader}
 use Rattle.xns_c.specs.declared.packet.XnsPacket.{XnsPacket}
 

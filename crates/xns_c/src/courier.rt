@@ -5,14 +5,18 @@ ghost use Rattle.courier_messages.specs.Message.{most_bytes, message_bytes, mess
 ghost use Rattle.courier_messages.specs.declared.fault.MessageFault.{MessageFault};
 ghost use Rattle.courier_messages.specs.declared.message.Message.{Message};
 ghost use Rattle.courier_messages.specs.Head.{words_in};
-ghost use Rattle.xns_c_parts.specs.Courier.{head_given, message_fault_number, message_given};
-ghost use Rattle.xns_c_parts.specs.Given.{IsPut};
-ghost use Rattle.xns_c_parts.specs.Results.{ok, bad_argument, no_memory, short_buffer, too_long};
+ghost use Rattle.xns_c.specs.Heads.{head_given, message_given};
+ghost use Rattle.xns_c.specs.Faults.{message_fault_number};
+ghost use Rattle.xns_c.specs.Given.{IsPut};
+ghost use Rattle.xns_c.specs.Results.{ok, bad_argument, no_memory, short_buffer, too_long};
 
+use crate::faults::message_fault_number;
+use crate::front::put_front;
+use crate::heads::{head_in, head_out, message_bytes};
+use crate::message::XnsMessage;
+use crate::results::{BAD_ARGUMENT, NO_MEMORY, OK, SHORT_BUFFER, TOO_LONG};
 use courier_messages::{Head, MOST_BYTES, MessageRefusal, read_message};
 use std::alloc::Global;
-use xns_c_parts::results::{BAD_ARGUMENT, NO_MEMORY, OK, SHORT_BUFFER, TOO_LONG};
-use xns_c_parts::{XnsMessage, head_in, head_out, message_bytes, message_fault_number, put_front};
 
 /// Reads the message that the bytes are, its words to the front of a buffer (XSIS 038112, Courier, Message stream).
 ///

@@ -11,19 +11,25 @@ ghost use Rattle.xns_spp.specs.Sending.{after_flush, tick_answer, after_tick};
 ghost use Rattle.xns_spp.specs.State.{State, initiator_state, responder_state};
 ghost use Rattle.xns_spp.specs.Telling.{unacknowledged_count};
 ghost use Rattle.xns_spp.specs.declared.item.Item.{Item};
-ghost use Rattle.xns_c_parts.specs.Given.{GivesItem, IsPut, IsPutIfThere};
-ghost use Rattle.xns_c_parts.specs.Handle.{line_of};
-ghost use Rattle.xns_c_parts.specs.Line.{Keeps, packets_of};
-ghost use Rattle.xns_c_parts.specs.Results.{ok, nothing, no_memory, no_endpoint, short_buffer, bad_argument, too_long, send_number};
-ghost use Rattle.xns_c_parts.specs.Results.{dropped_number};
-ghost use Rattle.xns_c_parts.specs.Views.{address_in, item_given};
+ghost use Rattle.xns_c.specs.Given.{GivesItem, IsPut, IsPutIfThere};
+ghost use Rattle.xns_c.specs.Handle.{line_of};
+ghost use Rattle.xns_c.specs.Line.{Keeps, packets_of};
+ghost use Rattle.xns_c.specs.Results.{ok, nothing, no_memory, no_endpoint, short_buffer, bad_argument, too_long, send_number};
+ghost use Rattle.xns_c.specs.Results.{dropped_number};
+ghost use Rattle.xns_c.specs.Structs.{address_in, item_given};
 
-use std::alloc::Global;
-use xns_c_parts::laws::packets_have_their_sizes;
-use xns_c_parts::results::{
+use crate::address::XnsAddress;
+use crate::connection::Connection;
+use crate::flag::as_byte;
+use crate::front::put_front;
+use crate::handle::XnsEndpoint;
+use crate::item::XnsItem;
+use crate::laws::packets_have_their_sizes;
+use crate::received::XnsReceived;
+use crate::results::{
     BAD_ARGUMENT, NO_ENDPOINT, NO_MEMORY, NOTHING, OK, SHORT_BUFFER, dropped_number,
 };
-use xns_c_parts::{Connection, XnsAddress, XnsEndpoint, XnsItem, XnsReceived, as_byte, put_front};
+use std::alloc::Global;
 use xns_spp::{Bytes, Endpoint, MOST_BODY, MOST_PENDING};
 
 /// A reply has so many bytes.

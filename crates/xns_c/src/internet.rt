@@ -5,14 +5,15 @@ ghost use Rattle.xns_idp.specs.Checksum.{words, cycle_checksum};
 ghost use Rattle.xns_idp.specs.Packet.{PacketModel, most_data, packet_spelling};
 ghost use Rattle.xns_idp.specs.Reading.{made_even, packet_of};
 ghost use Rattle.xns_idp.specs.declared.fault.IdpFault.{IdpFault};
-ghost use Rattle.xns_c_parts.specs.Given.{IsPut, as_byte};
-ghost use Rattle.xns_c_parts.specs.Results.{ok, bad_argument, short_buffer, too_long, idp_fault_number};
-ghost use Rattle.xns_c_parts.specs.Views.{address_in};
+ghost use Rattle.xns_c.specs.Given.{IsPut, as_byte};
+ghost use Rattle.xns_c.specs.Results.{ok, bad_argument, short_buffer, too_long, idp_fault_number};
+ghost use Rattle.xns_c.specs.Structs.{address_in};
 ghost use Rattle.xns_c.specs.Views.{packet_in, packet_with};
 
+use crate::address::XnsAddress;
+use crate::flag::as_byte;
 use crate::packet::XnsPacket;
-use xns_c_parts::results::{BAD_ARGUMENT, OK, SHORT_BUFFER, TOO_LONG, idp_fault_number};
-use xns_c_parts::{XnsAddress, as_byte};
+use crate::results::{BAD_ARGUMENT, OK, SHORT_BUFFER, TOO_LONG, idp_fault_number};
 use xns_idp::{HEADER_BYTES, MOST_DATA, Packet, cycle_sum, decode, encode_into};
 
 /// The checksum of the words of the bytes, or `BAD_ARGUMENT` for an odd number of bytes

@@ -1,4 +1,4 @@
-use xns_c_parts::XnsAddress;
+use crate::address::XnsAddress;
 
 /// An internet packet but for its data, of which it says where they stand.
 #[repr(C)]

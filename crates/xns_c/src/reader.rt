@@ -9,11 +9,11 @@ ghost use Rattle.courier_types.specs.Shape.{ShapeModel};
 ghost use Rattle.courier_types.specs.Value.{ValueModel};
 ghost use Rattle.courier_types.specs.declared.read_fault.ReadFault.{ReadFault};
 ghost use Rattle.xns_c.specs.Cursor.{ahead, moved, faulted, IsRead};
-ghost use Rattle.xns_c_parts.specs.Given.{is_yes, IsPut};
-ghost use Rattle.xns_c_parts.specs.Results.{ok, short_buffer, truncated, over_maximum, left_over};
+ghost use Rattle.xns_c.specs.Given.{is_yes, IsPut};
+ghost use Rattle.xns_c.specs.Results.{ok, short_buffer, truncated, over_maximum, left_over};
 
 use crate::cursor::XnsCursor;
-use xns_c_parts::results::{LEFT_OVER, NOT_BOOLEAN, OK, OVER_MAXIMUM, SHORT_BUFFER, TRUNCATED};
+use crate::results::{LEFT_OVER, NOT_BOOLEAN, OK, OVER_MAXIMUM, SHORT_BUFFER, TRUNCATED};
 
 /// Reads a cardinal, one word.
 #[unsafe(no_mangle)]

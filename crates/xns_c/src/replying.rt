@@ -4,14 +4,14 @@ ghost use Rattle.std.specs.Prelude.{◌≡◌, ◌≢◌, ◌<◌, ◌≤◌, �
 ghost use Rattle.xns_idp.specs.Packet.{PacketModel, packet_model};
 ghost use Rattle.xns_idp.specs.Reading.{long_at, made_even, packet_of, word_at};
 ghost use Rattle.xns_c.specs.Exchange.{IsAsked, IsAskedBy, answering_packet};
-ghost use Rattle.xns_c_parts.specs.Given.{IsPut};
-ghost use Rattle.xns_c_parts.specs.Results.{ok, nothing, no_memory, short_buffer, too_long};
-ghost use Rattle.xns_c_parts.specs.Views.{address_in};
+ghost use Rattle.xns_c.specs.Given.{IsPut};
+ghost use Rattle.xns_c.specs.Results.{ok, nothing, no_memory, short_buffer, too_long};
+ghost use Rattle.xns_c.specs.Structs.{address_in};
 
+use crate::address::XnsAddress;
+use crate::results::{NOTHING, TOO_LONG};
 use crate::sending::{MOST_EXCHANGED, put_exchange};
 use std::alloc::Global;
-use xns_c_parts::XnsAddress;
-use xns_c_parts::results::{NOTHING, TOO_LONG};
 use xns_idp::packet_type::PACKET_EXCHANGE;
 use xns_idp::{Packet, decode};
 use xns_small::{Exchange, read_exchange};

@@ -5,11 +5,11 @@ ghost use Rattle.xns_idp.specs.Packet.{most_data};
 ghost use Rattle.xns_idp.specs.Reading.{made_even};
 ghost use Rattle.xns_small.specs.Exchange.{asking_packet};
 ghost use Rattle.xns_small.specs.Sending.{sent_packet};
-ghost use Rattle.xns_c_parts.specs.Given.{IsPut};
-ghost use Rattle.xns_c_parts.specs.Results.{ok, no_memory, short_buffer};
+ghost use Rattle.xns_c.specs.Given.{IsPut};
+ghost use Rattle.xns_c.specs.Results.{ok, no_memory, short_buffer};
 
+use crate::results::{NO_MEMORY, OK, SHORT_BUFFER};
 use std::alloc::Global;
-use xns_c_parts::results::{NO_MEMORY, OK, SHORT_BUFFER};
 use xns_idp::packet_type::PACKET_EXCHANGE;
 use xns_idp::{Address, HEADER_BYTES, Packet, encode_into};
 use xns_small::{Exchange, write_exchange};

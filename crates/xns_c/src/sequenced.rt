@@ -3,14 +3,15 @@
 ghost use Rattle.std.specs.Prelude.{◌≡◌, ◌≢◌, ◌<◌, ◌≤◌, drop, length, Ok, Some, None};
 ghost use Rattle.xns_spp.specs.Header.{header_of, header_spelling};
 ghost use Rattle.xns_spp.specs.Packet.{opener};
-ghost use Rattle.xns_c_parts.specs.Given.{IsPut};
-ghost use Rattle.xns_c_parts.specs.Results.{ok, nothing, short, short_buffer};
+ghost use Rattle.xns_c.specs.Given.{IsPut};
+ghost use Rattle.xns_c.specs.Results.{ok, nothing, short, short_buffer};
 ghost use Rattle.xns_c.specs.Views.{header_in};
-ghost use Rattle.xns_c_parts.specs.Views.{address_in};
+ghost use Rattle.xns_c.specs.Structs.{address_in};
 
+use crate::address::{XnsAddress, tell_end};
+use crate::front::put_front;
 use crate::header::XnsHeader;
-use xns_c_parts::results::{NOTHING, OK, SHORT};
-use xns_c_parts::{XnsAddress, put_front, tell_end};
+use crate::results::{NOTHING, OK, SHORT};
 use xns_spp::{Header, opening, read_header};
 
 /// Reads the header at the front of a packet's data; the rest of the data follows from byte 12 on. `SHORT` for fewer than

@@ -7,13 +7,14 @@ ghost use Rattle.xns_small.specs.Echo.{IsAnswered, echo_reply};
 ghost use Rattle.xns_small.specs.ErrorReport.{MayBeComplainedOf, complaint, error_of};
 ghost use Rattle.xns_small.specs.Exchange.{exchange_of, exchange_spelling};
 ghost use Rattle.xns_c.specs.Echo.{IsRequestTo};
-ghost use Rattle.xns_c_parts.specs.Given.{IsPut};
-ghost use Rattle.xns_c_parts.specs.Results.{ok, no_memory, nothing, short, short_buffer, too_long};
-ghost use Rattle.xns_c_parts.specs.Views.{address_in};
+ghost use Rattle.xns_c.specs.Given.{IsPut};
+ghost use Rattle.xns_c.specs.Results.{ok, no_memory, nothing, short, short_buffer, too_long};
+ghost use Rattle.xns_c.specs.Structs.{address_in};
 
+use crate::address::XnsAddress;
+use crate::front::put_front;
+use crate::results::{NO_MEMORY, NOTHING, OK, SHORT, SHORT_BUFFER, TOO_LONG};
 use std::alloc::Global;
-use xns_c_parts::results::{NO_MEMORY, NOTHING, OK, SHORT, SHORT_BUFFER, TOO_LONG};
-use xns_c_parts::{XnsAddress, put_front};
 use xns_idp::decode;
 use xns_small::{Exchange, answer_echo, complain, read_error, read_exchange, write_exchange};
 

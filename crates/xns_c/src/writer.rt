@@ -6,11 +6,11 @@ ghost use Rattle.std.specs.Prelude.{◌≡◌, ◌≢◌, ◌<◌, ◌≤◌, �
 ghost use Rattle.courier_types.specs.Spelling.{bytes_spelling, value_spelling};
 ghost use Rattle.courier_types.specs.Value.{ValueModel};
 ghost use Rattle.xns_c.specs.Cursor.{faulted, IsWritten};
-ghost use Rattle.xns_c_parts.specs.Given.{is_yes};
-ghost use Rattle.xns_c_parts.specs.Results.{ok, over_maximum, too_long};
+ghost use Rattle.xns_c.specs.Given.{is_yes};
+ghost use Rattle.xns_c.specs.Results.{ok, over_maximum, too_long};
 
 use crate::cursor::XnsCursor;
-use xns_c_parts::results::{OK, OVER_MAXIMUM, SHORT_BUFFER, TOO_LONG};
+use crate::results::{OK, OVER_MAXIMUM, SHORT_BUFFER, TOO_LONG};
 
 /// The most bytes that a text has.
 const MOST_TEXT: usize = 65_535;

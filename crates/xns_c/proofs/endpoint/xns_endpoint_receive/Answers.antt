@@ -1,5 +1,5 @@
 use Rattle.std.proofs.Common.{refl, rules}
-use Rattle.xns_c_parts.specs.Handle.{line_of}
+use Rattle.xns_c.specs.Handle.{line_of}
 use Rattle.xns_c.proofs.Kept.{taken}
 use Rattle.xns_c.proofs.endpoint.xns_endpoint_receive.Goals as goal
 

@@ -2,8 +2,8 @@ use Rattle.std.proofs.Common.{slice_index_or}
 use Rattle.courier_types.specs.Shape.{ShapeModel}
 use Rattle.courier_types.specs.Value.{ValueModel}
 use Rattle.xns_c.specs.Cursor.{ahead, moved}
-use Rattle.xns_c_parts.specs.Given.{is_yes}
-use Rattle.xns_c_parts.specs.Results.{ok}
+use Rattle.xns_c.specs.Given.{is_yes}
+use Rattle.xns_c.specs.Results.{ok}
 use Rattle.xns_c.proofs.Spelled.{same_read, boolean_read, boolean_wrong, boolean_cut}
 use Rattle.xns_c.proofs.reader.xns_read_boolean.Goals as goal
 

@@ -2,7 +2,7 @@ use Rattle.std.proofs.Common.{slice_index_or}
 use Rattle.courier_types.specs.Shape.{ShapeModel}
 use Rattle.courier_types.specs.Value.{ValueModel}
 use Rattle.xns_c.specs.Cursor.{ahead, moved}
-use Rattle.xns_c_parts.specs.Results.{ok}
+use Rattle.xns_c.specs.Results.{ok}
 use Rattle.xns_c.proofs.Spelled.{same_read, cardinal_read, cardinal_cut}
 use Rattle.xns_c.proofs.reader.xns_read_cardinal.Goals as goal
 

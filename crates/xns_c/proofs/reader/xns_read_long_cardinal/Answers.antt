@@ -2,7 +2,7 @@ use Rattle.std.proofs.Common.{◌+◌, ◌*◌, ◌∙◌, ℕ, ap, slice_index_
 use Rattle.courier_types.specs.Shape.{ShapeModel}
 use Rattle.courier_types.specs.Value.{ValueModel}
 use Rattle.xns_c.specs.Cursor.{ahead, moved}
-use Rattle.xns_c_parts.specs.Results.{ok}
+use Rattle.xns_c.specs.Results.{ok}
 use Rattle.xns_c.proofs.Spelled.{same_read, long_cardinal_read, long_cardinal_cut}
 use Rattle.xns_c.proofs.reader.xns_read_long_cardinal.Goals as goal
 

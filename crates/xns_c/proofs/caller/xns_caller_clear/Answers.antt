@@ -1,5 +1,0 @@
-use Rattle.std.proofs.Common.{rules}
-use Rattle.xns_c.proofs.caller.xns_caller_clear.Goals as goal
-
-pub returns : goal.returns
-returns c = search rules

@@ -1,0 +1,34 @@
+-- What is given to C through its own memory, and taken from it.
+use Rattle.std.specs.Prelude.{◌≡◌, ◌<◌, ◌≤◌, ℕ, Bool, not, ◌==◌, if◌then◌else◌, List, ◌++◌, drop, length, Option, Some, None}
+use Rattle.xns_spp.specs.declared.item.Item.{Item}
+use Rattle.xns_c.specs.Results.{ok, short_buffer}
+use Rattle.xns_c.specs.declared.item.XnsItem.{XnsItem}
+
+-- C's yes or no: 0 is no
+abbrev pub is_yes : ℕ → Bool
+is_yes n = not (n == 0)
+
+abbrev pub as_byte : Bool → ℕ
+as_byte flag = if flag then 1 else 0
+
+-- the bytes or words were put to the front of a buffer, and their number told; what stood behind them stands there still
+abbrev pub IsPut : {A : Type 0} → List A → List A → List A → ℕ → Type 0
+IsPut items before after size = (size ≡ length items) × (after ≡ items ++ drop (length items) before)
+
+-- the same for bytes that may be there
+abbrev pub IsPutIfThere : Option (List ℕ) → List ℕ → List ℕ → ℕ → Type 0
+IsPutIfThere None before after size = (size ≡ 0) × (after ≡ before)
+IsPutIfThere (Some bytes) before after size = IsPut bytes before after size
+
+-- the item is given but for its bytes
+pub record GivesItem (x : Item) (out : XnsItem) : Type 0 where
+  pub stream : out.stream ≡ x.stream
+  pub attention : out.attention ≡ as_byte x.attention
+  pub last : out.last ≡ as_byte x.last
+
+-- what is answered where this item is to be given, its bytes to the front of a buffer: with no room for all of them none is put, and their
+-- number is told
+abbrev pub ItemIsGiven : Item → XnsItem → XnsItem → List ℕ → List ℕ → ℕ → Type 0
+ItemIsGiven x before after old new number =
+    (length x.body ≤ length old → (number ≡ ok) × GivesItem x after × IsPut x.body old new after.length)
+    × (length old < length x.body → (number ≡ short_buffer) × (after ≡ record before { length = length x.body }))

@@ -1,0 +1,28 @@
+-- What a host is made with, as C gives it.
+use Rattle.std.specs.Prelude.{ℕ, ◌==◌, if◌then◌else◌}
+use Rattle.xns_host.specs.Settings.{usual_settings}
+use Rattle.xns_host.specs.declared.settings.Settings.{Settings}
+use Rattle.xns_c.specs.declared.settings.XnsSettings.{XnsSettings}
+
+-- a number that is 0 is not given
+abbrev pub given_or : ℕ → ℕ → ℕ
+given_or usual given = if given == 0 then usual else given
+
+-- the largest number is never, which a host has as 0
+abbrev pub never_idle : ℕ
+never_idle = 4294967295
+
+abbrev pub idle_in : ℕ → ℕ → ℕ
+idle_in usual given = if given == never_idle then 0 else given_or usual given
+
+abbrev pub settings_in : XnsSettings → Settings
+settings_in s = record {
+  connections = given_or usual_settings.connections s.connections;
+  window = given_or usual_settings.window s.window;
+  backlog = given_or usual_settings.backlog s.backlog;
+  first_wait = given_or usual_settings.first_wait s.first_wait;
+  longest_wait = given_or usual_settings.longest_wait s.longest_wait;
+  idle = idle_in usual_settings.idle s.idle;
+  tries = given_or usual_settings.tries s.tries;
+  strays = usual_settings.strays;
+}

@@ -1,0 +1,51 @@
+ghost use Rattle.std.specs.Prelude.{◌≡◌};
+ghost use Rattle.xns_c.specs.Structs.{address_in};
+
+use xns_idp::Address;
+
+/// Where a packet goes to or comes from.
+#[repr(C)]
+#[derive(Clone, Copy)]
+pub struct XnsAddress {
+    /// The network number; 0 is an unknown network.
+    pub network: u32,
+    /// The host number, its highest byte first; six bytes of 255 are the broadcast host, which is every host.
+    pub host: [u8; 6],
+    /// The socket number.
+    pub socket: u16,
+}
+
+impl XnsAddress {
+    ghost use Rattle.std.specs.Prelude.{◌≡◌};
+    ghost use Rattle.xns_c.specs.Structs.{address_in};
+
+    /// The same for C.
+    pub fn of(address: &Address) -> XnsAddress
+        ensures { address_in result ≡ address.now }
+    {
+        XnsAddress {
+            network: address.network,
+            host: address.host,
+            socket: address.socket,
+        }
+    }
+
+    /// The same for the stack.
+    pub fn address(&self) -> Address
+        ensures { result ≡ address_in self.now }
+    {
+        Address {
+            network: self.network,
+            host: self.host,
+            socket: self.socket,
+        }
+    }
+}
+
+/// Tells C an address and the connection identifier of the end there.
+pub fn tell_end(end: (Address, u16), address: &mut XnsAddress, id: &mut u16)
+    ensures { (address_in address.new ≡ end.0) × (id.new ≡ end.1) }
+{
+    *address = XnsAddress::of(&end.0);
+    *id = end.1;
+}

@@ -1,0 +1,17 @@
+use crate::message::XnsMessage;
+
+/// What is told of a connection of a host.
+#[repr(C)]
+#[derive(Clone, Copy)]
+pub struct XnsEvent {
+    /// 1 a call, 2 an answer, 3 that it is closed.
+    pub kind: u8,
+    /// The number of the connection.
+    pub number: usize,
+    /// The call or the answer but for its words; else all is 0.
+    pub message: XnsMessage,
+    /// Why it is closed, by number, or 0.
+    pub closed: u8,
+    /// What the peer said that was refused, by number, or 0.
+    pub fault: u32,
+}

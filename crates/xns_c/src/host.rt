@@ -1,0 +1,268 @@
+//! A host, which C holds by its handle: many Courier conversations behind one address.
+
+ghost use Rattle.std.specs.Prelude.{◌≡◌, ◌≢◌, None};
+ghost use Rattle.xns_c.specs.Handle.{kept_of};
+ghost use Rattle.xns_c.specs.Results.{ok, no_host};
+
+use crate::address::XnsAddress;
+use crate::event::XnsEvent;
+use crate::faults::host_fault_number;
+use crate::host_handle::XnsHost;
+use crate::kept_host::{KeptHost, NEVER};
+use crate::results::{NO_CONNECTION, NO_HOST, OK};
+use crate::settings::XnsSettings;
+use courier_sessions::Program;
+use std::alloc::Global;
+use xns_host::{HostFault, Settings};
+
+/// A host in a box.
+fn make_host(
+    alloc: Global,
+    own: &XnsAddress,
+    settings: Settings,
+    secret: &[u8; 32],
+) -> Result<Box<KeptHost>, HostFault> {
+    let host = KeptHost::new(alloc, own, settings, secret)?;
+    match Box::new(alloc, host) {
+        Ok(host) => Ok(host),
+        Err(_) => Err(HostFault::NoMemory),
+    }
+}
+
+/// Makes a host at this address in the place of the one that the handle had, which is freed in any case. The socket of `own` is not looked
+/// at. A setting that is 0 has its default. The identifiers of its connections come in an order that the secret gives.
+///
+/// `BAD_ARGUMENT` where a setting is out of its range; `NO_MEMORY` where memory is refused. The handle then has no host.
+#[unsafe(no_mangle)]
+pub extern "C" fn xns_host_new(
+    alloc: Global,
+    handle: &mut XnsHost,
+    own: &XnsAddress,
+    settings: &XnsSettings,
+    secret: &[u8; 32],
+) -> u32
+    ensures none { result ≢ ok → kept_of handle.new ≡ None }
+{
+    let _ = handle.take(alloc);
+    match make_host(alloc, own, settings.settings(), secret) {
+        Ok(host) => {
+            handle.put(host);
+            OK
+        }
+        Err(fault) => host_fault_number(fault),
+    }
+}
+
+/// Frees the host, if there is one. The handle then has none, and may be used again.
+#[unsafe(no_mangle)]
+pub extern "C" fn xns_host_clear(alloc: Global, handle: &mut XnsHost)
+    ensures { kept_of handle.new ≡ None }
+{
+    let _freed = handle.take(alloc);
+}
+
+/// From now on connections that peers open to this socket are answered, for these programs, which are copied; where there are none, each
+/// call is handed. If the socket is served already, its list is replaced for new connections.
+///
+/// `NO_HOST`; `TOO_MANY_SERVICES` where 16 other sockets are served; `NO_MEMORY`.
+#[unsafe(no_mangle)]
+pub extern "C" fn xns_host_serve(
+    alloc: Global,
+    handle: &mut XnsHost,
+    socket: u16,
+    programs: &[Program],
+) -> u32 {
+    let Some(mut kept) = handle.take(alloc) else {
+        return NO_HOST;
+    };
+    let result = kept.serve(socket, programs);
+    handle.put(kept);
+    result
+}
+
+/// Opens a connection from this socket of ours to the peer, whose side calls, and tells its number. Its packets go out by this `via`.
+///
+/// `NO_HOST`; `NO_SLOT` where as many connections are there as the host may have, and none gives way; `NO_MEMORY`.
+#[unsafe(no_mangle)]
+pub extern "C" fn xns_host_connect(
+    alloc: Global,
+    handle: &mut XnsHost,
+    now: u64,
+    via: u32,
+    socket: u16,
+    peer: &XnsAddress,
+    number: &mut usize,
+) -> u32
+    ensures untold { result ≢ ok → number.new ≡ number.old }
+{
+    let Some(mut kept) = handle.take(alloc) else {
+        return NO_HOST;
+    };
+    let result = kept.connect(now, via, socket, peer, number);
+    handle.put(kept);
+    result
+}
+
+/// Puts out a call on a connection of our own, whose words are copied.
+///
+/// `NO_HOST`; `NO_CONNECTION`; `CLOSING` where the connection is closed or closes; `PEER_CALLS` where the peer opened it; `BUSY` while a
+/// call waits for its answer, or the answer was not fetched; `TOO_LONG` over 65,530 words; `NO_MEMORY`.
+#[unsafe(no_mangle)]
+pub extern "C" fn xns_host_call(
+    alloc: Global,
+    handle: &mut XnsHost,
+    now: u64,
+    number: usize,
+    program: u32,
+    version: u16,
+    procedure: u16,
+    words: &[u16],
+) -> u32 {
+    let Some(mut kept) = handle.take(alloc) else {
+        return NO_HOST;
+    };
+    let result = kept.call(now, number, program, version, procedure, words);
+    handle.put(kept);
+    result
+}
+
+/// Answers the call that was handed of this connection: 2 a return, 3 an abort with its error's number, 1 a reject with its reason
+/// (XSIS 038112, Courier, Return, Abort and Reject message). A call that had no room in the buffer, and is kept, counts as handed: it goes.
+///
+/// `NO_HOST`; `BAD_ARGUMENT` for another kind; `NO_CONNECTION`; `CLOSING` where the connection is closed; `NOTHING` where no call waits for
+/// an answer; `TOO_LONG` over 131,072 bytes; `NO_MEMORY`.
+#[unsafe(no_mangle)]
+pub extern "C" fn xns_host_answer(
+    alloc: Global,
+    handle: &mut XnsHost,
+    now: u64,
+    number: usize,
+    kind: u8,
+    code: u16,
+    words: &[u16],
+) -> u32 {
+    let Some(mut kept) = handle.take(alloc) else {
+        return NO_HOST;
+    };
+    let result = kept.answer(now, number, kind, code, words);
+    handle.put(kept);
+    result
+}
+
+/// Closes a connection once all that it has to say is said. An event of it that is kept goes.
+///
+/// `NO_HOST`; `NO_CONNECTION`.
+#[unsafe(no_mangle)]
+pub extern "C" fn xns_host_close(
+    alloc: Global,
+    handle: &mut XnsHost,
+    now: u64,
+    number: usize,
+) -> u32 {
+    let Some(mut kept) = handle.take(alloc) else {
+        return NO_HOST;
+    };
+    let result = kept.close(now, number);
+    handle.put(kept);
+    result
+}
+
+/// Takes in the bytes of a packet that came by this `via`.
+///
+/// `NO_HOST`; `NOTHING` where it was not for the host, which changes nothing: it is the program's to use.
+#[unsafe(no_mangle)]
+pub extern "C" fn xns_host_receive(
+    alloc: Global,
+    handle: &mut XnsHost,
+    now: u64,
+    via: u32,
+    bytes: &[u8],
+) -> u32 {
+    let Some(mut kept) = handle.take(alloc) else {
+        return NO_HOST;
+    };
+    let result = kept.receive(now, via, bytes);
+    handle.put(kept);
+    result
+}
+
+/// Tells the next event, once, its words to the front of a buffer.
+///
+/// `NO_HOST`; `NOTHING` where there is none; `SHORT_BUFFER` where it has more words than the buffer has room for: `count` is then their
+/// number, all but the words is told, and the event stays.
+#[unsafe(no_mangle)]
+pub extern "C" fn xns_host_next_event(
+    alloc: Global,
+    handle: &mut XnsHost,
+    event: &mut XnsEvent,
+    words: &mut [u16],
+    count: &mut usize,
+) -> u32 {
+    let Some(mut kept) = handle.take(alloc) else {
+        return NO_HOST;
+    };
+    let result = kept.next_event(event, words, count);
+    handle.put(kept);
+    result
+}
+
+/// Puts the next packet that is to go out to the front of a buffer, and tells its `via`; also what is due at this time is done.
+///
+/// `NO_HOST`; `NO_MEMORY`, and what is to go out stays so; `NOTHING` where there is none; `SHORT_BUFFER` where it is longer than the
+/// buffer: `written` is then its length, and the packet stays.
+#[unsafe(no_mangle)]
+pub extern "C" fn xns_host_next_packet(
+    alloc: Global,
+    handle: &mut XnsHost,
+    now: u64,
+    buffer: &mut [u8],
+    written: &mut usize,
+    via: &mut u32,
+) -> u32 {
+    let Some(mut kept) = handle.take(alloc) else {
+        return NO_HOST;
+    };
+    let result = kept.next_packet(now, buffer, written, via);
+    handle.put(kept);
+    result
+}
+
+/// When `xns_host_next_packet` wants to be called at the latest: 0 at once, 2^64 - 1 never. Never where there is no host.
+#[unsafe(no_mangle)]
+pub extern "C" fn xns_host_wake(alloc: Global, handle: &mut XnsHost) -> u64
+    ensures same { kept_of handle.new ≡ kept_of handle.old }
+{
+    handle.ask(alloc, NEVER, |kept| kept.wake())
+}
+
+/// How many connections there are. 0 where there is no host.
+#[unsafe(no_mangle)]
+pub extern "C" fn xns_host_connections(alloc: Global, handle: &mut XnsHost) -> usize
+    ensures same { kept_of handle.new ≡ kept_of handle.old }
+{
+    handle.ask(alloc, 0, |kept| kept.host.connections())
+}
+
+/// Whom the connection with this number was opened to, or who opened it.
+///
+/// `NO_HOST`; `NO_CONNECTION`.
+#[unsafe(no_mangle)]
+pub extern "C" fn xns_host_peer(
+    alloc: Global,
+    handle: &mut XnsHost,
+    number: usize,
+    peer: &mut XnsAddress,
+) -> u32 {
+    let Some(kept) = handle.take(alloc) else {
+        return NO_HOST;
+    };
+    let found = kept.host.peer(number);
+    handle.put(kept);
+    match found {
+        Some(found) => {
+            *peer = XnsAddress::of(&found);
+            OK
+        }
+        None => NO_CONNECTION,
+    }
+}

@@ -1,0 +1,18 @@
+ghost use Rattle.std.specs.Prelude.{Option};
+ghost use Rattle.std.specs.Coded.{coded_option};
+ghost use Rattle.xns_c.specs.Owned.{owned_if};
+ghost use Rattle.xns_c.specs.contracts.kept_host.KeptHost.{the_row};
+ghost use Rattle.xns_c.specs.declared.kept_host.KeptHost.{KeptHost};
+
+use std::marker::Model;
+
+/// A host, or none, as C keeps it: one word. A null pointer is none.
+#[repr(C)]
+pub struct XnsHost {
+    pub(crate) at: *mut u8,
+    pub ghost kept: { Option KeptHost } by { coded_option the_row.coded },
+}
+
+impl Model for XnsHost {
+    ghost also_owns = { λ h. owned_if the_row h.at h.kept };
+}

@@ -1,0 +1,193 @@
+//! A host that C holds.
+
+ghost use Rattle.std.specs.Prelude.{◌≡◌, ◌≢◌, IfOk};
+ghost use Rattle.xns_c.specs.Results.{ok};
+ghost use Rattle.xns_host.specs.declared.event.Event.{Event};
+
+use crate::address::XnsAddress;
+use crate::event::XnsEvent;
+use crate::faults::{host_fault_number, host_told};
+use crate::front::put_front;
+use crate::heads::answer_in;
+use crate::results::{BAD_ARGUMENT, NOTHING, OK, SHORT_BUFFER};
+use crate::telling_events::{give_event, number_of};
+use courier_sessions::Program;
+use std::alloc::Global;
+use xns_host::{Event, Host, HostFault, Outgoing, Settings};
+
+/// Never: a time that does not come.
+pub const NEVER: u64 = u64::MAX;
+
+/// A host, and what was fetched of it that the buffer had no room for.
+#[derive(Drop)]
+pub struct KeptHost {
+    pub host: Host,
+    pub event: Option<Event>,
+    pub packet: Option<Outgoing>,
+}
+
+impl KeptHost {
+    /// A host at this address, whose socket is not looked at.
+    ///
+    /// An `Err` is [`HostFault::OutOfRange`] or [`HostFault::NoMemory`].
+    pub fn new(
+        alloc: Global,
+        own: &XnsAddress,
+        settings: Settings,
+        secret: &[u8; 32],
+    ) -> Result<KeptHost, HostFault> {
+        let host = Host::new(alloc, own.network, own.host, settings, *secret)?;
+        Ok(KeptHost {
+            host,
+            event: None,
+            packet: None,
+        })
+    }
+
+    /// Answers connections to this socket from now on, for these programs.
+    pub fn serve(&mut self, socket: u16, programs: &[Program]) -> u32 {
+        host_told(self.host.serve(socket, programs))
+    }
+
+    /// Opens a connection, and tells its number.
+    pub fn connect(
+        &mut self,
+        now: u64,
+        via: u32,
+        socket: u16,
+        peer: &XnsAddress,
+        number: &mut usize,
+    ) -> u32
+        ensures untold { result ≢ ok → number.new ≡ number.old }
+    {
+        match self.host.connect(now, via, socket, peer.address()) {
+            Ok(found) => {
+                *number = found;
+                OK
+            }
+            Err(fault) => host_fault_number(fault),
+        }
+    }
+
+    /// Puts out a call.
+    pub fn call(
+        &mut self,
+        now: u64,
+        number: usize,
+        program: u32,
+        version: u16,
+        procedure: u16,
+        words: &[u16],
+    ) -> u32 {
+        host_told(
+            self.host
+                .call(now, number, program, version, procedure, words),
+        )
+    }
+
+    /// Lets the event go that is kept of the connection with this number, where the call of it was done.
+    fn let_go(&mut self, number: usize, told: u32) {
+        if told != OK {
+            return;
+        }
+        let Some(event) = &self.event else {
+            return;
+        };
+        if number_of(event) == number {
+            self.event = None;
+        }
+    }
+
+    /// Answers the call that was handed, or is kept, which then goes.
+    pub fn answer(&mut self, now: u64, number: usize, kind: u8, code: u16, words: &[u16]) -> u32 {
+        let Some(answer) = answer_in(kind, code) else {
+            return BAD_ARGUMENT;
+        };
+        let result = host_told(self.host.answer(now, number, answer, words));
+        self.let_go(number, result);
+        result
+    }
+
+    /// Closes a connection. What is kept of it goes.
+    pub fn close(&mut self, now: u64, number: usize) -> u32 {
+        let result = host_told(self.host.close(now, number));
+        self.let_go(number, result);
+        result
+    }
+
+    /// Takes a packet in. `NOTHING`: it was not for the host.
+    pub fn receive(&mut self, now: u64, via: u32, bytes: &[u8]) -> u32 {
+        if self.host.receive(now, via, bytes) {
+            OK
+        } else {
+            NOTHING
+        }
+    }
+
+    /// Fetches the next event, where none is kept.
+    fn fetch_event(&mut self) {
+        if self.event.is_none() {
+            self.event = self.host.next_event();
+        }
+    }
+
+    /// Tells the next event, its words to the front of a buffer. One whose words have no room is kept.
+    pub fn next_event(
+        &mut self,
+        event: &mut XnsEvent,
+        words: &mut [u16],
+        count: &mut usize,
+    ) -> u32 {
+        self.fetch_event();
+        let Some(found) = &self.event else {
+            return NOTHING;
+        };
+        let result = give_event(found, event, words, count);
+        if result != SHORT_BUFFER {
+            self.event = None;
+        }
+        result
+    }
+
+    /// Fetches the next packet, where none is kept.
+    fn fetch_packet(&mut self, now: u64) -> Result<(), HostFault> {
+        if self.packet.is_none() {
+            self.packet = self.host.next_packet(now)?;
+        }
+        Ok(())
+    }
+
+    /// Puts the next packet to the front of a buffer. One that has no room is kept.
+    pub fn next_packet(
+        &mut self,
+        now: u64,
+        buffer: &mut [u8],
+        written: &mut usize,
+        via: &mut u32,
+    ) -> u32 {
+        if let Err(fault) = self.fetch_packet(now) {
+            return host_fault_number(fault);
+        }
+        let Some(found) = &self.packet else {
+            return NOTHING;
+        };
+        let way = found.via;
+        let told = put_front(found.packet.as_slice(), buffer, written);
+        if told != SHORT_BUFFER {
+            *via = way;
+            self.packet = None;
+        }
+        told
+    }
+
+    /// When the next packet wants to be asked for at the latest: at once, which is 0, where something is kept.
+    pub fn wake(&self) -> u64 {
+        if self.event.is_some() || self.packet.is_some() {
+            return 0;
+        }
+        match self.host.wake() {
+            Some(time) => time,
+            None => NEVER,
+        }
+    }
+}

@@ -1,0 +1,77 @@
+ghost use Rattle.std.specs.Prelude.{◌≡◌};
+ghost use Rattle.xns_c.specs.Settings.{given_or, idle_in, settings_in};
+
+use xns_host::Settings;
+
+/// What a host is made with. A field that is 0 has its default. Times are in milliseconds.
+#[repr(C)]
+#[derive(Clone, Copy)]
+pub struct XnsSettings {
+    /// How many connections there are at most.
+    pub connections: usize,
+    /// How many items a connection keeps until they are handed up.
+    pub window: usize,
+    /// How many items a connection keeps until they are acknowledged.
+    pub backlog: usize,
+    /// The first wait for an acknowledgement.
+    pub first_wait: u32,
+    /// The longest wait.
+    pub longest_wait: u32,
+    /// How long the peer may be silent before it is asked for a word. The largest number: it is never asked.
+    pub idle: u32,
+    /// How many waits without a word of the peer are borne.
+    pub tries: u8,
+}
+
+/// A number of things, or the usual one where it is 0.
+fn count_in(given: usize, usual: usize) -> usize
+    ensures { result ≡ given_or usual given }
+{
+    if given == 0 { usual } else { given }
+}
+
+/// A time, or the usual one where it is 0.
+fn time_in(given: u32, usual: u32) -> u32
+    ensures { result ≡ given_or usual given }
+{
+    if given == 0 { usual } else { given }
+}
+
+/// How many waits are borne, or the usual number where it is 0.
+fn tries_in(given: u8, usual: u8) -> u8
+    ensures { result ≡ given_or usual given }
+{
+    if given == 0 { usual } else { given }
+}
+
+/// How long the peer may be silent, which is 0 where it is never asked.
+fn idle_in(given: u32, usual: u32) -> u32
+    ensures { result ≡ idle_in usual given }
+{
+    if given == u32::MAX {
+        return 0;
+    }
+    time_in(given, usual)
+}
+
+impl XnsSettings {
+    ghost use Rattle.std.specs.Prelude.{◌≡◌};
+    ghost use Rattle.xns_c.specs.Settings.{settings_in};
+
+    /// The same for a host.
+    pub fn settings(&self) -> Settings
+        ensures { result ≡ settings_in self.now }
+    {
+        let usual = Settings::default();
+        Settings {
+            connections: count_in(self.connections, usual.connections),
+            window: count_in(self.window, usual.window),
+            backlog: count_in(self.backlog, usual.backlog),
+            first_wait: time_in(self.first_wait, usual.first_wait),
+            longest_wait: time_in(self.longest_wait, usual.longest_wait),
+            idle: idle_in(self.idle, usual.idle),
+            tries: tries_in(self.tries, usual.tries),
+            strays: usual.strays,
+        }
+    }
+}

@@ -1,6 +1,0 @@
-pub mod Values
-pub mod Owned
-pub mod Sizes
-pub mod Arrivals
-pub mod Peers
-pub mod Given

@@ -1,5 +1,0 @@
-use Rattle.std.proofs.Common.{rules}
-use Rattle.xns_c_parts.proofs.front.put_front.Goals as goal
-
-pub returns-clause-put : goal.returns-clause-put
-returns-clause-put c = search rules
