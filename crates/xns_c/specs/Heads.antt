@@ -27,7 +27,8 @@ head_given (messages.Reject transaction reason words) = record {
   procedure = 0;
   number = reason;
 }
-head_given (messages.Return transaction words) = record { kind = 2; transaction = transaction; program = 0; version = 0; procedure = 0; number = 0 }
+head_given (messages.Return transaction words) =
+    record { kind = 2; transaction = transaction; program = 0; version = 0; procedure = 0; number = 0 }
 head_given (messages.Abort transaction error words) = record {
   kind = 3;
   transaction = transaction;

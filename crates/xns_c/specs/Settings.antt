@@ -26,3 +26,7 @@ settings_in s = record {
   tries = given_or usual_settings.tries s.tries;
   strays = usual_settings.strays;
 }
+
+-- a time that does not come
+abbrev pub never : ℕ
+never = 18446744073709551615

@@ -1,8 +1,20 @@
 //! A host, which C holds by its handle: many Courier conversations behind one address.
 
-ghost use Rattle.std.specs.Prelude.{◌≡◌, ◌≢◌, None};
+ghost use Rattle.std.specs.Prelude.{◌≡◌, ◌≢◌, false, length, IfOk, IfSome, Some, None, Err};
+ghost use Rattle.courier_messages.specs.RawCalls.{words_call};
+ghost use Rattle.xns_host.specs.Hosting.{has_guest};
+ghost use Rattle.xns_host.specs.Settings.{wrong_setting};
+ghost use Rattle.xns_host.specs.declared.guest.Guest.{Guest};
+ghost use Rattle.xns_host.specs.declared.host_fault.HostFault.TheVariants.{OutOfRange};
+ghost use Rattle.xns_host.specs.declared.setting.Setting.{Setting};
 ghost use Rattle.xns_c.specs.Handle.{kept_of};
-ghost use Rattle.xns_c.specs.Results.{ok, no_host};
+ghost use Rattle.xns_c.specs.Heads.{answer_in};
+ghost use Rattle.xns_c.specs.Hosts.{Does, Calls, AnswersCall, Closes, StaysKept, Serves, Receives, Wakes, FetchesEvent, FetchesPacket};
+ghost use Rattle.xns_c.specs.Hosts.{guest_at};
+ghost use Rattle.xns_c.specs.Results.{ok, no_host, no_connection, bad_argument};
+ghost use Rattle.xns_c.specs.Settings.{settings_in, never};
+ghost use Rattle.xns_c.specs.Structs.{address_in};
+ghost use Rattle.xns_c.specs.declared.kept_host.KeptHost.{KeptHost};
 
 use crate::address::XnsAddress;
 use crate::event::XnsEvent;
@@ -21,7 +33,11 @@ fn make_host(
     own: &XnsAddress,
     settings: Settings,
     secret: &[u8; 32],
-) -> Result<Box<KeptHost>, HostFault> {
+) -> Result<Box<KeptHost>, HostFault>
+    ensures room { IfOk result (λ b. length b.value.host.guests.items ≡ settings.connections) }
+    ensures empty { IfOk result (λ b. (b.value.event ≡ None) × (b.value.packet ≡ None)) }
+    ensures settings { (s : Setting) → wrong_setting settings ≡ Some s → result ≡ Err (OutOfRange s) }
+{
     let host = KeptHost::new(alloc, own, settings, secret)?;
     match Box::new(alloc, host) {
         Ok(host) => Ok(host),
@@ -41,6 +57,11 @@ pub extern "C" fn xns_host_new(
     settings: &XnsSettings,
     secret: &[u8; 32],
 ) -> u32
+    ensures room { result ≡ ok
+        → IfSome (kept_of handle.new) (λ k. length k.host.guests.items ≡ (settings_in settings.now).connections) }
+    ensures made { result ≡ ok → IfSome (kept_of handle.new) (λ k. (k.event ≡ None) × (k.packet ≡ None)) }
+    ensures there { result ≡ ok → kept_of handle.new ≢ None }
+    ensures settings { (s : Setting) → wrong_setting (settings_in settings.now) ≡ Some s → result ≡ bad_argument }
     ensures none { result ≢ ok → kept_of handle.new ≡ None }
 {
     let _ = handle.take(alloc);
@@ -71,7 +92,9 @@ pub extern "C" fn xns_host_serve(
     handle: &mut XnsHost,
     socket: u16,
     programs: &[Program],
-) -> u32 {
+) -> u32
+    ensures serves { Does (kept_of handle.old) (kept_of handle.new) result (λ k n. Serves k n) }
+{
     let Some(mut kept) = handle.take(alloc) else {
         return NO_HOST;
     };
@@ -93,6 +116,7 @@ pub extern "C" fn xns_host_connect(
     peer: &XnsAddress,
     number: &mut usize,
 ) -> u32
+    ensures kept { Does (kept_of handle.old) (kept_of handle.new) result (λ k n. StaysKept k n) }
     ensures untold { result ≢ ok → number.new ≡ number.old }
 {
     let Some(mut kept) = handle.take(alloc) else {
@@ -117,7 +141,10 @@ pub extern "C" fn xns_host_call(
     version: u16,
     procedure: u16,
     words: &[u16],
-) -> u32 {
+) -> u32
+    ensures calls { Does (kept_of handle.old) (kept_of handle.new) result
+        (λ k n. Calls k n number (words_call program version procedure words.now) result) }
+{
     let Some(mut kept) = handle.take(alloc) else {
         return NO_HOST;
     };
@@ -140,7 +167,10 @@ pub extern "C" fn xns_host_answer(
     kind: u8,
     code: u16,
     words: &[u16],
-) -> u32 {
+) -> u32
+    ensures answers { Does (kept_of handle.old) (kept_of handle.new) result
+        (λ k n. AnswersCall k n number (answer_in kind code) words.now result) }
+{
     let Some(mut kept) = handle.take(alloc) else {
         return NO_HOST;
     };
@@ -158,7 +188,9 @@ pub extern "C" fn xns_host_close(
     handle: &mut XnsHost,
     now: u64,
     number: usize,
-) -> u32 {
+) -> u32
+    ensures closes { Does (kept_of handle.old) (kept_of handle.new) result (λ k n. Closes k n number result) }
+{
     let Some(mut kept) = handle.take(alloc) else {
         return NO_HOST;
     };
@@ -177,7 +209,9 @@ pub extern "C" fn xns_host_receive(
     now: u64,
     via: u32,
     bytes: &[u8],
-) -> u32 {
+) -> u32
+    ensures receives { Does (kept_of handle.old) (kept_of handle.new) result (λ k n. Receives k n result) }
+{
     let Some(mut kept) = handle.take(alloc) else {
         return NO_HOST;
     };
@@ -197,7 +231,11 @@ pub extern "C" fn xns_host_next_event(
     event: &mut XnsEvent,
     words: &mut [u16],
     count: &mut usize,
-) -> u32 {
+) -> u32
+    ensures fetches { Does (kept_of handle.old) (kept_of handle.new) result
+        (λ k n. FetchesEvent k n event.old event.new words.old words.new count.old count.new result) }
+    ensures none { kept_of handle.old ≡ None → (event.new ≡ event.old) × (words.new ≡ words.old) × (count.new ≡ count.old) }
+{
     let Some(mut kept) = handle.take(alloc) else {
         return NO_HOST;
     };
@@ -218,7 +256,11 @@ pub extern "C" fn xns_host_next_packet(
     buffer: &mut [u8],
     written: &mut usize,
     via: &mut u32,
-) -> u32 {
+) -> u32
+    ensures fetches { Does (kept_of handle.old) (kept_of handle.new) result
+        (λ k n. FetchesPacket k n buffer.old buffer.new written.old written.new via.old via.new result) }
+    ensures none { kept_of handle.old ≡ None → (buffer.new ≡ buffer.old) × (written.new ≡ written.old) × (via.new ≡ via.old) }
+{
     let Some(mut kept) = handle.take(alloc) else {
         return NO_HOST;
     };
@@ -230,6 +272,8 @@ pub extern "C" fn xns_host_next_packet(
 /// When `xns_host_next_packet` wants to be called at the latest: 0 at once, 2^64 - 1 never. Never where there is no host.
 #[unsafe(no_mangle)]
 pub extern "C" fn xns_host_wake(alloc: Global, handle: &mut XnsHost) -> u64
+    ensures wakes { (k : KeptHost) → kept_of handle.old ≡ Some k → Wakes k result }
+    ensures none { kept_of handle.old ≡ None → result ≡ never }
     ensures same { kept_of handle.new ≡ kept_of handle.old }
 {
     handle.ask(alloc, NEVER, |kept| kept.wake())
@@ -238,6 +282,7 @@ pub extern "C" fn xns_host_wake(alloc: Global, handle: &mut XnsHost) -> u64
 /// How many connections there are. 0 where there is no host.
 #[unsafe(no_mangle)]
 pub extern "C" fn xns_host_connections(alloc: Global, handle: &mut XnsHost) -> usize
+    ensures none { kept_of handle.old ≡ None → result ≡ 0 }
     ensures same { kept_of handle.new ≡ kept_of handle.old }
 {
     handle.ask(alloc, 0, |kept| kept.host.connections())
@@ -252,7 +297,14 @@ pub extern "C" fn xns_host_peer(
     handle: &mut XnsHost,
     number: usize,
     peer: &mut XnsAddress,
-) -> u32 {
+) -> u32
+    ensures some { (k : KeptHost) (g : Guest) → kept_of handle.old ≡ Some k → guest_at k number ≡ Some (Some g)
+        → (result ≡ ok) × (address_in peer.new ≡ g.peer) }
+    ensures nobody { (k : KeptHost) → kept_of handle.old ≡ Some k → has_guest (guest_at k number) ≡ false → result ≡ no_connection }
+    ensures none { kept_of handle.old ≡ None → result ≡ no_host }
+    ensures same { kept_of handle.new ≡ kept_of handle.old }
+    ensures unchanged { result ≢ ok → peer.new ≡ peer.old }
+{
     let Some(kept) = handle.take(alloc) else {
         return NO_HOST;
     };

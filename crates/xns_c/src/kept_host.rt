@@ -1,15 +1,23 @@
 //! A host that C holds.
 
-ghost use Rattle.std.specs.Prelude.{◌≡◌, ◌≢◌, IfOk};
-ghost use Rattle.xns_c.specs.Results.{ok};
+ghost use Rattle.std.specs.Prelude.{◌≡◌, ◌≢◌, IfOk, OnErr, Some, None, Ok, Err, length};
+ghost use Rattle.courier_messages.specs.RawCalls.{words_call};
+ghost use Rattle.xns_host.specs.Settings.{wrong_setting};
 ghost use Rattle.xns_host.specs.declared.event.Event.{Event};
+ghost use Rattle.xns_host.specs.declared.host_fault.HostFault.TheVariants.{OutOfRange};
+ghost use Rattle.xns_host.specs.declared.outgoing.Outgoing.{Outgoing};
+ghost use Rattle.xns_host.specs.declared.setting.Setting.{Setting};
+ghost use Rattle.xns_c.specs.Heads.{answer_in};
+ghost use Rattle.xns_c.specs.Hosts.{Calls, AnswersCall, Closes, StaysKept, Serves, Receives, Wakes, FetchesEvent, FetchesPacket};
+ghost use Rattle.xns_c.specs.Hosts.{kept_after};
+ghost use Rattle.xns_c.specs.Results.{ok};
 
 use crate::address::XnsAddress;
 use crate::event::XnsEvent;
 use crate::faults::{host_fault_number, host_told};
 use crate::front::put_front;
 use crate::heads::answer_in;
-use crate::results::{BAD_ARGUMENT, NOTHING, OK, SHORT_BUFFER};
+use crate::results::{BAD_ARGUMENT, NO_MEMORY, NOTHING, OK, SHORT_BUFFER};
 use crate::telling_events::{give_event, number_of};
 use courier_sessions::Program;
 use std::alloc::Global;
@@ -35,7 +43,11 @@ impl KeptHost {
         own: &XnsAddress,
         settings: Settings,
         secret: &[u8; 32],
-    ) -> Result<KeptHost, HostFault> {
+    ) -> Result<KeptHost, HostFault>
+        ensures room { IfOk result (λ k. length k.host.guests.items ≡ settings.connections) }
+        ensures empty { IfOk result (λ k. (k.event ≡ None) × (k.packet ≡ None)) }
+        ensures settings { (s : Setting) → wrong_setting settings ≡ Some s → result ≡ Err (OutOfRange s) }
+    {
         let host = Host::new(alloc, own.network, own.host, settings, *secret)?;
         Ok(KeptHost {
             host,
@@ -45,7 +57,9 @@ impl KeptHost {
     }
 
     /// Answers connections to this socket from now on, for these programs.
-    pub fn serve(&mut self, socket: u16, programs: &[Program]) -> u32 {
+    pub fn serve(&mut self, socket: u16, programs: &[Program]) -> u32
+        ensures { Serves self.old self.new }
+    {
         host_told(self.host.serve(socket, programs))
     }
 
@@ -58,6 +72,7 @@ impl KeptHost {
         peer: &XnsAddress,
         number: &mut usize,
     ) -> u32
+        ensures kept { StaysKept self.old self.new }
         ensures untold { result ≢ ok → number.new ≡ number.old }
     {
         match self.host.connect(now, via, socket, peer.address()) {
@@ -78,7 +93,9 @@ impl KeptHost {
         version: u16,
         procedure: u16,
         words: &[u16],
-    ) -> u32 {
+    ) -> u32
+        ensures { Calls self.old self.new number (words_call program version procedure words.now) result }
+    {
         host_told(
             self.host
                 .call(now, number, program, version, procedure, words),
@@ -86,7 +103,9 @@ impl KeptHost {
     }
 
     /// Lets the event go that is kept of the connection with this number, where the call of it was done.
-    fn let_go(&mut self, number: usize, told: u32) {
+    fn let_go(&mut self, number: usize, told: u32)
+        ensures { self.new ≡ record self.old { event = kept_after self.old.event number told } }
+    {
         if told != OK {
             return;
         }
@@ -99,7 +118,9 @@ impl KeptHost {
     }
 
     /// Answers the call that was handed, or is kept, which then goes.
-    pub fn answer(&mut self, now: u64, number: usize, kind: u8, code: u16, words: &[u16]) -> u32 {
+    pub fn answer(&mut self, now: u64, number: usize, kind: u8, code: u16, words: &[u16]) -> u32
+        ensures { AnswersCall self.old self.new number (answer_in kind code) words.now result }
+    {
         let Some(answer) = answer_in(kind, code) else {
             return BAD_ARGUMENT;
         };
@@ -109,14 +130,18 @@ impl KeptHost {
     }
 
     /// Closes a connection. What is kept of it goes.
-    pub fn close(&mut self, now: u64, number: usize) -> u32 {
+    pub fn close(&mut self, now: u64, number: usize) -> u32
+        ensures { Closes self.old self.new number result }
+    {
         let result = host_told(self.host.close(now, number));
         self.let_go(number, result);
         result
     }
 
     /// Takes a packet in. `NOTHING`: it was not for the host.
-    pub fn receive(&mut self, now: u64, via: u32, bytes: &[u8]) -> u32 {
+    pub fn receive(&mut self, now: u64, via: u32, bytes: &[u8]) -> u32
+        ensures { Receives self.old self.new result }
+    {
         if self.host.receive(now, via, bytes) {
             OK
         } else {
@@ -125,19 +150,19 @@ impl KeptHost {
     }
 
     /// Fetches the next event, where none is kept.
-    fn fetch_event(&mut self) {
+    fn fetch_event(&mut self)
+        ensures kept { (e : Event) → self.old.event ≡ Some e → self.new ≡ self.old }
+        ensures packet { self.new.packet ≡ self.old.packet }
+    {
         if self.event.is_none() {
             self.event = self.host.next_event();
         }
     }
 
     /// Tells the next event, its words to the front of a buffer. One whose words have no room is kept.
-    pub fn next_event(
-        &mut self,
-        event: &mut XnsEvent,
-        words: &mut [u16],
-        count: &mut usize,
-    ) -> u32 {
+    pub fn next_event(&mut self, event: &mut XnsEvent, words: &mut [u16], count: &mut usize) -> u32
+        ensures { FetchesEvent self.old self.new event.old event.new words.old words.new count.old count.new result }
+    {
         self.fetch_event();
         let Some(found) = &self.event else {
             return NOTHING;
@@ -149,8 +174,12 @@ impl KeptHost {
         result
     }
 
-    /// Fetches the next packet, where none is kept.
-    fn fetch_packet(&mut self, now: u64) -> Result<(), HostFault> {
+    /// Fetches the next packet, where none is kept. An `Err`: there is none, for want of memory.
+    fn fetch_packet(&mut self, now: u64) -> Result<(), HostFault>
+        ensures kept { (p : Outgoing) → self.old.packet ≡ Some p → (result ≡ Ok tt) × (self.new ≡ self.old) }
+        ensures event { self.new.event ≡ self.old.event }
+        ensures none { OnErr result (self.new.packet ≡ None) }
+    {
         if self.packet.is_none() {
             self.packet = self.host.next_packet(now)?;
         }
@@ -164,9 +193,11 @@ impl KeptHost {
         buffer: &mut [u8],
         written: &mut usize,
         via: &mut u32,
-    ) -> u32 {
-        if let Err(fault) = self.fetch_packet(now) {
-            return host_fault_number(fault);
+    ) -> u32
+        ensures { FetchesPacket self.old self.new buffer.old buffer.new written.old written.new via.old via.new result }
+    {
+        if self.fetch_packet(now).is_err() {
+            return NO_MEMORY;
         }
         let Some(found) = &self.packet else {
             return NOTHING;
@@ -181,7 +212,9 @@ impl KeptHost {
     }
 
     /// When the next packet wants to be asked for at the latest: at once, which is 0, where something is kept.
-    pub fn wake(&self) -> u64 {
+    pub fn wake(&self) -> u64
+        ensures { Wakes self.now result }
+    {
         if self.event.is_some() || self.packet.is_some() {
             return 0;
         }

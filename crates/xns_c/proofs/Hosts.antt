@@ -1,0 +1,53 @@
+-- What is fetched of a host is given, or stays.
+use Rattle.std.proofs.Common.{◌≡◌, ◌≢◌, ◌<◌, ◌≤◌, ℕ, List, length, Some, refl, sym, ap, ◌∙◌, subst, arith}
+use Rattle.xns_host.specs.declared.event.Event.{Event}
+use Rattle.xns_host.specs.declared.outgoing.Outgoing.{Outgoing}
+use Rattle.xns_c.specs.Events.{EventIsGiven}
+use Rattle.xns_c.specs.Given.{IsPut}
+use Rattle.xns_c.specs.Hosts.{FetchesEvent, FetchesPacket, GivesPacket, left_of}
+use Rattle.xns_c.specs.Results.{ok, short_buffer}
+use Rattle.xns_c.specs.declared.event.XnsEvent.{XnsEvent}
+use Rattle.xns_c.specs.declared.kept_host.KeptHost.{KeptHost}
+
+-- an event that was fetched, or was kept, is given
+pub event_fetched : (k n m : KeptHost) (e : Event) (before after : XnsEvent) (old new : List ℕ) (had count number : ℕ)
+    → n.event ≡ Some e → ((x : Event) → k.event ≡ Some x → n ≡ k) → n.packet ≡ k.packet → EventIsGiven e after old new count number
+    → m.host ≡ n.host → m.event ≡ left_of (Some e) number → m.packet ≡ n.packet → FetchesEvent k m before after old new had count number
+event_fetched k n m e before after old new had count number there kept packet given host left same = record {
+  found = Some e;
+  kept = λ x is. (sym there ∙ (ap (λ (y : KeptHost). y.event) (kept x is) ∙ is), host ∙ ap (λ (y : KeptHost). y.host) (kept x is));
+  given = given;
+  left = left;
+  packet = same ∙ packet;
+}
+
+-- the same of a packet
+pub packet_fetched : (k n m : KeptHost) (p : Outgoing) (old new : List ℕ) (had written way via number : ℕ)
+    → n.packet ≡ Some p → ((x : Outgoing) → k.packet ≡ Some x → n ≡ k) → n.event ≡ k.event → GivesPacket (Some p) old new had written way via number
+    → m.host ≡ n.host → m.packet ≡ left_of (Some p) number → m.event ≡ n.event → FetchesPacket k m old new had written way via number
+packet_fetched k n m p old new had written way via number there kept event given host left same = record {
+  found = Some p;
+  kept = λ x is. (sym there ∙ (ap (λ (y : KeptHost). y.packet) (kept x is) ∙ is), host ∙ ap (λ (y : KeptHost). y.host) (kept x is));
+  given = given;
+  left = left;
+  event = same ∙ event;
+}
+
+-- it had room
+pub packet_put : (p : Outgoing) (b old new : List ℕ) (had written way number : ℕ) → b ≡ p.packet → number ≢ short_buffer
+    → (length b ≤ length old → (number ≡ ok) × IsPut b old new written) → (length old < length b → (number ≡ short_buffer) × (written ≡ length b))
+    → GivesPacket (Some p) old new had written way p.via number
+packet_put p b old new had written way number is room put short = (
+  λ fits. let y = subst (λ (x : List ℕ). length x ≤ length old → (number ≡ ok) × IsPut x old new written) is put fits in (y.0, y.1, refl),
+  λ none. absurd (room (subst (λ (x : List ℕ). length old < length x → (number ≡ short_buffer) × (written ≡ length x)) is short none).0),
+)
+
+-- it had none
+pub packet_short : (p : Outgoing) (b old new : List ℕ) (had written way number : ℕ) → b ≡ p.packet → number ≡ short_buffer
+    → (length b ≤ length old → (number ≡ ok) × IsPut b old new written) → (length old < length b → (number ≡ short_buffer) × (written ≡ length b))
+    → (length old < length b → new ≡ old) → GivesPacket (Some p) old new had written way way number
+packet_short p b old new had written way number is room put short unchanged = (
+  λ fits. let y = subst (λ (x : List ℕ). length x ≤ length old → (number ≡ ok) × IsPut x old new written) is put fits in absurd (omega (arith, room, y.0)),
+  λ none. let y = subst (λ (x : List ℕ). length old < length x → (number ≡ short_buffer) × (written ≡ length x)) is short none in
+      (y.0, y.1, subst (λ (x : List ℕ). length old < length x → new ≡ old) is unchanged none, refl),
+)

@@ -1,0 +1,131 @@
+-- What becomes of a host that C holds.
+use Rattle.std.specs.Prelude.{◌≡◌, ◌≢◌, ◌⊎◌, ◌<◌, ◌≤◌, ℕ, true, false, ◌==◌, if◌then◌else◌, List, [], length, Option, Some, None, slice_get}
+use Rattle.courier_messages.specs.RawCalls.{RawCall}
+use Rattle.courier_sessions.specs.declared.answer.Answer.{Answer}
+use Rattle.xns_host.specs.Hosting.{IsApart, has_guest}
+use Rattle.xns_host.specs.Reasons.{call_fault_of, answer_fault_of}
+use Rattle.xns_host.specs.Turns.{has_turn}
+use Rattle.xns_host.specs.declared.conversation.Conversation.{Conversation}
+use Rattle.xns_host.specs.declared.event.Event.{Event}
+use Rattle.xns_host.specs.declared.guest.Guest.{Guest}
+use Rattle.xns_host.specs.declared.host_fault.HostFault.{HostFault}
+use Rattle.xns_host.specs.declared.outgoing.Outgoing.{Outgoing}
+use Rattle.xns_c.specs.Events.{EventIsGiven, event_number}
+use Rattle.xns_c.specs.Faults.{unless_fault}
+use Rattle.xns_c.specs.Given.{IsPut}
+use Rattle.xns_c.specs.Results.{ok, nothing, no_memory, short_buffer, bad_argument, no_host, no_connection}
+use Rattle.xns_c.specs.declared.event.XnsEvent.{XnsEvent}
+use Rattle.xns_c.specs.declared.kept_host.KeptHost.{KeptHost}
+
+-- what a call does with the host of a handle: where there is none, it says so, and there is none still
+abbrev pub Does : Option KeptHost → Option KeptHost → ℕ → (KeptHost → KeptHost → Type 0) → Type 0
+Does None new result P = (result ≡ no_host) × (new ≡ None)
+Does (Some k) None result P = ⊥
+Does (Some k) (Some n) result P = P k n
+
+-- the connection with a number, if there is one
+abbrev pub guest_at : KeptHost → ℕ → Option (Option Guest)
+guest_at k number = slice_get k.host.guests.items number
+
+-- ---- calls that name a connection
+
+-- no other connection is changed; where the call is refused, none is, and nothing that is to be done
+pub record Names (k n : KeptHost) (number result : ℕ) : Type 0 where
+  pub apart : IsApart k.host.guests.items n.host.guests.items number
+  pub unchanged : result ≢ ok → (i : ℕ) → guest_at n i ≡ guest_at k i
+  pub agenda : result ≢ ok → n.host.agenda ≡ k.host.agenda
+  pub packet : n.packet ≡ k.packet
+
+-- what is told where this is the reason against it: memory is refused only where there is none
+abbrev pub Tells : Option HostFault → ℕ → Type 0
+Tells fault result = (result ≢ no_memory → result ≡ unless_fault fault) × (result ≡ no_memory → fault ≡ None)
+
+-- the same of the connection with a number
+pub record TellsOf (k : KeptHost) (number : ℕ) (fault : Conversation → Option HostFault) (result : ℕ) : Type 0 where
+  pub none : has_guest (guest_at k number) ≡ false → result ≡ no_connection
+  pub some : (g : Guest) → guest_at k number ≡ Some (Some g) → Tells (fault g.connection.conversation) result
+
+pub record Calls (k n : KeptHost) (number : ℕ) (call : RawCall) (result : ℕ) : Type 0 where
+  pub names : Names k n number result
+  pub told : TellsOf k number (λ t. call_fault_of t call) result
+  pub event : n.event ≡ k.event
+
+-- the event that is kept goes where it is of a connection whose call was answered, or that was closed
+abbrev pub unless_of : Option Event → ℕ → Option Event
+unless_of None number = None
+unless_of (Some e) number = if event_number e == number then None else Some e
+
+abbrev pub kept_after : Option Event → ℕ → ℕ → Option Event
+kept_after event number result = if result == ok then unless_of event number else event
+
+pub record AnswersCall (k n : KeptHost) (number : ℕ) (answer : Option Answer) (words : List ℕ) (result : ℕ) : Type 0 where
+  pub names : Names k n number result
+  pub bad : answer ≡ None → result ≡ bad_argument
+  pub told : (a : Answer) → answer ≡ Some a → TellsOf k number (λ t. answer_fault_of t a words) result
+  pub event : n.event ≡ kept_after k.event number result
+
+pub record Closes (k n : KeptHost) (number result : ℕ) : Type 0 where
+  pub names : Names k n number result
+  pub none : has_guest (guest_at k number) ≡ false → result ≡ no_connection
+  pub event : n.event ≡ kept_after k.event number result
+
+-- ---- other calls
+
+-- what is kept stays
+pub record StaysKept (k n : KeptHost) : Type 0 where
+  pub event : n.event ≡ k.event
+  pub packet : n.packet ≡ k.packet
+
+pub record Serves (k n : KeptHost) : Type 0 where
+  pub guests : n.host.guests ≡ k.host.guests
+  pub agenda : n.host.agenda ≡ k.host.agenda
+  pub kept : StaysKept k n
+
+-- a packet that is not for the host changes no connection
+pub record Receives (k n : KeptHost) (result : ℕ) : Type 0 where
+  pub answer : (result ≡ ok) ⊎ (result ≡ nothing)
+  pub unchanged : result ≡ nothing → (i : ℕ) → guest_at n i ≡ guest_at k i
+  pub kept : StaysKept k n
+
+-- when it wants to be asked: at once where something is kept or is to go out, and no later than each time that is set
+pub record Wakes (k : KeptHost) (time : ℕ) : Type 0 where
+  pub event : k.event ≢ None → time ≡ 0
+  pub packet : k.packet ≢ None → time ≡ 0
+  pub due : (i t : ℕ) → slice_get k.host.agenda.dues i ≡ Some (Some t) → time ≤ t
+  pub turn : (i : ℕ) → has_turn k.host.agenda.packets i ≡ true → time ≡ 0
+  pub stray : k.host.strays.waiting ≢ [] → time ≡ 0
+
+-- ---- what is fetched
+
+-- what stays of it: what had no room
+abbrev pub left_of : {A : Type 0} → Option A → ℕ → Option A
+left_of found result = if result == short_buffer then found else None
+
+-- the event is given; or there is none, and nothing is written
+abbrev pub GivesEvent : Option Event → XnsEvent → XnsEvent → List ℕ → List ℕ → ℕ → ℕ → ℕ → Type 0
+GivesEvent None before after old new had count result = (result ≡ nothing) × (after ≡ before) × (new ≡ old) × (count ≡ had)
+GivesEvent (Some e) before after old new had count result = EventIsGiven e after old new count result
+
+-- an event that is kept is the next one
+pub record FetchesEvent (k n : KeptHost) (before after : XnsEvent) (old new : List ℕ) (had count result : ℕ) : Type 0 where
+  pub found : Option Event
+  pub kept : (e : Event) → k.event ≡ Some e → (found ≡ Some e) × (n.host ≡ k.host)
+  pub given : GivesEvent found before after old new had count result
+  pub left : n.event ≡ left_of found result
+  pub packet : n.packet ≡ k.packet
+
+-- the packet is given, its bytes to the front of a buffer, and its way; or there is none, and nothing is written
+abbrev pub GivesPacket : Option Outgoing → List ℕ → List ℕ → ℕ → ℕ → ℕ → ℕ → ℕ → Type 0
+GivesPacket None old new had written way via result =
+    ((result ≡ nothing) ⊎ (result ≡ no_memory)) × (new ≡ old) × (written ≡ had) × (via ≡ way)
+GivesPacket (Some p) old new had written way via result =
+    (length p.packet ≤ length old → (result ≡ ok) × IsPut p.packet old new written × (via ≡ p.via))
+    × (length old < length p.packet → (result ≡ short_buffer) × (written ≡ length p.packet) × (new ≡ old) × (via ≡ way))
+
+-- a packet that is kept is the next one
+pub record FetchesPacket (k n : KeptHost) (old new : List ℕ) (had written way via result : ℕ) : Type 0 where
+  pub found : Option Outgoing
+  pub kept : (p : Outgoing) → k.packet ≡ Some p → (found ≡ Some p) × (n.host ≡ k.host)
+  pub given : GivesPacket found old new had written way via result
+  pub left : n.packet ≡ left_of found result
+  pub event : n.event ≡ k.event
