@@ -27,6 +27,11 @@ Does (Some k) (Some n) result P = P k n
 abbrev pub guest_at : KeptHost → ℕ → Option (Option Guest)
 guest_at k number = slice_get k.host.guests.items number
 
+-- there is a host with room for so many connections, of which nothing is kept
+abbrev pub IsNew : Option KeptHost → ℕ → Type 0
+IsNew None most = ⊥
+IsNew (Some k) most = (length k.host.guests.items ≡ most) × (k.event ≡ None) × (k.packet ≡ None)
+
 -- ---- calls that name a connection
 
 -- no other connection is changed; where the call is refused, none is, and nothing that is to be done

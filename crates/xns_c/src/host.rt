@@ -1,6 +1,6 @@
 //! A host, which C holds by its handle: many Courier conversations behind one address.
 
-ghost use Rattle.std.specs.Prelude.{◌≡◌, ◌≢◌, false, length, IfOk, IfSome, Some, None, Err};
+ghost use Rattle.std.specs.Prelude.{◌≡◌, ◌≢◌, false, length, IfOk, Some, None, Err};
 ghost use Rattle.courier_messages.specs.RawCalls.{words_call};
 ghost use Rattle.xns_host.specs.Hosting.{has_guest};
 ghost use Rattle.xns_host.specs.Settings.{wrong_setting};
@@ -10,7 +10,7 @@ ghost use Rattle.xns_host.specs.declared.setting.Setting.{Setting};
 ghost use Rattle.xns_c.specs.Handle.{kept_of};
 ghost use Rattle.xns_c.specs.Heads.{answer_in};
 ghost use Rattle.xns_c.specs.Hosts.{Does, Calls, AnswersCall, Closes, StaysKept, Serves, Receives, Wakes, FetchesEvent, FetchesPacket};
-ghost use Rattle.xns_c.specs.Hosts.{guest_at};
+ghost use Rattle.xns_c.specs.Hosts.{IsNew, guest_at};
 ghost use Rattle.xns_c.specs.Results.{ok, no_host, no_connection, bad_argument};
 ghost use Rattle.xns_c.specs.Settings.{settings_in, never};
 ghost use Rattle.xns_c.specs.Structs.{address_in};
@@ -57,10 +57,7 @@ pub extern "C" fn xns_host_new(
     settings: &XnsSettings,
     secret: &[u8; 32],
 ) -> u32
-    ensures room { result ≡ ok
-        → IfSome (kept_of handle.new) (λ k. length k.host.guests.items ≡ (settings_in settings.now).connections) }
-    ensures made { result ≡ ok → IfSome (kept_of handle.new) (λ k. (k.event ≡ None) × (k.packet ≡ None)) }
-    ensures there { result ≡ ok → kept_of handle.new ≢ None }
+    ensures made { result ≡ ok → IsNew (kept_of handle.new) (settings_in settings.now).connections }
     ensures settings { (s : Setting) → wrong_setting (settings_in settings.now) ≡ Some s → result ≡ bad_argument }
     ensures none { result ≢ ok → kept_of handle.new ≡ None }
 {
