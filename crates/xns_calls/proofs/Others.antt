@@ -8,7 +8,7 @@ use Rattle.xns_dump.specs.Flows.{flow_of}
 use Rattle.xns_calls.specs.Capture.{Known, after_at, after_in, after_new_flow, after_places, after_sequenced, flow_behind, new_connection, place_of, with_new}
 use Rattle.xns_calls.specs.declared.connection.Connection.{Connection}
 
-get_set : (xs : List Connection) (i j : ℕ) (y : Connection) → (i ≡ j → ⊥) → slice_get (slice_set xs j y) i ≡ slice_get xs i
+pub get_set : (xs : List Connection) (i j : ℕ) (y : Connection) → (i ≡ j → ⊥) → slice_get (slice_set xs j y) i ≡ slice_get xs i
 get_set [] i zero y other = refl
 get_set [] i (suc j) y other = refl
 get_set (x ∷ xs) zero zero y other = absurd (other refl)
@@ -16,7 +16,7 @@ get_set (x ∷ xs) (suc i) zero y other = refl
 get_set (x ∷ xs) zero (suc j) y other = refl
 get_set (x ∷ xs) (suc i) (suc j) y other = get_set xs i j y (λ e. other (ap suc e))
 
-get_front : (xs ys : List Connection) (i : ℕ) → i < length xs → slice_get (xs ++ ys) i ≡ slice_get xs i
+pub get_front : (xs ys : List Connection) (i : ℕ) → i < length xs → slice_get (xs ++ ys) i ≡ slice_get xs i
 get_front [] ys i lt = absurd (omega (arith, lt))
 get_front (x ∷ xs) ys zero lt = refl
 get_front (x ∷ xs) ys (suc i) lt = get_front xs ys i (omega (arith, lt))

@@ -26,7 +26,7 @@ track_other : (h : Heading) (n : ℕ) (o : Option Track) (s : Scene) → (advanc
 track_other h n None s = refl
 track_other h n (Some track) s = refl
 
-advanced_other : (h : Heading) (n : ℕ) (s : Scene) → (advanced h n s).other.track ≡ s.other.track
+pub advanced_other : (h : Heading) (n : ℕ) (s : Scene) → (advanced h n s).other.track ≡ s.other.track
 unfolding advanced
 advanced_other h n s = track_other h n s.own.track s
 
@@ -88,11 +88,11 @@ other_own : (h : Heading) (o : Option ℕ) (s : Scene) → (advance_other h o s)
 other_own h None s = refl
 other_own h (Some n) s = advanced_other (of_other h) n (seen_from_other s)
 
-acknowledge_own : (h : Heading) (field : ℕ) (s : Scene) → (after_acknowledge h field s).own.track ≡ s.own.track
+pub acknowledge_own : (h : Heading) (field : ℕ) (s : Scene) → (after_acknowledge h field s).own.track ≡ s.own.track
 unfolding after_acknowledge
 acknowledge_own h field s = other_own h (acknowledged s.other field) s
 
-number_event : (h : Heading) (f : Header) (item : Item) (s : Scene) (track : Track) (o : Option ℕ) → s.own.track ≡ Some track → near track.next f.sequence ≡ o
+pub number_event : (h : Heading) (f : Header) (item : Item) (s : Scene) (track : Track) (o : Option ℕ) → s.own.track ≡ Some track → near track.next f.sequence ≡ o
     → take_number h f item s ≡ after_told (after_events (captured_event h o item) (told_of track s)) s
 number_event h f item s track None e at =
     ap (λ o. after_number h o item s) (ap (λ o. new_number o f.sequence) e ∙ ap (unless_repeat track) at) ∙ sym (put_back s track e)

@@ -29,7 +29,7 @@ use Rattle.xns_calls.specs.declared.speech.Speech.{Speech}
 use Rattle.xns_calls.specs.declared.speech.Speech.TheVariants.{Hearing, Waiting}
 use Rattle.xns_calls.specs.declared.track.Track.{Track}
 use Rattle.xns_calls.specs.declared.unanswered.Calls.{Calls}
-use Rattle.xns_calls.proofs.Gaps.{IsKnown, IsOrdered, by_test, captured_in_known, equal_tells, event_ordered, event_whole, events_ordered, kept_cases, known_step, event_known, new_ordered, next_of, no_known_next, not_less}
+use Rattle.xns_calls.proofs.Gaps.{AreFrom, IsKnown, IsOrdered, by_test, captured_in_known, equal_tells, event_ordered, event_whole, events_ordered, kept_cases, known_step, event_known, new_ordered, next_of, no_known_next, not_less}
 use Rattle.xns_calls.proofs.Steps.{early_of, next_early, with_early}
 
 -- ---- what is heard of items
@@ -253,6 +253,39 @@ take_over [] (suc n) le = refl
 take_over (x ∷ xs) zero le = absurd (omega (arith, le))
 take_over (x ∷ xs) (suc n) le = ap (λ t. x ∷ t) (take_over xs n (omega (arith, le)))
 
+pub get_below : {A : Type 0} (xs : List A) (i : ℕ) (x : A) → slice_get xs i ≡ Some x → i < length xs
+get_below [] i x e = (cc)
+get_below (y ∷ xs) zero x e = omega arith
+get_below (y ∷ xs) (suc i) x e = let lt = get_below xs i x e in omega (arith, lt)
+
+none_left : (items : List Item) (n : ℕ) (es : List Early) → length items ≤ n → AreFrom (n + 1) es → AreItems items es → es ≡ []
+none_left items n [] le from are = refl
+none_left items n (e ∷ rest) le from are = absurd (omega (arith, le, from.0, get_below items e.number e.item are.0))
+
+first_of : (field : ℕ) (t : Told) → field < 64 → t.track ≡ first_track field → t.track ≡ record { next = 0; early = []; speech = start }
+first_of field t small at =
+    let test : nat_lt field 64 ≡ true = grind (arith, nat_tests) in
+    at ∙ ap (λ p. cond p (record { next = 0; early = []; speech = start }) (record { next = field; early = []; speech = Waiting })) test
+
+whole_printed : (items : List Item) (events : List Event) (t : Told) → t.track ≡ record { next = 0; early = []; speech = start } → IsWhole items events → Printed items (flow_text events t) (after_events events t) []
+whole_printed items events t first w =
+    let none : early_of t ≡ [] = ap (λ (x : Track). x.early) first in
+    let zero_next : next_of t ≡ 0 = ap (λ (x : Track). x.next) first in
+    let nothing : of_courier (take (next_of t) items) ≡ [] = ap (λ n. of_courier (take n items)) zero_next in
+    let begun : Stands items t [] = record {
+      speech = ap (λ (x : Track). x.speech) first ∙ ap (speech_behind start) (sym nothing);
+      heard = ap (heard_in start) (sym nothing);
+    } in
+    events_went items 0 [] events t [] (new_ordered t none) (λ n lt. absurd (omega (arith, lt))) (λ n among. absurd among) w.reach w.of (subst (AreItems items) (sym none) tt) begun
+
+-- and none is kept
+pub nothing_kept : (items : List Item) (events : List Event) (field : ℕ) (t : Told) → field < 64 → t.track ≡ first_track field → IsWhole items events → (after_events events t).track.early ≡ []
+nothing_kept items events field t small at w =
+    let u = after_events events t in
+    let first = first_of field t small at in
+    let none : early_of t ≡ [] = ap (λ (x : Track). x.early) first in
+    none_left items (next_of u) (early_of u) (all_read items events t none (ap (λ (x : Track). x.next) first) w) (events_ordered events t (new_ordered t none)) (whole_printed items events t first w).kept
+
 -- ---- what is heard is the conversation, up to its first fault
 
 record Says (ms : List Message) (r : Result Phase SessionFault) (text : List ℕ) : Type 0 where
@@ -305,16 +338,10 @@ pub whole_said : (runs : SignsRunOn) (law : OneItemMore) → ((fed : List Item) 
     → (items : List Item) (events : List Event) (field : ℕ) (t : Told) → field < 64 → t.track ≡ first_track field → IsWhole items events → SaysConversation (of_courier items) (flow_text events t)
 whole_said runs law messages ends items events field t small at w =
     let fed = of_courier items in
-    let test : nat_lt field 64 ≡ true = grind (arith, nat_tests) in
-    let first : t.track ≡ record { next = 0; early = []; speech = start } = at ∙ ap (λ p. cond p (record { next = 0; early = []; speech = start }) (record { next = field; early = []; speech = Waiting })) test in
+    let first = first_of field t small at in
     let none : early_of t ≡ [] = ap (λ (x : Track). x.early) first in
     let zero_next : next_of t ≡ 0 = ap (λ (x : Track). x.next) first in
-    let nothing : of_courier (take (next_of t) items) ≡ [] = ap (λ n. of_courier (take n items)) zero_next in
-    let begun : Stands items t [] = record {
-      speech = ap (λ (x : Track). x.speech) first ∙ ap (speech_behind start) (sym nothing);
-      heard = ap (heard_in start) (sym nothing);
-    } in
-    let p = events_went items 0 [] events t [] (new_ordered t none) (λ n lt. absurd (omega (arith, lt))) (λ n among. absurd among) w.reach w.of (subst (AreItems items) (sym none) tt) begun in
+    let p = whole_printed items events t first w in
     let all : take (next_of (after_events events t)) items ≡ items = take_over items (next_of (after_events events t)) (all_read items events t none zero_next w) in
     let r = all_said runs law (opening []) fed p.told (p.stands.heard ∙ ap (λ l. heard_in start (of_courier l)) all) in record {
       messages = r.messages;

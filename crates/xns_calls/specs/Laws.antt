@@ -10,16 +10,19 @@ use Rattle.courier_messages.specs.Conversation.{conversation, ending, opening}
 use Rattle.courier_messages.specs.declared.message.Message.{Message}
 use Rattle.xns_dump.specs.Dump.Line.{has_word}
 use Rattle.xns_dump.specs.Flows.{flow_of}
+use Rattle.xns_lines.specs.Lines.{lines_of}
 use Rattle.xns_calls.specs.Calls.{calls_text, has_refusal}
 use Rattle.xns_calls.specs.Capture.{Known, after_sequenced, flow_behind, place_of}
 use Rattle.xns_calls.specs.Events.{AreWithinReach, Event, IsAmong, acknowledged_event, after_event, after_events, after_whole_event}
 use Rattle.xns_calls.specs.Events.{after_whole_events, captured, captured_in, own_events, with_captured}
 use Rattle.xns_calls.specs.Exchange.{Scene, after_acknowledge, after_packet, after_told, first_track, of_other, seen_from_other}
 use Rattle.xns_calls.specs.Exchange.{take_number, told_of}
+use Rattle.xns_calls.specs.Input.{TellsConversation, events_in, first_field}
 use Rattle.xns_calls.specs.Listening.{AreFaultless, heard_at_lines, message_lines, messages_heard, said_items}
 use Rattle.xns_calls.specs.Numbers.{near}
 use Rattle.xns_calls.specs.Reading.{Told}
 use Rattle.xns_calls.specs.Whole.{IsWhole, SaysConversation, flow_text, of_courier}
+use Rattle.xns_calls.specs.declared.flow_place.FlowPlace.{FlowPlace}
 use Rattle.xns_calls.specs.declared.heading.Heading.{Heading}
 use Rattle.xns_calls.specs.declared.speech.Speech.{Speech}
 use Rattle.xns_calls.specs.declared.speech.Speech.TheVariants.{Hearing}
@@ -95,6 +98,13 @@ abbrev pub WholeFlowsSayTheirConversation : Type 0
 WholeFlowsSayTheirConversation = (items : List Item) (events : List Event) (field : ℕ) (t : Told) → field < most_pending
     → t.track ≡ first_track field → IsWhole items events
     → SaysConversation (of_courier items) (flow_text events t)
+
+-- of an input with whatever lines and flows: where each item of a flow stands in it so, its text tells of that flow that it begins and then
+-- its conversation, and nothing else up to the first fault
+abbrev pub InputsTellTheirConversations : Type 0
+InputsTellTheirConversations = (input : List ℕ) (p : FlowPlace) (items : List Item) (field : ℕ)
+    → first_field p (lines_of input) ≡ Some field → field < most_pending → IsWhole items (events_in p (lines_of input))
+    → TellsConversation p items (calls_text input)
 
 -- a packet to a known identifier changes no connection but that of its flow or of the flow behind it
 abbrev pub OtherConnectionsStay : Type 0

@@ -1,5 +1,6 @@
 //! Laws of the definitions, as functions that do nothing.
-ghost use Rattle.xns_calls.specs.Laws.{AnItemIsAnEvent, HeardMessagesArePrinted, MissingItemsAreBeforeCapturedOnes, NothingIsMissing};
+ghost use Rattle.xns_calls.specs.Laws.{AnItemIsAnEvent, HeardMessagesArePrinted, InputsTellTheirConversations};
+ghost use Rattle.xns_calls.specs.Laws.{MissingItemsAreBeforeCapturedOnes, NothingIsMissing};
 ghost use Rattle.xns_calls.specs.Laws.{NumbersAreReadBack, OtherConnectionsStay, PacketsAreEvents, RepeatsSayNothing, TheAnswerSaysRefused};
 ghost use Rattle.xns_calls.specs.Laws.{WhatIsHeardIsTheConversation, WholeFlowsSayTheirConversation};
 
@@ -70,6 +71,17 @@ pub fn missing_items_are_before_captured_ones()
 /// nothing else is printed of it, but the line with which it begins.
 pub fn whole_flows_say_their_conversation()
     ensures { WholeFlowsSayTheirConversation }
+{
+    conversation_is_read_sign_by_sign();
+    signs_run_on();
+    one_item_more();
+}
+
+/// So it is in the text of a whole input, whatever other lines and flows it has. The text is made of parts, each of one flow
+/// or of a line that was refused. Those of such a flow say that it begins, and then the messages of its conversation, in
+/// order, up to the first fault. Without a fault nothing else is said of it, so no item is called missing.
+pub fn inputs_tell_their_conversations()
+    ensures { InputsTellTheirConversations }
 {
     conversation_is_read_sign_by_sign();
     signs_run_on();

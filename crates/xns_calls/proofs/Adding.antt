@@ -1,0 +1,145 @@
+-- What a packet says of a flow is said under the flow's heading.
+use Rattle.std.proofs.Common.{◌≡◌, ◌∙◌, ap, sym, refl, ℕ, ◌+◌, ◌-◌, ◌==◌, List, [], ◌∷◌, ◌++◌, append_assoc, append-nil, Option, Some, None}
+use Rattle.std.specs.Prelude.{nat_lt}
+use Rattle.std.proofs.lemmas.Grind.{flat_map-append}
+use Rattle.xns_idp.specs.Packet.{PacketModel}
+use Rattle.xns_spp.specs.Header.{is_system}
+use Rattle.xns_spp.specs.Item.{item_with}
+use Rattle.xns_spp.specs.declared.header.Header.{Header}
+use Rattle.xns_spp.specs.declared.item.Item.{Item}
+use Rattle.xns_calls.specs.Exchange.{Scene, acknowledged, advance_other, advance_own, advance_track, advanced, after_acknowledge, after_data, after_new, after_number, after_packet, begin_track, begun, behind_last, ended, new_number, of_other, seen_from_other, take_in_track, told_of}
+use Rattle.xns_calls.specs.Input.{Said, begins, lacks, message, refuses, said_text, said_texts}
+use Rattle.xns_calls.specs.Numbers.{most_early}
+use Rattle.xns_calls.specs.Reading.{Told, after_heard, brought, brought_over, is_due, item_read, item_taken, passed, past, read_next, said_item, with_kept_item}
+use Rattle.xns_calls.specs.Speech.{heard_of}
+use Rattle.xns_calls.specs.Telling.{heard_text}
+use Rattle.xns_calls.specs.declared.early.Early.{Early}
+use Rattle.xns_calls.specs.declared.heading.Heading.{Heading}
+use Rattle.xns_calls.specs.declared.heard.Heard.{Heard}
+use Rattle.xns_calls.specs.declared.heard.Heard.TheVariants as heard
+use Rattle.xns_calls.specs.declared.track.Track.{Track}
+use Rattle.xns_calls.specs.declared.unanswered.Calls.{Calls}
+use Rattle.xns_calls.proofs.Gaps.{by_test}
+use Rattle.xns_calls.proofs.Steps.{with_early}
+
+-- the text goes on with what is said under a heading
+pub record Adds (h : Heading) (text more : List ℕ) : Type 0 where
+  pub said : List Said
+  pub is : more ≡ text ++ said_texts h said
+
+adds_none : (h : Heading) (text : List ℕ) → Adds h text text
+adds_none h text = record { said = []; is = sym (append-nil text) }
+
+adds_one : (h : Heading) (text : List ℕ) (s : Said) → Adds h text (text ++ said_text h s)
+adds_one h text s = record { said = s ∷ []; is = ap (λ x. text ++ x) (sym (append-nil (said_text h s))) }
+
+adds_on : (h : Heading) (a b c : List ℕ) → Adds h a b → Adds h b c → Adds h a c
+adds_on h a b c x y = record {
+  said = x.said ++ y.said;
+  is = y.is ∙ ap (λ t. t ++ said_texts h y.said) x.is ∙ append_assoc a (said_texts h x.said) (said_texts h y.said)
+      ∙ ap (λ t. a ++ t) (sym (flat_map-append (said_text h) x.said y.said));
+}
+
+-- ---- a flow
+
+passed_adds : (h : Heading) (n : ℕ) (t : Told) → Adds h t.text (passed h n t).text
+unfolding passed
+passed_adds h n t =
+    by_test (λ (u : Told). Adds h t.text u.text) (nat_lt t.track.next n) (past h n t) t (λ e. adds_one h t.text (lacks t.track.next n)) (λ e. adds_none h t.text)
+
+heard_adds : (h : Heading) (calls : Calls) (x : Heard) (text : List ℕ) → Adds h text (text ++ heard_text h calls x)
+heard_adds h calls heard.Nothing text = record { said = []; is = refl }
+heard_adds h calls (heard.Message m) text = adds_one h text (message calls m)
+heard_adds h calls (heard.Fault fault) text = adds_one h text (refuses fault)
+
+said_adds : (h : Heading) (item : Item) (t : Told) → Adds h t.text (said_item h item t).text
+unfolding said_item after_heard
+said_adds h item t = heard_adds h t.calls (heard_of t.track.speech item) t.text
+
+next_adds : (h : Heading) (n : ℕ) (item : Item) (t : Told) → Adds h t.text (read_next h n item t).text
+next_adds h n item t =
+    let onwards : Told = record t { track = record t.track { next = n } } in
+    by_test (λ (u : Told). Adds h t.text u.text) (item.stream == 0) (said_item h item onwards) onwards (λ e. said_adds h item onwards) (λ e. adds_none h t.text)
+
+item_adds : (h : Heading) (early : Early) (t : Told) → Adds h t.text (item_read h early t).text
+unfolding item_read
+item_adds h early t =
+    let u = passed h early.number t in
+    adds_on h t.text u.text (read_next h (early.number + 1) early.item u).text (passed_adds h early.number t) (next_adds h (early.number + 1) early.item u)
+
+over_adds : (h : Heading) (n : ℕ) (es : List Early) (t : Told) → Adds h t.text (brought_over h n es t).text
+over_adds h n [] t = passed_adds h n t
+over_adds h n (early ∷ rest) t =
+    let u = item_read h early (with_early rest t) in
+    by_test (λ (v : Told). Adds h t.text v.text) (is_due n early t) (brought_over h n rest u) (passed h n t)
+    (λ e. adds_on h t.text u.text (brought_over h n rest u).text (item_adds h early (with_early rest t)) (over_adds h n rest u)) (λ e. passed_adds h n t)
+
+brought_adds : (h : Heading) (n : ℕ) (t : Told) → Adds h t.text (brought h n t).text
+unfolding brought
+brought_adds h n t = over_adds h n t.track.early t
+
+taken_adds : (h : Heading) (n : ℕ) (item : Item) (t : Told) → Adds h t.text (item_taken h n item t).text
+taken_adds h n item t =
+    let moved = brought h (n - most_early) t in
+    adds_on h t.text moved.text (brought h 0 (with_kept_item n item moved)).text (brought_adds h (n - most_early) t) (brought_adds h 0 (with_kept_item n item moved))
+
+-- ---- a connection
+
+track_adds : (h : Heading) (n : ℕ) (o : Option Track) (s : Scene) → Adds h s.text (advance_track h n o s).text
+track_adds h n None s = adds_none h s.text
+track_adds h n (Some track) s = brought_adds h n (told_of track s)
+
+advanced_adds : (h : Heading) (n : ℕ) (s : Scene) → Adds h s.text (advanced h n s).text
+unfolding advanced
+advanced_adds h n s = track_adds h n s.own.track s
+
+other_adds : (h : Heading) (o : Option ℕ) (s : Scene) → Adds (of_other h) s.text (advance_other h o s).text
+other_adds h None s = adds_none (of_other h) s.text
+other_adds h (Some n) s = advanced_adds (of_other h) n (seen_from_other s)
+
+-- what a packet acknowledges is said of the flow behind
+pub acknowledge_adds : (h : Heading) (field : ℕ) (s : Scene) → Adds (of_other h) s.text (after_acknowledge h field s).text
+unfolding after_acknowledge
+acknowledge_adds h field s = other_adds h (acknowledged s.other field) s
+
+begin_adds : (h : Heading) (packet : PacketModel) (f : Header) (o : Option Track) (s : Scene) → Adds h s.text (begin_track h packet f o s).text
+begin_adds h packet f (Some track) s = adds_none h s.text
+begin_adds h packet f None s = adds_one h s.text (begins packet f)
+
+begun_adds : (h : Heading) (packet : PacketModel) (f : Header) (s : Scene) → Adds h s.text (begun h packet f s).text
+unfolding begun
+begun_adds h packet f s = begin_adds h packet f s.own.track s
+
+in_track_adds : (h : Heading) (n : ℕ) (item : Item) (o : Option Track) (s : Scene) → Adds h s.text (take_in_track h n item o s).text
+in_track_adds h n item None s = adds_none h s.text
+in_track_adds h n item (Some track) s = taken_adds h n item (told_of track s)
+
+pub number_adds : (h : Heading) (o : Option ℕ) (item : Item) (s : Scene) → Adds h s.text (after_number h o item s).text
+unfolding after_new
+number_adds h None item s = adds_none h s.text
+number_adds h (Some n) item s = in_track_adds h n item s.own.track s
+
+data_adds : (h : Heading) (packet : PacketModel) (f : Header) (content : List ℕ) (s : Scene) → Adds h s.text (after_data h packet f content s).text
+unfolding after_data
+data_adds h packet f content s =
+    let u = begun h packet f s in
+    adds_on h s.text u.text (after_number h (new_number u.own.track f.sequence) (item_with f content) u).text (begun_adds h packet f s)
+    (number_adds h (new_number u.own.track f.sequence) (item_with f content) u)
+
+-- and the rest of its own flow
+pub packet_adds : (h : Heading) (packet : PacketModel) (f : Header) (content : List ℕ) (s : Scene)
+    → Adds h (after_acknowledge h f.acknowledge s).text (after_packet h packet f content s).text
+unfolding after_packet
+packet_adds h packet f content s =
+    let known = after_acknowledge h f.acknowledge s in
+    by_test (λ (u : Scene). Adds h known.text u.text) (is_system f) known (after_data h packet f content known) (λ e. adds_none h known.text)
+    (λ e. data_adds h packet f content known)
+
+own_adds : (h : Heading) (o : Option ℕ) (s : Scene) → Adds h s.text (advance_own h o s).text
+own_adds h None s = adds_none h s.text
+own_adds h (Some n) s = advanced_adds h n s
+
+-- so it is at the end
+pub ended_adds : (h : Heading) (s : Scene) → Adds h s.text (ended h s).text
+unfolding ended
+ended_adds h s = own_adds h (behind_last s.own.track) s
