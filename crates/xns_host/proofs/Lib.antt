@@ -3,9 +3,11 @@ mod Apart
 mod Dues
 mod Handing
 mod Leading
+mod Listing
 mod Lives
 mod Ordered
 mod Peers
+mod Readable
 mod Rejecting
 mod Serving
 mod Silent

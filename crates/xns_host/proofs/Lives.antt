@@ -1,5 +1,5 @@
 -- A connection has a story at every moment, and what two programs come to whose connections are peers.
-use Rattle.std.proofs.Common.{◌≡◌, ◌∙◌, ap, sym, refl, subst, ℕ, ◌+◌, ◌≤◌, List, [], ◌∷◌, ◌++◌, append-nil, length, length-append, Bool, true, false, Option, Some, None, arith}
+use Rattle.std.proofs.Common.{◌≡◌, ◌∙◌, ap, sym, refl, subst, ℕ, ◌+◌, ◌≤◌, List, [], ◌∷◌, ◌++◌, length, length-append, Option, Some, None, arith}
 use Rattle.std.specs.Prelude.{slice_get, if◌then◌else◌}
 use Rattle.std.specs.List.{filter}
 use Rattle.std.specs.Option.{is_some, option_to_list}
@@ -19,13 +19,14 @@ use Rattle.xns_spp.specs.Receiving.{after_receive}
 use Rattle.xns_spp.specs.State.{State}
 use Rattle.xns_host.specs.Agreeing.{ArePeers, Agree}
 use Rattle.xns_host.specs.Living.{Deeds, Lives, opens, goes, hears, calls, takes, gives, Reaches, stays, runs, receives, IsLived, ProgramsAgree, to_listed}
-use Rattle.xns_host.specs.Story.{Story, SideHas, CallerHas, ServerHas, AreRejected, GoesOn, new_story, asked_of, listed_call, waiting_message, with_handed}
+use Rattle.xns_host.specs.Story.{Story, SideHas, ServerHas, AreRejected, GoesOn, new_story, asked_of, listed_call, waiting_message, with_handed}
 use Rattle.xns_host.specs.Telling.{Tells}
 use Rattle.xns_host.specs.declared.conversation.Conversation.{Conversation}
 use Rattle.xns_host.specs.declared.side.Side.{Side}
 use Rattle.xns_host.specs.declared.side.Side.TheVariants.{Calls, Answers}
 use Rattle.xns_host.proofs.Peers.{CallsAgree, AnswersAgree, agree, one_at_most}
-use Rattle.xns_host.proofs.Rejecting.{no_calls, count_of, all_answered, is_listed_by, filter_takes, unanswered_behind, more_answers, one_given, nothing_given}
+use Rattle.xns_host.proofs.Listing.{is_listed_where, no_calls, filter_takes, unanswered_behind, more_answers, one_given, nothing_given}
+use Rattle.xns_host.proofs.Rejecting.{count_of, all_answered}
 
 -- ---- which side it is
 
@@ -142,7 +143,7 @@ taken_base {h = h} (Answers a) m has is b =
     let even = all_answered m has.done w.0 in
     let one = length-append h.taken (m ∷ []) in
     let added : filter (is_listed a.programs) (h.taken ++ m ∷ []) ≡ filter (is_listed a.programs) h.taken ++ m ∷ [] =
-    filter-append (is_listed a.programs) h.taken (m ∷ []) ∙ ap (λ (ms : List Message). filter (is_listed a.programs) h.taken ++ ms) (filter_takes a.programs m [] ((is_listed_by a.programs m).0 w.1)) in
+    filter-append (is_listed a.programs) h.taken (m ∷ []) ∙ ap (λ (ms : List Message). filter (is_listed a.programs) h.taken ++ ms) (filter_takes a.programs m [] (is_listed_where a.programs m w.1)) in
     let fit : Fits a.programs (with_handed (Answers a) h m) = record {
       handed = ap (λ (ms : List Message). ms ++ m ∷ []) has.done.listed ∙ sym added;
       few = omega (arith, even, one);

@@ -1,34 +1,36 @@
 -- What connections have done in the words of the standard, and what two that are peers come to.
-use Rattle.std.proofs.Common.{◌≡◌, ◌∙◌, ap, sym, refl, subst, ℕ, zero, suc, ◌+◌, ◌≤◌, List, [], ◌∷◌, ◌++◌, append_assoc, length, length-append, map, Bool, true, false, Option, Some, None, Result, Ok, Err, arith, ◌⊎◌, inl, inr}
+use Rattle.std.proofs.Common.{◌≡◌, ◌∙◌, ap, sym, refl, subst, ℕ, zero, suc, ◌+◌, ◌≤◌, List, [], ◌∷◌, ◌++◌, length, length-append, map, Bool, true, false, Option, Some, None, Result, Ok, Err, arith, ◌⊎◌, inl, inr}
 use Rattle.std.specs.Prelude.{slice_get, if◌then◌else◌}
 use Rattle.std.specs.List.{filter}
 use Rattle.std.specs.Option.{option_to_list}
 use Rattle.std.proofs.lemmas.List.Elements.{filter-append}
-use Rattle.courier_messages.specs.Called.{all_calls, heard, server_ending}
+use Rattle.courier_messages.specs.Called.{all_calls, heard}
 use Rattle.courier_messages.specs.Conversation.{Phase, opening, fresh, inside, conversation, ending}
-use Rattle.courier_messages.specs.Laws.{IsFaultless, OneItemMore, AConversationOnlyGrows}
+use Rattle.courier_messages.specs.Laws.{IsFaultless, OneItemMore, AConversationOnlyGrows, MessageItemsCanBeSent}
 use Rattle.courier_messages.specs.Phases.{run, ◌then◌}
 use Rattle.courier_messages.specs.RawCalls.{RawCall}
 use Rattle.courier_messages.specs.Text.{Sign, foreign, signs}
 use Rattle.courier_messages.specs.declared.fault.SessionFault.{SessionFault}
 use Rattle.courier_messages.specs.declared.fault.SessionFault.TheVariants.{BadReply}
 use Rattle.courier_messages.specs.declared.message.Message.{Message}
-use Rattle.courier_sessions.specs.Answering.{Answering, transaction_in, after_item as after_heard}
+use Rattle.courier_sessions.specs.Answering as answering
+use Rattle.courier_sessions.specs.Answering.{Answering, is_busy, transaction_in, after_item as after_heard}
 use Rattle.courier_sessions.specs.Answerings.{HasAnswered, is_listed}
+use Rattle.courier_sessions.specs.Talk as talk
 use Rattle.courier_sessions.specs.Talk.{Talk, after_item}
 use Rattle.courier_sessions.specs.Talks.{HasDone, AreAnswers, made_messages, count_if}
 use Rattle.courier_sessions.specs.declared.program.Program.{Program}
 use Rattle.xns_spp.specs.Fronts.{begins_then, begins_length}
 use Rattle.xns_spp.specs.Growth.{Begins}
 use Rattle.xns_spp.specs.declared.item.Item.{Item}
-use Rattle.xns_host.specs.Agreeing.{handed_up, HasCalled, HasServed, ArePeers, IsClosing, IsOutcome, Agree}
+use Rattle.xns_host.specs.Agreeing.{handed_up, HasCalled, HasServed, ArePeers, IsClosing, Agree}
 use Rattle.xns_host.specs.Closing.{drains, closing_items, put_if, end_stream, end_reply_stream}
 use Rattle.xns_host.specs.Story.{Story, SideHas, CallerHas, ServerHas, is_stopped}
 use Rattle.xns_host.specs.Telling.{Tells}
 use Rattle.xns_host.specs.declared.conversation.Conversation.{Conversation}
-use Rattle.xns_host.specs.declared.side.Side.{Side}
 use Rattle.xns_host.specs.declared.side.Side.TheVariants.{Calls, Answers}
 use Rattle.xns_host.proofs.Leading.{gone, server_gone}
+use Rattle.xns_host.proofs.Readable.{answer_readable, call_readable, caller_reads, server_reads}
 use Rattle.xns_host.proofs.Rejecting.{front_get, count_of}
 use Rattle.xns_host.proofs.Tellings.{nothing_said}
 
@@ -216,9 +218,9 @@ abbrev pub ServerGoes : Type 0
 ServerGoes = (made : List RawCall) (back given : List Item) (got : List Message) (t : Talk) (programs : List Program) (fed sent : List Item) (taken handed answers : List Message) (a : Answering) (x : Item) → HasDone made back given got t → HasAnswered programs fed sent taken handed answers a
     → Begins (fed ++ x ∷ []) given → (n : Answering) × (after_heard a x ≡ Ok n)
 
-pub caller_goes : OneItemMore → AConversationOnlyGrows → CallerGoes → (c d : Conversation) (h g : Story) (t : Talk) (a : Answering) (x : Item) → Tells c h → Tells d g → c.side ≡ Calls t → d.side ≡ Answers a → ArePeers h g → drains c.side c.closing ≡ false → Begins (handed_up h ++ x ∷ []) g.state.accepted
-    → IsClosing x ⊎ ((n : Talk) × (after_item t x ≡ Ok n))
-caller_goes more grows goes c d h g t a x here there calls answers peers reads next =
+pub caller_goes : OneItemMore → AConversationOnlyGrows → MessageItemsCanBeSent → CallerGoes → (c d : Conversation) (h g : Story) (t : Talk) (a : Answering) (x : Item) → Tells c h → Tells d g → c.side ≡ Calls t → d.side ≡ Answers a → ArePeers h g → drains c.side c.closing ≡ false → Begins (handed_up h ++ x ∷ []) g.state.accepted
+    → IsClosing x ⊎ ((n : Talk) × (talk.fed t x ≡ Ok n))
+caller_goes more grows sendable goes c d h g t a x here there calls answers peers reads next =
     let has : CallerHas h t = subst (SideHas h) calls here.has in
     let serves : ServerHas g a = subst (SideHas g) answers there.has in
     let free : t.failed ≡ false = ap is_stopped (sym calls) ∙ (nothing_said c.side c.closing reads).0 in
@@ -226,17 +228,21 @@ caller_goes more grows goes c d h g t a x here there calls answers peers reads n
     let back : Begins (h.fed ++ x ∷ []) (g.given ++ closing_items d.closing) = subst (λ (l : List Item). Begins (l ++ x ∷ []) (g.given ++ closing_items d.closing)) (sym (here.all reads)) (subst (λ (l : List Item). Begins (handed_up h ++ x ∷ []) l) (sym there.given) next) in
     elim (next_item more grows d h.fed g.given x (caller_well h t has) back) [
       | inl closing ↦ inl closing
-      | inr more_back ↦ inr (goes h.made h.fed h.given h.handed t a.programs g.fed g.given g.taken g.handed g.answers (record a { failed = false; phase = serves.phase }) x (gone h t has free) serves.done forth more_back)
+      | inr more_back ↦
+          let n = goes h.made h.fed h.given h.handed t a.programs g.fed g.given g.taken g.handed g.answers (record a { failed = false; phase = serves.phase }) x (gone h t has free) serves.done forth more_back in
+          inr (n.0, caller_reads t n.0 x (answer_readable sendable h.fed g.given a.out g.answers x serves.done.good serves.done.items more_back) free n.1)
     ]
 
-pub server_goes : OneItemMore → AConversationOnlyGrows → ServerGoes → (c d : Conversation) (h g : Story) (t : Talk) (a : Answering) (x : Item) → Tells c h → Tells d g → c.side ≡ Calls t → d.side ≡ Answers a → drains d.side d.closing ≡ false → Begins (handed_up g ++ x ∷ []) h.state.accepted
-    → IsClosing x ⊎ ((n : Answering) × (after_heard a x ≡ Ok n))
-server_goes more grows goes c d h g t a x here there calls answers reads next =
+pub server_goes : OneItemMore → AConversationOnlyGrows → MessageItemsCanBeSent → ServerGoes → (c d : Conversation) (h g : Story) (t : Talk) (a : Answering) (x : Item) → Tells c h → Tells d g → c.side ≡ Calls t → d.side ≡ Answers a → drains d.side d.closing ≡ false → is_busy a ≡ false → Begins (handed_up g ++ x ∷ []) h.state.accepted
+    → IsClosing x ⊎ ((n : Answering) × (answering.fed a x ≡ Ok n))
+server_goes more grows sendable goes c d h g t a x here there calls answers reads idle next =
     let has : CallerHas h t = subst (SideHas h) calls here.has in
     let serves : ServerHas g a = subst (SideHas g) answers there.has in
     let free : a.failed ≡ false = ap is_stopped (sym answers) ∙ (nothing_said d.side d.closing reads).0 in
     let forth : Begins (g.fed ++ x ∷ []) (h.given ++ closing_items c.closing) = subst (λ (l : List Item). Begins (l ++ x ∷ []) (h.given ++ closing_items c.closing)) (sym (there.all reads)) (subst (λ (l : List Item). Begins (handed_up g ++ x ∷ []) l) (sym here.given) next) in
     elim (next_item more grows c g.fed h.given x (server_well g a serves) forth) [
       | inl closing ↦ inl closing
-      | inr more_forth ↦ inr (goes h.made h.fed h.given h.handed (record t { failed = false; phase = has.phase }) a.programs g.fed g.given g.taken g.handed g.answers a x has.done (server_gone g a serves free) more_forth)
+      | inr more_forth ↦
+          let n = goes h.made h.fed h.given h.handed (record t { failed = false; phase = has.phase }) a.programs g.fed g.given g.taken g.handed g.answers a x has.done (server_gone g a serves free) more_forth in
+          inr (n.0, server_reads a n.0 x (call_readable sendable g.fed h.given t.out h.made x has.done.short has.done.items more_forth) free idle n.1)
     ]

@@ -1,5 +1,5 @@
 -- What happens to a connection, step after step, and what the program did at it.
-use Rattle.std.specs.Prelude.{◌≡◌, ℕ, ◌+◌, List, [], ◌∷◌, ◌++◌, if◌then◌else◌, slice_get, Option, Some, None}
+use Rattle.std.specs.Prelude.{◌≡◌, ℕ, List, [], ◌∷◌, ◌++◌, if◌then◌else◌, slice_get, Option, Some}
 use Rattle.std.specs.List.{filter}
 use Rattle.courier_messages.specs.RawCalls.{RawCall}
 use Rattle.courier_messages.specs.declared.message.Message.{Message}
@@ -59,7 +59,8 @@ to_listed programs (c ∷ cs) [] = []
 to_listed programs (c ∷ cs) (m ∷ answers) =
     if is_listed programs c then m ∷ to_listed programs cs answers else to_listed programs cs answers
 
--- there is a story of it, whose end came from a new one, and in which the program made these calls, was handed these messages, and gave these answers to the listed calls
+-- there is a story of it, whose end came from a new one, and in which the program made these calls, was handed these messages, and gave
+-- these answers to the listed calls
 pub record IsLived (programs : Option (List Program)) (start : State) (c : Conversation) (l : Deeds) : Type 0 where
   pub story : Story
   pub tells : Tells c story

@@ -1,8 +1,8 @@
 //! What the definitions imply, each as the contract of a function that does nothing.
 
 ghost use Rattle.std.specs.Prelude.{◌≡◌, ◌⊎◌, ◌≤◌, ◌+◌, ◌∷◌, ◌++◌, [], ℕ, List, Option, Some, None, Ok, true, false};
-ghost use Rattle.courier_sessions.specs.Answering.{Answering, after_item as after_heard};
-ghost use Rattle.courier_sessions.specs.Talk.{Talk, after_item};
+ghost use Rattle.courier_sessions.specs.Answering.{Answering, is_busy, fed as call_fed};
+ghost use Rattle.courier_sessions.specs.Talk.{Talk, fed as answer_fed};
 ghost use Rattle.courier_sessions.specs.declared.program.Program.{Program};
 ghost use Rattle.xns_spp.specs.State.{State};
 ghost use Rattle.xns_spp.specs.Growth.{Begins};
@@ -57,10 +57,11 @@ pub fn connections_agree()
 }
 
 /// A connection has a story at every moment, whatever steps led to it, in any order: `Tells`, from which the laws above say what it has
-/// done. Its end came from a new one by an end's steps alone, and by packets. The calls that were made and the messages that were handed grow by the program's steps alone, and the answers that the program
-/// gave are those to the listed calls. The steps are those that the clauses of `Connection` name: `calling` and `answering`: `tells`;
-/// `receive`: `tells`; `call`: `called`; `answer`: `answered`; `take_message`: `message`, `handed`; `act`, `not_served`, `next_packet`
-/// and `close`: `goes`.
+/// done. Its end came from a new one by an end's steps and by packets alone. The calls made and the messages handed in it are those of the
+/// program's own steps, and the answers that the program gave are those to the listed calls. The steps are those that the clauses of
+/// `Connection` name: `calling` and `answering`: `tells`; `receive`: `tells`; `call`: `called`; `answer`: `answered`; `take_message`:
+/// `message`, `handed`; `act`, `not_served`, `next_packet` and `close`: `goes`. A call that is refused and `take_why` leave the
+/// conversation as it was.
 pub fn a_connection_always_has_a_story()
     ensures { (programs : Option (List Program)) (start : State) (c : Conversation) (l : Deeds) → Lives programs start c l
         → IsLived programs start c l }
@@ -78,17 +79,18 @@ pub fn two_programs_agree()
     courier_sessions::laws::sessions_agree();
 }
 
-/// Of two connections that are peers none stops at an item of the other's: the next one that waits is of the closing exchange, or the
-/// session goes on with it.
-pub fn peers_go_on()
+/// Neither of two connections that are peers refuses an item of the other's: the next one that waits is of the closing exchange, or the
+/// session takes it, where that is not busy.
+pub fn peers_refuse_nothing()
     ensures calls { (c d : Conversation) (h g : Story) (t : Talk) (a : Answering) (x : Item) → Tells c h → Tells d g
         → c.side ≡ Calls t → d.side ≡ Answers a → ArePeers h g → drains c.side c.closing ≡ false
-        → Begins (handed_up h ++ x ∷ []) g.state.accepted → IsClosing x ⊎ ((n : Talk) × (after_item t x ≡ Ok n)) }
+        → Begins (handed_up h ++ x ∷ []) g.state.accepted → IsClosing x ⊎ ((n : Talk) × (answer_fed t x ≡ Ok n)) }
     ensures answers { (c d : Conversation) (h g : Story) (t : Talk) (a : Answering) (x : Item) → Tells c h → Tells d g
-        → c.side ≡ Calls t → d.side ≡ Answers a → drains d.side d.closing ≡ false
-        → Begins (handed_up g ++ x ∷ []) h.state.accepted → IsClosing x ⊎ ((n : Answering) × (after_heard a x ≡ Ok n)) }
+        → c.side ≡ Calls t → d.side ≡ Answers a → drains d.side d.closing ≡ false → is_busy a ≡ false
+        → Begins (handed_up g ++ x ∷ []) h.state.accepted → IsClosing x ⊎ ((n : Answering) × (call_fed a x ≡ Ok n)) }
 {
     courier_messages::laws::one_item_more();
     courier_messages::laws::a_conversation_only_grows();
+    courier_messages::laws::message_items_can_be_sent();
     courier_sessions::laws::sessions_agree();
 }
