@@ -14,6 +14,8 @@ prints the medians and their ratio.
                                           cardinals each way, with the most memory that a run holds, beside a peer that makes a message of
                                           its own of what comes, and one that reads words where the bytes lie; and the 100,000 through the
                                           library for C, beside the same in Rattle
+    python3 bench/compare.py hosts        100,000 calls between two hosts in memory, beside the same ends made by hand of endpoints and sessions; and
+                                          beside the same calls on one of 10,000 open connections; and what an idle connection holds
     python3 bench/compare.py sim          `xns sim` of 2,500, 5,000 and 10,000 calls Add, and of 5,000 calls with 50,000 events, among them 30,000
                                           packets that come again; nearly as many lines as an input may have
     python3 bench/compare.py plays        a play of 1,000 calls and 100,000 events, most of them packets that come again, beside the same peer; and plays of
@@ -188,6 +190,21 @@ def time_calls(folder, given):
     yield "100,000 calls Add through the library for C", "the same in Rattle", ratio_of(medians)
 
 
+def time_hosts(folder, given):
+    given.touch()
+    program = built_program("test_hosts")
+    print("beside ends made by hand:", end=" ", flush=True)
+    medians = compare([program, "hosts", "1", "100000"], [program, "parts", "1", "100000"], given, runs=MANY_RUNS)
+    yield "100,000 calls between two hosts in memory", "the same ends made by hand", ratio_of(medians)
+    # What opening takes is left out: it is that of a run without calls.
+    def calls_among(connections):
+        run = [program, "hosts", connections]
+        return statistics.median(seconds_of([*run, "100000"], given) - seconds_of([*run, "0"], given) for _ in range(RUNS))
+    yield "the same on one of 10,000 open connections", "the same on one of one", calls_among("10000") / calls_among("1")
+    held = held_by([program, "hosts", "10000", "0"], given) - held_by([program, "hosts", "1", "0"], given)
+    print(f"an idle connection holds {held * 1024 / 20_000:.0f} bytes at each of both hosts")
+
+
 def time_sim(folder, given):
     ours, peer = built_program("xns"), built_peer("sim_peer", folder)
     for words in (["2500"], ["5000"], ["10000"], ["5000", "6"]):
@@ -237,6 +254,7 @@ TIMINGS = {
     "c": time_c,
     "exchange": time_exchange,
     "calls": time_calls,
+    "hosts": time_hosts,
     "sim": time_sim,
     "plays": time_plays,
     "dump": time_dump,

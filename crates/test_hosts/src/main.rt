@@ -2,8 +2,13 @@
 //!
 //! A line says what came of each play: how many answers were right and wrong, how many connections were closed as asked, by the peer and
 //! else, both ends counted, how many packets went out, and how long it took in played time.
+//!
+//! With the word `crowd` and a number only the thousand connections are played, for so many seconds. With the word `refused` only the two
+//! hosts are that ask once more for what is refused memory: a test runs them with each growth refused in turn. With `hosts` or `parts`, and
+//! a number of connections and of calls, `bench/compare.py` times calls in memory.
 #![tactic(auto)]
 
+mod crowd;
 mod late;
 mod manner;
 mod meeting;
@@ -13,23 +18,70 @@ mod play;
 mod player;
 mod restart;
 mod scene;
+mod speed;
 mod strangers;
+mod stubborn;
 mod words;
 
+use crowd::Crowd;
 use manner::Manner;
 use meeting::Meeting;
 use play::Play;
 use scene::Scene;
+use speed::Made;
 use std::alloc::{AllocError, Global};
+use std::env;
+use stubborn::Stubborn;
+
+/// How long the crowd is played, in seconds, where no word says it.
+const SECONDS: u32 = 2;
 
 fn main(rt: HostRuntime) -> Result<(), anyhow::Error> {
+    let arguments: Vec<String> = env::args(&rt)?.skip(1).collect(rt.alloc())?;
+    match word(&arguments, 0) {
+        "crowd" => show_crowd(&rt, number(&arguments, 1)),
+        "hosts" => speed::run(
+            &rt,
+            Made::Hosts,
+            number(&arguments, 1),
+            number(&arguments, 2),
+        ),
+        "parts" => speed::run(
+            &rt,
+            Made::ByHand,
+            number(&arguments, 1),
+            number(&arguments, 2),
+        ),
+        "refused" => show_stubborn(&rt),
+        _ => show_all(&rt),
+    }
+}
+
+/// The word in this place; one with no letters where there is none.
+fn word(words: &[String], place: usize) -> &str {
+    match words.get(place) {
+        Some(word) => word.as_str(),
+        None => "",
+    }
+}
+
+/// The number in this place; 0 where there is none.
+fn number(words: &[String], place: usize) -> u32 {
+    word(words, place).parse::<u32>().unwrap_or(0)
+}
+
+/// Plays all, and prints what came of each.
+fn show_all(rt: &HostRuntime) -> Result<(), anyhow::Error> {
     for scene in Scene::ALL {
-        show_play(&rt, scene)?;
+        show_play(rt, scene)?;
     }
     for manner in Manner::ALL {
-        show_meeting(&rt, manner)?;
+        show_meeting(rt, manner)?;
     }
-    Ok(())
+    show_crowd(rt, SECONDS)?;
+    show_stubborn(rt)?;
+    speed::run(rt, Made::Hosts, 3, 20)?;
+    speed::run(rt, Made::ByHand, 1, 20)
 }
 
 /// Plays a scene, and prints what came of it.
@@ -58,6 +110,40 @@ fn show_meeting(rt: &HostRuntime, manner: Manner) -> Result<(), anyhow::Error> {
 fn play_meeting(alloc: Global, manner: Manner, text: &mut String) -> Result<(), anyhow::Error> {
     let mut meeting = Meeting::new(alloc, manner)?;
     meeting.run_and_tell(text)
+}
+
+/// Plays a thousand connections for so many seconds, and prints what came of them.
+fn show_crowd(rt: &HostRuntime, seconds: u32) -> Result<(), anyhow::Error> {
+    let mut text = String::new(rt.alloc());
+    play_crowd(rt.alloc(), seconds, &mut text)?;
+    println!(rt;
+        "1,000 connections with a call every second, 1 in 100 lost: {}",
+        text.as_str()
+    )?;
+    Ok(())
+}
+
+/// Plays a thousand connections for so many seconds, and puts what came of them.
+fn play_crowd(alloc: Global, seconds: u32, text: &mut String) -> Result<(), anyhow::Error> {
+    let mut crowd = Crowd::new(alloc)?;
+    crowd.run_and_tell(u64::from(seconds), text)
+}
+
+/// Has two hosts talk that ask once more for what is refused memory, and prints whether all came as it should.
+fn show_stubborn(rt: &HostRuntime) -> Result<(), anyhow::Error> {
+    let what = if talk_stubbornly(rt.alloc())? {
+        "done"
+    } else {
+        "broken"
+    };
+    println!(rt; "a whole conversation: {what}")?;
+    Ok(())
+}
+
+/// Has two hosts talk that ask once more for what is refused memory; whether all came as it should.
+fn talk_stubbornly(alloc: Global) -> Result<bool, anyhow::Error> {
+    let mut hosts = Stubborn::new(alloc)?;
+    hosts.run_and_judge()
 }
 
 /// Puts a number and what it counts.

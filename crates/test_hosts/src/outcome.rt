@@ -1,3 +1,5 @@
+use crate::put_count;
+use std::alloc::AllocError;
 use xns_host::Why;
 
 /// What came of a play.
@@ -41,5 +43,14 @@ impl Outcome {
         self.asked = self.asked.saturating_add(other.asked);
         self.by_peer = self.by_peer.saturating_add(other.by_peer);
         self.otherwise = self.otherwise.saturating_add(other.otherwise);
+    }
+
+    /// Puts its counts.
+    pub fn put(&self, text: &mut String) -> Result<(), AllocError> {
+        put_count(text, self.right, "right")?;
+        put_count(text, self.wrong, "wrong")?;
+        put_count(text, self.asked, "closed as asked")?;
+        put_count(text, self.by_peer, "by the peer")?;
+        put_count(text, self.otherwise, "else")
     }
 }

@@ -72,12 +72,7 @@ impl Play {
 
     /// Puts what came of it.
     fn tell(&self, text: &mut String) -> Result<(), AllocError> {
-        let outcome = self.outcome();
-        put_count(text, outcome.right, "right")?;
-        put_count(text, outcome.wrong, "wrong")?;
-        put_count(text, outcome.asked, "closed as asked")?;
-        put_count(text, outcome.by_peer, "by the peer")?;
-        put_count(text, outcome.otherwise, "else")?;
+        self.outcome().put(text)?;
         put_count(text, self.network.packets(), "packets")?;
         write!(text, "{} ms", self.now)
     }

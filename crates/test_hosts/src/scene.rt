@@ -48,8 +48,13 @@ impl Scene {
         ..Scene::CALM
     };
 
-    pub const ALL: [Scene; 10] = [
+    pub const ALL: [Scene; 12] = [
         Scene::CALM,
+        Scene {
+            name: "the same, window 1",
+            window: 1,
+            ..Scene::CALM
+        },
         Scene::ROUGH,
         Scene {
             name: "the same, 1 in 3 lost",
@@ -82,9 +87,17 @@ impl Scene {
             ..Scene::ROUGH
         },
         Scene {
-            name: "10 clients of 40 calls, and 1,000 strangers that open a connection meanwhile",
+            name: "2 clients of 3 calls of up to 5,000 words, window 1",
+            clients: 2,
+            calls: 3,
+            window: 1,
+            most_words: 5_000,
+            ..Scene::ROUGH
+        },
+        Scene {
+            name: "10 clients of 40 calls, and 10,000 strangers that open a connection meanwhile",
             clients: 10,
-            strangers: 1_000,
+            strangers: 10_000,
             ..Scene::ROUGH
         },
         Scene {

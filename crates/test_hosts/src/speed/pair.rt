@@ -1,0 +1,143 @@
+use crate::speed::WORDS;
+use courier_sessions::{Answer, Program};
+use std::alloc::Global;
+use xns_host::{Event, Host, HostFault, Settings};
+use xns_idp::Address;
+
+/// Where the service is.
+pub const SERVICE: Address = Address {
+    network: 1,
+    host: [0, 0, 170, 0, 1, 1],
+    socket: 5,
+};
+
+/// Where the client is.
+pub const CLIENT: Address = Address {
+    network: 1,
+    host: [0, 0, 170, 0, 2, 2],
+    socket: 3_000,
+};
+
+/// What the service answers.
+pub const LISTED: Program = Program {
+    number: 7,
+    lowest: 2,
+    highest: 2,
+};
+
+/// Two hosts, one of which calls the other.
+#[derive(Drop)]
+pub struct Pair {
+    alloc: Global,
+    client: Host,
+    service: Host,
+    now: u64,
+    answered: u32,
+}
+
+/// Carries the packets of one host to the other.
+fn carry(now: u64, from: &mut Host, to: &mut Host) -> Result<(), HostFault> {
+    for _ in 0..40 {
+        let Some(out) = from.next_packet(now)? else {
+            break;
+        };
+        to.receive(now, out.via, out.packet.as_slice());
+    }
+    Ok(())
+}
+
+/// A host at this address.
+fn host_at(alloc: Global, address: Address, connections: usize) -> Result<Host, HostFault> {
+    let settings = Settings {
+        connections,
+        idle: 0,
+        ..Settings::default()
+    };
+    Host::new(alloc, address.network, address.host, settings, [1; 32])
+}
+
+impl Pair {
+    /// Two hosts with room for so many connections.
+    pub fn new(alloc: Global, connections: usize) -> Result<Pair, HostFault> {
+        Ok(Pair {
+            alloc,
+            client: host_at(alloc, CLIENT, connections)?,
+            service: host_at(alloc, SERVICE, connections)?,
+            now: 0,
+            answered: 0,
+        })
+    }
+
+    /// Answers a call by its own words.
+    fn answer(&mut self) -> Result<(), anyhow::Error> {
+        if let Some(
+            Event::Call {
+                number,
+                message,
+                ..
+            },
+        ) = self.service.next_event()
+        {
+            let words = message.words(self.alloc)?;
+            self.service
+                .answer(self.now, number, Answer::Return, words.as_slice())?;
+        }
+        Ok(())
+    }
+
+    /// Picks an answer up.
+    fn hear(&mut self) -> Result<(), anyhow::Error> {
+        if let Some(Event::Answer { message, .. }) = self.client.next_event() {
+            let words = message.words(self.alloc)?;
+            if words.as_slice() == WORDS.as_slice() {
+                self.answered = self.answered.saturating_add(1);
+            }
+        }
+        Ok(())
+    }
+
+    /// Lets both do what they can.
+    fn talk(&mut self) -> Result<(), anyhow::Error> {
+        carry(self.now, &mut self.client, &mut self.service)?;
+        self.answer()?;
+        carry(self.now, &mut self.service, &mut self.client)?;
+        self.hear()?;
+        Ok(())
+    }
+
+    /// Makes a call, which is answered.
+    fn call(&mut self, number: usize) -> Result<(), anyhow::Error> {
+        self.now = self.now.saturating_add(1);
+        self.client.call(self.now, number, 7, 2, 1, &WORDS)?;
+        self.talk()
+    }
+
+    /// Opens a connection by a call; its number.
+    fn open(&mut self) -> Result<usize, anyhow::Error> {
+        let number = self.client.connect(self.now, 0, CLIENT.socket, SERVICE)?;
+        self.call(number)?;
+        self.talk()?;
+        self.talk()?;
+        Ok(number)
+    }
+
+    /// Serves the program, and opens so many connections; the number of the last one.
+    fn open_all(&mut self, connections: u32) -> Result<usize, anyhow::Error> {
+        self.service.serve(SERVICE.socket, &[LISTED])?;
+        let mut last = 0;
+        for _ in 0..connections {
+            last = self.open()?;
+        }
+        Ok(last)
+    }
+
+    /// Opens so many connections, and makes so many calls on the last one; how many of these were answered.
+    pub fn call_all(&mut self, connections: u32, calls: u32) -> Result<u32, anyhow::Error> {
+        let last = self.open_all(connections)?;
+        self.answered = 0;
+        for _ in 0..calls {
+            self.call(last)?;
+        }
+        Ok(self.answered)
+    }
+}
