@@ -35,10 +35,15 @@ impl Calling {
     }
 }
 
+/// The session of the end that is called.
+fn server(alloc: Global) -> Result<WordServer, AllocError> {
+    let programs = Vec::from_slice(alloc, &[LISTED])?;
+    WordServer::new(alloc, programs)
+}
+
 impl Answering {
     fn new(alloc: Global) -> Result<Answering, AllocError> {
-        let programs = Vec::from_slice(alloc, &[LISTED])?;
-        let side = WordServer::new(alloc, programs)?;
+        let side = server(alloc)?;
         let endpoint = Endpoint::responder(alloc, SERVICE, 7, CLIENT, 9, 8, 16)?;
         Ok(Answering { side, endpoint })
     }
