@@ -8,11 +8,11 @@ use Rattle.xns_spp.specs.Item.{item_with}
 use Rattle.xns_spp.specs.declared.header.Header.{Header}
 use Rattle.xns_dump.specs.Flows.{flow_of, is_flow}
 use Rattle.xns_dump.specs.declared.flows.flow.Flow.{Flow}
-use Rattle.xns_calls.specs.Calls.{after_line, known_from, line_taken, refuse, text_from}
+use Rattle.xns_calls.specs.Calls.{after_line, known_from, line_taken, text_from}
 use Rattle.xns_calls.specs.Capture.{Known, after_at, after_in, after_new_flow, after_places, after_sequenced, flow_behind, heading_at, new_connection, next_place, place_of, scene_in, with_new, with_scene}
 use Rattle.xns_calls.specs.Events.{Event, after_events, captured_event}
 use Rattle.xns_calls.specs.Exchange.{Scene, acknowledged_track, advance_other, after_acknowledge, after_data, after_packet, after_told, begin_track, begun, first_track, new_number, of_other, take_number, told_of}
-use Rattle.xns_calls.specs.Input.{Arrival, Part, acknowledge_events, arrival, begins, events_at, events_between, events_from, field_at, field_between, first_field_from, flow_place, is_same, item_events, or_later, part_text, parts_text, place_among, said_texts, text_in, texts_in, told, track_at, track_in}
+use Rattle.xns_calls.specs.Input.{Part, arrival, begins, events_at, events_between, events_from, field_at, field_between, first_field_from, flow_place, is_same, item_events, or_later, part_text, parts_text, place_among, said_texts, text_in, texts_in, told, track_at, track_in}
 use Rattle.xns_calls.specs.Numbers.{near}
 use Rattle.xns_calls.specs.Reading.{Told}
 use Rattle.xns_calls.specs.Texts.{flow_line}
@@ -20,8 +20,7 @@ use Rattle.xns_calls.specs.Whole.{flow_text}
 use Rattle.xns_calls.specs.declared.connection.Connection.{Connection}
 use Rattle.xns_calls.specs.declared.flow_place.FlowPlace.{FlowPlace}
 use Rattle.xns_calls.specs.declared.heading.Heading.{Heading}
-use Rattle.xns_calls.specs.declared.track.Track.{Track}
-use Rattle.xns_calls.proofs.Adding.{Adds, number_adds}
+use Rattle.xns_calls.proofs.Adding.{number_adds}
 use Rattle.xns_calls.proofs.Gaps.{equal_tells}
 use Rattle.xns_calls.proofs.Inputs.{IsAt, acknowledged_is, acknowledged_said, acknowledged_text, added, after_append, behind_text, captured_new, captured_plain, drop_all, far_text, flow_append, flow_at, get_last, get_same, line_is, lines_ran, near_events, number_tells, other_text, own_text, packet_parts, packet_said, packet_text, plain, plain_one, said_text_of, scene_text, stands_own, two_of, two_texts}
 use Rattle.xns_calls.proofs.Others.{get_set}

@@ -18,7 +18,6 @@ use Rattle.xns_calls.specs.Queue.{last_number}
 use Rattle.xns_calls.specs.Texts.{flow_line}
 use Rattle.xns_calls.specs.Whole.{IsWhole, flow_text}
 use Rattle.xns_calls.specs.declared.connection.Connection.{Connection}
-use Rattle.xns_calls.specs.declared.early.Early.{Early}
 use Rattle.xns_calls.specs.declared.flow_place.FlowPlace.{FlowPlace}
 use Rattle.xns_calls.specs.declared.heading.Heading.{Heading}
 use Rattle.xns_calls.specs.declared.track.Track.{Track}

@@ -1,5 +1,5 @@
 -- A flow of a whole input is told by its events.
-use Rattle.std.proofs.Common.{◌≡◌, ◌∙◌, ap, sym, refl, subst, arith, ℕ, zero, suc, ◌+◌, ◌<◌, ◌==◌, ◌⊎◌, inl, inr, Bool, true, false, cond, List, [], ◌∷◌, ◌++◌, length, drop, append_assoc, append-nil, Option, Some, None, Result, Ok, Err}
+use Rattle.std.proofs.Common.{◌≡◌, ◌∙◌, ap, sym, refl, subst, arith, ℕ, zero, suc, ◌+◌, ◌<◌, ◌==◌, Bool, true, false, cond, List, [], ◌∷◌, ◌++◌, length, drop, append_assoc, append-nil, Option, Some, None, Result, Ok, Err}
 use Rattle.std.specs.Prelude.{not, slice_get, slice_set}
 use Rattle.std.specs.List.{flat_map}
 use Rattle.std.proofs.lemmas.Bool.Decides.{nat_tests}
@@ -16,26 +16,25 @@ use Rattle.xns_spp.specs.declared.header.Header.{Header}
 use Rattle.xns_spp.specs.declared.item.Item.{Item}
 use Rattle.xns_spp.specs.declared.spp_fault.SppFault.{SppFault}
 use Rattle.xns_dump.specs.Dump.Line.{digits_of}
-use Rattle.xns_dump.specs.Flows.{flow_of, is_flow}
+use Rattle.xns_dump.specs.Flows.{flow_of}
 use Rattle.xns_dump.specs.declared.flows.flow.Flow.{Flow}
 use Rattle.xns_calls.specs.Calls.{after_body, after_bytes, after_digits, after_found, after_header, after_line, known_from, line_taken, refuse, text_from}
-use Rattle.xns_calls.specs.Capture.{Known, after_at, after_in, after_new_flow, after_places, after_scene, after_sequenced, flow_behind, heading_at, new_connection, next_place, place_of, scene_in, side_in, with_new, with_scene}
-use Rattle.xns_calls.specs.Events.{AreWithinReach, Event, IsAmong, acknowledged, acknowledged_event, after_event, after_events, captured, captured_event, captured_in, meanwhile, own_events, with_captured, with_others}
-use Rattle.xns_calls.specs.Exchange.{Scene, acknowledged_track, advance_other, after_acknowledge, after_data, after_packet, after_told, begin_track, begun, first_track, new_number, of_other, seen_from_other, take_number, told_of}
-use Rattle.xns_calls.specs.Input.{Arrival, Part, Said, acknowledge_events, arrival, bad_header, bad_hex, bad_packet, begins, events_at, events_between, events_from, field_at, field_between, first_field_from, flow_place, in_bytes, in_packet, is_same, item_events, or_later, part_text, parts_text, place_among, said_texts, text_in, texts_in, told, track_at, track_in, with_header}
+use Rattle.xns_calls.specs.Capture.{Known, after_at, after_in, after_new_flow, after_places, after_scene, after_sequenced, flow_behind, heading_at, new_connection, place_of, scene_in, with_new, with_scene}
+use Rattle.xns_calls.specs.Events.{AreWithinReach, Event, IsAmong, acknowledged, acknowledged_event, after_event, after_events, captured, captured_event, captured_in, meanwhile, own_events, with_others}
+use Rattle.xns_calls.specs.Exchange.{Scene, after_acknowledge, after_packet, after_told, of_other, seen_from_other, told_of}
+use Rattle.xns_calls.specs.Input.{Arrival, Part, Said, acknowledge_events, arrival, bad_header, bad_hex, bad_packet, events_at, events_between, events_from, flow_place, in_bytes, in_packet, is_same, item_events, part_text, parts_text, place_among, said_texts, text_in, texts_in, told, track_at, track_in, with_header}
 use Rattle.xns_calls.specs.Numbers.{near}
 use Rattle.xns_calls.specs.Reading.{Told}
-use Rattle.xns_calls.specs.Texts.{flow_line}
-use Rattle.xns_calls.specs.Whole.{AreOf, IsOf, IsWhole, flow_text, new_text}
+use Rattle.xns_calls.specs.Whole.{AreOf, IsWhole, flow_text, new_text}
 use Rattle.xns_calls.specs.declared.connection.Connection.{Connection}
 use Rattle.xns_calls.specs.declared.flow_place.FlowPlace.{FlowPlace}
 use Rattle.xns_calls.specs.declared.heading.Heading.{Heading}
 use Rattle.xns_calls.specs.declared.track.Track.{Track}
-use Rattle.xns_calls.proofs.Adding.{Adds, acknowledge_adds, number_adds, packet_adds}
+use Rattle.xns_calls.proofs.Adding.{Adds, acknowledge_adds, packet_adds}
 use Rattle.xns_calls.proofs.Gaps.{equal_tells}
 use Rattle.xns_calls.proofs.Others.{get_front, get_set}
 use Rattle.xns_calls.proofs.Whole.{get_below}
-use Rattle.xns_calls.proofs.Packets.{acknowledge_event, acknowledge_own, number_event, packet_events, packet_other}
+use Rattle.xns_calls.proofs.Packets.{acknowledge_event, packet_events, packet_other}
 
 -- ---- texts
 
