@@ -1,4 +1,4 @@
-"""The XNS stack from Python: internet packets, ends of connections, and both sides of Courier conversations.
+"""The XNS stack from Python: internet packets, hosts with many Courier conversations, and single ends of connections.
 
 It calls the shared library `libxns.so`, which `install.sh` installs: the one that the environment's XNS_LIBRARY names, else the one that the
 system finds. What the library does is proved; this file is not. It needs Python 3.8 or later and nothing else. docs/C.md says more on each call,
@@ -8,18 +8,21 @@ Bytes go in and come out as `bytes`, words as lists of numbers below 65,536. Whe
 exception of its name is raised: `NoMemory`, `TooLong`, `Full`, .. Each is an `XnsError`. That there is nothing of what was asked for is no error: such
 a call returns None.
 
-An object is used by the thread that made it alone. It gives its memory back when it is closed, by `close` or at the end of a `with`, or when Python lets
+An object is used by the thread that made it alone. It gives its memory back when it is freed, by `free` or at the end of a `with`, or when Python lets
 it go in that thread; the memory of one that is let go in another thread stays taken.
 """
+import array
+import collections
 import ctypes
 import ctypes.util
 import enum
 import os
 import secrets
+import select
 import socket
 import threading
 import time
-from ctypes import POINTER, byref, c_bool, c_char, c_int16, c_int32, c_size_t, c_uint8, c_uint16, c_uint32, c_void_p
+from ctypes import addressof, byref, c_bool, c_char, c_int16, c_int32, c_size_t, c_uint8, c_uint16, c_uint32, c_uint64, c_void_p
 from typing import Callable, Iterable, Iterator, List, NamedTuple, Optional, Tuple, Union
 
 LONGEST_PACKET = 576  # bytes of the longest packet
@@ -31,6 +34,19 @@ _REPLY = 42  # bytes of a reply of an endpoint, and of a system packet
 _EXCHANGE_HEAD = 6  # bytes of the head of a Packet Exchange packet's data
 _HEADER = 12  # bytes of the header of a sequenced packet
 _MOST_MESSAGE = 131072  # bytes of a message, at most
+_EVENT_CALL, _EVENT_ANSWER = 1, 2  # kinds of events; else it is a closed connection
+_NEVER = 2**64 - 1  # a time that does not come
+_NEVER_IDLE = 2**32 - 1  # the idle time after which a peer is never asked
+_SECRET = 32  # bytes of a host's secret
+_MOST_SETTINGS = {
+    "connections": 65535,
+    "window": MOST_WINDOW,
+    "backlog": MOST_WINDOW,
+    "first_wait": 2**32 - 1,
+    "longest_wait": 2**32 - 1,
+    "idle": 2**32 - 1,
+    "tries": 255,
+}
 
 
 class Result(enum.IntEnum):
@@ -42,9 +58,6 @@ class Result(enum.IntEnum):
     NO_ENDPOINT = 3
     SHORT_BUFFER = 4
     BAD_ARGUMENT = 5
-    NO_CALLER = 6
-    NO_SERVER = 7
-    NO_LISTENER = 8
     SHORT = 11
     LENGTH_SMALL = 12
     LENGTH_LARGE = 13
@@ -54,8 +67,6 @@ class Result(enum.IntEnum):
     ATTENTION_SIZE = 22
     EXHAUSTED = 23
     FULL = 24
-    OPENS = 25
-    IN_USE = 26
     NO_SLOT = 27
     ODD_LENGTH = 41
     SHORT_MESSAGE = 42
@@ -75,6 +86,10 @@ class Result(enum.IntEnum):
     OVER_MAXIMUM = 73
     NOT_LISTED = 74
     LEFT_OVER = 75
+    NO_HOST = 81
+    NO_CONNECTION = 82
+    TOO_MANY_SERVICES = 83
+    PEER_CALLS = 84
 
 
 class Dropped(enum.IntEnum):
@@ -125,6 +140,16 @@ class Kind(enum.IntEnum):
     ABORT = 3
 
 
+class Why(enum.IntEnum):
+    """Why a connection of a host is closed."""
+
+    ASKED = 1
+    BY_PEER = 2
+    SILENT = 3
+    NOT_SERVED = 4
+    REFUSED = 5
+
+
 class Reject(enum.IntEnum):
     """Why a call is rejected."""
 
@@ -141,9 +166,6 @@ _TEXTS = {
     Result.NO_ENDPOINT: "there is no endpoint in the handle",
     Result.SHORT_BUFFER: "the buffer is too short",
     Result.BAD_ARGUMENT: "an argument is not allowed",
-    Result.NO_CALLER: "there is no caller in the handle",
-    Result.NO_SERVER: "there is no server in the handle",
-    Result.NO_LISTENER: "there is no listener in the handle",
     Result.SHORT: "there are fewer bytes than a header has",
     Result.LENGTH_SMALL: "the length field is below 30",
     Result.LENGTH_LARGE: "the length field is above 576",
@@ -153,9 +175,7 @@ _TEXTS = {
     Result.ATTENTION_SIZE: "an attention item has exactly one byte",
     Result.EXHAUSTED: "the connection has carried its last item",
     Result.FULL: "as many items are unacknowledged as the backlog holds",
-    Result.OPENS: "the packet opens a new connection",
-    Result.IN_USE: "a connection has this identifier, or this peer with its own",
-    Result.NO_SLOT: "as many connections are there as the listener has room for",
+    Result.NO_SLOT: "as many connections are there as the host may have",
     Result.ODD_LENGTH: "the message has an odd number of bytes",
     Result.SHORT_MESSAGE: "the message has fewer bytes than its head",
     Result.UNKNOWN_KIND: "the message is of another kind than the four",
@@ -163,17 +183,21 @@ _TEXTS = {
     Result.NO_COMMON_VERSION: "the peer does not speak version 3",
     Result.BAD_VERSIONS: "the peer's version range is none",
     Result.WRONG_TRANSACTION: "an answer to another call, or to none",
-    Result.BAD_REPLY: "the peer of a caller calls, or that of a server answers",
+    Result.BAD_REPLY: "the peer calls where its side answers, or answers where its side calls",
     Result.OTHER_STREAM: "an item of another datastream than 0",
     Result.STOPPED: "the conversation has stopped",
-    Result.BUSY: "a call waits for its answer, or an answer or what is out was not picked up",
-    Result.CLOSING: "the peer closes the connection",
+    Result.BUSY: "a call waits for its answer, or the answer was not fetched",
+    Result.CLOSING: "the connection is closed, or closes",
     Result.ATTENTION: "an attention item is no part of a message",
     Result.TRUNCATED: "the words end before the value does",
     Result.NOT_BOOLEAN: "the word of a boolean is neither 0 nor 1",
     Result.OVER_MAXIMUM: "the count of a sequence is over its maximum",
     Result.NOT_LISTED: "the word of an enumeration or the designator of a choice is not listed",
     Result.LEFT_OVER: "words are left behind the last value",
+    Result.NO_HOST: "there is no host in the handle",
+    Result.NO_CONNECTION: "no connection has this number",
+    Result.TOO_MANY_SERVICES: "the host serves as many sockets as it can",
+    Result.PEER_CALLS: "the peer opened the connection: its side calls",
 }
 
 
@@ -191,16 +215,19 @@ def _error_of(result: Result, text: str) -> type:
 
 _ERRORS = {result: _error_of(result, text) for result, text in _TEXTS.items()}
 globals().update((error.__name__, error) for error in _ERRORS.values())
-Closing, InUse, NoMemory, NoSlot, Stopped = (_ERRORS[Result[name]] for name in ("CLOSING", "IN_USE", "NO_MEMORY", "NO_SLOT", "STOPPED"))
+Closing, NoConnection = _ERRORS[Result.CLOSING], _ERRORS[Result.NO_CONNECTION]
+
+
+_OK, _NOTHING = int(Result.OK), int(Result.NOTHING)
 
 
 def _done(result: int) -> bool:
     """Whether it was done; false where there is nothing."""
+    if result in (_OK, _NOTHING):
+        return result == _OK
     if result in _ERRORS:
         raise _ERRORS[result](_TEXTS[result])
-    if result not in (Result.OK, Result.NOTHING):
-        raise XnsError(f"the library answered {result}, which this module does not know")
-    return result == Result.OK
+    raise XnsError(f"the library answered {result}, which this module does not know")
 
 
 # ---- what is told
@@ -268,6 +295,59 @@ class Message(NamedTuple):
     procedure: int = 0
 
 
+class Reply(NamedTuple):
+    """What a call is answered: as `returns`, `aborts` and `rejects` make it."""
+
+    kind: Kind
+    words: Iterable[int] = ()
+    code: int = 0
+
+
+def returns(words: Iterable[int] = ()) -> Reply:
+    """A return with these results."""
+    return Reply(Kind.RETURN, words)
+
+
+def aborts(error: int, words: Iterable[int] = ()) -> Reply:
+    """An abort with an error and its arguments."""
+    return Reply(Kind.ABORT, words, error)
+
+
+def rejects(reason: int) -> Reply:
+    """A reject with a reason, as of `Reject`."""
+    return Reply(Kind.REJECT, (), reason)
+
+
+class Call(NamedTuple):
+    """The peer of the connection with this number calls. It waits for `Host.answer`."""
+
+    number: int
+    program: int
+    version: int
+    procedure: int
+    words: List[int]
+
+
+class Answer(NamedTuple):
+    """The call that was made on the connection with this number is answered. `code` is the error of an abort or the reason of a reject, else 0."""
+
+    number: int
+    kind: Kind
+    code: int
+    words: List[int]
+
+
+class Closed(NamedTuple):
+    """The connection with this number is closed, and nothing more comes of it. `fault` is what a peer was refused for, else None."""
+
+    number: int
+    why: Why
+    fault: Optional[Result]
+
+
+Event = Union[Call, Answer, Closed]
+
+
 # ---- the structs of the header
 
 
@@ -320,6 +400,31 @@ class _Program(ctypes.Structure):
     _fields_ = [("program", c_uint32), ("low", c_uint16), ("high", c_uint16)]
 
 
+class _Settings(ctypes.Structure):
+    _fields_ = [
+        ("connections", c_size_t), ("window", c_size_t), ("backlog", c_size_t), ("first_wait", c_uint32), ("longest_wait", c_uint32),
+        ("idle", c_uint32), ("tries", c_uint8),
+    ]
+
+    @staticmethod
+    def of(settings: dict) -> "_Settings":
+        """Those that are given; 0, which stands for the default, is none."""
+        never = {name: _NEVER_IDLE for name, value in settings.items() if name == "idle" and value is None}
+        return _Settings(**{name: _within(1, value, _MOST_SETTINGS[name]) for name, value in {**settings, **never}.items()})
+
+
+class _Event(ctypes.Structure):
+    _fields_ = [("kind", c_uint8), ("number", c_size_t), ("message", _Message), ("closed", c_uint8), ("fault", c_uint32)]
+
+    def told(self, words: List[int]) -> Event:
+        message = self.message
+        if self.kind == _EVENT_CALL:
+            return Call(self.number, message.program, message.version, message.procedure, words)
+        if self.kind == _EVENT_ANSWER:
+            return Answer(self.number, Kind(message.kind), message.number, words)
+        return Closed(self.number, Why(self.closed), Result(self.fault) if self.fault else None)
+
+
 class _Handle(ctypes.Structure):
     _fields_ = [("at", c_void_p)]
 
@@ -334,28 +439,28 @@ class _Version(ctypes.Structure):
 
 # ---- the library
 
-_HANDLE, _BYTES, _BUFFER, _WORDS, _LENGTH = POINTER(_Handle), ctypes.c_char_p, POINTER(c_uint8), POINTER(c_uint16), POINTER(c_size_t)
+_BYTES, _HANDLE, _STRUCT, _BUFFER, _WORDS, _LENGTH = ctypes.c_char_p, *[c_void_p] * 5  # the module makes what the pointers lead to
 _CALLS = {
-    "decode": [_BYTES, c_size_t, POINTER(_Packet)],
-    "encode": [POINTER(_Packet), _BYTES, c_size_t, _BUFFER, c_size_t, _LENGTH],
+    "decode": [_BYTES, c_size_t, _STRUCT],
+    "encode": [_STRUCT, _BYTES, c_size_t, _BUFFER, c_size_t, _LENGTH],
     "checksum": [_BYTES, c_size_t, _WORDS],
-    "echo_reply": [POINTER(_Address), _BYTES, c_size_t, _BUFFER, c_size_t, _LENGTH],
-    "echo_request": [POINTER(_Address), POINTER(_Address), _BYTES, c_size_t, _BUFFER, c_size_t, _LENGTH],
-    "echo_accept": [POINTER(_Address), _BYTES, c_size_t, _LENGTH, _LENGTH],
-    "complain": [POINTER(_Address), c_uint16, c_uint16, _BYTES, c_size_t, _BUFFER, c_size_t, _LENGTH],
+    "echo_reply": [_STRUCT, _BYTES, c_size_t, _BUFFER, c_size_t, _LENGTH],
+    "echo_request": [_STRUCT, _STRUCT, _BYTES, c_size_t, _BUFFER, c_size_t, _LENGTH],
+    "echo_accept": [_STRUCT, _BYTES, c_size_t, _LENGTH, _LENGTH],
+    "complain": [_STRUCT, c_uint16, c_uint16, _BYTES, c_size_t, _BUFFER, c_size_t, _LENGTH],
     "error_read": [_BYTES, c_size_t, _WORDS, _WORDS],
-    "exchange_read": [_BYTES, c_size_t, POINTER(c_uint32), _WORDS],
+    "exchange_read": [_BYTES, c_size_t, _STRUCT, _WORDS],
     "exchange_write": [c_uint32, c_uint16, _BYTES, c_size_t, _BUFFER, c_size_t, _LENGTH],
-    "exchange_request": [POINTER(_Address), POINTER(_Address), c_uint32, c_uint16, _BYTES, c_size_t, _BUFFER, c_size_t, _LENGTH],
-    "exchange_reply": [POINTER(_Address), _BYTES, c_size_t, _BYTES, c_size_t, _BUFFER, c_size_t, _LENGTH],
-    "exchange_accept": [POINTER(_Address), c_uint32, _BYTES, c_size_t, _LENGTH, _LENGTH],
-    "header_read": [_BYTES, c_size_t, POINTER(_Header)],
-    "header_write": [POINTER(_Header), _BUFFER, c_size_t, _LENGTH],
-    "message_read": [_BYTES, c_size_t, POINTER(_Message), _WORDS, c_size_t, _LENGTH],
-    "message_write": [POINTER(_Message), _WORDS, c_size_t, _BUFFER, c_size_t, _LENGTH],
-    "opening": [_BYTES, c_size_t, POINTER(_Address), _WORDS],
-    "endpoint_new_initiator": [_HANDLE, POINTER(_Address), c_uint16, POINTER(_Address), c_size_t, c_size_t],
-    "endpoint_new_responder": [_HANDLE, POINTER(_Address), c_uint16, POINTER(_Address), c_uint16, c_size_t, c_size_t],
+    "exchange_request": [_STRUCT, _STRUCT, c_uint32, c_uint16, _BYTES, c_size_t, _BUFFER, c_size_t, _LENGTH],
+    "exchange_reply": [_STRUCT, _BYTES, c_size_t, _BYTES, c_size_t, _BUFFER, c_size_t, _LENGTH],
+    "exchange_accept": [_STRUCT, c_uint32, _BYTES, c_size_t, _LENGTH, _LENGTH],
+    "header_read": [_BYTES, c_size_t, _STRUCT],
+    "header_write": [_STRUCT, _BUFFER, c_size_t, _LENGTH],
+    "message_read": [_BYTES, c_size_t, _STRUCT, _WORDS, c_size_t, _LENGTH],
+    "message_write": [_STRUCT, _WORDS, c_size_t, _BUFFER, c_size_t, _LENGTH],
+    "opening": [_BYTES, c_size_t, _STRUCT, _WORDS],
+    "endpoint_new_initiator": [_HANDLE, _STRUCT, c_uint16, _STRUCT, c_size_t, c_size_t],
+    "endpoint_new_responder": [_HANDLE, _STRUCT, c_uint16, _STRUCT, c_uint16, c_size_t, c_size_t],
     "endpoint_clear": [_HANDLE],
     "endpoint_is_open": [_HANDLE],
     "endpoint_is_full": [_HANDLE],
@@ -363,91 +468,89 @@ _CALLS = {
     "endpoint_unacknowledged": [_HANDLE],
     "endpoint_room_to_send": [_HANDLE],
     "endpoint_is_ours": [_HANDLE, _BYTES, c_size_t],
-    "endpoint_own": [_HANDLE, POINTER(_Address), _WORDS],
-    "endpoint_peer": [_HANDLE, POINTER(_Address), _WORDS],
+    "endpoint_own": [_HANDLE, _STRUCT, _WORDS],
+    "endpoint_peer": [_HANDLE, _STRUCT, _WORDS],
     "endpoint_send": [_HANDLE, c_uint8, c_uint8, c_uint8, _BYTES, c_size_t],
-    "endpoint_take": [_HANDLE, POINTER(_Item), _BUFFER, c_size_t],
-    "endpoint_receive": [_HANDLE, _BYTES, c_size_t, POINTER(_Received), _BUFFER, c_size_t],
+    "endpoint_take": [_HANDLE, _STRUCT, _BUFFER, c_size_t],
+    "endpoint_receive": [_HANDLE, _BYTES, c_size_t, _STRUCT, _BUFFER, c_size_t],
     "endpoint_flush": [_HANDLE],
     "endpoint_tick": [_HANDLE],
     "endpoint_next_packet": [_HANDLE, _BUFFER, c_size_t, _LENGTH],
     "endpoint_system_packet": [_HANDLE, c_uint8, _BUFFER, c_size_t, _LENGTH],
     "endpoint_resend_first": [_HANDLE, _BUFFER, c_size_t, _LENGTH],
-    "listener_new": [_HANDLE, POINTER(_Address), c_size_t],
-    "listener_clear": [_HANDLE],
-    "listener_find": [_HANDLE, _BYTES, c_size_t, _LENGTH, POINTER(_Address), _WORDS],
-    "listener_add": [_HANDLE, POINTER(_Address), c_uint16, c_uint16, _LENGTH],
-    "listener_remove": [_HANDLE, c_size_t],
-    "caller_new": [_HANDLE],
-    "caller_clear": [_HANDLE],
-    "caller_call": [_HANDLE, c_uint32, c_uint16, c_uint16, _WORDS, c_size_t],
-    "caller_next_item": [_HANDLE, POINTER(_Item), _BUFFER, c_size_t],
-    "caller_feed": [_HANDLE, c_uint8, c_uint8, _BYTES, c_size_t],
-    "caller_outcome": [_HANDLE, POINTER(_Message), _WORDS, c_size_t, _LENGTH],
-    "caller_pump": [_HANDLE, _HANDLE],
-    "server_new": [_HANDLE, POINTER(_Program), c_size_t],
-    "server_clear": [_HANDLE],
-    "server_feed": [_HANDLE, c_uint8, c_uint8, _BYTES, c_size_t],
-    "server_is_busy": [_HANDLE],
-    "server_call": [_HANDLE, POINTER(_Message), _WORDS, c_size_t, _LENGTH],
-    "server_answer": [_HANDLE, c_uint8, c_uint16, _WORDS, c_size_t],
-    "server_next_item": [_HANDLE, POINTER(_Item), _BUFFER, c_size_t],
-    "server_pump": [_HANDLE, _HANDLE],
-    "read_cardinal": [_WORDS, c_size_t, POINTER(_Cursor), _WORDS],
-    "read_long_cardinal": [_WORDS, c_size_t, POINTER(_Cursor), POINTER(c_uint32)],
-    "read_integer": [_WORDS, c_size_t, POINTER(_Cursor), POINTER(c_int16)],
-    "read_long_integer": [_WORDS, c_size_t, POINTER(_Cursor), POINTER(c_int32)],
-    "read_boolean": [_WORDS, c_size_t, POINTER(_Cursor), _BUFFER],
-    "read_count": [_WORDS, c_size_t, POINTER(_Cursor), c_uint16, _WORDS],
-    "read_text": [_WORDS, c_size_t, POINTER(_Cursor), _BUFFER, c_size_t, _LENGTH],
-    "read_end": [_WORDS, c_size_t, POINTER(_Cursor)],
-    "write_cardinal": [_WORDS, c_size_t, POINTER(_Cursor), c_uint16],
-    "write_long_cardinal": [_WORDS, c_size_t, POINTER(_Cursor), c_uint32],
-    "write_integer": [_WORDS, c_size_t, POINTER(_Cursor), c_int16],
-    "write_long_integer": [_WORDS, c_size_t, POINTER(_Cursor), c_int32],
-    "write_boolean": [_WORDS, c_size_t, POINTER(_Cursor), c_uint8],
-    "write_count": [_WORDS, c_size_t, POINTER(_Cursor), c_uint16, c_size_t],
-    "write_text": [_WORDS, c_size_t, POINTER(_Cursor), _BYTES, c_size_t],
+    "host_new": [_HANDLE, _STRUCT, _STRUCT, _BYTES],
+    "host_clear": [_HANDLE],
+    "host_serve": [_HANDLE, c_uint16, _STRUCT, c_size_t],
+    "host_connect": [_HANDLE, c_uint64, c_uint32, c_uint16, _STRUCT, _LENGTH],
+    "host_call": [_HANDLE, c_uint64, c_size_t, c_uint32, c_uint16, c_uint16, _WORDS, c_size_t],
+    "host_answer": [_HANDLE, c_uint64, c_size_t, c_uint8, c_uint16, _WORDS, c_size_t],
+    "host_close": [_HANDLE, c_uint64, c_size_t],
+    "host_receive": [_HANDLE, c_uint64, c_uint32, _BYTES, c_size_t],
+    "host_next_event": [_HANDLE, _STRUCT, _WORDS, c_size_t, _LENGTH],
+    "host_next_packet": [_HANDLE, c_uint64, _BUFFER, c_size_t, _LENGTH, _STRUCT],
+    "host_wake": [_HANDLE],
+    "host_connections": [_HANDLE],
+    "host_peer": [_HANDLE, c_size_t, _STRUCT],
+    "read_cardinal": [_WORDS, c_size_t, _STRUCT, _WORDS],
+    "read_long_cardinal": [_WORDS, c_size_t, _STRUCT, _STRUCT],
+    "read_integer": [_WORDS, c_size_t, _STRUCT, _STRUCT],
+    "read_long_integer": [_WORDS, c_size_t, _STRUCT, _STRUCT],
+    "read_boolean": [_WORDS, c_size_t, _STRUCT, _BUFFER],
+    "read_count": [_WORDS, c_size_t, _STRUCT, c_uint16, _WORDS],
+    "read_text": [_WORDS, c_size_t, _STRUCT, _BUFFER, c_size_t, _LENGTH],
+    "read_end": [_WORDS, c_size_t, _STRUCT],
+    "write_cardinal": [_WORDS, c_size_t, _STRUCT, c_uint16],
+    "write_long_cardinal": [_WORDS, c_size_t, _STRUCT, c_uint32],
+    "write_integer": [_WORDS, c_size_t, _STRUCT, c_int16],
+    "write_long_integer": [_WORDS, c_size_t, _STRUCT, c_int32],
+    "write_boolean": [_WORDS, c_size_t, _STRUCT, c_uint8],
+    "write_count": [_WORDS, c_size_t, _STRUCT, c_uint16, c_size_t],
+    "write_text": [_WORDS, c_size_t, _STRUCT, _BYTES, c_size_t],
     "version": [],
 }
 _ANSWERS = {
     "endpoint_clear": None,
-    "listener_clear": None,
-    "caller_clear": None,
-    "server_clear": None,
+    "host_clear": None,
     "endpoint_is_open": c_bool,
     "endpoint_is_full": c_bool,
     "endpoint_is_ours": c_bool,
-    "server_is_busy": c_bool,
     "endpoint_waiting": c_size_t,
     "endpoint_unacknowledged": c_size_t,
     "endpoint_room_to_send": c_size_t,
+    "host_connections": c_size_t,
+    "host_wake": c_uint64,
     "version": _Version,
 }
 
 
-def _load() -> ctypes.CDLL:
-    name = os.environ.get("XNS_LIBRARY") or ctypes.util.find_library("xns") or "libxns.so"
-    library = ctypes.CDLL(name)
+def _load() -> dict:
+    """The calls of the library by their names, without the xns_ in front."""
+    library = ctypes.CDLL(os.environ.get("XNS_LIBRARY") or ctypes.util.find_library("xns") or "libxns.so")
+    functions = {}
     for call, arguments in _CALLS.items():
-        function = getattr(library, f"xns_{call}")
+        functions[call] = function = getattr(library, f"xns_{call}")
         function.argtypes = arguments
         function.restype = _ANSWERS.get(call, c_uint32)
-    return library
+    return functions
 
 
-_LIBRARY = _load()
+_FUNCTIONS = _load()
 
 
 def _call(name: str, *arguments):
-    return getattr(_LIBRARY, f"xns_{name}")(*arguments)
+    return _FUNCTIONS[name](*arguments)
+
+
+def _within(low: int, number: int, high: int) -> int:
+    """The number, which is in this range: ctypes itself would cut it."""
+    if not low <= number <= high:
+        raise ValueError(f"{number} is not from {low} to {high}")
+    return number
 
 
 def _number(number: int, bits: int) -> int:
-    """The number, which has at most so many bits: ctypes itself would cut it."""
-    if not 0 <= number < 1 << bits:
-        raise ValueError(f"{number} is not from 0 to {(1 << bits) - 1}")
-    return number
+    """The number, which has at most so many bits."""
+    return number if not number >> bits else _within(0, number, (1 << bits) - 1)
 
 
 def _flag(flag: bool) -> int:
@@ -455,16 +558,19 @@ def _flag(flag: bool) -> int:
     return 1 if flag else 0
 
 
-def _words(words: Iterable[int]) -> Tuple[ctypes.Array, int]:
-    """An array of the words, which is there even for none, and their number."""
-    listed = [_number(word, 16) for word in words]
-    return (c_uint16 * max(1, len(listed)))(*listed), len(listed)
+def _words(words: Iterable[int]) -> Tuple[bytes, int]:
+    """The words as they stand in memory, and their number."""
+    try:
+        listed = array.array("H", [*words])
+    except OverflowError:
+        raise ValueError("a word is not from 0 to 65535") from None
+    return listed.tobytes(), len(listed)
 
 
 def _written(name: str, room: int, *arguments) -> Optional[bytes]:
     """What a call writes into a buffer with that much room; None where there is nothing."""
     buffer, length = (c_uint8 * room)(), c_size_t()
-    return bytes(buffer[: length.value]) if _done(_call(name, *arguments, buffer, room, byref(length))) else None
+    return ctypes.string_at(buffer, length.value) if _done(_call(name, *arguments, buffer, room, byref(length))) else None
 
 
 def _part(name: str, packet: bytes, *arguments) -> Optional[bytes]:
@@ -614,41 +720,46 @@ def opening(packet: bytes) -> Optional[Tuple[Address, int]]:
 
 
 class _Object:
-    """What a handle holds, until it is closed."""
+    """What a handle holds, until it is freed."""
 
     _family = ""
 
+    def __init_subclass__(cls) -> None:
+        front = cls._family + "_"
+        cls._functions = {name[len(front) :]: function for name, function in _FUNCTIONS.items() if name.startswith(front)}
+
     def __init__(self) -> None:
         self._handle, self._thread = _Handle(), threading.get_ident()
+        self._at = addressof(self._handle)
 
-    def close(self) -> None:
-        """Gives the memory back. Each later call raises `NoEndpoint`, `NoCaller`, `NoServer` or `NoListener`, or answers as of none."""
+    def free(self) -> None:
+        """Gives the memory back. Each later call raises `NoEndpoint` or `NoHost`, or answers as of none."""
         self._call("clear")
 
     def __enter__(self):
         return self
 
     def __exit__(self, *_) -> None:
-        self.close()
+        self.free()
 
     def __del__(self) -> None:
         if getattr(self, "_thread", None) == threading.get_ident():
-            self.close()
+            self.free()
 
     def _call(self, name: str, *arguments):
-        return _call(f"{self._family}_{name}", byref(self._handle), *arguments)
+        return self._functions[name](self._at, *arguments)
 
     def _done(self, name: str, *arguments) -> bool:
-        return _done(self._call(name, *arguments))
+        return _done(self._functions[name](self._at, *arguments))
 
     def _written(self, name: str, room: int, *arguments) -> Optional[bytes]:
-        return _written(f"{self._family}_{name}", room, byref(self._handle), *arguments)
+        return _written(f"{self._family}_{name}", room, self._at, *arguments)
 
     def _item(self, name: str) -> Optional[Item]:
         item, body = _Item(), (c_uint8 * LONGEST_ITEM)()
         if not self._done(name, byref(item), body, LONGEST_ITEM):
             return None
-        return Item(bytes(body[: item.length]), item.stream, bool(item.attention), bool(item.last))
+        return Item(ctypes.string_at(body, item.length), item.stream, bool(item.attention), bool(item.last))
 
 
 class Endpoint(_Object):
@@ -751,313 +862,244 @@ class Endpoint(_Object):
         return self._written("resend_first", LONGEST_PACKET)
 
 
-class Opening(NamedTuple):
-    """Who opens a connection, and with which identifier."""
+class Host(_Object):
+    """Many Courier conversations behind one address, with time. It has no socket, no clock and no thread: packets that came go to `receive`, those of
+    `packets` are sent, and `events` tell what came. `now` is in milliseconds of any clock, and a `via` a number of the program's: the packets of a
+    connection go out by the one that it was opened by."""
 
-    peer: Address
-    peer_id: int
+    _family = "host"
 
-
-class Listener(_Object):
-    """The connections behind one socket, each by a number from 0 on. Their endpoints are the program's, as in a list."""
-
-    _family = "listener"
-
-    def __init__(self, own: Address, most: int) -> None:
-        """At the socket of `own`, with room for so many. `BadArgument` for over 65,535."""
+    def __init__(self, own: Address, secret: Optional[bytes] = None, **settings: Optional[int]) -> None:
+        """At the network and host of `own`. The secret, 32 bytes, is new for each host and hard to guess; without one it is the system's.
+        Settings: `connections` at most (64); `window` (8) and `backlog` (16) of each, in items; in milliseconds `first_wait` for an acknowledgement
+        (250), `longest_wait` (8000), and `idle`, after which a peer is asked for a word (10000; None: never); `tries`, waits without a word of the
+        peer that are borne (8). `BadArgument` where the longest wait is below the first."""
         super().__init__()
-        self._own = own
-        self._done("new", byref(_Address.of(own)), _number(most, 64))
+        unknown = set(settings) - set(_MOST_SETTINGS)
+        if unknown:
+            raise TypeError(f"a host has no setting {', '.join(sorted(unknown))}")
+        secret = os.urandom(_SECRET) if secret is None else secret
+        if len(secret) != _SECRET:
+            raise ValueError(f"a secret has {_SECRET} bytes")
+        self._done("new", byref(_Address.of(own)), byref(_Settings.of(settings)), bytes(secret))
+        self._words, self._event, self._count = (c_uint16 * MOST_MESSAGE_WORDS)(), _Event(), c_size_t()
+        self._packet, self._length, self._via = (c_uint8 * LONGEST_PACKET)(), c_size_t(), c_uint32()
+        self._for_events = self._at, addressof(self._event), addressof(self._words), MOST_MESSAGE_WORDS, addressof(self._count)
+        self._for_packets = addressof(self._packet), LONGEST_PACKET, addressof(self._length), addressof(self._via)
 
-    def find(self, packet: bytes) -> Union[int, Opening, None]:
-        """The number of the connection that a packet belongs to; or who opens a new one by it; None where it is for none."""
-        number, peer, peer_id = c_size_t(), _Address(), c_uint16()
-        result = self._call("find", packet, len(packet), byref(number), byref(peer), byref(peer_id))
-        if result == Result.OPENS:
-            return Opening(peer.told(), peer_id.value)
-        return number.value if _done(result) else None
+    def serve(self, socket_number: int, programs: Iterable[Tuple[int, int, int]] = ()) -> None:
+        """From now on connections that peers open to this socket are answered, for these programs, each as (program, low, high); with none each call is
+        told. Calls of others are rejected without an event. `TooManyServices` where 16 other sockets are served."""
+        listed = [(_number(program, 32), _number(low, 16), _number(high, 16)) for program, low, high in programs]
+        self._done("serve", _number(socket_number, 16), (_Program * max(1, len(listed)))(*listed), len(listed))
 
-    def add(self, peer: Address, peer_id: int, own_id: int) -> int:
-        """Puts in a connection, and tells its number, the first that is free. `InUse` where one has this identifier or this peer, `NoSlot`, `BadArgument`; `NoMemory` leaves all as it was."""
+    def connect(self, now: int, via: int, socket_number: int, peer: Address) -> int:
+        """Opens a connection from this socket of ours to the peer, whose side calls; its number. `NoSlot` where there is no room."""
         number = c_size_t()
-        self._done("add", byref(_Address.of(peer)), _number(peer_id, 16), _number(own_id, 16), byref(number))
+        self._done("connect", _number(now, 64), _number(via, 32), _number(socket_number, 16), byref(_Address.of(peer)), byref(number))
         return number.value
 
-    def accept(self, opened: Opening, window: int = 8, backlog: int = 16) -> Tuple[int, Endpoint]:
-        """Puts in the connection that a peer opens, by a new identifier, and tells its number; and the end that answers, to which the packet is then given.
-        After `NoSlot` and `NoMemory` all is as it was."""
-        while True:
-            own_id = new_identifier()
-            try:
-                number = self.add(*opened, own_id)
-                break
-            except InUse:
-                continue
-        try:
-            return number, Endpoint.responder(self._own, own_id, *opened, window, backlog)
-        except XnsError:
-            self.remove(number)
-            raise
-
-    def remove(self, number: int) -> bool:
-        """Takes a connection away; false where there is none with this number."""
-        return self._done("remove", _number(number, 64))
-
-
-class _Session(_Object):
-    """One side of a Courier conversation. It knows no types: arguments and results are words."""
-
-    def next_item(self) -> Optional[Item]:
-        """The next item that is to go out, once; None where none is. Over an endpoint `pump` sends it."""
-        return self._item("next_item")
-
-    def feed(self, item: Item) -> None:
-        """Takes in an item that came. Over an endpoint `pump` feeds it."""
-        self._done("feed", _number(item.stream, 8), _flag(item.last), item.body, len(item.body))
-
-    def pump(self, endpoint: Endpoint) -> None:
-        """Moves items both ways between the session and an endpoint until nothing moves. `Closing` where the peer closes: the item waits at the endpoint."""
-        self._done("pump", byref(endpoint._handle))
-
-    def _message(self, name: str, room: int) -> Optional[Message]:
-        return _message(f"{self._family}_{name}", room, byref(self._handle))
-
-
-class Caller(_Session):
-    """The side that calls, one call at a time."""
-
-    _family = "caller"
-
-    def __init__(self) -> None:
-        super().__init__()
-        self._done("new")
-
-    def call(self, program: int, version: int, procedure: int, words: Iterable[int] = ()) -> None:
-        """Puts out a call. `Busy` while one waits for its answer or an answer was not picked up, `Stopped`, `TooLong`."""
+    def call(self, now: int, number: int, program: int, version: int, procedure: int, words: Iterable[int] = ()) -> None:
+        """Puts out a call. `Busy` while one waits or its answer was not fetched, `NoConnection`, `PeerCalls`, `Closing`, `TooLong`."""
         numbers = _number(program, 32), _number(version, 16), _number(procedure, 16)
-        self._done("call", *numbers, *_words(words))
+        self._done("call", _number(now, 64), _number(number, 64), *numbers, *_words(words))
 
-    def outcome(self) -> Optional[Message]:
-        """The answer that is there, once: a return, an abort or a reject. None where there is none."""
-        return self._message("outcome", MOST_MESSAGE_WORDS)
+    def answer(self, now: int, number: int, reply: Reply) -> None:
+        """Answers the call that was told. `LookupError` where none waits for an answer; `NoConnection`, `Closing`, `TooLong`."""
+        kind, words, code = reply
+        if not self._done("answer", _number(now, 64), _number(number, 64), _number(kind, 8), _number(code, 16), *_words(words)):
+            raise LookupError("no call waits for an answer")
 
+    def close(self, now: int, number: int) -> None:
+        """Closes a connection once all that it has to say is said, which a `Closed` tells. `NoConnection`."""
+        self._done("close", _number(now, 64), _number(number, 64))
 
-class Server(_Session):
-    """The side that is called. It rejects itself the calls of other programs and versions than are listed, as (program, low, high)."""
+    def receive(self, now: int, via: int, packet: bytes) -> bool:
+        """Takes in a packet that came; false where it is not for the host, and is the program's to use."""
+        return self._done("receive", _number(now, 64), _number(via, 32), packet, len(packet))
 
-    _family = "server"
+    def events(self) -> Iterator[Event]:
+        """What there is to tell, each once."""
+        next_event, given = self._functions["next_event"], self._for_events
+        while _done(next_event(*given)):
+            yield self._event.told(self._words[: self._count.value])
 
-    def __init__(self, programs: Iterable[Tuple[int, int, int]] = ()) -> None:
-        super().__init__()
-        listed = [(_number(program, 32), _number(low, 16), _number(high, 16)) for program, low, high in programs]
-        self._done("new", (_Program * max(1, len(listed)))(*listed), len(listed))
+    def packets(self, now: int) -> Iterator[Tuple[int, bytes]]:
+        """The packets that are to go out, each once, with its `via`; also what is due at this time is done."""
+        next_packet, given = self._functions["next_packet"], (self._at, _number(now, 64), *self._for_packets)
+        while _done(next_packet(*given)):
+            yield self._via.value, ctypes.string_at(self._packet, self._length.value)
+
+    def wake(self) -> Optional[int]:
+        """When `packets` wants to be asked at the latest; 0 is at once, None never, until something is done."""
+        at = self._call("wake")
+        return None if at == _NEVER else at
 
     @property
-    def is_busy(self) -> bool:
-        """Whether a call waits to be handed or answered, or something is out."""
-        return self._call("is_busy")
+    def connections(self) -> int:
+        """How many connections there are, with those that are closed and still answer what comes again."""
+        return self._call("connections")
 
-    def call(self) -> Optional[Message]:
-        """The call that waits, once; None where there is none, or it was answered by the server itself."""
-        return self._message("call", MOST_CALL_WORDS)
-
-    def returns(self, words: Iterable[int] = ()) -> None:
-        """Answers the call that was handed by a return."""
-        self._answer(Kind.RETURN, 0, words)
-
-    def aborts(self, error: int, words: Iterable[int] = ()) -> None:
-        """Answers it by an abort with an error and its arguments."""
-        self._answer(Kind.ABORT, error, words)
-
-    def rejects(self, reason: int) -> None:
-        """Answers it by a reject; also a call that was not handed."""
-        self._answer(Kind.REJECT, reason, ())
-
-    def _answer(self, kind: Kind, number: int, words: Iterable[int]) -> None:
-        if not self._done("answer", kind, _number(number, 16), *_words(words)):
-            raise LookupError("no call was handed")
+    def peer(self, number: int) -> Address:
+        """Whom a connection is with. `NoConnection`."""
+        address = _Address()
+        self._done("peer", _number(number, 64), byref(address))
+        return address.told()
 
 
-class Connection:
-    """An end and the session over it: packets come in, items move, and packets go out. What `receive`, `turn` and `tick` return is to be sent."""
+# ---- hosts over UDP, one packet a datagram
 
-    def __init__(self, endpoint: Endpoint, session: _Session) -> None:
-        self.endpoint, self.session = endpoint, session
-        self.is_closed = False
-        self.silent = 0  # ticks since a packet came
-        self._owes_reply = False
+_LONGEST_DATAGRAM = 2048
+_MOST_AT_ONCE = 64  # datagrams that are taken in before packets go out
+_MOST_PLACES = 65536  # places of datagrams that are known at a time
 
-    def receive(self, packet: bytes) -> List[bytes]:
-        """Takes in a packet that came, and moves items. What the session has against an item is raised: the connection is then of no more use."""
-        self.silent = 0
-        reply = self.endpoint.receive(packet).reply
-        packets = self.turn()
-        # a reply that is made now tells of the room that there is behind the items that moved
-        return [self.endpoint.system_packet() or reply, *packets] if reply else packets
 
-    def turn(self) -> List[bytes]:
-        """Moves items, after a call was made or answered too. Where the other side closes, the connection is closed, and the item by which it does is answered."""
+class _Places:
+    """The places of datagrams, each with a number that no other has had. Of too many the one goes that was least lately used."""
+
+    def __init__(self) -> None:
+        self._numbers, self._places, self._next = {}, collections.OrderedDict(), 0
+
+    def number(self, place: tuple) -> int:
+        number = self._numbers.get(place)
+        if number is None:
+            number, self._next = self._next, (self._next + 1) % 2**32
+            self._numbers[place], self._places[number] = number, place
+            if len(self._places) > _MOST_PLACES:
+                _, old = self._places.popitem(last=False)
+                del self._numbers[old]
+        self._places.move_to_end(number)
+        return number
+
+    def __getitem__(self, number: int) -> Optional[tuple]:
+        return self._places.get(number)
+
+
+class _Carrier:
+    """Carries the packets of a host by a UDP socket. A packet that is not the host's is given to `other`, with the place that it comes from."""
+
+    def __init__(self, udp: socket.socket, host: Host, other: Optional[Callable[[bytes, tuple], None]] = None) -> None:
+        udp.setblocking(False)
+        self._udp, self._host, self._other, self.places = udp, host, other, _Places()
+        self._waiting = select.poll()
+        self._waiting.register(udp, select.POLLIN)
+        self.now = _milliseconds()  # of this turn: what comes while a call is carried out is read before anything is due for want of it
+
+    def send(self) -> None:
+        """Sends what is to go out. What can't be sent is as what is lost."""
+        for via, packet in self._host.packets(self.now):
+            place = self.places[via]
+            try:
+                if place is not None:
+                    self._udp.sendto(packet, place)
+            except OSError:
+                pass
+
+    def wait(self) -> None:
+        """Waits until datagrams come or the host wants to be asked, and takes in those that came."""
+        wake = self._host.wake()
+        are_there = self._waiting.poll(None if wake is None else max(0, wake - _milliseconds()))
+        self.now = _milliseconds()
+        for _ in range(_MOST_AT_ONCE):
+            if not are_there:
+                return
+            self._take_in()
+            are_there = self._waiting.poll(0)
+
+    def _take_in(self) -> None:
         try:
-            self.session.pump(self.endpoint)
-        except Closing:
-            self.endpoint.take()
-            self.is_closed = self._owes_reply = True
-        except Stopped:
-            self.endpoint.take()
-        if self._owes_reply and not self.endpoint.is_full:
-            self.endpoint.send(b"", stream=Stream.END_REPLY)
-            self._owes_reply = False
-        return self.endpoint.flush()
-
-    def tick(self) -> List[bytes]:
-        """What is to be sent when nothing came for a while: items that can go now, and what is not acknowledged."""
-        self.silent += 1
-        return self.turn() + self.endpoint.tick()
-
-    def end(self) -> List[bytes]:
-        """Closes from this side, once all that it wants to say is said. It is closed when the other side has answered, and all is acknowledged."""
-        self.endpoint.send(b"", stream=Stream.END)
-        return self.turn()
+            packet, place = self._udp.recvfrom(_LONGEST_DATAGRAM)
+        except (BlockingIOError, ConnectionError):
+            return
+        if not self._host.receive(self.now, self.places.number(place), packet) and self._other is not None:
+            self._other(packet, place)
 
 
-def datagrams(udp: socket.socket, tick: float = 0.1) -> Iterator[Tuple[Optional[bytes], Optional[tuple]]]:
-    """Each datagram that comes to a UDP socket, with the place that it comes from; None and None when a tick is due, each so many seconds.
-    The clock says when, and not that no packet came: so what was lost is sent again, however many packets of others come."""
-    udp.settimeout(tick)
-    last = time.monotonic()
-    while True:
-        try:
-            yield udp.recvfrom(LONGEST_PACKET)
-        except socket.timeout:
-            pass
-        if time.monotonic() - last >= tick:
-            last = time.monotonic()
-            yield None, None
-
-
-def _send(udp: socket.socket, place: tuple, packets: Iterable[bytes]) -> None:
-    """Sends packets, one a datagram. One that can't be sent is as one that is lost."""
-    for packet in packets:
-        try:
-            udp.sendto(packet, place)
-        except OSError:
-            pass
-
-
-MOST_SILENT = 50  # ticks in which nothing came from the other side, and it is gone
+def _milliseconds() -> int:
+    return time.monotonic_ns() // 1_000_000
 
 
 class Client:
-    """Calls over UDP, one packet a datagram, each of which waits for its answer."""
+    """Calls over UDP, each of which waits for its answer. Between them it says nothing, so a server gives it up that asks for so long as its settings say."""
 
-    def __init__(self, udp: socket.socket, place: tuple, own: Address, peer: Address, most_silent: int = MOST_SILENT) -> None:
-        """Opens a connection from `own` to `peer`, whose datagrams go to this place. Nothing is waited for."""
-        self._udp, self._place, self._most_silent = udp, place, most_silent
-        self._arriving = datagrams(udp)
-        self.connection = Connection(Endpoint.initiator(own, new_identifier(), peer), Caller())
-        self._send(self.connection.tick())
+    def __init__(self, udp: socket.socket, place: tuple, own: Address, peer: Address, **settings: Optional[int]) -> None:
+        """Opens a connection from `own` to `peer`, whose datagrams go to this place, by a host with these settings. Nothing is waited for."""
+        self._host, self._closed = Host(own, **settings), None
+        self._carrier = _Carrier(udp, self._host)
+        self._number = self._host.connect(self._carrier.now, self._carrier.places.number(place), own.socket, peer)
+        self._carrier.send()
 
-    def call(self, program: int, version: int, procedure: int, words: Iterable[int] = ()) -> Message:
-        """What a call is answered: a return, an abort or a reject. `TimeoutError` where nothing came for `most_silent` ticks; what the server says
-        against the protocol is raised too. The client is then of no more use."""
-        caller = self.connection.session
-        caller.call(program, version, procedure, words)
-        self._send(self.connection.turn())
-        while True:
-            outcome = caller.outcome()
-            if outcome is not None:
-                return outcome
-            self._wait()
+    def call(self, program: int, version: int, procedure: int, words: Iterable[int] = ()) -> Answer:
+        """What a call is answered: a return, an abort or a reject. `TimeoutError` where the server is silent, `ConnectionRefusedError` where an Error
+        packet says that it is not there, `ConnectionResetError` where the connection is closed; what the server says against the protocol is raised
+        by its name. The client is then of no more use."""
+        if self._closed is None:
+            self._host.call(_milliseconds(), self._number, program, version, procedure, words)
+        answer = self._next_event()
+        if isinstance(answer, Closed):
+            _raise(answer)
+            raise ConnectionResetError("the connection is closed")
+        return answer
 
     def close(self) -> None:
-        """Closes the connection, and waits until the server has closed it too. `TimeoutError` as for a call."""
-        self._send(self.connection.end())
-        while not self.connection.is_closed or self.connection.endpoint.unacknowledged:
-            self._wait()
+        """Closes the connection, and waits until the server has closed it too. Errors as for a call; that it is closed is none."""
+        if self._closed is None:
+            self._host.close(_milliseconds(), self._number)
+        while self._closed is None:
+            self._next_event()
+        _raise(self._closed)
 
-    def _wait(self) -> None:
-        packet, _ = next(self._arriving)
-        if self.connection.silent >= self._most_silent:
-            raise TimeoutError("the server does not answer")
-        self._send(self.connection.tick() if packet is None else self.connection.receive(packet))
-
-    def _send(self, packets: List[bytes]) -> None:
-        _send(self._udp, self._place, packets)
-
-
-class _Clients:
-    """The connections of a server, each by its number, with the place that its datagrams go to."""
-
-    def __init__(self, own: Address, programs: Iterable[Tuple[int, int, int]], most: int) -> None:
-        self._listener, self._programs, self._by_number = Listener(own, most), list(programs), {}
-
-    def __getitem__(self, number: int) -> Tuple[Connection, tuple]:
-        return self._by_number[number]
-
-    def __delitem__(self, number: int) -> None:
-        self._listener.remove(number)
-        del self._by_number[number]
-
-    def turns(self, packet: Optional[bytes], place: Optional[tuple]) -> List[int]:
-        """Whose turn it is: the one's that a packet is of, which may begin by it; that of all at a tick. A client for which there is no room is not heard."""
-        if packet is None:
-            return list(self._by_number)
-        found = self._listener.find(packet)
-        if not isinstance(found, Opening):
-            return [] if found is None else [found]
-        try:
-            server = Server(self._programs)
-            number, endpoint = self._listener.accept(found)
-        except (NoSlot, NoMemory):
-            return []
-        self._by_number[number] = Connection(endpoint, server), place
-        return [number]
+    def _next_event(self) -> Event:
+        """The next event of the connection. That it is closed is the last one, and stays."""
+        while self._closed is None:
+            for event in self._host.events():
+                if not isinstance(event, Closed):
+                    return event
+                self._closed = event
+            self._carrier.send()
+            if self._closed is None:
+                self._carrier.wait()
+        return self._closed
 
 
-def _moved(step: Callable[[], List[bytes]]) -> Optional[List[bytes]]:
-    """What a step of a connection gives to be sent; None where what the other side says is against the protocol."""
-    try:
-        return step()
-    except NoMemory:  # as if the packet were lost
-        return []
-    except XnsError:
-        return None
-
-
-def _served(client: Connection, packet: Optional[bytes], answer: Callable[[Server, Message], None]) -> Optional[List[bytes]]:
-    """What is to be sent to a client behind a packet of its, or a tick, once its calls are answered; None where what it says is against the protocol."""
-    packets, more = [], _moved(client.tick if packet is None else lambda: client.receive(packet))
-    while more is not None:
-        packets += more
-        if not client.session.is_busy:
-            return packets
-        call = client.session.call()
-        if call is not None:
-            answer(client.session, call)
-        more = _moved(client.turn)
-        if call is None and not more:
-            return packets
-    return None
+def _raise(closed: Closed) -> None:
+    """Raises why a connection is closed, where no side asked for it."""
+    if closed.why == Why.SILENT:
+        raise TimeoutError("the server does not answer")
+    if closed.why == Why.NOT_SERVED:
+        raise ConnectionRefusedError("there is no server")
+    if closed.why == Why.REFUSED:
+        _done(closed.fault)
 
 
 def serve(
     udp: socket.socket,
     own: Address,
     programs: Iterable[Tuple[int, int, int]],
-    answer: Callable[[Server, Message], None],
-    most: int = 64,
-    most_silent: int = MOST_SILENT,
+    answer: Callable[[Call], Reply],
+    other: Optional[Callable[[bytes, tuple], None]] = None,
+    **settings: Optional[int],
 ) -> None:
-    """Serves up to `most` clients at once over UDP, one packet a datagram, and does not return. `answer` is given each call, with the server that it
-    answers by; what it raises ends all. A client is dropped where nothing came from it for `most_silent` ticks, or what it says is against the protocol."""
-    clients = _Clients(own, programs, most)
-    for packet, source in datagrams(udp):
-        for number in clients.turns(packet, source):
-            client, place = clients[number]
-            packets = _served(client, packet, answer)
-            _send(udp, place, packets or ())
-            if packets is None or client.silent >= most_silent:
-                del clients[number]
+    """Serves clients over UDP by a host with these settings, and does not return. `answer` is given each call, and gives what it is answered by
+    `returns`, `aborts` or `rejects`; what it raises ends all. `other` is given each packet that is not the host's, as one of a packet exchange, with
+    the place that it comes from."""
+    with Host(own, **settings) as host:
+        host.serve(own.socket, programs)
+        carrier = _Carrier(udp, host, other)
+        while True:
+            carrier.wait()
+            for event in host.events():
+                if isinstance(event, Call):
+                    _answer(host, carrier.now, event.number, answer(event))
+            carrier.send()
+
+
+def _answer(host: Host, now: int, number: int, reply: Reply) -> None:
+    """Answers a call, unless its connection has closed."""
+    try:
+        host.answer(now, number, reply)
+    except (Closing, NoConnection):
+        pass
 
 
 # ---- Courier's values, in words
@@ -1097,7 +1139,7 @@ class Reader:
 
     def text(self) -> bytes:
         """The bytes of a text."""
-        return _written("read_text", 2 * len(self._words), self._words, self._count, byref(self._cursor))
+        return _written("read_text", len(self._words), self._words, self._count, byref(self._cursor))
 
     def end(self) -> None:
         """No word may be left."""

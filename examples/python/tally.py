@@ -1,6 +1,5 @@
-"""A tally over UDP, one packet a datagram. `tally.py serve PORT` answers calls, of up to 64 clients; `tally.py add PORT NUMBER ..` adds numbers, prints
-each answer, and closes. Procedure 1 of program 7 adds a cardinal and returns the total. python/ is in PYTHONPATH, and XNS_LIBRARY or the system names
-libxns.so."""
+"""A tally over UDP, one packet a datagram. `tally.py serve PORT` answers calls; `tally.py add PORT NUMBER ..` adds numbers, prints each answer, and closes.
+Procedure 1 of program 7 adds a cardinal and returns the total. python/ is in PYTHONPATH, and XNS_LIBRARY or the system names libxns.so."""
 import socket
 import sys
 
@@ -14,26 +13,24 @@ class Tally:
     def __init__(self):
         self.total = 0
 
-    def answer(self, server, call):
+    def answer(self, call):
         if call.procedure != ADD:
-            server.rejects(xns.Reject.NO_SUCH_PROCEDURE)
-            return
+            return xns.rejects(xns.Reject.NO_SUCH_PROCEDURE)
         arguments = xns.Reader(call.words)
         try:
             number = arguments.cardinal()
             arguments.end()
         except xns.XnsError:
-            server.rejects(xns.Reject.INVALID_ARGUMENTS)
-            return
+            return xns.rejects(xns.Reject.INVALID_ARGUMENTS)
         self.total = (self.total + number) % 2**32
-        server.returns(xns.Writer().long_cardinal(self.total).words)
+        return xns.returns(xns.Writer().long_cardinal(self.total).words)
 
 
 def add(udp, place, numbers):
-    client = xns.Client(udp, place, CLIENT, SERVER)
+    client = xns.Client(udp, place, CLIENT, SERVER, first_wait=100, longest_wait=1000, tries=6)
     for number in numbers:
-        outcome = client.call(PROGRAM, VERSION, ADD, [number])
-        print(outcome.kind.name.lower(), *outcome.words)
+        answer = client.call(PROGRAM, VERSION, ADD, [number])
+        print(answer.kind.name.lower(), *answer.words)
     client.close()
 
 
@@ -45,5 +42,5 @@ if __name__ == "__main__":
         else:
             try:
                 add(udp, ("127.0.0.1", int(sys.argv[2])), map(int, sys.argv[3:]))
-            except TimeoutError as silent:
-                sys.exit(str(silent))
+            except OSError as error:  # the server is silent, or gone
+                sys.exit(str(error))

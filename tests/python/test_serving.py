@@ -1,34 +1,58 @@
 """`serve` and `Client` of the module, over UDP on this machine, in one process."""
 import socket
+import struct
 import threading
 import time
 import unittest
 
 import xns
+from relay import LOCAL, Peer, bound
 
 SERVER, CLIENT = xns.Address(1, bytes.fromhex("0000aa000102"), 5), xns.Address(1, bytes.fromhex("0000aa000304"), 1024)
 PROGRAMS = [(7, 1, 2)]
-LOCAL = "127.0.0.1"
-
-
-def bound():
-    one = socket.socket(socket.AF_INET, socket.SOCK_DGRAM)
-    one.bind((LOCAL, 0))
-    return one
+QUICK = {"first_wait": 20, "longest_wait": 100, "tries": 3}  # silent after half a second
 
 
 class End(Exception):
     """Ends a server."""
 
 
-def doubles(server, call):
-    """Procedure 1 returns its words twice, 2 ends the server, and there is no other."""
+def doubles(call):
+    """Procedure 1 returns its words twice, 2 ends the server, 3 is an error, and there is no other."""
     if call.procedure == 2:
         raise End
     if call.procedure == 1:
-        server.returns(call.words * 2)
-    else:
-        server.rejects(xns.Reject.NO_SUCH_PROCEDURE)
+        return xns.returns(call.words * 2)
+    return xns.aborts(9, [8]) if call.procedure == 3 else xns.rejects(xns.Reject.NO_SUCH_PROCEDURE)
+
+
+def exchanges(udp):
+    """Answers packet exchanges with what is asked, backwards."""
+
+    def answer(packet, place):
+        try:
+            told = xns.decode(packet)
+        except xns.XnsError:
+            return
+        if told.kind == xns.PacketType.EXCHANGE:
+            _, _, data = xns.exchange_read(told.body)
+            udp.sendto(xns.exchange_reply(SERVER, packet, data[::-1]), place)
+
+    return answer
+
+
+def from_port_0(data, port):
+    """Sends a datagram whose source port is 0, which takes the rights of root."""
+    with socket.socket(socket.AF_INET, socket.SOCK_RAW, socket.IPPROTO_UDP) as raw:
+        raw.sendto(struct.pack("!HHHH", 0, port, 8 + len(data), 0) + data, (LOCAL, 0))
+
+
+def may_send_raw():
+    try:
+        socket.socket(socket.AF_INET, socket.SOCK_RAW, socket.IPPROTO_UDP).close()
+    except PermissionError:
+        return False
+    return True
 
 
 class Serving(unittest.TestCase):
@@ -41,79 +65,162 @@ class Serving(unittest.TestCase):
 
     def serve(self):
         try:
-            xns.serve(self.udp, SERVER, PROGRAMS, doubles, most=2, most_silent=20)
+            xns.serve(self.udp, SERVER, PROGRAMS, doubles, exchanges(self.udp), connections=2, **QUICK)
         except End as ended:
             self.ended = ended
 
-    def client(self, most_silent=50):
+    def client(self, **settings):
         udp = bound()
         self.addCleanup(udp.close)
-        return xns.Client(udp, self.udp.getsockname(), CLIENT, SERVER, most_silent)
+        client = xns.Client(udp, self.udp.getsockname(), CLIENT, SERVER, **{**QUICK, **settings})
+        self.addCleanup(self.leave, client)
+        return client
+
+    @staticmethod
+    def leave(client):
+        """A client that is still there closes."""
+        try:
+            client.close()
+        except (OSError, xns.XnsError):
+            pass
 
     def stop(self):
         """A call of procedure 2 ends the server, and is not answered. The clients of before are gone by then."""
         deadline = time.monotonic() + 20
         while self.thread.is_alive() and time.monotonic() < deadline:
             with self.assertRaises(TimeoutError):
-                self.client(most_silent=5).call(7, 1, 2)
+                self.client().call(7, 1, 2)
         self.thread.join(1)
         self.assertIsInstance(self.ended, End)
 
-    def told(self, outcome):
-        return outcome.kind, outcome.number, outcome.words
+    def told(self, answer):
+        return answer.kind, answer.code, answer.words
 
     def test_calls_are_answered_in_turn(self):
         client = self.client()
         for word in range(20):
             self.assertEqual(self.told(client.call(7, 1, 1, [word])), (xns.Kind.RETURN, 0, [word, word]))
         client.close()
-        self.assertTrue(client.connection.is_closed)
+        client.close()
+        with self.assertRaises(ConnectionResetError):
+            client.call(7, 1, 1)
 
     def test_long_calls_go_both_ways(self):
         words = [word % 65536 for word in range(30_000)]
         self.assertEqual(self.client().call(7, 2, 1, words).words, words * 2)
 
-    def test_what_is_not_there_is_rejected(self):
+    def test_errors_and_rejects(self):
         client = self.client()
+        self.assertEqual(self.told(client.call(7, 1, 3)), (xns.Kind.ABORT, 9, [8]))
         self.assertEqual(self.told(client.call(8, 1, 1)), (xns.Kind.REJECT, xns.Reject.NO_SUCH_PROGRAM, []))
         self.assertEqual(self.told(client.call(7, 3, 1)), (xns.Kind.REJECT, xns.Reject.NO_SUCH_VERSION, [1, 2]))
-        self.assertEqual(self.told(client.call(7, 1, 3)), (xns.Kind.REJECT, xns.Reject.NO_SUCH_PROCEDURE, []))
+        self.assertEqual(self.told(client.call(7, 1, 4)), (xns.Kind.REJECT, xns.Reject.NO_SUCH_PROCEDURE, []))
 
     def test_a_client_more_than_there_is_room_for_waits_for_another_to_go(self):
         first, second = self.client(), self.client()
         for client in (first, second):
             client.call(7, 1, 1)
         with self.assertRaises(TimeoutError):
-            self.client(most_silent=3).call(7, 1, 1)
+            self.client(longest_wait=20).call(7, 1, 1)
         self.assertEqual(first.call(7, 1, 1, [3]).words, [3, 3])
+        second.close()
         self.assertEqual(self.client().call(7, 1, 1, [5]).words, [5, 5])
-        with self.assertRaises(TimeoutError):
-            second.call(7, 1, 1)
 
     def test_a_client_against_the_protocol_is_dropped_alone(self):
-        good, bad = self.client(), self.client()
+        good, udp = self.client(), bound()
+        self.addCleanup(udp.close)
         good.call(7, 1, 1)
-        end = bad.connection.endpoint
-        end.send(bytes(3))  # a message of an odd number of bytes, behind no versions
-        for packet in end.flush():
-            bad._udp.sendto(packet, self.udp.getsockname())
+        bad = Peer.opening(udp, self.udp.getsockname(), CLIENT._replace(socket=1025), SERVER)
+        bad.item()
+        bad.endpoint.send(bytes(3))  # a message of an odd number of bytes
+        bad.until(lambda: not bad.endpoint.unacknowledged)
         self.assertEqual(good.call(7, 1, 1, [4]).words, [4, 4])
+        self.assertEqual(self.client().call(7, 1, 1, [5]).words, [5, 5])  # it has given its place up
+
+    def test_datagrams_of_any_kind(self):
+        client, port = self.client(), self.udp.getsockname()[1]
+        client.call(7, 1, 1)
+        echo = xns.echo_request(CLIENT, SERVER._replace(socket=2), b"Hi")
+        opening = xns.Endpoint.initiator(CLIENT, 7, SERVER).resend_first()
+        for data in (b"", b"\0", echo[:20], bytes(576), bytes(range(256)) * 5, opening[:-1]):
+            client._carrier._udp.sendto(data, (LOCAL, port))
+        if may_send_raw():
+            for data in (b"", b"\0", echo, opening):  # an answer to port 0 can't be sent
+                from_port_0(data, port)
+        self.assertEqual(client.call(7, 1, 1, [6]).words, [6, 6])
+
+    def test_echo_and_packet_exchange_beside_calls(self):
+        client = self.client()
+        client.call(7, 1, 1)
+        with bound() as udp:
+            udp.settimeout(5)
+            udp.sendto(xns.echo_request(CLIENT, SERVER._replace(socket=2), b"Hi"), self.udp.getsockname())
+            self.assertEqual(xns.echo_accept(SERVER._replace(socket=2), udp.recv(2048)), b"Hi")
+            udp.sendto(xns.exchange_request(CLIENT, SERVER, 77, 5, b"abc"), self.udp.getsockname())
+            self.assertEqual(xns.exchange_accept(SERVER, 77, udp.recv(2048)), b"cba")
+        self.assertEqual(client.call(7, 1, 1, [6]).words, [6, 6])
 
 
 class Alone(unittest.TestCase):
+    """Servers that are none."""
+
+    def setUp(self):
+        self.udp, self.nobody = bound(), bound()
+        self.addCleanup(self.udp.close)
+        self.addCleanup(self.nobody.close)
+
+    def client(self, place=None):
+        return xns.Client(self.udp, place or self.nobody.getsockname(), CLIENT, SERVER, **QUICK)
+
     def test_a_server_that_is_not_there(self):
-        nobody = bound()
-        self.addCleanup(nobody.close)
-        udp = bound()
-        self.addCleanup(udp.close)
+        client = self.client()
+        for _ in range(2):
+            with self.assertRaises(TimeoutError):
+                client.call(7, 1, 1)
         with self.assertRaises(TimeoutError):
-            xns.Client(udp, nobody.getsockname(), CLIENT, SERVER, most_silent=2).call(7, 1, 1)
+            client.close()
 
     def test_a_send_that_fails_is_a_lost_packet(self):
-        udp = bound()
-        self.addCleanup(udp.close)
         with self.assertRaises(TimeoutError):
-            xns.Client(udp, (LOCAL, 0), CLIENT, SERVER, most_silent=2).call(7, 1, 1)
+            self.client((LOCAL, 0)).call(7, 1, 1)
+
+    def answered_by(self, answer):
+        """A call to a server that does this."""
+        client, thread = self.client(), threading.Thread(target=answer, daemon=True)
+        thread.start()
+        try:
+            return client.call(7, 1, 1)
+        finally:
+            thread.join(5)
+
+    def test_an_error_packet_says_that_there_is_none(self):
+        def answer():
+            opening, place = self.nobody.recvfrom(2048)
+            self.nobody.sendto(xns.complain(SERVER, 2, 0, opening), place)
+
+        with self.assertRaises(ConnectionRefusedError):
+            self.answered_by(answer)
+
+    def says(self, *items):
+        def answer():
+            peer = Peer.answering(self.nobody, SERVER)
+            for item in items:
+                peer.endpoint.send(*item)
+            peer.until(lambda: not peer.endpoint.unacknowledged)
+
+        return answer
+
+    def test_attention_amid_a_call(self):
+        with self.assertRaises(xns.Attention):
+            self.answered_by(self.says(xns.Item(b"\1", attention=True, last=False)))
+
+    def test_an_answer_to_another_call(self):
+        with self.assertRaises(xns.WrongTransaction):
+            self.answered_by(self.says(xns.Item(bytes.fromhex("00027777"))))
+
+    def test_a_server_that_closes(self):
+        with self.assertRaises(ConnectionResetError):
+            self.answered_by(self.says(xns.Item(b"", xns.Stream.END)))
 
 
 if __name__ == "__main__":

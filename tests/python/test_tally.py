@@ -1,10 +1,8 @@
-"""The example examples/python/tally.py, and those of examples/c where TALLY_C names the folder of `server` and `client`: a server and its clients as
-processes, over a network that loses one packet in four. Where `refused_server` and `refused_client` stand there too, each growth of them is refused in
-turn, and where valgrind is there, both are run under it."""
+"""The example examples/python/tally.py, and those of examples/c where TALLY_C names the folder of `server` and `client`: servers and clients as processes,
+over a network that spoils one packet in ten. Where `refused_server` and `refused_client` stand there too, each growth of them is refused in turn, and where
+valgrind is there, both are run under it. Each client makes TALLY_CALLS calls, 30 where that is not said."""
 import os
 import pathlib
-import random
-import selectors
 import shutil
 import socket
 import subprocess
@@ -15,71 +13,48 @@ import time
 import unittest
 
 import xns
+from relay import Peer, Relay, bound
 
-LOCAL = "127.0.0.1"
 TALLY = [sys.executable, str(pathlib.Path(__file__).resolve().parents[2] / "examples" / "python" / "tally.py")]
 PYTHON = [*TALLY, "serve"], [*TALLY, "add"]
 FOLDER = os.environ.get("TALLY_C")
 C = ([f"{FOLDER}/server"], [f"{FOLDER}/client"]) if FOLDER else None
+BOTH = [PYTHON, C] if C else [PYTHON]
 VALGRIND = ["valgrind", "-q", "--leak-check=full", "--show-leak-kinds=all", "--error-exitcode=9"]
+CALLS = int(os.environ.get("TALLY_CALLS", "30"))
+CLIENTS = 20
+SERVER, CLIENT = xns.Address(1, bytes.fromhex("0000aa000102"), 5), xns.Address(1, bytes.fromhex("0000aa000304"), 1024)
 
 
-def bound():
-    one = socket.socket(socket.AF_INET, socket.SOCK_DGRAM)
-    one.bind((LOCAL, 0))
-    return one
-
-
-class Relay(threading.Thread):
-    """Brings each client's datagrams to the server and back, but for one of so many; it loses none where that is 0."""
-
-    def __init__(self, server, one_of):
-        super().__init__(daemon=True)
-        self.server, self.one_of, self.clients, self.chance = server, one_of, bound(), random.Random(1)
-        self.behind, self.lost, self.stops = {}, 0, False
-
-    def run(self):
-        with selectors.DefaultSelector() as waiting:
-            waiting.register(self.clients, selectors.EVENT_READ, None)
-            while not self.stops:
-                for key, _ in waiting.select(0.1):
-                    packet, place = key.fileobj.recvfrom(2048)
-                    if key.data is None and place not in self.behind:
-                        self.behind[place] = bound()
-                        waiting.register(self.behind[place], selectors.EVENT_READ, place)
-                    if self.one_of and self.chance.randrange(self.one_of) == 0:
-                        self.lost += 1
-                    elif key.data is None:
-                        self.behind[place].sendto(packet, self.server)
-                    else:
-                        self.clients.sendto(packet, key.data)
-        for one in [self.clients, *self.behind.values()]:
-            one.close()
+def started(client, port, numbers, **more):
+    words = [*client, str(port), *map(str, numbers)]
+    return subprocess.Popen(words, stdout=subprocess.PIPE, stderr=subprocess.PIPE, text=True, env={**os.environ, **more})
 
 
 class Serving:
-    """A server that runs, behind a relay."""
+    """A server that runs, behind a relay or not."""
 
-    def __init__(self, words, one_of=4, **more):
+    def __init__(self, words, one_of=0, dies_after=None, **more):
         with bound() as free:
-            server = free.getsockname()
-        self.process = subprocess.Popen([*words, str(server[1])], stderr=subprocess.PIPE, text=True, env={**os.environ, **more})
-        self.relay = Relay(server, one_of)
+            self.place = free.getsockname()
+        self.process = subprocess.Popen([*words, str(self.place[1])], stderr=subprocess.PIPE, text=True, env={**os.environ, **more})
+        self.relay = Relay(self.place, one_of, dies_after) if one_of or dies_after else None
 
     def __enter__(self):
-        self.relay.start()
+        if self.relay:
+            self.relay.start()
         return self
 
     def __exit__(self, *_):
-        self.relay.stops = True
-        self.relay.join()
+        if self.relay:
+            self.relay.stops = True
+            self.relay.join()
         self.ended = self.process.poll()
         self.process.terminate()
         self.told = self.process.communicate(timeout=60)[1]
 
     def client(self, words, numbers, **more):
-        words = [*words, str(self.relay.clients.getsockname()[1]), *map(str, numbers)]
-        return subprocess.Popen(words, stdout=subprocess.PIPE, stderr=subprocess.PIPE, text=True, env={**os.environ, **more})
+        return started(words, self.relay.port if self.relay else self.place[1], numbers, **more)
 
 
 def total(line):
@@ -88,91 +63,146 @@ def total(line):
     return 65536 * int(high) + int(low)
 
 
+class Slow(threading.Thread):
+    """A server that answers each call after so many seconds, and meanwhile says what a host says by itself."""
+
+    def __init__(self, seconds):
+        super().__init__(daemon=True)
+        self.udp, self.seconds, self.stops = bound(), seconds, False
+
+    def run(self):
+        self.udp.settimeout(0.05)
+        places, waiting = [], []
+        with xns.Host(SERVER, idle=1000) as host:
+            host.serve(5, [(7, 1, 1)])
+            while not self.stops:
+                now = time.monotonic_ns() // 1_000_000
+                try:
+                    packet, place = self.udp.recvfrom(2048)
+                    places += [place] if place not in places else []
+                    host.receive(now, places.index(place), packet)
+                except socket.timeout:
+                    pass
+                waiting += [(now + 1000 * self.seconds, event.number, event.words) for event in host.events() if isinstance(event, xns.Call)]
+                for due, number, words in waiting:
+                    if due <= now:
+                        host.answer(now, number, xns.returns([0, *words]))
+                waiting = [one for one in waiting if one[0] > now]
+                for via, packet in host.packets(now):
+                    self.udp.sendto(packet, places[via])
+        self.udp.close()
+
+
 class TallyTest(unittest.TestCase):
-    def serve_and_add(self, server, client, clients, calls):
-        """Each client is answered each of its calls, once, and their totals are those of all calls."""
-        with Serving(server) as serving:
+    def serve_and_add(self, server):
+        """20 clients, of both languages, are answered each of their calls, once; their totals are those of all calls; all are closed."""
+        with Serving(server, 10) as serving:
+            clients = [serving.client(BOTH[k % len(BOTH)][1], [1] * CALLS) for k in range(CLIENTS)]
             totals = []
-            for one in [serving.client(client, [1] * calls) for _ in range(clients)]:
-                out, err = one.communicate(timeout=120)
+            for one in clients:
+                out, err = one.communicate(timeout=600)
                 self.assertEqual((one.returncode, err), (0, ""))
                 seen = [total(line) for line in out.splitlines()]
-                self.assertEqual((len(seen), seen), (calls, sorted(seen)))
+                self.assertEqual((len(seen), seen), (CALLS, sorted(seen)))
                 totals += seen
-            self.assertEqual(sorted(totals), list(range(1, clients * calls + 1)))
+            self.assertEqual(sorted(totals), list(range(1, CLIENTS * CALLS + 1)))
         self.assertEqual((serving.ended, serving.told), (None, ""))
-        self.assertGreater(serving.relay.lost, 50)
+        self.assertGreater(min(serving.relay.spoiled.values()), 10)
 
     def test_python(self):
-        self.serve_and_add(*PYTHON, 4, 20)
+        self.serve_and_add(PYTHON[0])
 
     @unittest.skipUnless(C, "no programs of C")
     def test_c(self):
-        self.serve_and_add(*C, 4, 75)
-
-    @unittest.skipUnless(C, "no programs of C")
-    def test_both(self):
-        self.serve_and_add(C[0], PYTHON[1], 2, 20)
-        self.serve_and_add(PYTHON[0], C[1], 2, 20)
+        self.serve_and_add(C[0])
 
     def test_large_numbers(self):
-        for server, client in filter(None, [PYTHON, C]):
-            with Serving(server, 0) as serving:
+        for server, client in BOTH:
+            with Serving(server) as serving:
                 answers = serving.client(client, [65535, 65535, 2]).communicate(timeout=60)
             self.assertEqual(answers, ("return 0 65535\nreturn 1 65534\nreturn 2 0\n", ""))
 
+    def test_many_short_connections(self):
+        """At a server for 64: 200 one after another, each in no time."""
+        for server, _ in BOTH:
+            with Serving(server) as serving, bound() as udp:
+                begun = time.monotonic()
+                for number in range(200):
+                    client = xns.Client(udp, serving.place, CLIENT, SERVER)
+                    self.assertEqual(client.call(7, 1, 1, [1]).words, [0, number + 1])
+                    client.close()
+                self.assertLess(time.monotonic() - begun, 10)
+            self.assertEqual((serving.ended, serving.told), (None, ""))
+
+    def test_stray_bytes_while_the_server_is_gone(self):
+        """Bytes that are no packet of the server are no word of it: the clients give up in time."""
+        with Serving(BOTH[-1][0], dies_after=40) as serving:
+            begun = time.monotonic()
+            for one in [serving.client(client, [1] * 100) for _, client in BOTH]:
+                out, err = one.communicate(timeout=60)
+                self.assertEqual((one.returncode, err), (1, "the server does not answer\n"))
+                self.assertLess(len(out.splitlines()), 40)
+            self.assertTrue(3 < time.monotonic() - begun < 15)
+
+    def test_a_slow_server(self):
+        """A client waits for an answer as long as the server says that it is there."""
+        slow = Slow(float(os.environ.get("TALLY_SLOW", "7")))
+        slow.start()
+        port, begun = slow.udp.getsockname()[1], time.monotonic()
+        for one in [started(client, port, [5]) for _, client in BOTH]:
+            self.assertEqual((one.communicate(timeout=100), one.returncode), (("return 0 5\n", ""), 0))
+        self.assertGreater(time.monotonic() - begun, slow.seconds)
+        slow.stops = True
+        slow.join()
+
     def test_the_end_before_its_call(self):
         """A call and the end behind it that come the other way round are answered both."""
-        here, there = (xns.Address(1, bytes.fromhex(host), number) for host, number in (("0000aa000304", 1024), ("0000aa000102", 5)))
-        for server in [PYTHON[0], *([C[0]] if C else [])]:
-            with Serving(server, 0) as serving, bound() as udp:
-                place = serving.relay.clients.getsockname()
-                client = xns.Client(udp, place, here, there)
-                self.assertEqual(client.call(7, 1, 1, [1]).words, [0, 1])
-                session, endpoint = client.connection.session, client.connection.endpoint
-                session.call(7, 1, 1, [2])
-                session.pump(endpoint)
-                endpoint.send(b"", stream=xns.Stream.END)
-                for packet in reversed(endpoint.flush()):
-                    udp.sendto(packet, place)
-                while not client.connection.is_closed or endpoint.unacknowledged:
-                    client._wait()
-                self.assertEqual(session.outcome().words, [0, 3])
+        for server, _ in BOTH:
+            with Serving(server) as serving, bound() as udp:
+                client = Peer.opening(udp, serving.place, CLIENT, SERVER)
+                self.assertEqual(client.item().body, Peer.VERSIONS)
+                client.until(lambda: not client.endpoint.unacknowledged)
+                client.endpoint.send(bytes.fromhex("00000001000000070001000100aa"))
+                client.endpoint.send(b"", stream=xns.Stream.END)
+                client.send(reversed(client.endpoint.flush()))
+                self.assertEqual(client.item(), xns.Item(bytes.fromhex("00020001000000aa")))
+                self.assertEqual(client.item(), xns.Item(b"", xns.Stream.END_REPLY))
 
     @unittest.skipUnless(C and shutil.which("valgrind"), "no programs of C, or no valgrind")
     def test_valgrind(self):
-        with Serving([*VALGRIND, *C[0]], 0) as serving:
+        with Serving([*VALGRIND, *C[0]]) as serving:
             one = serving.client([*VALGRIND, *C[1]], [1, 2, 3])
             self.assertEqual((one.communicate(timeout=120), one.returncode), (("return 0 1\nreturn 0 3\nreturn 0 6\n", ""), 0))
         self.assertEqual((serving.ended, serving.process.returncode, serving.told), (None, 0, ""))
 
-    def refuse_each(self, of_server):
-        """With each growth refused in turn all is done; but a client that is refused its first ones says so."""
-        refused_server, refused_client = [f"{FOLDER}/refused_server"], [f"{FOLDER}/refused_client"]
-        growth, done = 0, 0
-        with tempfile.TemporaryDirectory() as folder:
-            while True:
-                growth += 1
-                counted = pathlib.Path(folder) / str(growth)
-                refusal = {"REFUSE_AT": str(growth), "GROWTHS_TO": str(counted)}
-                with Serving(refused_server if of_server else C[0], 0, **(refusal if of_server else {})) as serving:
-                    one = serving.client(C[1] if of_server else refused_client, [1, 2], **({} if of_server else refusal))
-                    out, err = one.communicate(timeout=60)
-                self.assertEqual((serving.ended, serving.process.returncode), (None, 0))
-                if one.returncode == 0:
-                    self.assertEqual((out, err), ("return 0 1\nreturn 0 3\n", ""))
-                    done += 1
-                else:
-                    self.assertEqual((of_server, out, err), (False, "", "client: there is no memory\n"))
-                if int(counted.read_text()) < growth:
-                    break
-        self.assertGreater(done, 5)
-        self.assertLessEqual(growth - done, 0 if of_server else 6)
+    def refuse(self, growth, of_server, counted):
+        """One growth refused: all is done, or the program that was refused says that there is no memory. Whether it was done."""
+        refused = {"REFUSE_AT": str(growth), "GROWTHS_TO": str(counted)}
+        server, client = ([f"{FOLDER}/refused_server"], C[1]) if of_server else (C[0], [f"{FOLDER}/refused_client"])
+        with Serving(server, **(refused if of_server else {})) as serving:
+            one = serving.client(client, [1, 2], **({} if of_server else refused))
+            while one.poll() is None and serving.process.poll() is None:
+                time.sleep(0.005)
+            done = serving.process.poll() is None and one.returncode == 0
+            if not done:
+                one.kill()
+            out, err = one.communicate(timeout=60)
+        told = serving.told if of_server else err
+        self.assertEqual((out, told) if done else told, ("return 0 1\nreturn 0 3\n", "") if done else "there is no memory\n")
+        return done
 
     @unittest.skipUnless(FOLDER and os.path.exists(f"{FOLDER}/refused_server"), "no programs whose growths are refused")
     def test_refusals(self):
-        self.refuse_each(True)
-        self.refuse_each(False)
+        for of_server in (True, False):
+            growth, done, seen = 0, [], True
+            with tempfile.TemporaryDirectory() as folder:
+                while seen:
+                    growth += 1
+                    counted = pathlib.Path(folder) / str(growth)
+                    done.append(self.refuse(growth, of_server, counted))
+                    seen = int(counted.read_text()) >= growth
+            begun = done.index(True)  # by then the host is made
+            self.assertTrue(all(done[begun:]) and len(done) > begun + 10, (of_server, done))
 
 
 if __name__ == "__main__":

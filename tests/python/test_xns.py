@@ -29,6 +29,7 @@ class HeaderTest(unittest.TestCase):
             ("xns_message_kind", "KIND_", xns.Kind),
             ("xns_reject", "REJECT_", xns.Reject),
             ("xns_control", "CONTROL_", xns.Control),
+            ("xns_closed", "CLOSED_", xns.Why),
         ):
             with self.subTest(name):
                 self.assertEqual({one.name: int(one) for one in ours}, self.numbers(name, prefix))
@@ -170,44 +171,6 @@ class PacketTest(unittest.TestCase):
                 xns.message_read(bytes.fromhex(data))
 
 
-class ListenerTest(unittest.TestCase):
-    def test_connections(self):
-        own = HERE._replace(socket=5)
-        with xns.Listener(own, 2) as listener:
-            self.assertEqual(listener.find(OPENING), xns.Opening(THERE, 0x1234))
-            self.assertIsNone(listener.find(REQUEST))
-            self.assertEqual(listener.add(THERE, 0x1234, 0x5678), 0)
-            self.assertEqual(listener.find(OPENING), 0)
-            for peer_id, own_id, error in ((0x1234, 1, xns.InUse), (1, 0x5678, xns.InUse), (1, 0, xns.BadArgument)):
-                with self.assertRaises(error):
-                    listener.add(THERE, peer_id, own_id)
-            self.assertEqual(listener.add(THERE, 1, 1), 1)
-            with self.assertRaises(xns.NoSlot):
-                listener.add(THERE, 2, 2)
-            self.assertTrue(listener.remove(0))
-            self.assertFalse(listener.remove(0))
-            self.assertEqual(listener.find(OPENING), xns.Opening(THERE, 0x1234))
-        with self.assertRaises(xns.NoListener):
-            listener.find(OPENING)
-        with self.assertRaises(xns.BadArgument):
-            xns.Listener(own, 65536)
-
-    def test_numbers_are_not_cut(self):
-        own = HERE._replace(socket=5)
-        with xns.Listener(own, 2) as listener:
-            listener.add(THERE, 1, 1)
-            for number in (-1, 2**64):
-                with self.assertRaises(ValueError):
-                    listener.remove(number)
-                with self.assertRaises(ValueError):
-                    xns.Listener(own, number)
-                with self.assertRaises(ValueError):
-                    xns.Endpoint.initiator(HERE, 1, THERE, window=number)
-                with self.assertRaises(ValueError):
-                    xns.Endpoint.responder(HERE, 1, THERE, 2, backlog=number)
-            self.assertTrue(listener.remove(0))
-
-
 def connected(window=8, backlog=16):
     """Two ends of an open connection."""
     a, b = xns.Endpoint.initiator(THERE, 0x1234, HERE, window, backlog), None
@@ -277,101 +240,222 @@ class EndpointTest(unittest.TestCase):
             with self.assertRaises(xns.BadArgument):
                 xns.Endpoint.initiator(THERE, identifier, HERE, window)
 
-    def test_closed(self):
+    def test_freed(self):
         with xns.Endpoint.initiator(THERE, 1, HERE) as end:
             pass
         self.assertFalse(end.is_open)
         with self.assertRaises(xns.NoEndpoint):
             end.tick()
-        end.close()
+        end.free()
 
 
-class CourierTest(unittest.TestCase):
+class HostTest(unittest.TestCase):
+    """Two hosts, and a network of memory between them that loses nothing."""
+
     def setUp(self):
-        self.a, self.b = connected()
-        self.caller, self.server = xns.Caller(), xns.Server([(7, 1, 2)])
+        self.now, self.client, self.service = 0, xns.Host(THERE), xns.Host(HERE)
+        self.service.serve(5, [(7, 1, 2)])
+        self.number = self.client.connect(self.now, 3, THERE.socket, HERE._replace(socket=5))
 
-    def turn(self):
-        """Both sides move their items and send their packets once."""
-        self.caller.pump(self.a)
-        carry(self.a.flush(), self.b, self.a)
-        self.server.pump(self.b)
-        carry([self.b.system_packet()], self.a, self.b)
-        carry(self.b.flush(), self.a, self.b)
-        self.caller.pump(self.a)
-        carry([self.a.system_packet()], self.b, self.a)
+    def carry(self):
+        """All packets go to the other side, until there are none."""
+        moved = True
+        while moved:
+            moved = False
+            for sender, receiver, via in ((self.client, self.service, 3), (self.service, self.client, 4)):
+                for by, packet in sender.packets(self.now):
+                    self.assertEqual(by, via)
+                    self.assertTrue(receiver.receive(self.now, 7 - via, packet))
+                    moved = True
 
-    def handed(self):
-        while True:
-            self.turn()
-            call = self.server.call()
-            if call:
-                return call
+    def told(self, host):
+        """The one event that is there."""
+        self.carry()
+        (event,) = host.events()
+        return event
 
-    def answered(self):
-        while True:
-            self.turn()
-            answer = self.caller.outcome()
-            if answer:
-                return answer
+    def call(self, words):
+        self.client.call(self.now, self.number, 7, 2, 1, words)
+        call = self.told(self.service)
+        self.assertEqual(call, xns.Call(call.number, 7, 2, 1, words))
+        return call.number
 
     def test_answers(self):
-        for answer, wanted in (
-            (lambda: self.server.returns([0, 5]), xns.Message(xns.Kind.RETURN, [0, 5], 0, 1)),
-            (lambda: self.server.aborts(1, [9]), xns.Message(xns.Kind.ABORT, [9], 1, 2)),
-            (lambda: self.server.rejects(xns.Reject.INVALID_ARGUMENTS), xns.Message(xns.Kind.REJECT, [], 3, 3)),
+        for reply, wanted in (
+            (xns.returns([0, 5]), (xns.Kind.RETURN, 0, [0, 5])),
+            (xns.aborts(1, [9]), (xns.Kind.ABORT, 1, [9])),
+            (xns.rejects(xns.Reject.INVALID_ARGUMENTS), (xns.Kind.REJECT, 3, [])),
         ):
-            self.caller.call(7, 2, 1, [5])
+            number = self.call([5])
             with self.assertRaises(xns.Busy):
-                self.caller.call(7, 2, 1, [5])
-            self.assertEqual(self.handed()._replace(transaction=0), xns.Message(xns.Kind.CALL, [5], 0, 0, 7, 2, 1))
-            self.assertTrue(self.server.is_busy)
-            answer()
-            self.assertEqual(self.answered(), wanted)
-            self.assertIsNone(self.caller.outcome())
-        with self.assertRaises(LookupError):
-            self.server.returns()
+                self.client.call(self.now, self.number, 7, 2, 1, [5])
+            self.service.answer(self.now, number, reply)
+            self.assertEqual(self.told(self.client), xns.Answer(self.number, *wanted))
+            self.assertEqual((list(self.client.events()), list(self.service.events())), ([], []))
+            with self.assertRaises(LookupError):
+                self.service.answer(self.now, number, reply)
+        with self.assertRaises(xns.PeerCalls):
+            self.service.call(self.now, number, 7, 2, 1)
 
     def test_unlisted(self):
         for program, version, number, words in ((9, 1, xns.Reject.NO_SUCH_PROGRAM, []), (7, 3, xns.Reject.NO_SUCH_VERSION, [1, 2])):
-            self.caller.call(program, version, 1)
-            while True:
-                self.turn()
-                self.assertIsNone(self.server.call())
-                answer = self.caller.outcome()
-                if answer:
-                    break
-            self.assertEqual((answer.kind, answer.number, answer.words), (xns.Kind.REJECT, number, words))
+            self.client.call(self.now, self.number, program, version, 1)
+            self.assertEqual(self.told(self.client), xns.Answer(self.number, xns.Kind.REJECT, number, words))
+            self.assertEqual(list(self.service.events()), [])
 
     def test_longest(self):
         words = [number % 65536 for number in range(xns.MOST_CALL_WORDS)]
-        self.caller.call(7, 1, 1, words)
-        self.assertEqual(self.handed().words, words)
-        self.server.returns([7] * xns.MOST_MESSAGE_WORDS)
-        self.assertEqual(self.answered().words, [7] * xns.MOST_MESSAGE_WORDS)
+        number = self.call(words)
+        self.service.answer(self.now, number, xns.returns([7] * xns.MOST_MESSAGE_WORDS))
+        self.assertEqual(self.told(self.client).words, [7] * xns.MOST_MESSAGE_WORDS)
         with self.assertRaises(xns.TooLong):
-            self.caller.call(7, 1, 1, words + [0])
-        with self.assertRaises(ValueError):
-            self.caller.call(7, 1, 1, [65536])
+            self.client.call(self.now, self.number, 7, 1, 1, words + [0])
+        for word in (65536, -1):
+            with self.assertRaises(ValueError):
+                self.client.call(self.now, self.number, 7, 1, 1, [word])
 
     def test_closing(self):
-        self.turn()
-        self.a.send(b"", stream=xns.Stream.END)
-        carry(self.a.flush(), self.b, self.a)
+        number = self.call([5])
+        self.client.close(self.now, self.number)
         with self.assertRaises(xns.Closing):
-            self.server.pump(self.b)
-        self.assertEqual(self.b.take(), xns.Item(b"", xns.Stream.END))
-        with self.assertRaises(xns.OtherStream):
-            self.caller.feed(xns.Item(b"", 9))
-        with self.assertRaises(xns.Stopped):
-            self.caller.call(7, 1, 1)
+            self.client.call(self.now, self.number, 7, 2, 1)
+        self.service.answer(self.now, number, xns.returns())
+        self.carry()
+        self.assertEqual(list(self.client.events()), [xns.Answer(self.number, xns.Kind.RETURN, 0, []), xns.Closed(self.number, xns.Why.ASKED, None)])
+        self.assertEqual(list(self.service.events()), [xns.Closed(number, xns.Why.BY_PEER, None)])
+        self.now = 20_000
+        self.carry()
+        self.assertEqual((self.client.connections, self.client.wake()), (0, None))
 
-    def test_without_an_endpoint(self):
-        self.assertEqual(self.caller.next_item(), xns.Item(bytes.fromhex("00030003")))
-        versions = self.server.next_item()
-        self.server.feed(xns.Item(bytes.fromhex("00030003")))
-        self.caller.feed(versions)
-        self.assertIsNone(self.caller.next_item())
+    def test_silence(self):
+        with xns.Host(THERE, first_wait=100, longest_wait=300, tries=4) as client:
+            number = client.connect(0, 3, 1024, HERE._replace(socket=5))
+            times, now = [], 0
+            while now is not None:
+                times += [now for _ in client.packets(now)]
+                for event in client.events():
+                    self.assertEqual((event, now), (xns.Closed(number, xns.Why.SILENT, None), 1200))
+                now = client.wake()
+            self.assertEqual(times, [0, 100, 300, 600, 900])
+
+    def test_attention_amid_a_call(self):
+        peer, own = HERE._replace(socket=5), THERE._replace(socket=2000)
+        end = xns.Endpoint.initiator(own, 77, peer)
+
+        def say(packets):
+            for packet in packets:
+                self.assertTrue(self.service.receive(self.now, 4, packet))
+            for _, packet in self.service.packets(self.now):
+                reply = end.receive(packet).reply
+                self.service.receive(self.now, 4, reply)
+
+        say(end.tick())
+        for item in (xns.Item(bytes.fromhex("00030003")), xns.Item(bytes.fromhex("000000010000000700020001"))):
+            end.send(*item)
+            say(end.tick())
+        (call,) = self.service.events()
+        end.send(b"\1", attention=True, last=False)
+        say(end.tick())
+        self.assertEqual(list(self.service.events()), [])  # it is read when the call is answered
+        self.service.answer(self.now, call.number, xns.returns())
+        self.assertEqual(list(self.service.events()), [xns.Closed(call.number, xns.Why.REFUSED, xns.Result.ATTENTION)])
+        with self.assertRaises(xns.Closing):
+            self.service.answer(self.now, call.number, xns.returns())
+        say([])
+        self.call([6])  # the other one goes on
+
+    def test_what_is_not_for_the_host(self):
+        self.assertFalse(self.service.receive(0, 0, b""))
+        self.assertFalse(self.service.receive(0, 0, REQUEST[:-1]))
+        self.assertFalse(self.service.receive(0, 0, xns.exchange_request(THERE, HERE, 1, 5, b"")))
+        self.assertTrue(self.service.receive(0, 9, REQUEST))
+        self.assertEqual(list(self.service.packets(0)), [(9, REPLY)])
+
+    def test_peers(self):
+        self.assertEqual(self.client.peer(self.number), HERE._replace(socket=5))
+        self.assertEqual(self.service.peer(self.call([])), THERE)
+        self.assertEqual((self.client.connections, self.service.connections), (1, 1))
+        with self.assertRaises(xns.NoConnection):
+            self.client.peer(64)
+        for _ in range(63):
+            self.client.connect(0, 3, 7, HERE)
+        with self.assertRaises(xns.NoSlot):
+            self.client.connect(0, 3, 7, HERE)
+        for number in range(15):
+            self.service.serve(100 + number)
+        self.service.serve(5)
+        with self.assertRaises(xns.TooManyServices):
+            self.service.serve(200)
+
+    def test_settings(self):
+        for settings in ({"tries": 0}, {"tries": 256}, {"window": 65}, {"backlog": -1}, {"connections": 65536}, {"idle": 2**32}, {"longest_wait": 2**64}):
+            with self.assertRaises(ValueError):
+                xns.Host(HERE, **settings)
+        with self.assertRaises(xns.BadArgument):
+            xns.Host(HERE, longest_wait=249)
+        with self.assertRaises(TypeError):
+            xns.Host(HERE, waits=9)
+        for secret in (b"", bytes(31), bytes(33)):
+            with self.assertRaises(ValueError):
+                xns.Host(HERE, secret)
+        with self.assertRaises(TypeError):
+            xns.Host(HERE, 32)
+
+    def test_secrets(self):
+        """One secret gives one order of identifiers; without one they are others each time."""
+        peer = HERE._replace(socket=5)
+
+        def opening(*secret):
+            with xns.Host(THERE, *secret) as host:
+                host.connect(0, 0, 1024, peer)
+                ((_, packet),) = host.packets(0)
+                return packet
+
+        self.assertEqual(opening(bytes(32)), opening(bytes(32)))
+        self.assertNotEqual(opening(bytes(32)), opening(b"\1" * 32))
+        self.assertGreater(len({opening() for _ in range(8)}), 6)
+
+    def test_idle_peers_are_asked_or_never(self):
+        for idle, wake in ((5000, 5000), (None, None)):
+            with xns.Host(THERE, idle=idle) as client:
+                number = client.connect(0, 3, 1024, HERE._replace(socket=5))
+                self.client, self.number = client, number
+                self.carry()
+                self.assertEqual(client.wake(), wake)
+
+    def test_numbers_are_not_cut(self):
+        for number in (-1, 2**64):
+            for call in (
+                lambda: self.client.peer(number),
+                lambda: self.client.close(0, number),
+                lambda: self.client.call(0, number, 7, 1, 1),
+                lambda: self.client.call(number, 0, 7, 1, 1),
+                lambda: self.client.call(0, 0, number, 1, 1),
+                lambda: self.client.call(0, 0, 7, number, 1),
+                lambda: self.client.call(0, 0, 7, 1, number),
+                lambda: self.client.answer(0, number, xns.returns()),
+                lambda: self.client.answer(0, 0, xns.aborts(number)),
+                lambda: self.client.receive(number, 0, b""),
+                lambda: self.client.receive(0, number, b""),
+                lambda: self.client.connect(0, number, 5, HERE),
+                lambda: self.client.connect(0, 0, number, HERE),
+                lambda: self.client.connect(0, 0, 5, HERE._replace(network=number)),
+                lambda: list(self.client.packets(number)),
+                lambda: self.client.serve(number),
+                lambda: self.client.serve(5, [(number, 1, 1)]),
+                lambda: self.client.serve(5, [(7, 1, number)]),
+                lambda: xns.Endpoint.initiator(HERE, 1, THERE, window=number),
+                lambda: xns.Endpoint.responder(HERE, 1, THERE, 2, backlog=number),
+            ):
+                with self.assertRaises(ValueError):
+                    call()
+
+    def test_freed(self):
+        self.client.free()
+        with self.assertRaises(xns.NoHost):
+            self.client.receive(0, 0, REQUEST)
+        self.assertEqual((self.client.connections, self.client.wake()), (0, None))
+        self.client.free()
 
 
 if __name__ == "__main__":

@@ -1,0 +1,137 @@
+"""Networks for the tests: a relay between UDP clients and a server that spoils some of their datagrams, and an end of a connection over UDP that says what
+no client says."""
+import heapq
+import random
+import selectors
+import socket
+import threading
+import time
+
+import xns
+
+LOCAL = "127.0.0.1"
+
+
+def bound():
+    one = socket.socket(socket.AF_INET, socket.SOCK_DGRAM)
+    one.bind((LOCAL, 0))
+    return one
+
+
+class Relay(threading.Thread):
+    """Brings each client's datagrams to the server and back. Of so many one is dropped, repeated, delayed or corrupted; none where that is 0. After
+    `dies_after` datagrams none goes on, and each client is sent stray bytes every 0.3 seconds."""
+
+    STRAY = 0.3
+    MOST_DELAY = 0.05
+
+    def __init__(self, server, one_of, dies_after=None):
+        super().__init__(daemon=True)
+        self.server, self.one_of, self.dies_after, self.clients, self.chance = server, one_of, dies_after, bound(), random.Random(1)
+        self.behind, self.late, self.stops, self.next_stray = {}, [], False, 0.0
+        self.seen, self.spoiled = 0, dict.fromkeys(("dropped", "repeated", "delayed", "corrupted"), 0)
+
+    @property
+    def port(self):
+        return self.clients.getsockname()[1]
+
+    def run(self):
+        with selectors.DefaultSelector() as waiting:
+            waiting.register(self.clients, selectors.EVENT_READ, None)
+            while not self.stops:
+                for key, _ in waiting.select(0.1 if not self.late else max(0, self.late[0][0] - time.monotonic())):
+                    packet, place = key.fileobj.recvfrom(2048)
+                    if key.data is None and place not in self.behind:
+                        self.behind[place] = bound()
+                        waiting.register(self.behind[place], selectors.EVENT_READ, place)
+                    way = (self.behind[place], self.server) if key.data is None else (self.clients, key.data)
+                    self.pass_on(packet, way)
+                self.send_late()
+        for one in [self.clients, *self.behind.values()]:
+            one.close()
+
+    def pass_on(self, packet, way):
+        self.seen += 1
+        if self.dies_after is not None and self.seen > self.dies_after:
+            return
+        if not self.one_of or self.chance.randrange(self.one_of):
+            self.send(packet, way)
+            return
+        fault = self.chance.choice(list(self.spoiled))
+        self.spoiled[fault] += 1
+        if fault == "repeated":
+            self.send(packet, way)
+            self.send(packet, way)
+        elif fault == "delayed":
+            heapq.heappush(self.late, (time.monotonic() + self.chance.uniform(0, self.MOST_DELAY), self.seen, packet, way))
+        elif fault == "corrupted":
+            at = self.chance.randrange(len(packet))
+            self.send(packet[:at] + bytes([packet[at] ^ self.chance.randrange(1, 256)]) + packet[at + 1 :], way)
+
+    def send_late(self):
+        now = time.monotonic()
+        while self.late and self.late[0][0] <= now:
+            _, _, packet, way = heapq.heappop(self.late)
+            self.send(packet, way)
+        if self.dies_after is not None and self.seen > self.dies_after and self.next_stray <= now:
+            self.next_stray = now + self.STRAY
+            for client in self.behind:
+                self.send(self.chance.randbytes(self.chance.randrange(80)), (self.clients, client))
+
+    @staticmethod
+    def send(packet, way):
+        udp, place = way
+        udp.sendto(packet, place)
+
+
+class Peer:
+    """An endpoint over UDP, whose items the test says itself."""
+
+    VERSIONS = bytes.fromhex("00030003")
+
+    def __init__(self, udp, place, endpoint):
+        udp.settimeout(0.1)
+        self.udp, self.place, self.endpoint = udp, place, endpoint
+
+    @classmethod
+    def opening(cls, udp, place, own, peer):
+        """The side that opens: it waits until it is open, and says its versions."""
+        one = cls(udp, place, xns.Endpoint.initiator(own, xns.new_identifier(), peer))
+        one.until(lambda: one.endpoint.is_open)
+        one.endpoint.send(cls.VERSIONS)
+        return one
+
+    @classmethod
+    def answering(cls, udp, own):
+        """The side that is opened, by the packet that comes first."""
+        udp.settimeout(5)
+        packet, place = udp.recvfrom(2048)
+        one = cls(udp, place, xns.Endpoint.responder(own, xns.new_identifier(), *xns.opening(packet)))
+        one.take_in(packet)
+        one.endpoint.send(cls.VERSIONS)
+        return one
+
+    def send(self, packets):
+        for packet in packets:
+            self.udp.sendto(packet, self.place)
+
+    def take_in(self, packet):
+        reply = self.endpoint.receive(packet).reply
+        self.send([reply] if reply else [])
+
+    def until(self, is_done, seconds=5):
+        """Sends and takes in packets until it is so."""
+        deadline = time.monotonic() + seconds
+        while not is_done():
+            if time.monotonic() > deadline:
+                raise TimeoutError
+            self.send(self.endpoint.tick())
+            try:
+                self.take_in(self.udp.recv(2048))
+            except socket.timeout:
+                pass
+
+    def item(self):
+        """The next item that comes."""
+        self.until(lambda: self.endpoint.waiting)
+        return self.endpoint.take()
