@@ -2,49 +2,18 @@
 #define _POSIX_C_SOURCE 200809L
 #include "udp.h"
 
-enum { MOST_TICKS = 50 };
-
 static const struct xns_address HERE = { 1, { 0, 0, 0xaa, 0, 3, 4 }, 1024 }, SERVER = { 1, { 0, 0, 0xaa, 0, 1, 2 }, XNS_SOCKET_COURIER };
-static struct xns_endpoint end;
-static struct xns_caller caller;
-static struct sockaddr_in place;
-static int udp, ticks, is_closed, owes_reply;
+static const struct xns_settings SETTINGS = { 1, 0, 0, 100, 1000, 0, 6 }; /* a server that is silent for 4.5 seconds is gone */
+static struct xns_host host;
+static size_t connection;
 
-static void check(uint32_t told) {
-    if (told == XNS_OK) return;
-    fprintf(stderr, "client: %s\n", xns_result_text((enum xns_result)told));
-    exit(1);
-}
-
-/* Items move, and packets go out. The item by which the server closes is answered. What is refused memory moves at the next turn. */
-static void turn(void) {
-    struct xns_item item;
-    uint8_t body[XNS_LONGEST_ITEM];
-    uint32_t told = xns_caller_pump(&caller, &end);
-    if (told == XNS_CLOSING) is_closed = owes_reply = 1;
-    if (told == XNS_CLOSING || told == XNS_STOPPED) check(xns_endpoint_take(&end, &item, body, sizeof body));
-    else if (told != XNS_NO_MEMORY) check(told);
-    if (owes_reply && xns_endpoint_send(&end, XNS_STREAM_END_REPLY, 0, 1, NULL, 0) == XNS_OK) owes_reply = 0;
-    if (xns_endpoint_flush(&end) == XNS_OK) udp_send_packets(udp, &end, &place);
-}
-
-/* Waits for a packet, or a tenth of a second. What is not acknowledged by then is sent again. */
-static void wait_a_turn(void) {
-    uint8_t packet[UDP_LONGEST], reply[XNS_REPLY];
-    struct xns_received received;
-    struct sockaddr_in from;
-    size_t length = udp_receive(udp, packet, &from);
-    if (length > 0) {
-        ticks = 0;
-        if (xns_endpoint_receive(&end, packet, length, &received, reply, sizeof reply) == XNS_OK) udp_send(udp, reply, received.reply, &place);
-    }
-    turn();
-    if (!is_tick_due()) return;
-    if (++ticks == MOST_TICKS) {
-        fputs("client: the server does not answer\n", stderr);
-        exit(1);
-    }
-    if (xns_endpoint_tick(&end) == XNS_OK) udp_send_packets(udp, &end, &place);
+/* Adds the next number; closes where there is none. What is refused memory is tried again. */
+static void go_on(uint64_t now, const char *next) {
+    const uint16_t number = next == NULL ? 0 : (uint16_t)atoi(next);
+    enum xns_result told;
+    do told = next == NULL ? xns_host_close(&host, now, connection) : xns_host_call(&host, now, connection, 7, 1, 1, &number, 1);
+    while (told == XNS_NO_MEMORY);
+    check(told);
 }
 
 static void print_answer(const struct xns_message *message, const uint16_t *words, size_t count) {
@@ -54,32 +23,39 @@ static void print_answer(const struct xns_message *message, const uint16_t *word
     putchar('\n');
 }
 
-static void add(uint16_t number) {
-    static uint16_t words[XNS_MOST_MESSAGE_WORDS];
-    struct xns_message message;
-    size_t count;
-    uint32_t told;
-    do told = xns_caller_call(&caller, 7, 1, 1, &number, 1);
-    while (told == XNS_NO_MEMORY);
-    check(told);
-    turn();
-    while ((told = xns_caller_outcome(&caller, &message, words, XNS_MOST_MESSAGE_WORDS, &count)) == XNS_NOTHING) wait_a_turn();
-    check(told);
-    print_answer(&message, words, count);
+/* What the client ends with. */
+static int status_of(const struct xns_event *closed) {
+    static const char *const whys[] = { "", "", "the server closed the connection", "the server does not answer", "there is no server" };
+    if (closed->closed == XNS_CLOSED_ASKED) return 0;
+    fprintf(stderr, "%s\n", closed->closed == XNS_CLOSED_REFUSED ? xns_result_text((enum xns_result)closed->fault) : whys[closed->closed]);
+    return 1;
 }
 
-int main(int count, char **words) {
+int main(int count, char **given) {
+    static uint16_t words[XNS_MOST_MESSAGE_WORDS];
+    uint64_t now = milliseconds();
+    uint8_t secret[32];
+    struct xns_event event = XNS_EVENT_INIT;
+    size_t length;
+    int udp;
     if (count < 2) return 2;
-    udp = udp_open("0");
-    place = udp_place(words[1]);
-    check(xns_caller_new(&caller));
-    check(xns_endpoint_new_initiator(&end, &HERE, new_identifier(), &SERVER, 8, 16));
-    if (xns_endpoint_tick(&end) == XNS_OK) udp_send_packets(udp, &end, &place);
-    for (int i = 2; i < count; i++) add((uint16_t)atoi(words[i]));
-    while (xns_endpoint_send(&end, XNS_STREAM_END, 0, 1, NULL, 0) != XNS_OK) wait_a_turn();
-    turn();
-    while (!is_closed || owes_reply || xns_endpoint_unacknowledged(&end) > 0) wait_a_turn();
-    xns_caller_free(&caller);
-    xns_endpoint_free(&end);
-    return 0;
+    udp = udp_open(0);
+    new_secret(secret);
+    check(xns_host_new(&host, &HERE, &SETTINGS, secret));
+    check(xns_host_connect(&host, now, (uint32_t)atoi(given[1]), HERE.socket, &SERVER, &connection));
+    go_on(now, *(given += 2));
+    while (event.kind != XNS_EVENT_CLOSED) {
+        udp_send_packets(udp, &host, now);
+        udp_wait(udp, xns_host_wake(&host));
+        now = milliseconds();
+        udp_receive_packets(udp, &host, now);
+        while (xns_host_next_event(&host, &event, words, XNS_MOST_MESSAGE_WORDS, &length) == XNS_OK) {
+            if (event.kind != XNS_EVENT_ANSWER) continue;
+            print_answer(&event.message, words, length);
+            go_on(now, *++given);
+        }
+    }
+    udp_send_packets(udp, &host, now);
+    xns_host_free(&host);
+    return status_of(&event);
 }

@@ -1,78 +1,66 @@
-/* A Courier call over a connection, both ends in this program: procedure 1 of program 7 adds the words that it is given. Prints the sum. The
- * network between the ends loses nothing; the peer reads the call and writes its answer by the calls on messages. */
+/* A Courier call between two hosts in this program, with time that it plays: procedure 1 of program 7 adds the words that it is given. Prints the sum. The
+ * network between the hosts loses nothing. */
 #include "xns.h"
 #include <stdio.h>
 #include <stdlib.h>
-#include <string.h>
 
-#define DO(call) do { uint32_t result = (call); if (result != XNS_OK) { fprintf(stderr, "courier.c, line %d: %u\n", __LINE__, (unsigned)result); exit(1); } } while (0)
+#define DO(call) do { enum xns_result told = (call); if (told != XNS_OK) { fprintf(stderr, "courier.c, line %d: %s\n", __LINE__, xns_result_text(told)); exit(1); } } while (0)
 
-/* Gives the packets that one endpoint has made to the other, and the replies back. */
-static void carry(struct xns_endpoint *from, struct xns_endpoint *to) {
-    uint8_t packet[XNS_LONGEST_PACKET], reply[XNS_REPLY];
-    struct xns_received received, none;
+enum { WORDS = 16 };
+
+/* Gives the packets that one host has made to the other. */
+static void carry(uint64_t now, struct xns_host *from, struct xns_host *to) {
+    uint8_t packet[XNS_LONGEST_PACKET];
     size_t length;
-    while (xns_endpoint_next_packet(from, packet, sizeof packet, &length) == XNS_OK) {
-        DO(xns_endpoint_receive(to, packet, length, &received, reply, sizeof reply));
-        if (received.reply > 0) DO(xns_endpoint_receive(from, reply, received.reply, &none, packet, XNS_LONGEST_PACKET));
+    uint32_t via;
+    while (xns_host_next_packet(from, now, packet, sizeof packet, &length, &via) == XNS_OK) xns_host_receive(to, now, via, packet, length);
+}
+
+/* The service: answers each call with the sum of its words. */
+static void serve(uint64_t now, struct xns_host *service) {
+    struct xns_event event;
+    uint16_t words[WORDS], sum = 0;
+    size_t count;
+    while (xns_host_next_event(service, &event, words, WORDS, &count) == XNS_OK) {
+        if (event.kind != XNS_EVENT_CALL) continue;
+        for (size_t i = 0; i < count; i++) sum = (uint16_t)(sum + words[i]);
+        DO(xns_host_answer(service, now, event.number, XNS_KIND_RETURN, 0, &sum, 1));
     }
 }
 
-/* Sends all items that a caller has put out. */
-static void send_all(struct xns_caller *caller, struct xns_endpoint *from, struct xns_endpoint *to) {
-    struct xns_item item;
-    uint8_t body[XNS_LONGEST_ITEM];
-    while (xns_caller_next_item(caller, &item, body, sizeof body) == XNS_OK) {
-        DO(xns_endpoint_send(from, item.stream, item.attention, item.last, body, item.length));
-        DO(xns_endpoint_flush(from));
-        carry(from, to);
+/* The client: prints the sum that is returned, and closes. Whether the connection is still there. */
+static bool hear(uint64_t now, struct xns_host *client) {
+    struct xns_event event;
+    uint16_t words[WORDS];
+    size_t count;
+    while (xns_host_next_event(client, &event, words, WORDS, &count) == XNS_OK) {
+        if (event.kind == XNS_EVENT_CLOSED) return false;
+        if (event.message.kind == XNS_KIND_RETURN && count == 1) printf("%u\n", words[0]);
+        DO(xns_host_close(client, now, event.number));
     }
-}
-
-/* The peer: takes its versions and one call, each in one item, and answers with its own versions and the sum. */
-static void serve(struct xns_endpoint *endpoint, struct xns_endpoint *to) {
-    static const uint8_t versions[] = { 0, 3, 0, 3 };
-    struct xns_item item;
-    struct xns_message message;
-    uint8_t body[XNS_LONGEST_ITEM];
-    uint16_t words[XNS_LONGEST_ITEM], sum = 0;
-    size_t count, length;
-    DO(xns_endpoint_take(endpoint, &item, body, sizeof body));
-    if (item.length != sizeof versions || memcmp(body, versions, sizeof versions) != 0) exit(1);
-    DO(xns_endpoint_take(endpoint, &item, body, sizeof body));
-    DO(xns_message_read(body, item.length, &message, words, XNS_LONGEST_ITEM, &count));
-    for (size_t i = 0; i < count; i++) sum = (uint16_t)(sum + words[i]);
-    message.kind = XNS_KIND_RETURN;
-    DO(xns_message_write(&message, &sum, 1, body, sizeof body, &length));
-    DO(xns_endpoint_send(endpoint, 0, 0, 1, versions, sizeof versions));
-    DO(xns_endpoint_send(endpoint, 0, 0, 1, body, length));
-    DO(xns_endpoint_flush(endpoint));
-    carry(endpoint, to);
+    return true;
 }
 
 int main(void) {
-    const struct xns_address here = { 1, { 0, 0, 0xaa, 0, 1, 2 }, 1000 }, there = { 1, { 0, 0, 0xaa, 0, 3, 4 }, 5 };
-    struct xns_endpoint a = XNS_ENDPOINT_INIT, b = XNS_ENDPOINT_INIT;
-    struct xns_caller caller = XNS_CALLER_INIT;
-    struct xns_item item;
-    struct xns_message answer;
-    uint8_t body[XNS_LONGEST_ITEM];
-    uint16_t words[] = { 40, 2 };
-    size_t count;
-
-    DO(xns_endpoint_new_initiator(&a, &here, 77, &there, 8, 8));
-    DO(xns_endpoint_new_responder(&b, &there, 88, &here, 77, 8, 8));
-    DO(xns_endpoint_tick(&a));
-    carry(&a, &b);
-    DO(xns_caller_new(&caller));
-    DO(xns_caller_call(&caller, 7, 1, 1, words, 2));
-    send_all(&caller, &a, &b);
-    serve(&b, &a);
-    while (xns_endpoint_take(&a, &item, body, sizeof body) == XNS_OK) DO(xns_caller_feed(&caller, item.stream, item.last, body, item.length));
-    DO(xns_caller_outcome(&caller, &answer, words, 2, &count));
-    if (answer.kind == XNS_KIND_RETURN && count == 1) printf("%u\n", words[0]);
-    xns_caller_free(&caller);
-    xns_endpoint_free(&a);
-    xns_endpoint_free(&b);
+    static const struct xns_address here = { 1, { 0, 0, 0xaa, 0, 1, 2 }, 1000 }, there = { 1, { 0, 0, 0xaa, 0, 3, 4 }, XNS_SOCKET_COURIER };
+    static const struct xns_program programs[] = { { 7, 1, 2 } };
+    static const struct xns_settings usual = { 0 };
+    static const uint8_t a_secret[32] = { 1 }, another_secret[32] = { 2 }; /* of a program that talks to others: random bytes */
+    static const uint16_t words[] = { 40, 2 };
+    struct xns_host client = XNS_HOST_INIT, service = XNS_HOST_INIT;
+    uint64_t now = 0;
+    size_t number;
+    DO(xns_host_new(&client, &here, &usual, a_secret));
+    DO(xns_host_new(&service, &there, &usual, another_secret));
+    DO(xns_host_serve(&service, there.socket, programs, 1));
+    DO(xns_host_connect(&client, now, 0, here.socket, &there, &number));
+    DO(xns_host_call(&client, now, number, 7, 1, 1, words, 2));
+    do {
+        carry(now, &client, &service);
+        serve(now, &service);
+        carry(now, &service, &client);
+    } while (hear(now++, &client));
+    xns_host_free(&client);
+    xns_host_free(&service);
     return 0;
 }
