@@ -261,7 +261,7 @@ if has pkg-config; then
     for one in "${CXX:-g++}" g++ c++ clang++; do
         if [ -z "$plus" ] && has "$one"; then plus=$one; fi
     done
-    for example in endpoints fields echo courier conversation server client; do
+    for example in endpoints fields echo courier server client; do
         # shellcheck disable=SC2086
         expect "$example against the shared library" "$compiler" $flags -std=c99 examples/c/$example.c $from -o "$work/$example"
     done
@@ -276,7 +276,7 @@ if has pkg-config; then
     expect 'what tells the version' "$compiler" $flags -std=c99 tests/c/texts.c $from -o "$work/texts"
     expect 'the version of the library' "$work/texts"
     expect 'is that of VERSION too' cmp VERSION "$work/out"
-    expect 'a call over a connection' "$work/courier"
+    expect 'a call between two hosts' "$work/courier"
     expect 'is answered' grep -qx 42 "$work/out"
     expect 'the fields of a packet' sh -c "'$work/fields' < '$work/request'"
     expect 'are printed' grep -q '^data 00014869$' "$work/out"

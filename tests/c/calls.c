@@ -1,5 +1,5 @@
-/* Each call of xns.h: its results, where they stand in the structs, what it writes and what it leaves. Then the calls of a connection and of
- * a conversation with the k-th growth refused, for every k. Prints ok, or ends with 1 at the first that is not so. */
+/* Each call of xns.h but those of a host: its results, where they stand in the structs, what it writes and what it leaves. Then the calls of a connection with
+ * the k-th growth refused, for every k. Prints ok, or ends with 1 at the first that is not so. */
 #include "xns.h"
 #include <stdio.h>
 #include <stdlib.h>
@@ -359,114 +359,17 @@ static void refused_writers(void) {
     AGAIN(xns_echo_request(&at_a, &own, request, 34, buffer, sizeof buffer, &written));
 }
 
-/* No caller, or one that was freed, answers as none. */
-static void no_caller(struct xns_caller *none) {
-    struct xns_item item;
-    struct xns_message message;
-    uint8_t buffer[534] = { 0 };
-    uint16_t words[4] = { 0 };
-    size_t count = 7;
-    CHECK(none->at == NULL && xns_caller_call(none, 7, 2, 1, words, 1) == XNS_NO_CALLER && xns_caller_next_item(none, &item, buffer, 534) == XNS_NO_CALLER);
-    CHECK(xns_caller_feed(none, 0, 1, buffer, 4) == XNS_NO_CALLER && xns_caller_outcome(none, &message, words, 4, &count) == XNS_NO_CALLER && count == 7);
-    xns_caller_free(none);
-    CHECK(none->at == NULL);
-}
-
-/* The item that is to go out next is this one. */
-static void gives(struct xns_caller *caller, const uint8_t *bytes, size_t length) {
-    GUARDED(struct xns_item) item;
-    uint8_t buffer[600];
-    GUARD(item);
-    memset(buffer, 0xee, sizeof buffer);
-    CHECK(xns_caller_next_item(caller, &item.it, buffer, length - 1) == XNS_SHORT_BUFFER && item.it.length == length && is_left(buffer, 0, sizeof buffer));
-    CHECK(IS_GUARDED(item) && is_left((uint8_t *)&item.it, 0, offsetof(struct xns_item, length)));
-    CHECK(xns_caller_next_item(caller, &item.it, buffer, 534) == XNS_OK && item.it.stream == 0 && item.it.attention == 0 && item.it.last == 1 && item.it.length == length);
-    CHECK(IS_GUARDED(item) && memcmp(buffer, bytes, length) == 0 && is_left(buffer, length, sizeof buffer));
-}
-
-/* A call, and the reject that comes to it in two items. */
-static void converse(void) {
-    struct xns_caller caller = XNS_CALLER_INIT;
-    GUARDED(struct xns_message) message;
-    struct xns_item item;
-    uint8_t buffer[534];
-    uint16_t words[4] = { 5, 0, 0, 0 };
-    size_t count = 7;
-    const uint8_t *bodies[] = { versions + 42, reject, reject + 5 };
-    const size_t lengths[] = { 4, 5, 5 };
-
-    no_caller(&caller);
-    AGAIN(xns_caller_new(&caller));
-    AGAIN(xns_caller_call(&caller, 7, 2, 1, words, 1));
-    CHECK(xns_caller_call(&caller, 7, 2, 1, words, 1) == XNS_BUSY);
-    gives(&caller, versions + 42, 4);
-    gives(&caller, call, sizeof call);
-    CHECK(xns_caller_next_item(&caller, &item, buffer, sizeof buffer) == XNS_NOTHING);
-    for (int items = 0; items < 3; items++) {
-        CHECK(xns_caller_outcome(&caller, &message.it, words, 4, &count) == XNS_NOTHING && count == 7);
-        AGAIN(xns_caller_feed(&caller, 0, items != 1, bodies[items], lengths[items])); /* after XNS_NO_MEMORY it is as it was */
-    }
-    CHECK(xns_caller_call(&caller, 7, 2, 1, words, 1) == XNS_BUSY); /* the answer is not picked up */
-    GUARD(message);
-    memset(words, 0xee, sizeof words);
-    CHECK(xns_caller_outcome(&caller, &message.it, words, 1, &count) == XNS_SHORT_BUFFER && count == 2 && is_left((uint8_t *)words, 0, sizeof words) && is_left((uint8_t *)&message, 0, sizeof message));
-    CHECK(xns_caller_outcome(&caller, &message.it, words, 4, &count) == XNS_OK && IS_GUARDED(message) && message.it.kind == XNS_KIND_REJECT && message.it.transaction == 1);
-    CHECK(message.it.number == 1 && count == 2 && words[0] == 1 && words[1] == 2 && is_left((uint8_t *)words, 4, sizeof words));
-    CHECK(xns_caller_outcome(&caller, &message.it, words, 4, &count) == XNS_NOTHING);
-    AGAIN(xns_caller_call(&caller, 7, 2, 1, words, 1));
-    AGAIN(xns_caller_new(&caller)); /* the former one is freed */
-    gives(&caller, versions + 42, 4);
-    xns_caller_free(&caller);
-    no_caller(&caller);
-}
-
-/* The conversation stops with this number at an item behind the peer's versions, or at the first item. */
-static void stops(bool first, uint8_t stream, const void *body, size_t length, uint32_t number) {
-    struct xns_caller caller = XNS_CALLER_INIT;
-    uint16_t word = 5;
-    CHECK(xns_caller_new(&caller) == XNS_OK && xns_caller_call(&caller, 7, 2, 1, &word, 1) == XNS_OK);
-    if (!first) CHECK(xns_caller_feed(&caller, 0, 1, versions + 42, 4) == XNS_OK);
-    CHECK(xns_caller_feed(&caller, stream, 1, body, length) == number && xns_caller_feed(&caller, 0, 1, reject, sizeof reject) == XNS_STOPPED);
-    CHECK(xns_caller_call(&caller, 7, 2, 1, &word, 1) == XNS_STOPPED);
-    gives(&caller, versions + 42, 4);
-    xns_caller_free(&caller);
-}
-
-static void bad_conversations(void) {
-    static uint16_t many[65540];
-    struct xns_caller caller = XNS_CALLER_INIT;
-    stops(true, 0, "\0\1\0\2", 4, XNS_NO_COMMON_VERSION);
-    stops(true, 0, "\0\4\0\3", 4, XNS_BAD_VERSIONS);
-    stops(true, 0, "\0\3", 2, XNS_BAD_VERSIONS);
-    stops(true, 1, "\0\4\0\3", 4, XNS_OTHER_STREAM);
-    stops(true, XNS_STREAM_END, "", 0, XNS_CLOSING);
-    stops(true, XNS_STREAM_END_REPLY, "\0", 1, XNS_CLOSING);
-    stops(false, 0, "\0\2\0", 3, XNS_ODD_LENGTH);
-    stops(false, 0, "\0\2", 2, XNS_SHORT_MESSAGE);
-    stops(false, 0, "\0\4\0\1", 4, XNS_UNKNOWN_KIND);
-    stops(false, 0, many, 131074, XNS_LONG_MESSAGE);
-    stops(false, 0, many, 131073, XNS_LONG_MESSAGE);
-    stops(false, 0, "\0\4", 2, XNS_SHORT_MESSAGE);
-    stops(false, 0, "\0\0\0\2\0\0\0\7\0\2\0\1", 12, XNS_BAD_REPLY);
-    stops(false, 0, "\0\2\0\2", 4, XNS_WRONG_TRANSACTION);
-    stops(false, 0, call, sizeof call, XNS_BAD_REPLY);
-    CHECK(xns_caller_new(&caller) == XNS_OK && xns_caller_call(&caller, 7, 2, 1, many, 65531) == XNS_TOO_LONG && xns_caller_call(&caller, 7, 2, 1, many, 65530) == XNS_OK);
-    xns_caller_free(&caller);
-}
-
 int main(void) {
     long most;
     formats();
     exchange();
     echo();
     bad_messages();
-    bad_conversations();
     for (refuse_at = 0, most = 1; refuse_at <= most; refuse_at++) {
         growths = 0;
         connection();
         refused_writers();
         messages();
-        converse();
         if (refuse_at == 0) most = growths;
         CHECK(growths >= most);
     }

@@ -25,9 +25,9 @@ static void initializers(void) {
     IS_INIT(xns_item, XNS_ITEM_INIT, one.stream == 0 && one.attention == 0 && one.last == 0 && one.length == 0);
     IS_INIT(xns_received, XNS_RECEIVED_INIT, one.took == 0 && one.acknowledged == 0 && one.reply == 0 && one.dropped == 0);
     IS_INIT(xns_endpoint, XNS_ENDPOINT_INIT, one.at == NULL && unused.at == NULL);
-    IS_INIT(xns_caller, XNS_CALLER_INIT, one.at == NULL);
-    IS_INIT(xns_server, XNS_SERVER_INIT, one.at == NULL);
-    IS_INIT(xns_listener, XNS_LISTENER_INIT, one.at == NULL);
+    IS_INIT(xns_host, XNS_HOST_INIT, one.at == NULL);
+    IS_INIT(xns_settings, XNS_SETTINGS_INIT, one.connections == 0 && one.window == 0 && one.first_wait == 0 && one.idle == 0 && one.tries == 0);
+    IS_INIT(xns_event, XNS_EVENT_INIT, one.kind == 0 && one.number == 0 && one.message.program == 0 && one.closed == 0 && one.fault == 0);
     IS_INIT(xns_cursor, XNS_CURSOR_INIT, one.place == 0 && one.fault == 0);
     IS_INIT(xns_program, XNS_PROGRAM_INIT, one.program == 0 && one.low == 0 && one.high == 0);
 }
@@ -35,10 +35,11 @@ static void initializers(void) {
 /* Each result has a text of its own, and a number that is none has another. */
 static void results(void) {
     static const enum xns_result all[] = {
-        XNS_OK, XNS_NOTHING, XNS_NO_MEMORY, XNS_NO_ENDPOINT, XNS_SHORT_BUFFER, XNS_BAD_ARGUMENT, XNS_NO_CALLER, XNS_NO_SERVER, XNS_NO_LISTENER, XNS_SHORT, XNS_LENGTH_SMALL, XNS_LENGTH_LARGE, XNS_CUT,
-        XNS_BAD_SUM, XNS_TOO_LONG, XNS_ATTENTION_SIZE, XNS_EXHAUSTED, XNS_FULL, XNS_OPENS, XNS_IN_USE, XNS_NO_SLOT, XNS_ODD_LENGTH, XNS_SHORT_MESSAGE, XNS_UNKNOWN_KIND, XNS_LONG_MESSAGE,
+        XNS_OK, XNS_NOTHING, XNS_NO_MEMORY, XNS_NO_ENDPOINT, XNS_SHORT_BUFFER, XNS_BAD_ARGUMENT, XNS_SHORT, XNS_LENGTH_SMALL, XNS_LENGTH_LARGE, XNS_CUT,
+        XNS_BAD_SUM, XNS_TOO_LONG, XNS_ATTENTION_SIZE, XNS_EXHAUSTED, XNS_FULL, XNS_NO_SLOT, XNS_ODD_LENGTH, XNS_SHORT_MESSAGE, XNS_UNKNOWN_KIND, XNS_LONG_MESSAGE,
         XNS_NO_COMMON_VERSION, XNS_BAD_VERSIONS, XNS_WRONG_TRANSACTION, XNS_BAD_REPLY, XNS_OTHER_STREAM, XNS_STOPPED, XNS_BUSY, XNS_CLOSING, XNS_ATTENTION,
-        XNS_TRUNCATED, XNS_NOT_BOOLEAN, XNS_OVER_MAXIMUM, XNS_NOT_LISTED, XNS_LEFT_OVER
+        XNS_TRUNCATED, XNS_NOT_BOOLEAN, XNS_OVER_MAXIMUM, XNS_NOT_LISTED, XNS_LEFT_OVER, XNS_NO_HOST, XNS_NO_CONNECTION,
+        XNS_TOO_MANY_SERVICES, XNS_PEER_CALLS
     };
     const size_t count = sizeof all / sizeof all[0];
     const char *none = xns_result_text((enum xns_result)127);
@@ -81,14 +82,15 @@ static void nulls(void) {
     struct xns_message message = XNS_MESSAGE_INIT;
     struct xns_cursor cursor = XNS_CURSOR_INIT;
     struct xns_endpoint end = XNS_ENDPOINT_INIT;
-    struct xns_listener listener = XNS_LISTENER_INIT;
-    struct xns_caller caller = XNS_CALLER_INIT;
-    struct xns_server server = XNS_SERVER_INIT;
+    static const uint8_t secret[32] = { 1 };
+    const struct xns_settings usual = XNS_SETTINGS_INIT;
+    struct xns_host host = XNS_HOST_INIT;
+    struct xns_event event;
     struct xns_received received;
     struct xns_address peer;
     struct xns_item item;
     uint8_t bytes[XNS_LONGEST_PACKET], reply[XNS_LONGEST_PACKET];
-    uint32_t id;
+    uint32_t id, via;
     uint16_t sum, number, parameter, peer_id;
     size_t size = 0, at = 0, count = 0;
     enum xns_result (*address)(const uint8_t *, size_t, struct xns_packet *) = xns_decode; /* the address of a call is the library's */
@@ -119,16 +121,16 @@ static void nulls(void) {
     CHECK(xns_endpoint_new_initiator(&end, &here, 1, &there, 1, 1) == XNS_OK && xns_endpoint_receive(&end, NULL, 0, &received, NULL, 0) == XNS_SHORT_BUFFER && received.reply == XNS_REPLY);
     CHECK(xns_endpoint_send(&end, XNS_STREAM_END, 0, 1, NULL, 0) == XNS_OK && xns_endpoint_tick(&end) == XNS_OK && xns_endpoint_next_packet(&end, NULL, 0, &size) == XNS_SHORT_BUFFER && size == 42);
     CHECK(xns_endpoint_system_packet(&end, 0, NULL, 0, &size) == XNS_SHORT_BUFFER && xns_endpoint_resend_first(&end, NULL, 0, &size) == XNS_SHORT_BUFFER);
-    CHECK(xns_listener_new(&listener, &here, 1) == XNS_OK && xns_listener_find(&listener, NULL, 0, &count, &peer, &peer_id) == XNS_NOTHING);
-    CHECK(xns_caller_new(&caller) == XNS_OK && xns_caller_call(&caller, 7, 2, 1, NULL, 0) == XNS_OK && xns_caller_next_item(&caller, &item, NULL, 0) == XNS_SHORT_BUFFER && item.length == 4);
-    CHECK(xns_caller_outcome(&caller, &message, NULL, 0, &count) == XNS_NOTHING && xns_caller_feed(&caller, XNS_STREAM_END, 1, NULL, 0) == XNS_CLOSING);
-    CHECK(xns_server_new(&server, NULL, 0) == XNS_OK && xns_server_next_item(&server, &item, NULL, 0) == XNS_SHORT_BUFFER && xns_server_call(&server, &message, NULL, 0, &count) == XNS_NOTHING);
-    CHECK(xns_server_answer(&server, XNS_KIND_RETURN, 0, NULL, 0) == XNS_NOTHING && xns_server_next_item(&server, &item, bytes, sizeof bytes) == XNS_OK);
-    CHECK(xns_server_feed(&server, XNS_STREAM_END, 1, NULL, 0) == XNS_CLOSING);
     xns_endpoint_free(&end);
-    xns_listener_free(&listener);
-    xns_caller_free(&caller);
-    xns_server_free(&server);
+
+    CHECK(xns_host_serve(&host, 5, NULL, 0) == XNS_NO_HOST && xns_host_receive(&host, 0, 0, NULL, 0) == XNS_NO_HOST);
+    CHECK(xns_host_new(&host, &here, &usual, secret) == XNS_OK && xns_host_serve(&host, 5, NULL, 0) == XNS_OK);
+    CHECK(xns_host_receive(&host, 0, 0, NULL, 0) == XNS_NOTHING && xns_host_next_event(&host, &event, NULL, 0, &count) == XNS_NOTHING);
+    CHECK(xns_host_next_packet(&host, 0, NULL, 0, &size, &via) == XNS_NOTHING && xns_host_answer(&host, 0, 7, XNS_KIND_RETURN, 0, NULL, 0) == XNS_NO_CONNECTION);
+    CHECK(xns_host_connect(&host, 0, 0, 5, &there, &count) == XNS_OK && xns_host_call(&host, 0, count, 7, 1, 1, NULL, 0) == XNS_OK);
+    CHECK(xns_host_next_packet(&host, 0, NULL, 0, &size, &via) == XNS_SHORT_BUFFER && size == 42 && xns_host_next_packet(&host, 0, bytes, size, &size, &via) == XNS_OK);
+    xns_host_free(&host);
+    CHECK(host.at == NULL);
 }
 
 int main(void) {
@@ -138,9 +140,7 @@ int main(void) {
     reasons();
     nulls();
     xns_endpoint_free(NULL);
-    xns_caller_free(NULL);
-    xns_server_free(NULL);
-    xns_listener_free(NULL);
+    xns_host_free(NULL);
     CHECK(memchr(version.text, 0, sizeof version.text) != NULL && strcmp(version.text, XNS_VERSION) == 0);
     puts(version.text);
     return 0;
