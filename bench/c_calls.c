@@ -1,70 +1,66 @@
-/* Makes calls Add of 5 through a caller and a server of the library for C, with nothing but memory between them. Prints what the program
- * `bench calls N 0` prints, which makes as many in Rattle. */
+/* Makes calls Add of 5 from one host to another, with nothing but memory between them: c_calls CALLS. Prints the total, as c_calls_peer.c does. */
 #include "xns.h"
 #include <stdio.h>
 #include <stdlib.h>
 
 enum { PROGRAM = 7, VERSION = 2, ADD = 1, ADDEND = 5, WORDS = 16 };
 
-/* Feeds the server what the caller has out; false where it refuses an item. */
-static bool carry_call(struct xns_caller *caller, struct xns_server *server) {
-    uint8_t body[XNS_LONGEST_ITEM];
-    struct xns_item item;
-    while (xns_caller_next_item(caller, &item, body, sizeof body) == XNS_OK) {
-        if (xns_server_feed(server, item.stream, item.last, body, item.length) != XNS_OK) return false;
-    }
-    return true;
+/* Gives the packets that one host has made to the other. */
+static void carry(struct xns_host *from, struct xns_host *to) {
+    uint8_t packet[XNS_LONGEST_PACKET];
+    size_t length;
+    uint32_t via;
+    while (xns_host_next_packet(from, 0, packet, sizeof packet, &length, &via) == XNS_OK) xns_host_receive(to, 0, via, packet, length);
 }
 
-/* Feeds the caller what the server has out; false where it refuses an item. */
-static bool carry_answer(struct xns_server *server, struct xns_caller *caller) {
-    uint8_t body[XNS_LONGEST_ITEM];
-    struct xns_item item;
-    while (xns_server_next_item(server, &item, body, sizeof body) == XNS_OK) {
-        if (xns_caller_feed(caller, item.stream, item.last, body, item.length) != XNS_OK) return false;
-    }
-    return true;
-}
-
-/* Answers the call that came with the total, with its addend in it; false where it is no Add. */
-static bool answer(struct xns_server *server, uint32_t *total) {
+/* Answers the calls that came with the total, with the addend in it. */
+static void answer(struct xns_host *host, uint32_t *total) {
+    struct xns_event event;
     uint16_t words[WORDS];
-    struct xns_message call;
     size_t count;
-    if (xns_server_call(server, &call, words, WORDS, &count) != XNS_OK) return false;
-    if (call.procedure != ADD || count != 1) return false;
-    *total += words[0];
-    words[0] = (uint16_t)(*total >> 16);
-    words[1] = (uint16_t)*total;
-    return xns_server_answer(server, XNS_KIND_RETURN, 0, words, 2) == XNS_OK;
+    while (xns_host_next_event(host, &event, words, WORDS, &count) == XNS_OK) {
+        if (event.kind != XNS_EVENT_CALL || event.message.procedure != ADD || count != 1) continue;
+        *total += words[0];
+        words[0] = (uint16_t)(*total >> 16);
+        words[1] = (uint16_t)*total;
+        if (xns_host_answer(host, 0, event.number, XNS_KIND_RETURN, 0, words, 2) != XNS_OK) exit(1);
+    }
 }
 
-/* One call of Add: the total that is returned is told. */
-static bool add(struct xns_caller *caller, struct xns_server *server, uint32_t *total, uint32_t *told) {
-    const uint16_t addend = ADDEND;
+/* Whether the answer to a call has come; the total that it tells. */
+static bool hears(struct xns_host *host, uint32_t *told) {
+    struct xns_event event;
     uint16_t words[WORDS];
-    struct xns_message message;
     size_t count;
-    if (xns_caller_call(caller, PROGRAM, VERSION, ADD, &addend, 1) != XNS_OK || !carry_call(caller, server)) return false;
-    if (!answer(server, total) || !carry_answer(server, caller)) return false;
-    if (xns_caller_outcome(caller, &message, words, WORDS, &count) != XNS_OK || message.kind != XNS_KIND_RETURN || count != 2) return false;
+    if (xns_host_next_event(host, &event, words, WORDS, &count) != XNS_OK) return false;
+    if (event.message.kind != XNS_KIND_RETURN || count != 2) exit(1);
     *told = (uint32_t)words[0] << 16 | words[1];
     return true;
 }
 
 int main(int count, char **given) {
+    static const struct xns_address here = { 1, { 0, 0, 0xaa, 0, 3, 4 }, 1000 }, there = { 1, { 0, 0, 0xaa, 0, 1, 2 }, 5 };
     static const struct xns_program programs[] = { { PROGRAM, 1, VERSION } };
-    struct xns_caller caller = XNS_CALLER_INIT;
-    struct xns_server server = XNS_SERVER_INIT;
+    static const struct xns_settings usual = { 0 };
+    static const uint8_t secret[32] = { 1 };
+    const uint16_t addend = ADDEND;
+    struct xns_host client = XNS_HOST_INIT, service = XNS_HOST_INIT;
     uint32_t total = 0, told = 0;
+    size_t number;
     const unsigned long calls = count > 1 ? strtoul(given[1], NULL, 10) : 0;
-    if (xns_caller_new(&caller) != XNS_OK || xns_server_new(&server, programs, 1) != XNS_OK) return 1;
-    if (!carry_answer(&server, &caller) || !carry_call(&caller, &server)) return 1; /* the versions */
+    if (xns_host_new(&client, &here, &usual, secret) != XNS_OK || xns_host_new(&service, &there, &usual, secret) != XNS_OK) return 1;
+    if (xns_host_serve(&service, there.socket, programs, 1) != XNS_OK) return 1;
+    if (xns_host_connect(&client, 0, 0, here.socket, &there, &number) != XNS_OK) return 1;
     for (unsigned long i = 0; i < calls; i++) {
-        if (!add(&caller, &server, &total, &told)) return 1;
+        if (xns_host_call(&client, 0, number, PROGRAM, VERSION, ADD, &addend, 1) != XNS_OK) return 1;
+        do {
+            carry(&client, &service);
+            answer(&service, &total);
+            carry(&service, &client);
+        } while (!hears(&client, &told));
     }
-    printf("%lu calls, total %lu\n0 lists, sum 0\n", calls, (unsigned long)told);
-    xns_caller_free(&caller);
-    xns_server_free(&server);
+    printf("%lu calls, total %lu\n", calls, (unsigned long)told);
+    xns_host_free(&client);
+    xns_host_free(&service);
     return 0;
 }

@@ -12,10 +12,11 @@ prints the medians and their ratio.
                                           again. Beside a peer that sums by the standard's loop and one that sums in lanes
     python3 bench/compare.py calls        100,000 calls of Courier through a caller and a server in memory, and 200 calls of 60,000
                                           cardinals each way, with the most memory that a run holds, beside a peer that makes a message of
-                                          its own of what comes, and one that reads words where the bytes lie; and the 100,000 through the
-                                          library for C, beside the same in Rattle
-    python3 bench/compare.py hosts        100,000 calls between two hosts in memory, beside the same ends made by hand of endpoints and sessions; and
-                                          beside the same calls on one of 10,000 open connections; and what an idle connection holds
+                                           its own of what comes, and one that reads words where the bytes lie
+    python3 bench/compare.py hosts        100,000 calls between two hosts in memory, beside the same ends made by hand of endpoints and sessions; beside
+                                           the same calls on one of 10,000 open connections; what an idle connection holds; and 100,000 calls
+                                           between two hosts of the library for C, beside two of its endpoints whose program writes and reads
+                                           the messages itself, without a clock
     python3 bench/compare.py sim          `xns sim` of 2,500, 5,000 and 10,000 calls Add, and of 5,000 calls with 50,000 events, among them 30,000
                                           packets that come again; nearly as many lines as an input may have
     python3 bench/compare.py plays        a play of 1,000 calls and 100,000 events, most of them packets that come again, beside the same peer; and plays of
@@ -56,19 +57,23 @@ def built_peer(name, folder, *flags):
 
 
 @functools.cache
+def built_library():
+    """The library for C, and the kit's three functions that it stands on."""
+    archive = CRATES / "xns_c" / "out" / "libxns_c.a"
+    archive.unlink(missing_ok=True)
+    built = subprocess.run(["rt", "lib"], cwd=CRATES / "xns_c", stdout=subprocess.PIPE, stderr=subprocess.STDOUT, check=False)
+    if built.returncode != 0 or not archive.exists():
+        sys.exit(built.stdout.decode() + f"no library at {archive}")
+    first = pathlib.Path(subprocess.run(["rt", "doc"], stdout=subprocess.PIPE, check=True, text=True).stdout.strip())
+    return archive, first.parent / "c" / "liblibc_c.a"
+
+
+@functools.cache
 def built_c(name, folder, library):
     """The program of a C file, with the library for C behind it or not."""
     program = pathlib.Path(folder) / name
     words = ["gcc", "-O2", "-std=c99", f"-I{BENCH.parent / 'include'}", BENCH / f"{name}.c"]
-    if library:
-        archive = CRATES / "xns_c" / "out" / "libxns_c.a"
-        archive.unlink(missing_ok=True)
-        built = subprocess.run(["rt", "lib"], cwd=CRATES / "xns_c", stdout=subprocess.PIPE, stderr=subprocess.STDOUT, check=False)
-        if built.returncode != 0 or not archive.exists():
-            sys.exit(built.stdout.decode() + f"no library at {archive}")
-        first = pathlib.Path(subprocess.run(["rt", "doc"], stdout=subprocess.PIPE, check=True, text=True).stdout.strip())
-        words += [archive, first.parent / "c" / "liblibc_c.a"]
-    subprocess.run(words + ["-o", program], check=True)
+    subprocess.run([*words, *(built_library() if library else ()), "-o", program], check=True)
     return program
 
 
@@ -185,9 +190,6 @@ def time_calls(folder, given):
             medians = compare([*ours, *counts], [peer, *counts], given, runs=MANY_RUNS)
             print(f"{name}, {kind}: ours holds {held_by([*ours, *counts], given)} KiB at most, the peer {held_by([peer, *counts], given)}")
             yield what, f"calls_peer, {kind}", ratio_of(medians)
-    print("adds through C, beside Rattle:", end=" ", flush=True)
-    medians = compare([built_c("c_calls", folder, True), "100000"], [*ours, "100000", "0"], given, runs=MANY_RUNS)
-    yield "100,000 calls Add through the library for C", "the same in Rattle", ratio_of(medians)
 
 
 def time_hosts(folder, given):
@@ -203,6 +205,10 @@ def time_hosts(folder, given):
     yield "the same on one of 10,000 open connections", "the same on one of one", calls_among("10000") / calls_among("1")
     held = held_by([program, "hosts", "10000", "0"], given) - held_by([program, "hosts", "1", "0"], given)
     print(f"an idle connection holds {held * 1024 / 20_000:.0f} bytes at each of both hosts")
+    ours, peer = ([built_c(name, folder, True), "100000"] for name in ("c_calls", "c_calls_peer"))
+    medians = compare(ours, peer, given, runs=MANY_RUNS)
+    print(f"between two hosts {100_000 / medians['ours']:.0f} calls a second of one processor, both sides together")
+    yield "100,000 calls Add between two hosts of the library for C", "c_calls_peer.c, two endpoints", ratio_of(medians)
 
 
 def time_sim(folder, given):
