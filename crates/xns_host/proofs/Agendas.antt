@@ -1,15 +1,15 @@
 -- Where nobody has a turn, and where the earliest time stands.
-use Rattle.std.proofs.Common.{◌≡◌, ◌∙◌, ap, refl, subst, ℕ, zero, suc, ◌<◌, ◌+◌, true, false, List, [], ◌∷◌, length, get_or, Option, Some, None, arith}
+use Rattle.std.proofs.Common.{◌≡◌, ◌∙◌, ap, refl, subst, ℕ, zero, suc, ◌<◌, ◌+◌, true, false, List, [], ◌∷◌, length, get_or, slice_get, Option, Some, None, arith}
 use Rattle.std.specs.Prelude.{IfSome}
 use Rattle.std.specs.Option.{is_some}
 use Rattle.std.proofs.lemmas.Option.{slice_get-get_or, slice_get_within}
 use Rattle.xns_host.specs.Times.{HasEarliest, IsEarliest}
-use Rattle.xns_host.specs.Agenda.{number_in}
-use Rattle.xns_host.specs.Turns.{Line, has_turn}
+use Rattle.xns_host.specs.Agenda.{GivesWay, longest_closed, longest_silent, IsWanted, packet_waits, is_due, number_in}
+use Rattle.xns_host.specs.Turns.{Line, IsFirst, has_turn}
 use Rattle.xns_host.specs.declared.way.Way.{Way}
 use Rattle.xns_host.specs.declared.way.Way.TheVariants.{Lingers, Stranger, Nobody}
 
-within : (xs : List (Option ℕ)) (k : ℕ) → is_some (get_or xs k None) ≡ true → k < length xs
+pub within : (xs : List (Option ℕ)) (k : ℕ) → is_some (get_or xs k None) ≡ true → k < length xs
 within [] k has = absurd (cc)
 within (x ∷ xs) zero has = omega arith
 within (x ∷ xs) (suc k) has = let less = within xs k has in omega (arith, less)
@@ -29,3 +29,25 @@ pub giver_within : (closed strangers : List (Option ℕ)) (way : Way) → ((k t 
 giver_within closed strangers (Lingers k t) lingers silent same = earliest_within closed k t (lingers k t refl)
 giver_within closed strangers (Stranger k t) lingers silent same = subst (λ (m : ℕ). k < m) same (earliest_within strangers k t (silent k t refl).1)
 giver_within closed strangers Nobody lingers silent same = tt
+
+pub giver_gives : (closed strangers : List (Option ℕ)) (way : Way) (k : ℕ) → ((n t : ℕ) → way ≡ Lingers n t → IsEarliest closed n t)
+    → ((n t : ℕ) → way ≡ Stranger n t → HasEarliest closed None × IsEarliest strangers n t) → number_in way ≡ Some k → GivesWay closed strangers k
+giver_gives closed strangers (Lingers n t) k lingers silent is =
+    subst (λ (m : ℕ). GivesWay closed strangers m) (cc) (longest_closed n t (lingers n t refl))
+giver_gives closed strangers (Stranger n t) k lingers silent is =
+    let both : HasEarliest closed None × IsEarliest strangers n t = silent n t refl in
+    subst (λ (m : ℕ). GivesWay closed strangers m) (cc) (longest_silent n t both.0 both.1)
+giver_gives closed strangers Nobody k lingers silent is = absurd (cc)
+
+pub no_giver : (closed strangers : List (Option ℕ)) (way : Way) → (way ≡ Nobody → HasEarliest closed None × HasEarliest strangers None)
+    → number_in way ≡ None → HasEarliest closed None × HasEarliest strangers None
+no_giver closed strangers (Lingers n t) nobody is = absurd (cc)
+no_giver closed strangers (Stranger n t) nobody is = absurd (cc)
+no_giver closed strangers Nobody nobody is = nobody refl
+
+pub packet_wanted : (packets : Line) (dues : List (Option ℕ)) (o : Option ℕ) → IfSome o (λ k. IsFirst packets k) → is_some o ≡ true → IsWanted packets dues 0
+packet_wanted packets dues (Some k) first some = packet_waits k first.has
+packet_wanted packets dues None first some = absurd (cc)
+
+pub due_wanted : (packets : Line) (dues : List (Option ℕ)) (t : ℕ) → ((k : ℕ) × (slice_get dues k ≡ Some (Some t))) → IsWanted packets dues t
+due_wanted packets dues t there = is_due there.0 t there.1

@@ -1,10 +1,12 @@
 mod Agendas
 mod Apart
 mod Dues
+mod Fetching
 mod Handing
 mod Leading
 mod Listing
 mod Lives
+mod Noting
 mod Ordered
 mod Peers
 mod Readable
@@ -14,3 +16,4 @@ mod Silent
 mod Tellings
 mod Tree
 mod Turning
+mod Waking

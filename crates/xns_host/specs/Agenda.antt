@@ -1,8 +1,9 @@
 -- What is to be done next, of all connections.
 use Rattle.std.specs.Prelude.{◌≡◌, ℕ, true, false, List, length, Option, Some, None, slice_get, slice_set}
-use Rattle.xns_host.specs.Times.{HasEarliest}
+use Rattle.xns_host.specs.Times.{HasEarliest, IsEarliest}
 use Rattle.xns_host.specs.Turns.{Line, has_turn, with_turn}
 use Rattle.xns_host.specs.declared.facts.Facts.{Facts}
+use Rattle.xns_host.specs.declared.facts.TheConstants.Facts.{NONE}
 use Rattle.xns_host.specs.declared.way.Way.{Way}
 use Rattle.xns_host.specs.declared.way.Way.TheVariants.{Lingers, Stranger, Nobody}
 
@@ -50,14 +51,40 @@ released a number = record {
 pub record IsNoted (a : Plan) (number : ℕ) (f : Facts) : Type 0 where
   pub due : slice_get a.dues number ≡ Some f.due
   pub packet : has_turn a.packets number ≡ f.has_packet
-  pub event : has_turn a.events number ≡ f.has_event
   pub closed : slice_get a.closed number ≡ Some f.lingers_since
   pub stranger : slice_get a.strangers number ≡ Some f.stranger_since
 
--- the time that is told is 0 where a packet may be there, and else no later than each due
+-- no connection has this number, and nothing is to be done
+pub record HasNobody (a : Plan) (number : ℕ) : Type 0 where
+  pub facts : IsNoted a number NONE
+  pub free : has_turn a.free number ≡ true
+
+-- something is to be done at this time: at once where a packet may be there, else when something is due
+pub data IsWanted (packets : Line) (dues : List (Option ℕ)) : ℕ → Type 0 where
+  packet_waits : (k : ℕ) → has_turn packets k ≡ true → IsWanted packets dues 0
+  is_due : (k t : ℕ) → slice_get dues k ≡ Some (Some t) → IsWanted packets dues t
+
+-- the time that is told is 0 where a packet may be there, and else no later than each due; and something is to be done then
 pub record IsWake (packets : Line) (dues : List (Option ℕ)) (time : Option ℕ) : Type 0 where
   pub packet : (k : ℕ) → has_turn packets k ≡ true → time ≡ Some 0
   pub due : HasEarliest dues time
+  pub wanted : (t : ℕ) → time ≡ Some t → IsWanted packets dues t
+
+-- who gives way to a new connection: who lingers longest; where nobody lingers, who is silent longest
+pub data GivesWay (closed strangers : List (Option ℕ)) : ℕ → Type 0 where
+  longest_closed : (k t : ℕ) → IsEarliest closed k t → GivesWay closed strangers k
+  longest_silent : (k t : ℕ) → HasEarliest closed None → IsEarliest strangers k t → GivesWay closed strangers k
+
+-- whose number a new connection gets: a free one; where there is none, that of who gives way
+pub data GetsNumber (free : Line) (closed strangers : List (Option ℕ)) : ℕ → Type 0 where
+  free_number : (k : ℕ) → has_turn free k ≡ true → GetsNumber free closed strangers k
+  given_way : (k : ℕ) → HasEarliest free.tickets None → GivesWay closed strangers k → GetsNumber free closed strangers k
+
+-- no number is free, and nobody gives way
+pub record HasNoNumber (free : Line) (closed strangers : List (Option ℕ)) : Type 0 where
+  pub nobody : HasEarliest free.tickets None
+  pub lingers : HasEarliest closed None
+  pub silent : HasEarliest strangers None
 
 -- who gives way
 abbrev pub number_in : Way → Option ℕ

@@ -1,16 +1,28 @@
 -- Many connections behind one address.
-use Rattle.std.specs.Prelude.{◌≡◌, ◌≢◌, ℕ, Bool, true, false, not, ◌&&◌, ◌||◌, ◌==◌, nat_lt, List, length, if◌then◌else◌, Option, Some}
-use Rattle.std.specs.Prelude.{None, slice_get, slice_index_or, drop}
+use Rattle.std.specs.Prelude.{◌≡◌, ◌≢◌, ℕ, Bool, true, false, not, ◌&&◌, ◌||◌, ◌==◌, nat_lt, List, [], length, if◌then◌else◌, Option, Some}
+use Rattle.std.specs.Prelude.{None, position, slice_get, slice_index_or, drop}
 use Rattle.std.specs.Option.{is_some, is_none}
 use Rattle.std.specs.Result.{result_ok}
 use Rattle.xns_idp.specs.Reading.{word_at, address_at}
+use Rattle.xns_idp.specs.declared.address.Address.{Address}
 use Rattle.xns_small.specs.ErrorReport.{ErrorReportModel, error_of}
-use Rattle.xns_host.specs.Story.{has_message}
+use Rattle.xns_host.specs.Agenda.{Plan, IsNoted}
+use Rattle.xns_spp.specs.State.{initiator_state}
+use Rattle.xns_host.specs.Events.{event_in}
+use Rattle.xns_host.specs.Identifiers.{Ids, is_free}
+use Rattle.xns_host.specs.Story.{has_message, new_story}
+use Rattle.xns_host.specs.Telling.{Tells}
+use Rattle.xns_host.specs.Times.{IsBy}
+use Rattle.xns_host.specs.Turns.{has_turn}
 use Rattle.xns_host.specs.Waiting.{due_time}
 use Rattle.xns_host.specs.declared.due.Due.TheVariants.{Never}
 use Rattle.xns_host.specs.declared.connection.Connection.{Connection}
+use Rattle.xns_host.specs.declared.event.Event.{Event}
 use Rattle.xns_host.specs.declared.facts.Facts.{Facts}
+use Rattle.xns_host.specs.declared.facts.TheConstants.Facts.{NONE}
 use Rattle.xns_host.specs.declared.guest.Guest.{Guest}
+use Rattle.xns_host.specs.declared.outgoing.Outgoing.{Outgoing}
+use Rattle.xns_host.specs.declared.settings.Settings.{Settings}
 
 -- ---- what a host has to know of a connection
 
@@ -51,3 +63,119 @@ has_guest (Some (Some g)) = true
 -- the connections with other numbers are as they were
 pub record IsApart (old new : List (Option Guest)) (number : ℕ) : Type 0 where
   pub others : (k : ℕ) → k ≢ number → slice_get new k ≡ slice_get old k
+
+-- the event is what one of the connections had to tell, and the others are as they were
+pub record IsNextEvent (old new : List (Option Guest)) (event : Event) : Type 0 where
+  pub number : ℕ
+  pub guest : Guest
+  pub there : slice_get old number ≡ Some (Some guest)
+  pub told : event_in number (Some guest) ≡ Some event
+  pub others : IsApart old new number
+
+-- no connection has anything to tell
+abbrev pub HasNoEvent : List (Option Guest) → Type 0
+HasNoEvent guests = (k : ℕ) (place : Option Guest) → slice_get guests k ≡ Some place → event_in k place ≡ None
+
+-- ---- what is noted of all
+
+-- what there is to know of the connection in a place, if there is one
+abbrev pub facts_in : Option Guest → Facts
+facts_in None = NONE
+facts_in (Some g) = facts_of g
+
+-- the agenda says of a place what the connection in it says, and whether there is one
+pub record IsNotedIn (a : Plan) (number : ℕ) (place : Option Guest) : Type 0 where
+  pub facts : IsNoted a number (facts_in place)
+  pub event : has_turn a.events number ≡ false → event_in number place ≡ None
+  pub free : has_turn a.free number ≡ is_none place
+
+-- it does so of each place, but of the one with this number whether there is a connection in it alone
+pub record IsNotedBut (a : Plan) (guests : List (Option Guest)) (number : ℕ) : Type 0 where
+  pub others : (k : ℕ) (place : Option Guest) → k ≢ number → slice_get guests k ≡ Some place → IsNotedIn a k place
+  pub free : (place : Option Guest) → slice_get guests number ≡ Some place → has_turn a.free number ≡ is_none place
+
+-- it does so of each place: nothing that is to be done is forgotten, and nothing is kept of a connection that is gone
+pub record IsAllNoted (a : Plan) (guests : List (Option Guest)) : Type 0 where
+  pub each : (k : ℕ) (place : Option Guest) → slice_get guests k ≡ Some place → IsNotedIn a k place
+
+-- ---- when a host wants to be asked
+
+-- something wants it at this time: a packet of none or of a connection may be to go out, or something is due of one
+pub data Wants (strays : List Outgoing) (guests : List (Option Guest)) : ℕ → Type 0 where
+  for_stray : strays ≢ [] → Wants strays guests 0
+  for_packet : (k : ℕ) (g : Guest) → slice_get guests k ≡ Some (Some g) → g.connection.owed.fresh ≡ true → Wants strays guests 0
+  for_due : (k t : ℕ) (g : Guest) → slice_get guests k ≡ Some (Some g) → due_time g.connection.wait.due ≡ Some t → Wants strays guests t
+
+-- the time that is told is the earliest of these; where there is none, none is told
+pub record IsFirstWant (strays : List Outgoing) (guests : List (Option Guest)) (time : Option ℕ) : Type 0 where
+  pub least : (t : ℕ) → Wants strays guests t → IsBy time t
+  pub wanted : (t : ℕ) → time ≡ Some t → Wants strays guests t
+
+-- ---- what goes out
+
+-- the packet goes out by the way of the connection in this place
+pub record GoesOutBy (place : Option Guest) (o : Outgoing) : Type 0 where
+  pub guest : Guest
+  pub there : place ≡ Some guest
+  pub via : o.via ≡ guest.via
+
+-- one of the places is such
+pub record SomeGuest (P : Option Guest → Type 0) (guests : List (Option Guest)) : Type 0 where
+  pub number : ℕ
+  pub place : Option Guest
+  pub there : slice_get guests number ≡ Some place
+  pub is : P place
+
+-- of no connection a packet may be to go out
+abbrev pub HasNoPacket : List (Option Guest) → Type 0
+HasNoPacket guests = (k : ℕ) (g : Guest) → slice_get guests k ≡ Some (Some g) → g.connection.owed.fresh ≡ false
+
+-- ---- who gives way to a new connection
+
+-- there is a connection in each place
+abbrev pub IsFull : List (Option Guest) → Type 0
+IsFull guests = (k : ℕ) → slice_get guests k ≢ Some None
+
+-- of all connections that have such a time none has an earlier one; where there is none, none has one
+abbrev pub HasNoneSooner : (Guest → Option ℕ) → List (Option Guest) → Option ℕ → Type 0
+HasNoneSooner since guests first = (k t : ℕ) (g : Guest) → slice_get guests k ≡ Some (Some g) → since g ≡ Some t → IsBy first t
+
+-- the place that a new connection gets: a free one; where there is none, that of the closed one that lingers longest; where none
+-- lingers, that of the one longest silent of those that a peer opened and never confirmed
+pub data IsPlace (guests : List (Option Guest)) : ℕ → Type 0 where
+  free_place : (k : ℕ) → slice_get guests k ≡ Some None → IsPlace guests k
+  of_closed : (k t : ℕ) (g : Guest) → IsFull guests → slice_get guests k ≡ Some (Some g) → lingers_since g.connection ≡ Some t
+      → HasNoneSooner (λ h. lingers_since h.connection) guests (Some t) → IsPlace guests k
+  of_stranger : (k t : ℕ) (g : Guest) → IsFull guests → HasNoneSooner (λ h. lingers_since h.connection) guests None
+      → slice_get guests k ≡ Some (Some g) → stranger_since g ≡ Some t → HasNoneSooner stranger_since guests (Some t) → IsPlace guests k
+
+-- no place is free, and no connection gives way
+pub record HasNoRoom (guests : List (Option Guest)) : Type 0 where
+  pub full : IsFull guests
+  pub lingers : HasNoneSooner (λ h. lingers_since h.connection) guests None
+  pub strangers : HasNoneSooner stranger_since guests None
+
+-- ---- a new connection
+
+-- the address of a socket of this host
+abbrev pub address_in : ℕ → List ℕ → ℕ → Address
+address_in network host socket = record { network = network; host = host; socket = socket }
+
+-- with this number there is a connection of ours to the peer, which has done nothing yet; its packets go out by this way
+pub record IsConnected (guests : List (Option Guest)) (number : ℕ) (settings : Settings) (own to : Address) (way : ℕ) : Type 0 where
+  pub guest : Guest
+  pub there : slice_get guests number ≡ Some (Some guest)
+  pub tells : Tells guest.connection.conversation (new_story (initiator_state own guest.id to settings.window settings.backlog))
+  pub unclosed : guest.connection.closed ≡ None
+  pub via : guest.via ≡ way
+  pub peer : guest.peer ≡ to
+  pub opener : guest.opener ≡ None
+
+-- each identifier is some connection's
+abbrev pub IsAllInUse : Ids → Type 0
+IsAllInUse ids = position (is_free ids.owners) ids.ahead ≡ None
+
+-- at most one connection changed, or came or went
+pub record ChangesOne (old new : List (Option Guest)) : Type 0 where
+  pub number : ℕ
+  pub others : IsApart old new number

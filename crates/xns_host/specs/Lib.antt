@@ -2,9 +2,11 @@ pub mod Agenda
 pub mod Agreeing
 pub mod Closing
 pub mod Connecting
+pub mod Events
 pub mod Hosting
 pub mod Identifiers
 pub mod Living
+pub mod Quotes
 pub mod Reasons
 pub mod Refusing
 pub mod Register

@@ -1,9 +1,9 @@
 //! What is to be done next, of all connections.
 
-ghost use Rattle.std.specs.Prelude.{◌≡◌, ◌<◌, length, true, false, IfOk, IfSome, None};
-ghost use Rattle.xns_host.specs.Agenda.{IsFor, IsWake, noted, released};
+ghost use Rattle.std.specs.Prelude.{◌≡◌, ◌<◌, ℕ, length, true, false, IfOk, IfSome, Some, None, slice_get};
+ghost use Rattle.xns_host.specs.Agenda.{GetsNumber, GivesWay, HasNobody, HasNoNumber, IsFor, IsWake, noted, released};
 ghost use Rattle.xns_host.specs.Times.{HasEarliest, HasNoneBy};
-ghost use Rattle.xns_host.specs.Turns.{IsFirst, with_last, with_turn};
+ghost use Rattle.xns_host.specs.Turns.{IsFirst, has_turn, with_turn};
 
 use crate::facts::Facts;
 use crate::places::Places;
@@ -54,7 +54,8 @@ impl Model for Agenda {
 
 /// So many numbers, each free.
 fn all_free(alloc: Global, most: usize) -> Result<Turns, AllocError>
-    ensures { IfOk result (λ t. length t.tickets ≡ most) }
+    ensures sized { IfOk result (λ t. length t.tickets ≡ most) }
+    ensures free { IfOk result (λ t. (k : ℕ) → k < most → has_turn t k ≡ true) }
 {
     let mut free = Turns::new(alloc, most)?;
     for number in 0..most {
@@ -64,11 +65,28 @@ fn all_free(alloc: Global, most: usize) -> Result<Turns, AllocError>
 }
 
 /// Who gives way to a new connection.
+#[tactic(auto, using(crate::proofs::Agendas::giver_gives, crate::proofs::Agendas::no_giver))]
 fn giver(places: &Places) -> Option<usize>
     requires { length places.now.strangers ≡ length places.now.closed }
-    ensures { IfSome result (λ k. k < length places.now.closed) }
+    ensures within { IfSome result (λ k. k < length places.now.closed) }
+    ensures some { (k : ℕ) → result ≡ Some k → GivesWay places.now.closed places.now.strangers k }
+    ensures none { result ≡ None → HasEarliest places.now.closed None × HasEarliest places.now.strangers None }
 {
     places.way().number()
+}
+
+/// The number of a new connection.
+fn place_of(free: &Turns, places: &Places) -> Option<usize>
+    requires free { length free.now.tickets ≡ length places.now.closed }
+    requires strangers { length places.now.strangers ≡ length places.now.closed }
+    ensures within { IfSome result (λ k. k < length places.now.closed) }
+    ensures some { (k : ℕ) → result ≡ Some k → GetsNumber free.now places.now.closed places.now.strangers k }
+    ensures none { result ≡ None → HasNoNumber free.now places.now.closed places.now.strangers }
+{
+    if let Some(number) = free.first() {
+        return Some(number);
+    }
+    giver(places)
 }
 
 /// A number whose time is at or before this one.
@@ -82,14 +100,15 @@ fn first_by(dues: &Times, now: u64) -> Option<usize>
 
 /// The earliest time.
 fn first_time(dues: &Times) -> Option<u64>
-    ensures { HasEarliest dues.now result }
+    ensures earliest { HasEarliest dues.now result }
+    ensures there { (t : ℕ) → result ≡ Some t → (k : ℕ) × (slice_get dues.now k ≡ Some (Some t)) }
 {
     let (_, time) = dues.first()?;
     Some(time)
 }
 
 /// When something is to be done at the latest.
-#[tactic(auto, using(crate::proofs::Agendas::nobody))]
+#[tactic(auto, using(crate::proofs::Agendas::nobody, crate::proofs::Agendas::packet_wanted, crate::proofs::Agendas::due_wanted))]
 fn wake(packets: &Turns, dues: &Times) -> Option<u64>
     ensures { IsWake packets.now dues.now result }
 {
@@ -102,7 +121,8 @@ fn wake(packets: &Turns, dues: &Times) -> Option<u64>
 impl Agenda {
     /// No connections, with room for so many. The only error is want of memory.
     pub fn new(alloc: Global, most: usize) -> Result<Agenda, AllocError>
-        ensures { IfOk result (λ a. IsFor a most) }
+        ensures room { IfOk result (λ a. IsFor a most) }
+        ensures nobody { IfOk result (λ a. (k : ℕ) → k < most → HasNobody a k) }
     {
         let free = all_free(alloc, most)?;
         Ok(Agenda {
@@ -117,7 +137,8 @@ impl Agenda {
     /// The connection with this number is such.
     pub fn note(&mut self, number: usize, facts: Facts)
         requires { number < length self.old.dues }
-        ensures { self.new ≡ noted self.old number facts }
+        ensures noted { self.new ≡ noted self.old number facts }
+        ensures room { IsFor self.old (length self.old.dues) }
     {
         self.dues.set(number, facts.due);
         self.packets.set(number, facts.has_packet);
@@ -129,7 +150,8 @@ impl Agenda {
     /// A connection has this number.
     pub fn take(&mut self, number: usize)
         requires { number < length self.old.dues }
-        ensures { self.new ≡ record self.old { free = with_turn self.old.free number false } }
+        ensures taken { self.new ≡ record self.old { free = with_turn self.old.free number false } }
+        ensures room { IsFor self.old (length self.old.dues) }
     {
         self.free.set(number, false);
     }
@@ -137,7 +159,8 @@ impl Agenda {
     /// No connection has this number any longer.
     pub fn release(&mut self, number: usize)
         requires { number < length self.old.dues }
-        ensures { self.new ≡ released self.old number }
+        ensures released { self.new ≡ released self.old number }
+        ensures room { IsFor self.old (length self.old.dues) }
     {
         self.note(number, Facts::NONE);
         self.free.set(number, true);
@@ -145,12 +168,12 @@ impl Agenda {
 
     /// The number of a new connection: a free one; where there is none, that of a connection that gives way. `None`: none does.
     pub fn place(&self) -> Option<usize>
-        ensures { IfSome result (λ k. k < length self.now.dues) }
+        ensures within { IfSome result (λ k. k < length self.now.dues) }
+        ensures some { (k : ℕ) → result ≡ Some k → GetsNumber self.now.free self.now.closed self.now.strangers k }
+        ensures room { IsFor self.now (length self.now.dues) }
+        ensures none { result ≡ None → HasNoNumber self.now.free self.now.closed self.now.strangers }
     {
-        if let Some(number) = self.free.first() {
-            return Some(number);
-        }
-        giver(&self.places)
+        place_of(&self.free, &self.places)
     }
 
     /// A connection of which something is due at this time. `None`: nothing is due.
@@ -164,6 +187,7 @@ impl Agenda {
     /// Who may have a packet that is to go out, and has the first turn. `None`: nobody.
     pub fn first_packet(&self) -> Option<usize>
         ensures some { IfSome result (λ k. IsFirst self.now.packets k) }
+        ensures within { IfSome result (λ k. k < length self.now.dues) }
         ensures none { result ≡ None → HasEarliest self.now.packets.tickets None }
     {
         self.packets.first()
@@ -172,7 +196,8 @@ impl Agenda {
     /// The connection with this number has had its turn to give a packet.
     pub fn pass_packet(&mut self, number: usize)
         requires { number < length self.old.dues }
-        ensures { self.new ≡ record self.old { packets = with_turn self.old.packets number false } }
+        ensures passed { self.new ≡ record self.old { packets = with_turn self.old.packets number false } }
+        ensures room { IsFor self.old (length self.old.dues) }
     {
         self.packets.set(number, false);
     }
@@ -180,6 +205,7 @@ impl Agenda {
     /// Who may have something to tell the program, and has the first turn. `None`: nobody.
     pub fn first_event(&self) -> Option<usize>
         ensures some { IfSome result (λ k. IsFirst self.now.events k) }
+        ensures within { IfSome result (λ k. k < length self.now.dues) }
         ensures none { result ≡ None → HasEarliest self.now.events.tickets None }
     {
         self.events.first()
@@ -188,14 +214,16 @@ impl Agenda {
     /// The connection with this number has had its turn to tell something.
     pub fn pass_event(&mut self, number: usize)
         requires { number < length self.old.dues }
-        ensures { self.new ≡ record self.old { events = with_last self.old.events number } }
+        ensures passed { self.new ≡ record self.old { events = with_turn self.old.events number false } }
+        ensures room { IsFor self.old (length self.old.dues) }
     {
-        self.events.put_last(number);
+        self.events.set(number, false);
     }
 
     /// When something is to be done at the latest: at once, which is 0, where a packet may be there. `None`: never.
     pub fn wake(&self) -> Option<u64>
-        ensures { IsWake self.now.packets self.now.dues result }
+        ensures wake { IsWake self.now.packets self.now.dues result }
+        ensures room { IsFor self.now (length self.now.dues) }
     {
         wake(&self.packets, &self.dues)
     }

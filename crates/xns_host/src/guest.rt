@@ -3,6 +3,9 @@
 ghost use Rattle.std.specs.Prelude.{◌≡◌, OnErr, OnOk};
 ghost use Rattle.xns_host.specs.Hosting.{facts_of, lingers_since, may_go, stranger_since};
 ghost use Rattle.courier_messages.specs.RawCalls.{words_call};
+ghost use Rattle.xns_spp.specs.Held.{StandsFor};
+ghost use Rattle.xns_spp.specs.State.{State};
+ghost use Rattle.xns_host.specs.Quotes.{is_opened_by};
 ghost use Rattle.xns_host.specs.Reasons.{call_fault_of, answer_fault_of};
 ghost use Rattle.xns_host.specs.Refusing.{Answers};
 ghost use Rattle.xns_host.specs.Telling.{Hears};
@@ -87,7 +90,9 @@ impl Guest {
     }
 
     /// Whether a quoted packet was to open the connection, which is not open yet.
-    pub fn is_opened_by(&self, quote: &OpeningQuote) -> bool {
+    pub fn is_opened_by(&self, quote: &OpeningQuote) -> bool
+        ensures { (s : State) → StandsFor self.now.connection.conversation.endpoint s → result ≡ is_opened_by self.now s quote.now }
+    {
         let (own, _) = self.connection.own();
         self.opener.is_none()
             && !self.connection.is_open()

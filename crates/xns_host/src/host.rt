@@ -1,23 +1,27 @@
 //! Many connections behind one address.
 
-ghost use Rattle.std.specs.Prelude.{◌≡◌, ◌≢◌, ◌<◌, ◌≤◌, ℕ, [], length, true, false, IfOk, IfSome, OnErr, Some, None, Ok, Err, replicate};
-ghost use Rattle.std.specs.Prelude.{slice_get};
+ghost use Rattle.std.specs.Prelude.{◌≡◌, ◌≢◌, ◌<◌, ◌≤◌, ◌∷◌, ℕ, List, [], Option, length, true, false, IfOk, IfSome, OnErr, Some, None, Ok, Err, replicate};
+ghost use Rattle.std.specs.Prelude.{◌⊎◌, slice_get, slice_set};
+ghost use Rattle.std.specs.Option.{is_none};
 ghost use Rattle.courier_messages.specs.RawCalls.{words_call};
 ghost use Rattle.xns_idp.specs.Packet.{most_data};
-ghost use Rattle.xns_host.specs.Hosting.{IsApart, has_guest};
+ghost use Rattle.xns_host.specs.Events.{event_in, event_of};
+ghost use Rattle.xns_host.specs.Hosting.{ChangesOne, HasNoEvent, HasNoRoom, IsAllInUse, IsAllNoted, IsApart, IsConnected};
+ghost use Rattle.xns_host.specs.Hosting.{GoesOutBy, HasNoPacket, SomeGuest, IsFirstWant, IsNextEvent, IsNotedBut, IsPlace, address_in, facts_in, has_guest};
 ghost use Rattle.xns_host.specs.Reasons.{call_fault_of, answer_fault_of};
 ghost use Rattle.xns_host.specs.Refusing.{Answers};
 ghost use Rattle.xns_host.specs.Settings.{IsFit, most_connections, wrong_setting};
-ghost use Rattle.xns_host.specs.Times.{HasEarliest};
-ghost use Rattle.xns_host.specs.Turns.{has_turn};
+ghost use Rattle.xns_host.specs.Turns.{with_turn};
 ghost use Rattle.xns_host.specs.declared.guest.Guest.{Guest};
-ghost use Rattle.xns_host.specs.declared.host_fault.HostFault.TheVariants.{NoConnection, OutOfRange};
+ghost use Rattle.xns_host.specs.declared.outgoing.Outgoing.{Outgoing};
+ghost use Rattle.xns_host.specs.declared.host_fault.HostFault.TheVariants.{NoConnection, NoMemory, NoRoom, OutOfRange};
 ghost use Rattle.xns_host.specs.declared.setting.Setting.{Setting};
 
 use crate::agenda::Agenda;
 use crate::clock::Clock;
 use crate::connection::Connection;
 use crate::event::Event;
+use crate::facts::Facts;
 use crate::guest::Guest;
 use crate::host_fault::HostFault;
 use crate::opening_quote::{OpeningQuote, quoted_opening};
@@ -27,7 +31,6 @@ use crate::register::Register;
 use crate::services::Services;
 use crate::settings::Settings;
 use crate::strays::Strays;
-use crate::told::Told;
 use courier_messages::{Head, PiecedMessage};
 use courier_sessions::{Answer, Program};
 use std::alloc::{AllocError, Global};
@@ -58,17 +61,75 @@ pub struct Host {
     ghost fit: { IsFit settings },
     ghost sized: { length guests.items ≡ length agenda.dues },
     ghost few: { length guests.items ≤ most_connections },
+    ghost settled: { length guests.items ≡ settings.connections },
+    // What is to be done of each connection is noted, and of nothing else.
+    ghost noted: { IsAllNoted agenda guests.items },
 }
 
 /// Places for so many connections.
 fn no_guests(alloc: Global, most: usize) -> Result<Vec<Option<Guest>>, AllocError>
-    ensures { IfOk result (λ v. length v.items ≡ most) }
+    ensures { IfOk result (λ v. v.items ≡ replicate most None) }
 {
     let mut guests = Vec::with_capacity(alloc, most)?;
     for _ in 0..most {
         guests.push(None)?;
     }
     Ok(guests)
+}
+
+/// What a host has to know of the connection of a place.
+fn facts_in(place: &Option<Guest>) -> Facts
+    ensures { result ≡ facts_in place.now }
+{
+    match place {
+        Some(guest) => guest.facts(),
+        None => Facts::NONE,
+    }
+}
+
+/// Notes what is to be done of the connection with this number.
+#[tactic(auto, using(crate::proofs::Noting::noted_all))]
+fn note(guests: &[Option<Guest>], agenda: &mut Agenda, number: usize)
+    requires within { number < length guests.now }
+    requires sized { length guests.now ≡ length agenda.old.dues }
+    requires others { IsNotedBut agenda.old guests.now number }
+    ensures noted { IsAllNoted agenda.new guests.now }
+    ensures sized { length agenda.new.dues ≡ length agenda.old.dues }
+    ensures packets { (place : Option Guest) → slice_get guests.now number ≡ Some place
+        → agenda.new.packets ≡ with_turn agenda.old.packets number (facts_in place).has_packet }
+{
+    let facts = facts_in(&guests[number]);
+    agenda.note(number, facts);
+}
+
+/// Takes the connection with this number out of its place.
+#[tactic(auto, using(crate::proofs::Noting::vacated))]
+fn vacate(guests: &mut Vec<Option<Guest>>, agenda: &mut Agenda, number: usize) -> Option<Guest>
+    requires within { number < length guests.old.items }
+    requires sized { length guests.old.items ≡ length agenda.old.dues }
+    requires noted { IsAllNoted agenda.old guests.old.items }
+    ensures noted { IsAllNoted agenda.new guests.new.items }
+    ensures sized { length agenda.new.dues ≡ length agenda.old.dues }
+    ensures gone { guests.new.items ≡ slice_set guests.old.items number None }
+{
+    agenda.release(number);
+    guests[number].take()
+}
+
+/// Puts a connection into a place.
+#[tactic(auto, using(crate::proofs::Noting::filled))]
+fn fill(guests: &mut Vec<Option<Guest>>, agenda: &mut Agenda, number: usize, guest: Guest)
+    requires within { number < length guests.old.items }
+    requires sized { length guests.old.items ≡ length agenda.old.dues }
+    requires noted { IsAllNoted agenda.old guests.old.items }
+    ensures noted { IsAllNoted agenda.new guests.new.items }
+    ensures sized { length agenda.new.dues ≡ length agenda.old.dues }
+    ensures there { guests.new.items ≡ slice_set guests.old.items number (Some guest) }
+{
+    let mut filling = Some(guest);
+    std::mem::swap(&mut guests[number], &mut filling);
+    agenda.take(number);
+    note(guests.as_slice(), agenda, number);
 }
 
 /// Puts out a call on the connection of a place.
@@ -86,6 +147,7 @@ fn call_in(
     ensures answer { (g : Guest) → slot.old ≡ Some g → Answers
         (call_fault_of g.connection.conversation (words_call program version procedure words.now)) result }
     ensures unchanged { OnErr result (slot.new ≡ slot.old) }
+    ensures kept { is_none slot.new ≡ is_none slot.old }
 {
     let Some(guest) = slot else {
         return Err(HostFault::NoConnection { number });
@@ -106,6 +168,7 @@ fn answer_in(
     ensures none { slot.old ≡ None → result ≡ Err (NoConnection number) }
     ensures answer { (g : Guest) → slot.old ≡ Some g → Answers (answer_fault_of g.connection.conversation answer words.now) result }
     ensures unchanged { OnErr result (slot.new ≡ slot.old) }
+    ensures kept { is_none slot.new ≡ is_none slot.old }
 {
     let Some(guest) = slot else {
         return Err(HostFault::NoConnection { number });
@@ -115,7 +178,9 @@ fn answer_in(
 }
 
 /// Does what is due of the connection of a place; whether it may be forgotten then.
-fn act_in(slot: &mut Option<Guest>, now: u64) -> bool {
+fn act_in(slot: &mut Option<Guest>, now: u64) -> bool
+    ensures kept { is_none slot.new ≡ is_none slot.old }
+{
     let Some(guest) = slot else {
         return false;
     };
@@ -126,6 +191,7 @@ fn act_in(slot: &mut Option<Guest>, now: u64) -> bool {
 /// Closes the connection of a place, if it is the one that a quoted packet was to open; whether it is.
 fn not_served_in(slot: &mut Option<Guest>, now: u64, quote: &OpeningQuote) -> bool
     ensures unchanged { result ≡ false → slot.new ≡ slot.old }
+    ensures kept { is_none slot.new ≡ is_none slot.old }
 {
     let Some(guest) = slot else {
         return false;
@@ -140,6 +206,7 @@ fn not_served_in(slot: &mut Option<Guest>, now: u64, quote: &OpeningQuote) -> bo
 /// Takes in a packet that names the connection of a place; whether it is one of it.
 fn hear_in(slot: &mut Option<Guest>, alloc: Global, now: u64, confirms: bool, bytes: &[u8]) -> bool
     ensures unchanged { result ≡ false → slot.new ≡ slot.old }
+    ensures kept { is_none slot.new ≡ is_none slot.old }
 {
     let Some(guest) = slot else {
         return false;
@@ -151,34 +218,50 @@ fn hear_in(slot: &mut Option<Guest>, alloc: Global, now: u64, confirms: bool, by
     true
 }
 
-/// What the connection of a place has to tell, once. `None`: nothing.
-fn told_in(slot: &mut Option<Guest>, alloc: Global, now: u64) -> Option<Told>
-    ensures { slot.old ≡ None → result ≡ None }
+/// What the connection of a place, with this number, has to tell, once. `None`: nothing.
+fn event_in(slot: &mut Option<Guest>, alloc: Global, now: u64, number: usize) -> Option<Event>
+    ensures event { result ≡ event_in number slot.old }
+    ensures none { result ≡ None → slot.new ≡ slot.old }
+    ensures kept { is_none slot.new ≡ is_none slot.old }
 {
     let Some(guest) = slot else {
         return None;
     };
     if let Some(message) = guest.connection.take_message(alloc, now) {
         guest.heard_of = true;
-        return Some(Told::Message(message));
+        return Some(event_of(number, message));
     }
     let why = guest.connection.take_why()?;
-    let done = guest.is_done();
-    Some(Told::Closed { why, done })
+    Some(Event::Closed { number, why })
 }
 
-/// The next packet of the connection of a place. The only error is want of memory: what is to go out stays so.
+/// Whether the connection of a place may be forgotten.
+fn is_done_in(slot: &Option<Guest>) -> bool {
+    match slot {
+        Some(guest) => guest.is_done(),
+        None => false,
+    }
+}
+
+/// The next packet of the connection of a place. `None`: there is none, until something is done again. The only error is want of
+/// memory: what is to go out stays so.
 fn packet_in(
     slot: &mut Option<Guest>,
     alloc: Global,
     now: u64,
-) -> Result<Option<Outgoing>, AllocError> {
+) -> Result<Option<Outgoing>, AllocError>
+    ensures rested { result ≡ Ok None → (facts_in slot.new).has_packet ≡ false }
+    ensures via { IfOk result (λ made. IfSome made (λ o. GoesOutBy slot.new o)) }
+    ensures kept { is_none slot.new ≡ is_none slot.old }
+{
     let Some(guest) = slot else {
         return Ok(None);
     };
     let via = guest.via;
     match guest.connection.next_packet(alloc, now)? {
         Some(packet) => Ok(Some(Outgoing { via, packet })),
+        // Memory was refused while items moved.
+        None if guest.connection.has_packet() => Err(AllocError),
         None => Ok(None),
     }
 }
@@ -193,6 +276,7 @@ fn close_in(
     ensures none { slot.old ≡ None → result ≡ Err (NoConnection number) }
     ensures some { slot.old ≢ None → result ≡ Ok tt }
     ensures unchanged { OnErr result (slot.new ≡ slot.old) }
+    ensures kept { is_none slot.new ≡ is_none slot.old }
 {
     let Some(guest) = slot else {
         return Err(HostFault::NoConnection { number });
@@ -202,7 +286,9 @@ fn close_in(
 }
 
 /// What the program is told of a message of the connection with this number.
-fn event_of(number: usize, message: PiecedMessage) -> Event {
+fn event_of(number: usize, message: PiecedMessage) -> Event
+    ensures { result ≡ event_of number message }
+{
     let answer = match message.head() {
         Head::Call {
             program,
@@ -276,7 +362,9 @@ impl Host {
     }
 
     /// The address of a socket of ours.
-    fn address(&self, socket: u16) -> Address {
+    fn address(&self, socket: u16) -> Address
+        ensures { result ≡ address_in self.now.network self.now.host socket }
+    {
         Address {
             network: self.network,
             host: self.host,
@@ -298,73 +386,47 @@ impl Host {
         }
     }
 
-    /// Notes what is to be done of the connection with this number.
-    fn note(&mut self, number: usize)
-        ensures guests { self.new.guests ≡ self.old.guests }
-    {
-        if number >= self.guests.len() {
-            return;
-        }
-        let Some(guest) = &self.guests[number] else {
-            return;
-        };
-        let facts = guest.facts();
-        self.agenda.note(number, facts);
-    }
-
     /// Forgets the connection with this number.
     fn forget(&mut self, number: usize)
+        requires { number < length self.old.guests.items }
         ensures apart { IsApart self.old.guests.items self.new.guests.items number }
+        ensures sized { length self.new.guests.items ≡ length self.old.guests.items }
+        ensures strays { self.new.strays ≡ self.old.strays }
     {
-        if number >= self.guests.len() {
-            return;
-        }
-        let Some(guest) = self.guests[number].take() else {
+        let Some(guest) = vacate(&mut self.guests, &mut self.agenda, number) else {
             return;
         };
         self.register.release(guest.id);
         if let Some(opener) = &guest.opener {
             self.register.leave(opener);
         }
-        self.agenda.release(number);
     }
 
-    /// Notes what is to be done of the connection with this number, or forgets it.
+    /// Forgets the connection with this number, if it is done.
     fn settle(&mut self, number: usize, done: bool)
+        requires { number < length self.old.guests.items }
         ensures apart { IsApart self.old.guests.items self.new.guests.items number }
+        ensures strays { self.new.strays ≡ self.old.strays }
     {
         if done {
             self.forget(number);
-            return;
         }
-        self.note(number);
-    }
-
-    /// Puts what is in a slot into a place.
-    fn fill(&mut self, number: usize, slot: Option<Guest>)
-        ensures apart { IsApart self.old.guests.items self.new.guests.items number }
-    {
-        if number >= self.guests.len() {
-            return;
-        }
-        let mut filling = slot;
-        std::mem::swap(&mut self.guests[number], &mut filling);
     }
 
     /// Puts a new connection into its place, which is free.
     fn seat(&mut self, number: usize, guest: Guest)
+        requires { number < length self.old.guests.items }
         ensures apart { IsApart self.old.guests.items self.new.guests.items number }
+        ensures there { slice_get self.new.guests.items number ≡ Some (Some guest) }
     {
-        self.fill(number, Some(guest));
-        if number < self.guests.len() {
-            self.agenda.take(number);
-        }
-        self.note(number);
+        fill(&mut self.guests, &mut self.agenda, number, guest);
     }
 
     /// Puts a new connection into its place, whose old one gives way.
     fn put(&mut self, number: usize, guest: Guest)
+        requires { number < length self.old.guests.items }
         ensures apart { IsApart self.old.guests.items self.new.guests.items number }
+        ensures there { slice_get self.new.guests.items number ≡ Some (Some guest) }
     {
         self.forget(number);
         self.seat(number, guest);
@@ -379,7 +441,18 @@ impl Host {
         via: u32,
         socket: u16,
         peer: Address,
-    ) -> Result<usize, HostFault> {
+    ) -> Result<usize, HostFault>
+        ensures connected { IfOk result (λ n. IsConnected self.new.guests.items n self.old.settings
+            (address_in self.old.network self.old.host socket) peer via) }
+        ensures apart { IfOk result (IsApart self.old.guests.items self.new.guests.items) }
+        ensures place { IfOk result (IsPlace self.old.guests.items) }
+        ensures full { HasNoRoom self.old.guests.items → result ≡ Err NoRoom }
+        ensures used { IsAllInUse self.old.register.identifiers → result ≡ Err NoRoom }
+        ensures room { result ≡ Err NoRoom → HasNoRoom self.old.guests.items ⊎ IsAllInUse self.old.register.identifiers }
+        ensures fault { OnErr result ((result ≡ Err NoRoom) ⊎ (result ≡ Err NoMemory)) }
+        ensures unchanged { OnErr result ((k : ℕ) → slice_get self.new.guests.items k ≡ slice_get self.old.guests.items k) }
+        ensures agenda { OnErr result (self.new.agenda ≡ self.old.agenda) }
+    {
         let now = self.clock.tell(now);
         let Some(number) = self.agenda.place() else {
             return Err(HostFault::NoRoom);
@@ -411,6 +484,7 @@ impl Host {
     /// An `Err`, which changes nothing, is [`HostFault::NoConnection`], [`HostFault::PeerCalls`] where the peer opened it,
     /// [`HostFault::Closing`] where it is closed or was asked to close, [`HostFault::Busy`] while a call waits or its answer was not
     /// fetched, [`HostFault::TooLong`] over 65,530 words, or [`HostFault::NoMemory`].
+    #[tactic(auto, using(crate::proofs::Noting::put_back))]
     pub fn call(
         &mut self,
         now: u64,
@@ -441,7 +515,7 @@ impl Host {
             procedure,
             words,
         )?;
-        self.note(number);
+        note(self.guests.as_slice(), &mut self.agenda, number);
         Ok(())
     }
 
@@ -450,6 +524,7 @@ impl Host {
     /// An `Err`, which changes nothing, is [`HostFault::NoConnection`], [`HostFault::NoCall`] where no call was handed that is not
     /// answered, [`HostFault::Closing`] where the connection is closed, [`HostFault::TooLong`] over 131,072 bytes, or
     /// [`HostFault::NoMemory`].
+    #[tactic(auto, using(crate::proofs::Noting::put_back))]
     pub fn answer(
         &mut self,
         now: u64,
@@ -476,11 +551,12 @@ impl Host {
             answer,
             words,
         )?;
-        self.note(number);
+        note(self.guests.as_slice(), &mut self.agenda, number);
         Ok(())
     }
 
     /// Closes a connection once all that it has to say is said. An `Err`, which changes nothing, is [`HostFault::NoConnection`].
+    #[tactic(auto, using(crate::proofs::Noting::put_back))]
     pub fn close(&mut self, now: u64, number: usize) -> Result<(), HostFault>
         ensures apart { IsApart self.old.guests.items self.new.guests.items number }
         ensures none { has_guest (slice_get self.old.guests.items number) ≡ false → result ≡ Err (NoConnection number) }
@@ -492,13 +568,15 @@ impl Host {
             return Err(HostFault::NoConnection { number });
         }
         close_in(&mut self.guests[number], self.alloc, now, number)?;
-        self.note(number);
+        note(self.guests.as_slice(), &mut self.agenda, number);
         Ok(())
     }
 
     /// Takes a packet in that came by this `via`, and says whether it was for the host. One that was not changes nothing: it is the
     /// program's to use.
+    #[tactic(auto, using(crate::proofs::Apart::one_changed, crate::proofs::Apart::none_changed))]
     pub fn receive(&mut self, now: u64, via: u32, bytes: &[u8]) -> bool
+        ensures one { ChangesOne self.old.guests.items self.new.guests.items }
         ensures unchanged { result ≡ false → (k : ℕ) → slice_get self.new.guests.items k ≡ slice_get self.old.guests.items k }
     {
         let now = self.clock.tell(now);
@@ -527,7 +605,9 @@ impl Host {
     }
 
     /// Closes the connection whose opening packet an Error packet quotes; whether there is one that is not open yet.
+    #[tactic(auto, using(crate::proofs::Apart::one_changed, crate::proofs::Apart::none_changed))]
     fn refused(&mut self, now: u64, packet: &Packet<'_>) -> bool
+        ensures one { ChangesOne self.old.guests.items self.new.guests.items }
         ensures unchanged { result ≡ false → (k : ℕ) → slice_get self.new.guests.items k ≡ slice_get self.old.guests.items k }
     {
         if packet.target.host != self.host {
@@ -551,12 +631,14 @@ impl Host {
             return false;
         }
         let closed = not_served_in(&mut self.guests[number], now, quote);
-        self.note(number);
+        note(self.guests.as_slice(), &mut self.agenda, number);
         closed
     }
 
     /// Takes a sequenced packet in; whether it was for the host.
+    #[tactic(auto, using(crate::proofs::Apart::one_changed, crate::proofs::Apart::none_changed))]
     fn sequenced(&mut self, now: u64, via: u32, bytes: &[u8]) -> bool
+        ensures one { ChangesOne self.old.guests.items self.new.guests.items }
         ensures unchanged { result ≡ false → (k : ℕ) → slice_get self.new.guests.items k ≡ slice_get self.old.guests.items k }
     {
         let Ok(packet) = read_packet(bytes) else {
@@ -586,12 +668,13 @@ impl Host {
             return false;
         }
         let heard = hear_in(&mut self.guests[number], self.alloc, now, confirms, bytes);
-        self.note(number);
+        note(self.guests.as_slice(), &mut self.agenda, number);
         heard
     }
 
     /// Takes a packet in that names no connection; whether it opens one at a socket that is served. Where there is no room, it is as if
     /// lost.
+    #[tactic(auto, using(crate::proofs::Apart::one_changed, crate::proofs::Apart::none_changed, crate::proofs::Apart::apart_then))]
     fn opening(
         &mut self,
         now: u64,
@@ -600,6 +683,7 @@ impl Host {
         packet: &SppPacket<'_>,
         bytes: &[u8],
     ) -> bool
+        ensures one { ChangesOne self.old.guests.items self.new.guests.items }
         ensures unchanged { result ≡ false → (k : ℕ) → slice_get self.new.guests.items k ≡ slice_get self.old.guests.items k }
     {
         let Some((peer, peer_id)) = packet.opener() else {
@@ -628,7 +712,11 @@ impl Host {
         peer: Address,
         peer_id: u16,
         programs: Vec<Program>,
-    ) -> Option<usize> {
+    ) -> Option<usize>
+        ensures apart { IfSome result (IsApart self.old.guests.items self.new.guests.items) }
+        ensures place { IfSome result (IsPlace self.old.guests.items) }
+        ensures unchanged { result ≡ None → (k : ℕ) → slice_get self.new.guests.items k ≡ slice_get self.old.guests.items k }
+    {
         if peer_id == 0 {
             return None;
         }
@@ -661,35 +749,34 @@ impl Host {
         Some(number)
     }
 
-    /// What the connection with this number has to tell the program, if it has anything.
+    /// What the connection with this number has to tell the program, if it has anything: it has had its turn.
+    #[tactic(auto, using(crate::proofs::Noting::put_back, crate::proofs::Noting::quiet_noted))]
     fn event(&mut self, number: usize) -> Option<Event>
+        requires { number < length self.old.guests.items }
         ensures apart { IsApart self.old.guests.items self.new.guests.items number }
+        ensures event { (place : Option Guest) → slice_get self.old.guests.items number ≡ Some place → result ≡ event_in number place }
+        ensures none { result ≡ None → (k : ℕ) → slice_get self.new.guests.items k ≡ slice_get self.old.guests.items k }
+        ensures passed { result ≡ None → self.new.agenda ≡ record self.old.agenda { events = with_turn self.old.agenda.events number false } }
     {
         let now = self.clock.latest();
-        if number >= self.guests.len() {
-            return None;
-        }
-        match told_in(&mut self.guests[number], self.alloc, now)? {
-            Told::Message(message) => {
-                self.note(number);
-                Some(event_of(number, message))
-            }
-            Told::Closed { why, done } => {
-                self.settle(number, done);
-                Some(Event::Closed { number, why })
-            }
-        }
+        let event = event_in(&mut self.guests[number], self.alloc, now, number);
+        self.agenda.pass_event(number);
+        let event = event?;
+        let done = is_done_in(&self.guests[number]);
+        note(self.guests.as_slice(), &mut self.agenda, number);
+        self.settle(number, done);
+        Some(event)
     }
 
     /// The next thing that the program is told. A `None`: there is nothing, until something is done again.
-    pub fn next_event(&mut self) -> Option<Event> {
-        for _ in 0..self.guests.len() {
-            let number = self.agenda.first_event()?;
+    pub fn next_event(&mut self) -> Option<Event>
+        ensures told { IfSome result (λ e. IsNextEvent self.old.guests.items self.new.guests.items e) }
+        ensures none { result ≡ None → HasNoEvent self.old.guests.items }
+        ensures unchanged { result ≡ None → (k : ℕ) → slice_get self.new.guests.items k ≡ slice_get self.old.guests.items k }
+    {
+        while let Some(number) = self.agenda.first_event() {
             if let Some(event) = self.event(number) {
                 return Some(event);
-            }
-            if number < self.guests.len() {
-                self.agenda.pass_event(number);
             }
         }
         None
@@ -698,16 +785,20 @@ impl Host {
     /// Does what is due of the connection with this number.
     fn act(&mut self, now: u64, number: usize)
         ensures apart { IsApart self.old.guests.items self.new.guests.items number }
+        ensures strays { self.new.strays ≡ self.old.strays }
     {
         if number >= self.guests.len() {
             return;
         }
         let done = act_in(&mut self.guests[number], now);
+        note(self.guests.as_slice(), &mut self.agenda, number);
         self.settle(number, done);
     }
 
     /// Does what is due, of each connection.
-    fn act_all(&mut self, now: u64) {
+    fn act_all(&mut self, now: u64)
+        ensures strays { self.new.strays ≡ self.old.strays }
+    {
         for _ in 0..self.guests.len() {
             let Some(number) = self.agenda.first_due(now) else {
                 return;
@@ -716,16 +807,19 @@ impl Host {
         }
     }
 
-    /// The next packet of the connection with this number.
+    /// The next packet of the connection with this number, which has had its turn.
     fn packet(&mut self, now: u64, number: usize) -> Result<Option<Outgoing>, HostFault>
+        requires { number < length self.old.guests.items }
         ensures apart { IsApart self.old.guests.items self.new.guests.items number }
+        ensures via { IfOk result (λ made. IfSome made (λ o. SomeGuest (λ place. GoesOutBy place o) self.new.guests.items)) }
+        ensures rested { result ≡ Ok None → self.new.agenda.packets
+            ≡ with_turn (with_turn self.old.agenda.packets number false) number false }
+        ensures strays { self.new.strays ≡ self.old.strays }
+        ensures fault { OnErr result (result ≡ Err NoMemory) }
     {
-        if number >= self.guests.len() {
-            return Ok(None);
-        }
         let made = packet_in(&mut self.guests[number], self.alloc, now);
         self.agenda.pass_packet(number);
-        self.note(number);
+        note(self.guests.as_slice(), &mut self.agenda, number);
         match made {
             Ok(packet) => Ok(packet),
             Err(_) => Err(HostFault::NoMemory),
@@ -736,16 +830,20 @@ impl Host {
     /// something is done again or [`wake`](Host::wake)'s time has come.
     ///
     /// The only error is [`HostFault::NoMemory`]: what is to go out stays so.
-    pub fn next_packet(&mut self, now: u64) -> Result<Option<Outgoing>, HostFault> {
+    pub fn next_packet(&mut self, now: u64) -> Result<Option<Outgoing>, HostFault>
+        ensures stray { (o : Outgoing) (os : List Outgoing) → self.old.strays.waiting ≡ o ∷ os → (result ≡ Ok (Some o))
+            × (self.new.strays.waiting ≡ os) }
+        ensures via { self.old.strays.waiting ≡ [] → IfOk result (λ made. IfSome made (λ o. SomeGuest (λ place. GoesOutBy place o)
+            self.new.guests.items)) }
+        ensures none { result ≡ Ok None → HasNoPacket self.new.guests.items }
+        ensures fault { OnErr result (result ≡ Err NoMemory) }
+    {
         let now = self.clock.tell(now);
         self.act_all(now);
         if let Some(stray) = self.strays.take() {
             return Ok(Some(stray));
         }
-        for _ in 0..self.guests.len() {
-            let Some(number) = self.agenda.first_packet() else {
-                return Ok(None);
-            };
+        while let Some(number) = self.agenda.first_packet() {
             if let Some(packet) = self.packet(now, number)? {
                 return Ok(Some(packet));
             }
@@ -756,9 +854,7 @@ impl Host {
     /// When [`next_packet`](Host::next_packet) wants to be asked at the latest; 0, which is at once, where something may be to go out.
     /// `None`: never, until something is done.
     pub fn wake(&self) -> Option<u64>
-        ensures due { HasEarliest self.now.agenda.dues result }
-        ensures packet { (k : ℕ) → has_turn self.now.agenda.packets k ≡ true → result ≡ Some 0 }
-        ensures stray { self.now.strays.waiting ≢ [] → result ≡ Some 0 }
+        ensures { IsFirstWant self.now.strays.waiting self.now.guests.items result }
     {
         if !self.strays.is_empty() {
             return Some(0);
@@ -766,8 +862,10 @@ impl Host {
         self.agenda.wake()
     }
 
-    /// How many connections there are.
-    pub fn connections(&self) -> usize {
+    /// How many connections there are: at most as many as the settings say.
+    pub fn connections(&self) -> usize
+        ensures bound { result ≤ self.now.settings.connections }
+    {
         self.guests.iter().filter(|guest| guest.is_some()).count()
     }
 

@@ -1,4 +1,4 @@
-//! Many Courier conversations behind one address, with time: the parts of a host.
+//! Many Courier conversations behind one address, with time.
 #![tactic(auto)]
 
 mod act;
@@ -28,7 +28,6 @@ mod settings;
 mod side;
 mod strays;
 mod times;
-mod told;
 mod turns;
 mod wait;
 mod way;

@@ -1,5 +1,8 @@
 //! The opening packet that an Error packet quotes.
 
+ghost use Rattle.std.specs.Prelude.{◌≡◌};
+ghost use Rattle.xns_host.specs.Quotes.{quoted_opening};
+
 use xns_idp::Address;
 use xns_idp::packet_type::SEQUENCED_PACKET;
 use xns_idp::places::{read_address, read_word};
@@ -20,7 +23,9 @@ pub struct OpeningQuote {
 }
 
 /// The opening packet that the body of an Error packet quotes. A `None`: it quotes none.
-pub fn quoted_opening(body: &[u8]) -> Option<OpeningQuote> {
+pub fn quoted_opening(body: &[u8]) -> Option<OpeningQuote>
+    ensures { result ≡ quoted_opening body.now }
+{
     let report = read_error(body).ok()?;
     let quoted = report.quoted;
     if quoted.len() < QUOTED || quoted[5] != SEQUENCED_PACKET || read_word(quoted, 34) != 0 {

@@ -1,6 +1,6 @@
 //! Packets of no connection that are to go out.
 
-ghost use Rattle.std.specs.Prelude.{◌≡◌, ◌≤◌, ◌++◌, [], length, true, false, IfOk, OnErr, Some, None};
+ghost use Rattle.std.specs.Prelude.{◌≡◌, ◌≢◌, ◌≤◌, ◌++◌, [], length, true, false, IfOk, OnErr, Some, None};
 ghost use Rattle.std.specs.Option.{option_to_list};
 ghost use Rattle.xns_idp.specs.Packet.{most_data, packet_model};
 ghost use Rattle.xns_small.specs.Echo.{IsAnswered, echo_reply};
@@ -43,7 +43,8 @@ impl Strays {
 
     /// Whether there is none.
     pub fn is_empty(&self) -> bool
-        ensures { result ≡ true → self.now.waiting ≡ [] }
+        ensures empty { result ≡ true → self.now.waiting ≡ [] }
+        ensures some { result ≡ false → self.now.waiting ≢ [] }
     {
         self.waiting.is_empty()
     }
@@ -60,6 +61,7 @@ impl Strays {
     /// Takes the first.
     pub fn take(&mut self) -> Option<Outgoing>
         ensures waiting { self.old.waiting ≡ option_to_list result ++ self.new.waiting }
+        ensures none { result ≡ None → self.old.waiting ≡ [] }
         ensures most { self.new.most ≡ self.old.most }
     {
         self.waiting.pop_front()

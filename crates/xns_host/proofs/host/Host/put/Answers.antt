@@ -1,5 +1,6 @@
 use Rattle.xns_host.proofs.Apart.{apart_then}
 use Rattle.xns_host.proofs.host.Host.put.Goals as goal
 
-pub returns : goal.returns
-returns c = record { apart = apart_then c.args.self.now.guests.items c.forget.new.self.guests.items c.seat.new.self.guests.items c.args.number c.forget.ensures.apart c.seat.ensures.apart }
+pub returns-clause-apart : goal.returns-clause-apart
+returns-clause-apart c =
+    apart_then c.args.self.now.guests.items c.forget.new.self.guests.items c.seat.new.self.guests.items c.args.number c.forget.ensures.apart c.seat.ensures.apart

@@ -1,0 +1,79 @@
+-- What a host tells next.
+use Rattle.std.proofs.Common.{◌≡◌, ◌≢◌, ◌∙◌, ap, refl, subst, sym, ℕ, ◌+◌, ◌<◌, true, false, Bool, List, length, Option, Some, None, slice_get, get_or, arith}
+use Rattle.std.specs.Prelude.{slice_set, count_by, cond, ◌||◌, if◌then◌else◌}
+use Rattle.std.specs.Option.{is_some}
+use Rattle.std.proofs.lemmas.List.{length-set}
+use Rattle.std.proofs.lemmas.List.Sums.{sum_by-set}
+use Rattle.std.proofs.lemmas.Option.{slice_get-get_or}
+use Rattle.xns_host.specs.Agenda.{Plan, IsFor}
+use Rattle.xns_host.specs.Events.{event_in}
+use Rattle.xns_host.specs.Hosting.{HasNoEvent, HasNoPacket, IsAllNoted, IsApart, IsNextEvent}
+use Rattle.xns_host.specs.Times.{HasEarliest}
+use Rattle.xns_host.specs.Turns.{Line, has_turn, with_turn}
+use Rattle.xns_host.specs.declared.connection.Connection.{Connection}
+use Rattle.xns_host.specs.declared.event.Event.{Event}
+use Rattle.xns_host.specs.declared.guest.Guest.{Guest}
+use Rattle.xns_host.specs.declared.why.Why.{Why}
+use Rattle.xns_host.proofs.Agendas.{nobody, within}
+
+abbrev Places : Type 0
+Places = List (Option Guest)
+
+abbrev counted : Option ℕ → ℕ
+counted o = cond (is_some o) 1 0
+
+-- one turn less
+pub fewer : (line : Line) (n : ℕ) → has_turn line n ≡ true → count_by is_some (with_turn line n false).tickets < count_by is_some line.tickets
+fewer line n has =
+    let e : count_by is_some (slice_set line.tickets n None) + counted (get_or line.tickets n None) ≡ count_by is_some line.tickets + counted None
+        = sum_by-set counted line.tickets n None None (within line.tickets n has) in
+    let one : counted (get_or line.tickets n None) ≡ 1 = ap (λ (b : Bool). cond b 1 0) has in
+    omega (arith, e, one)
+
+no_turn : (b : Bool) (line : Line) (k : ℕ) → HasEarliest line.tickets None → has_turn line k ≡ b → has_turn line k ≡ false
+no_turn true line k none is = absurd (nobody line k none is)
+no_turn false line k none is = is
+
+-- where nobody has a turn, nobody has anything to tell
+pub no_event : (a : Plan) (old gs : Places) → IsAllNoted a gs → ((k : ℕ) → slice_get gs k ≡ slice_get old k) → HasEarliest a.events.tickets None → HasNoEvent old
+no_event a old gs all same none = λ k place there.
+    (all.each k place (same k ∙ there)).event (no_turn (has_turn a.events k) a.events k none refl)
+
+told_in : (old new : Places) (n : ℕ) (e : Event) (place : Option Guest) → slice_get old n ≡ Some place → Some e ≡ event_in n place → IsApart old new n
+    → IsNextEvent old new e
+told_in old new n e None there told apart = absurd (cc)
+told_in old new n e (Some g) there told apart = record { number = n; guest = g; there = there; told = sym told; others = apart }
+
+pub next_told : (old mid new : Places) (n : ℕ) (e : Event) → ((k : ℕ) → slice_get mid k ≡ slice_get old k) → n < length mid
+    → ((place : Option Guest) → slice_get mid n ≡ Some place → Some e ≡ event_in n place) → IsApart mid new n → IsNextEvent old new e
+next_told old mid new n e same less told apart =
+    let there : slice_get mid n ≡ Some (get_or mid n None) = slice_get-get_or mid n None less in
+    told_in old new n e (get_or mid n None) (sym (same n) ∙ there) (told (get_or mid n None) there)
+    (record { others = λ k other. apart.others k other ∙ same k })
+
+-- ---- packets
+
+pub packet_less : (line next : Line) (n : ℕ) → has_turn line n ≡ true → next ≡ with_turn (with_turn line n false) n false
+    → count_by is_some next.tickets < count_by is_some line.tickets
+packet_less line next n has is =
+    let less : n < length (slice_set line.tickets n None) = omega (arith, length-set line.tickets n None, within line.tickets n has) in
+    let e : count_by is_some (slice_set (slice_set line.tickets n None) n None) + counted (get_or (slice_set line.tickets n None) n None)
+            ≡ count_by is_some (slice_set line.tickets n None) + counted None
+        = sum_by-set counted (slice_set line.tickets n None) n None None less in
+    let f : count_by is_some (with_turn line n false).tickets < count_by is_some line.tickets = fewer line n has in
+    subst (λ (l : Line). count_by is_some l.tickets < count_by is_some line.tickets) (sym is) (omega (arith, e, f))
+
+pub no_packet : (a : Plan) (gs : Places) → IsAllNoted a gs → HasEarliest a.packets.tickets None → HasNoPacket gs
+no_packet a gs all none = λ k g there. sym (all.each k (Some g) there).facts.packet ∙ no_turn (has_turn a.packets k) a.packets k none refl
+
+-- ---- why it is closed
+
+told_by : (b : Bool) (o : Option Why) → None ≡ (if b then None else o) → (b || is_some o) ≡ b
+told_by true o none = refl
+told_by false None none = refl
+told_by false (Some w) none = absurd (cc)
+
+-- where there is no reason to tell, none was taken
+pub untold : (old new : Connection) → new ≡ record old { told = new.told } → new.told ≡ (old.told || is_some old.closed)
+    → None ≡ (if old.told then None else old.closed) → new ≡ old
+untold old new is told none = is ∙ ap (λ (b : Bool). record old { told = b }) (told ∙ told_by old.told old.closed none)

@@ -1,0 +1,59 @@
+use Rattle.std.proofs.Common.{◌≡◌, inl, inr, refl, rules, subst, false, None}
+use Rattle.xns_idp.specs.declared.address.Address.{Address}
+use Rattle.xns_spp.specs.State.{initiator_state}
+use Rattle.xns_host.specs.Agenda.{HasNoNumber}
+use Rattle.xns_host.specs.Hosting.{IsPlace}
+use Rattle.xns_host.specs.Story.{new_story}
+use Rattle.xns_host.specs.Telling.{Tells}
+use Rattle.xns_host.proofs.Waking.{all_in_use, gets_place, no_room, not_both}
+use Rattle.xns_host.proofs.host.Host.connect.Goals as goal
+
+pub returns-in_default-clause-room : goal.returns-in_default-clause-room
+returns-in_default-clause-room c = λ z.
+    let none : HasNoNumber c.args.self.now.agenda.free c.args.self.now.agenda.closed c.args.self.now.agenda.strangers = search rules in
+    inl (no_room c.args.self.now.agenda c.args.self.now.guests.items c.args.self.now.noted none)
+
+pub returns-in_default-next-clause-room : goal.returns-in_default-next-clause-room
+returns-in_default-next-clause-room c = λ z.
+    let none : c.next.result ≡ None = search rules in
+    inr (all_in_use c.args.self.now.register.identifiers.owners c.args.self.now.register.identifiers.ahead c.next.result c.next.ensures.given none)
+
+pub returns-in_default-calling-clause-full : goal.returns-in_default-calling-clause-full
+returns-in_default-calling-clause-full c = λ none.
+    let place : IsPlace c.args.self.now.guests.items c.in-Some.number
+        = gets_place c.args.self.now.agenda c.args.self.now.guests.items c.args.self.now.noted c.place.ensures.room c.args.self.now.sized
+          (c.place.ensures.some c.in-Some.number c.in-Some.is) in
+    absurd (not_both c.args.self.now.guests.items none place)
+
+pub returns-clause-connected : goal.returns-clause-connected
+returns-clause-connected c = record {
+  guest = record {
+    connection = c.in-Ok.connection;
+    via = c.args.via;
+    id = c.in-Some-next.id;
+    peer = c.args.peer;
+    opener = None;
+    confirmed = false;
+    heard_of = false;
+  };
+  there = c.put.ensures.there;
+  tells = subst (λ (own : Address). Tells c.in-Ok.connection.conversation
+      (new_story (initiator_state own c.in-Some-next.id c.args.peer c.args.self.now.settings.window c.args.self.now.settings.backlog)))
+      c.address-own.ensures c.in-Ok.ensures.tells;
+  unclosed = c.in-Ok.ensures.open.0;
+  via = refl;
+  peer = refl;
+  opener = refl;
+}
+
+pub returns-clause-place : goal.returns-clause-place
+returns-clause-place c =
+    gets_place c.args.self.now.agenda c.args.self.now.guests.items c.args.self.now.noted c.place.ensures.room c.args.self.now.sized
+    (c.place.ensures.some c.in-Some.number c.in-Some.is)
+
+pub returns-clause-full : goal.returns-clause-full
+returns-clause-full c = λ none.
+    let place : IsPlace c.args.self.now.guests.items c.in-Some.number
+        = gets_place c.args.self.now.agenda c.args.self.now.guests.items c.args.self.now.noted c.place.ensures.room c.args.self.now.sized
+          (c.place.ensures.some c.in-Some.number c.in-Some.is) in
+    absurd (not_both c.args.self.now.guests.items none place)

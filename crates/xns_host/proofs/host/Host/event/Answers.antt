@@ -1,0 +1,42 @@
+use Rattle.std.proofs.Common.{◌≡◌, ◌∙◌, ◌<◌, ap, sym, rules, length, get_or, Option, None, arith}
+use Rattle.std.specs.Prelude.{slice_set}
+use Rattle.std.proofs.lemmas.List.{length-set}
+use Rattle.xns_host.specs.Agenda.{Plan}
+use Rattle.xns_host.specs.Events.{event_in}
+use Rattle.xns_host.specs.declared.guest.Guest.{Guest}
+use Rattle.xns_host.proofs.Apart.{apart_then, set_apart}
+use Rattle.xns_host.proofs.Noting.{kept_but, passed_but, same_place, told_nothing}
+use Rattle.xns_host.proofs.host.Host.event.Goals as goal
+
+pub invariant_of-self : goal.invariant_of-self
+invariant_of-self c =
+    let old : c.index_mut.result.now ≡ get_or c.args.self.now.guests.items c.args.number c.index_mut.result.now = search rules in
+    let same : c.event_in-event.new.slot ≡ c.index_mut.result.now = search rules in
+    let quiet : event_in c.args.number c.index_mut.result.now ≡ None = search rules in
+    let size : length (slice_set c.args.self.now.guests.items c.args.number c.event_in-event.new.slot) ≡ length c.args.self.now.guests.items
+        = length-set c.args.self.now.guests.items c.args.number c.event_in-event.new.slot in
+    let less : c.args.number < length c.args.self.now.agenda.dues = omega (arith, c.requires, c.args.self.now.sized) in record {
+  fit = c.args.self.now.fit;
+  sized = size ∙ c.args.self.now.sized ∙ ap (λ (a : Plan). length a.dues) (sym c.pass_event.ensures.passed);
+  few = omega (arith, size, c.args.self.now.few);
+  settled = size ∙ c.args.self.now.settled;
+  noted = rw c.pass_event.ensures.passed (told_nothing c.args.self.now.agenda c.args.self.now.guests.items c.args.number (length c.args.self.now.agenda.dues)
+      c.index_mut.result.now c.event_in-event.new.slot c.args.self.now.noted c.pass_event.ensures.room less c.requires old same quiet);
+}
+
+pub note-requires-clause-others : goal.note-requires-clause-others
+note-requires-clause-others c =
+    rw c.pass_event.ensures.passed (passed_but c.args.self.now.agenda c.as_slice.result.now c.args.number
+    (kept_but c.args.self.now.agenda c.args.self.now.guests.items c.as_slice.result.now c.args.number c.index_mut.result.now c.event_in-event.new.slot
+    c.args.self.now.noted c.requires (search rules) (search rules) (search rules)))
+
+pub returns-clause-apart : goal.returns-clause-apart
+returns-clause-apart c =
+    apart_then c.args.self.now.guests.items c.as_slice.result.now c.settle.new.self.guests.items c.args.number
+    (set_apart c.args.self.now.guests.items c.as_slice.result.now c.args.number c.event_in-event.new.slot (search rules)) (search rules)
+
+pub returns-clause-event : goal.returns-clause-event
+returns-clause-event c = λ place there.
+    let old : c.index_mut.result.now ≡ get_or c.args.self.now.guests.items c.args.number c.index_mut.result.now = search rules in
+    let same : c.index_mut.result.now ≡ place = same_place c.args.self.now.guests.items c.args.number c.index_mut.result.now place c.requires old there in
+    sym c.in_ok-event.was ∙ c.event_in-event.ensures.event ∙ ap (λ (p : Option Guest). event_in c.args.number p) same

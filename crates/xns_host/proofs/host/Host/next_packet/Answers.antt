@@ -1,0 +1,24 @@
+use Rattle.std.proofs.Common.{◌≡◌, [], rules, None, Some, Ok}
+use Rattle.xns_host.specs.Times.{HasEarliest}
+use Rattle.xns_host.proofs.Fetching.{no_packet, packet_less}
+use Rattle.xns_host.proofs.host.Host.next_packet.Goals as goal
+
+pub returns-in_err-packet-clause-stray : goal.returns-in_err-packet-clause-stray
+returns-in_err-packet-clause-stray c = λ o os is. let none : c.args.self.now.strays.waiting ≡ [] = c.loop-number.invariant in absurd (cc)
+
+pub returns-in-Some-2-clause-stray : goal.returns-in-Some-2-clause-stray
+returns-in-Some-2-clause-stray c = λ o os is. let none : c.args.self.now.strays.waiting ≡ [] = c.loop-number.invariant in absurd (cc)
+
+pub loop-number-smaller : goal.loop-number-smaller
+loop-number-smaller c =
+    let none : c.packet.result ≡ Ok None = search rules in
+    packet_less c.loop-number.self.agenda.packets c.packet.new.self.agenda.packets c.in-Some-first_packet.number
+    c.in-Some-first_packet.ensures.some.has (c.packet.ensures.rested none)
+
+pub returns-clause-stray : goal.returns-clause-stray
+returns-clause-stray c = λ o os is. let none : c.args.self.now.strays.waiting ≡ [] = c.loop-number.invariant in absurd (cc)
+
+pub returns-clause-none : goal.returns-clause-none
+returns-clause-none c = λ z.
+    let none : HasEarliest c.loop-number.self.agenda.packets.tickets None = search rules in
+    no_packet c.loop-number.self.agenda c.loop-number.self.guests.items c.loop-number.self.noted none
