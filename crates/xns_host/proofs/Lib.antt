@@ -16,4 +16,5 @@ mod Silent
 mod Tellings
 mod Tree
 mod Turning
+mod Waits
 mod Waking

@@ -1,11 +1,11 @@
 -- What a connection has done, with the closing exchange (XSIS 028112, Sequenced Packet Protocol, Termination).
-use Rattle.std.specs.Prelude.{◌≡◌, ℕ, List, [], ◌++◌, Bool, false, not, ◌&&◌, ◌||◌, ◌==◌, nat_lt, take}
+use Rattle.std.specs.Prelude.{◌≡◌, ℕ, List, [], ◌++◌, Bool, true, false, not, ◌&&◌, ◌||◌, ◌==◌, nat_lt, take}
 use Rattle.courier_sessions.specs.Answering.{has_items}
 use Rattle.xns_spp.specs.Ends.{is_open}
 use Rattle.xns_spp.specs.Growth.{Begins}
-use Rattle.xns_spp.specs.Held.{StandsFor}
+use Rattle.xns_spp.specs.Held.{Held, StandsFor}
 use Rattle.xns_spp.specs.Receiving.{after_receive}
-use Rattle.xns_spp.specs.Sending.{flush_answer}
+use Rattle.xns_spp.specs.Sending.{flush_answer, waiting_count}
 use Rattle.xns_spp.specs.State.{State}
 use Rattle.xns_spp.specs.Telling.{unacknowledged_count}
 use Rattle.xns_host.specs.Closing.{closing_items, drains}
@@ -49,6 +49,14 @@ pub record Rested (old new : Conversation) : Type 0 where
 -- the same, from where it is after these bytes came
 pub record Hears (old new : Conversation) (bytes : List ℕ) : Type 0 where
   pub on : (h : Story) → Tells old h → (m : Story) × Tells new m × GoesOn (record h { state = after_receive h.state bytes }) m
+
+-- no item waits at the end to be read
+abbrev pub NoneWaits : Held → Type 0
+NoneWaits endpoint = (s : State) → StandsFor endpoint s → waiting_count s ≡ 0
+
+-- where only closing items are read, none waits
+abbrev pub ReadsAll : (old new : Conversation) → Type 0
+ReadsAll old new = (h : Story) → Tells old h → drains new.side new.closing ≡ true → NoneWaits new.endpoint
 
 -- a packet of the peer has more acknowledged, or opens the connection
 abbrev pub is_progress : State → State → Bool

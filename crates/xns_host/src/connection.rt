@@ -19,7 +19,7 @@ ghost use Rattle.xns_host.specs.Reasons.{call_fault_of, answer_fault_of};
 ghost use Rattle.xns_host.specs.Refusing.{Answers};
 ghost use Rattle.xns_host.specs.Settings.{IsFit};
 ghost use Rattle.xns_host.specs.Story.{Story, GoesOn, new_story, asked_of, waiting_message, with_handed, has_message};
-ghost use Rattle.xns_host.specs.Telling.{Tells, Goes, Rested, Calm, CalmFrom, Hears, waits, is_over};
+ghost use Rattle.xns_host.specs.Telling.{Tells, Goes, Rested, Calm, CalmFrom, Hears, ReadsAll, waits, is_over};
 ghost use Rattle.xns_host.specs.Waiting.{act_at, after_act, after_step, after_word, lingering, new_waiting};
 ghost use Rattle.xns_host.specs.declared.act.Act.TheVariants.{GiveUp};
 ghost use Rattle.xns_host.specs.declared.why.Why.TheVariants.{NotServed};
@@ -166,6 +166,7 @@ fn after_moving(
     ensures waits { result ≡ None → (s : State) → StandsFor conversation.new.endpoint s → wait.new ≡ after_step wait.old (waits s) now }
     ensures lingers { closed ≡ None → result ≢ None → wait.new ≡ lingering wait.old now }
     ensures idle { drains conversation.new.side conversation.new.closing ≡ false → conversation.new ≡ conversation.old }
+    ensures stays { result ≡ closed → conversation.new ≡ conversation.old }
 {
     if closed.is_some() {
         return closed;
@@ -206,6 +207,7 @@ fn settled(
     ensures word { owed.old.word ≡ true → owed.new.word ≡ true }
     ensures calm { owed.new.moving ≡ false → drains conversation.new.side conversation.new.closing ≡ false
         → Calm conversation.old conversation.new }
+    ensures read { owed.new.moving ≡ false → result ≡ closed → ReadsAll conversation.old conversation.new }
 {
     let waiting = conversation.endpoint.waiting();
     let moved = conversation.settle(alloc);
@@ -426,6 +428,8 @@ impl Connection {
         ensures tells { OnOk result (Hears self.old.conversation self.new.conversation bytes.now) }
         ensures calm { OnOk result (self.new.owed.moving ≡ false → drains self.new.conversation.side self.new.conversation.closing ≡ false
             → CalmFrom self.old.conversation self.new.conversation (λ h. record h { state = after_receive h.state bytes.now })) }
+        ensures read { OnOk result (self.new.owed.moving ≡ false → self.new.closed ≡ self.old.closed
+            → ReadsAll self.old.conversation self.new.conversation) }
         ensures closed { self.old.closed ≢ None → self.new.closed ≡ self.old.closed }
         ensures told { self.new.told ≡ self.old.told }
         ensures fresh { OnOk result (self.new.owed.fresh ≡ true) }
@@ -538,6 +542,8 @@ impl Connection {
             → drains self.new.conversation.side self.new.conversation.closing ≡ false
             → CalmFrom self.old.conversation self.new.conversation
             (λ h. record h { made = h.made ++ words_call program version procedure words.now ∷ [] }) }
+        ensures read { result ≡ Ok tt → self.new.owed.moving ≡ false → self.new.closed ≡ self.old.closed
+            → ReadsAll self.old.conversation self.new.conversation }
         ensures closed { self.old.closed ≢ None → self.new.closed ≡ self.old.closed }
         ensures told { self.new.told ≡ self.old.told }
         ensures fresh { result ≡ Ok tt → self.new.owed.fresh ≡ true }
@@ -573,6 +579,8 @@ impl Connection {
             → drains self.new.conversation.side self.new.conversation.closing ≡ false
             → CalmFrom self.old.conversation self.new.conversation
             (λ h. record h { answers = h.answers ++ answer_message kind k words.now ∷ [] }) }
+        ensures read { (k : ℕ) → asked_of self.old.conversation.side ≡ Some k → result ≡ Ok tt → self.new.owed.moving ≡ false
+            → self.new.closed ≡ self.old.closed → ReadsAll self.old.conversation self.new.conversation }
         ensures closed { self.old.closed ≢ None → self.new.closed ≡ self.old.closed }
         ensures told { self.new.told ≡ self.old.told }
         ensures fresh { result ≡ Ok tt → self.new.owed.fresh ≡ true }
@@ -595,6 +603,8 @@ impl Connection {
         ensures goes { Goes self.old.conversation self.new.conversation }
         ensures calm { self.new.owed.moving ≡ false → drains self.new.conversation.side self.new.conversation.closing ≡ false
             → Calm self.old.conversation self.new.conversation }
+        ensures read { self.new.owed.moving ≡ false → self.new.closed ≡ self.old.closed
+            → ReadsAll self.old.conversation self.new.conversation }
         ensures closed { self.old.closed ≢ None → self.new.closed ≡ self.old.closed }
         ensures told { self.new.told ≡ self.old.told }
         ensures fresh { self.new.owed.fresh ≡ true }
@@ -618,6 +628,8 @@ impl Connection {
         ensures calm { (m : Message) → result ≡ Some m → self.new.owed.moving ≡ false
             → drains self.new.conversation.side self.new.conversation.closing ≡ false
             → CalmFrom self.old.conversation self.new.conversation (λ h. with_handed self.old.conversation.side h m) }
+        ensures read { (m : Message) → result ≡ Some m → self.new.owed.moving ≡ false → self.new.closed ≡ self.old.closed
+            → ReadsAll self.old.conversation self.new.conversation }
         ensures closed { self.old.closed ≢ None → self.new.closed ≡ self.old.closed }
         ensures told { self.new.told ≡ self.old.told }
         ensures none { result ≡ None → self.new ≡ self.old }

@@ -1,13 +1,13 @@
 //! An endpoint, its side, and the closing exchange between both.
 
-ghost use Rattle.std.specs.Prelude.{◌≡◌, ◌≢◌, ℕ, [], ◌∷◌, ◌++◌, List, true, false, is_ok, IfOk, OnOk, OnErr, Some, None, Ok, Err};
+ghost use Rattle.std.specs.Prelude.{◌≡◌, ◌≢◌, ◌≤◌, ◌-◌, ℕ, [], ◌∷◌, ◌++◌, List, true, false, is_ok, IfOk, OnOk, OnErr, Some, None, Ok, Err};
 ghost use Rattle.courier_messages.specs.declared.message.Message.{Message};
 ghost use Rattle.courier_messages.specs.RawCalls.{words_call};
 ghost use Rattle.courier_sessions.specs.declared.feed_refusal.FeedRefusal.TheVariants.{NoMemory};
 ghost use Rattle.courier_sessions.specs.Answering.{answer_message};
 ghost use Rattle.xns_spp.specs.Held.{StandsFor};
 ghost use Rattle.xns_spp.specs.Receiving.{input_answer, after_receive, StoresBytes};
-ghost use Rattle.xns_spp.specs.Sending.{send_answer, after_send, flush_answer, tick_answer};
+ghost use Rattle.xns_spp.specs.Sending.{send_answer, after_send, flush_answer, tick_answer, waiting_count};
 ghost use Rattle.std.specs.Option.{option_to_list};
 ghost use Rattle.xns_spp.specs.State.{State};
 ghost use Rattle.xns_spp.specs.Telling.{resend_answer, told_answer};
@@ -70,7 +70,7 @@ fn noted(closing: Closing, stream: u8) -> Closing
 
 impl Conversation {
     ghost use Rattle.xns_host.specs.Reasons.{call_fault_of, answer_fault_of};
-    ghost use Rattle.xns_host.specs.Telling.{Tells, Goes, Rested, Calm, owes_end, owes_reply, waits, is_over};
+    ghost use Rattle.xns_host.specs.Telling.{Tells, Goes, Rested, Calm, NoneWaits, ReadsAll, owes_end, owes_reply, waits, is_over};
 
     /// One in which nothing was said.
     pub fn new(alloc: Global, endpoint: Endpoint, side: Side) -> Conversation
@@ -97,29 +97,29 @@ impl Conversation {
             || self.closing.deaf
     }
 
-    /// Takes the item that waits first, and notes what it says of closing; whether there was one.
-    fn take_one(&mut self) -> bool
+    /// Takes the item that waits first, if one does, and notes what it says of closing.
+    fn take_one(&mut self)
         requires { drains self.old.side self.old.closing ≡ true }
         ensures goes { Goes self.old self.new }
         ensures drains { drains self.new.side self.new.closing ≡ true }
+        ensures fewer { (s v : State) → StandsFor self.old.endpoint s → StandsFor self.new.endpoint v
+            → waiting_count v ≤ waiting_count s - 1 }
     {
         xns_spp::laws::the_next_item_is_handed_up();
         let Some(item) = self.endpoint.take() else {
-            return false;
+            return;
         };
         self.closing = noted(self.closing, item.stream);
-        true
     }
 
     /// Takes all that waits, and notes what is said of closing.
     fn drain(&mut self)
         requires { drains self.old.side self.old.closing ≡ true }
-        ensures { Goes self.old self.new }
+        ensures goes { Goes self.old self.new }
+        ensures read { (h : Story) → Tells self.old h → NoneWaits self.new.endpoint }
     {
-        for _ in 0..self.endpoint.waiting() {
-            if !self.take_one() {
-                return;
-            }
+        for turn in 0..self.endpoint.waiting() {
+            self.take_one();
         }
     }
 
@@ -127,6 +127,7 @@ impl Conversation {
     fn drain_out(&mut self)
         ensures goes { Goes self.old self.new }
         ensures idle { drains self.new.side self.new.closing ≡ false → self.new ≡ self.old }
+        ensures read { ReadsAll self.old self.new }
     {
         if self.drains() {
             self.drain();
@@ -164,6 +165,9 @@ impl Conversation {
     fn say_reply(&mut self, alloc: Global)
         ensures goes { Goes self.old self.new }
         ensures idle { drains self.new.side self.new.closing ≡ false → self.new ≡ self.old }
+        ensures drains { drains self.new.side self.new.closing ≡ drains self.old.side self.old.closing }
+        ensures waiting { (s v : State) → StandsFor self.old.endpoint s → StandsFor self.new.endpoint v
+            → waiting_count v ≡ waiting_count s }
     {
         xns_spp::laws::items_are_accepted_or_change_nothing();
         if !self.owes_reply() {
@@ -203,6 +207,7 @@ impl Conversation {
     fn close_up(&mut self, alloc: Global)
         ensures goes { Goes self.old self.new }
         ensures idle { drains self.new.side self.new.closing ≡ false → self.new ≡ self.old }
+        ensures read { ReadsAll self.old self.new }
     {
         self.say_end(alloc);
         self.drain_out();
@@ -235,6 +240,7 @@ impl Conversation {
     pub fn settle(&mut self, alloc: Global) -> Result<(), FeedRefusal>
         ensures goes { Goes self.old self.new }
         ensures calm { result ≢ Err NoMemory → drains self.new.side self.new.closing ≡ false → Calm self.old self.new }
+        ensures read { result ≢ Err NoMemory → ReadsAll self.old self.new }
     {
         let moved = self.converse(alloc);
         self.mark(moved);

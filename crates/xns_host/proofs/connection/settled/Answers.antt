@@ -1,6 +1,6 @@
-use Rattle.std.proofs.Common.{◌≡◌, false, sym, subst, rules}
+use Rattle.std.proofs.Common.{◌≡◌, true, false, sym, subst, rules}
 use Rattle.xns_host.specs.Closing.{drains}
-use Rattle.xns_host.specs.Telling.{Calm}
+use Rattle.xns_host.specs.Telling.{Calm, NoneWaits}
 use Rattle.xns_host.specs.declared.conversation.Conversation.{Conversation}
 use Rattle.xns_host.proofs.Leading.{goes_then}
 use Rattle.xns_host.proofs.Tellings.{drains_still}
@@ -17,3 +17,9 @@ returns-clause-calm c = λ still free.
     let same = c.after_moving.ensures.idle free in
     subst (λ (t : Conversation). Calm c.args.conversation.now t) (sym same)
     (c.settle-moved.ensures.calm (λ refused. absurd (search rules)) (subst (λ (t : Conversation). drains t.side t.closing ≡ false) same free))
+
+pub returns-clause-read : goal.returns-clause-read
+returns-clause-read c = λ still kept h tells yes.
+    let same = c.after_moving.ensures.stays kept in
+    subst (λ (t : Conversation). NoneWaits t.endpoint) (sym same)
+    (c.settle-moved.ensures.read (λ refused. absurd (search rules)) h tells (subst (λ (t : Conversation). drains t.side t.closing ≡ true) same yes))

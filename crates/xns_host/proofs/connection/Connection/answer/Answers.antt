@@ -18,3 +18,7 @@ invariant_of-self c = record {
 
 pub returns-clause-calm : goal.returns-clause-calm
 returns-clause-calm c = λ k asked good still free. calm_from (λ h tells. c.in_ok-answer.ensures.answered h k tells asked refl) (c.settled-self.ensures.calm still free)
+
+pub returns-clause-read : goal.returns-clause-read
+returns-clause-read c = λ k asked good still same h tells yes.
+    c.settled-self.ensures.read still same (record h { answers = h.answers ++ answer_message c.args.kind k c.args.words.now ∷ [] }) (c.in_ok-answer.ensures.answered h k tells asked refl) yes

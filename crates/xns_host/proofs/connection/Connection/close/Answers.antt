@@ -10,3 +10,6 @@ settled-self-requires-clause-deaf c = λ some. drains_still _ _ c.close.ensures.
 
 pub returns-clause-calm : goal.returns-clause-calm
 returns-clause-calm c = λ still free. calm_then c.close.ensures.goes (c.settled-self.ensures.calm still free)
+
+pub returns-clause-read : goal.returns-clause-read
+returns-clause-read c = λ still same h tells yes. let x = c.close.ensures.goes.on h tells in c.settled-self.ensures.read still same x.0 x.1 yes

@@ -7,3 +7,6 @@ returns-clause-tells c = record { on = λ h tells. c.settled-self.ensures.goes.o
 
 pub returns-clause-calm : goal.returns-clause-calm
 returns-clause-calm c = λ still free. calm_from (λ h tells. c.in_ok-input.ensures.tells h tells) (c.settled-self.ensures.calm still free)
+
+pub returns-clause-read : goal.returns-clause-read
+returns-clause-read c = λ still same h tells yes. c.settled-self.ensures.read still same (record h { state = after_receive h.state c.args.bytes.now }) (c.in_ok-input.ensures.tells h tells) yes

@@ -1,4 +1,4 @@
-use Rattle.std.proofs.Common.{◌∙◌}
+use Rattle.std.proofs.Common.{◌∙◌, sym}
 use Rattle.xns_host.proofs.Leading.{goes_then}
 use Rattle.xns_host.proofs.conversation.Conversation.close_up.Goals as goal
 
@@ -10,3 +10,10 @@ returns-clause-idle c = λ z.
     let a = c.say_reply.ensures.goes.still z in
     let b = c.drain_out.ensures.goes.still a in
     c.say_reply.ensures.idle z ∙ c.drain_out.ensures.idle a ∙ c.say_end.ensures.idle b
+
+pub returns-clause-read : goal.returns-clause-read
+returns-clause-read c = λ h tells yes s stands.
+    let x = c.say_end.ensures.goes.on h tells in
+    let none = c.drain_out.ensures.read x.0 x.1 (sym c.say_reply.ensures.drains ∙ yes) in
+    let y = c.drain_out.ensures.goes.on x.0 x.1 in
+    c.say_reply.ensures.waiting y.0.state s y.1.stands stands ∙ none y.0.state y.1.stands

@@ -1,11 +1,27 @@
+use Rattle.std.proofs.Common.{arith}
 use Rattle.xns_host.proofs.Leading.{goes_not, goes_then}
+use Rattle.xns_host.proofs.Waits.{same_waiting}
 use Rattle.xns_host.proofs.conversation.Conversation.drain.Goals as goal
 
-pub loop-init : goal.loop-init
-loop-init c = (goes_not c.args.self.now, c.requires)
+pub loop-turn-init : goal.loop-turn-init
+loop-turn-init c = (goes_not c.args.self.now, c.requires, λ h tells s stands. let same = same_waiting s h.state stands tells.stands in omega (arith, same))
 
-pub loop-preserved : goal.loop-preserved
-loop-preserved c = (goes_then c.loop.invariant.0 c.take_one.ensures.goes, c.take_one.ensures.drains)
+pub loop-turn-preserved : goal.loop-turn-preserved
+loop-turn-preserved c = (
+  goes_then c.loop-turn.invariant.0 c.take_one.ensures.goes,
+  c.take_one.ensures.drains,
+  λ h tells s stands.
+      let x = c.loop-turn.invariant.0.on h tells in
+      let before = c.loop-turn.invariant.2 h tells x.0.state x.1.stands in
+      let one = c.take_one.ensures.fewer x.0.state s x.1.stands stands in
+      omega (arith, before, one),
+)
 
-pub returns-then-not-take_one : goal.returns-then-not-take_one
-returns-then-not-take_one c = goes_then c.loop.invariant.0 c.take_one.ensures.goes
+pub returns-clause-goes : goal.returns-clause-goes
+returns-clause-goes c = c.loop-turn.invariant.0
+
+pub returns-clause-read : goal.returns-clause-read
+returns-clause-read c = λ h tells s stands.
+    let last = c.loop-turn.invariant.2 h tells s stands in
+    let size = c.waiting-turn-end.ensures h.state tells.stands in
+    omega (arith, last, size)

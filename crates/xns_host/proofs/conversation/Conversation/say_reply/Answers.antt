@@ -1,7 +1,10 @@
 use Rattle.std.proofs.Common.{◌∙◌, true, ap, sym, refl}
-use Rattle.xns_host.specs.Closing.{closing_item, end_reply_stream}
+use Rattle.xns_host.specs.Closing.{closing_item, end_reply_stream, drains}
 use Rattle.xns_host.specs.declared.closing.Closing.{Closing}
 use Rattle.xns_host.proofs.Leading.{goes_not}
+use Rattle.xns_host.specs.Story.{is_stopped}
+use Rattle.xns_host.specs.declared.conversation.Conversation.{Conversation}
+use Rattle.xns_host.proofs.Waits.{same_waiting, sends_one, drains_owed, stays_true}
 use Rattle.xns_host.proofs.Tellings.{put_reply, not_put, unsent_reply, never_free}
 use Rattle.xns_host.proofs.conversation.Conversation.say_reply.Goals as goal
 
@@ -25,3 +28,20 @@ returns-else-put-clause-idle c = λ z. c.put.ensures.refused c.if-put.false
 
 pub returns-then-not-owes_reply-clause-idle : goal.returns-then-not-owes_reply-clause-idle
 returns-then-not-owes_reply-clause-idle c = λ z. refl
+
+pub returns-then-put-clause-drains : goal.returns-then-put-clause-drains
+returns-then-put-clause-drains c =
+    let u = c.put.new.self in
+    stays_true (is_stopped u.side) u.closing.end_sent u.closing.deaf ∙ sym (drains_owed c.args.self.now (sym c.owes_reply.ensures ∙ c.if-not-owes_reply.false))
+
+pub returns-else-put-clause-drains : goal.returns-else-put-clause-drains
+returns-else-put-clause-drains c = ap (λ (t : Conversation). drains t.side t.closing) (c.put.ensures.refused c.if-put.false)
+
+pub returns-then-put-clause-waiting : goal.returns-then-put-clause-waiting
+returns-then-put-clause-waiting c = λ s v old new. sends_one s v (closing_item end_reply_stream) (c.put.ensures.stands s old) new
+
+pub returns-else-put-clause-waiting : goal.returns-else-put-clause-waiting
+returns-else-put-clause-waiting c = λ s v old new. sends_one s v (closing_item end_reply_stream) (c.put.ensures.stands s old) new
+
+pub returns-then-not-owes_reply-clause-waiting : goal.returns-then-not-owes_reply-clause-waiting
+returns-then-not-owes_reply-clause-waiting c = λ s v old new. same_waiting v s new old

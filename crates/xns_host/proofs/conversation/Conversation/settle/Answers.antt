@@ -10,3 +10,8 @@ returns-clause-goes c = goes_then (goes_then c.converse-moved.ensures.goes c.mar
 
 pub returns-clause-calm : goal.returns-clause-calm
 returns-clause-calm c = settle_calm c.args.self.now c.converse-moved.new.self c.mark.new.self c.close_up.new.self c.converse-moved.result c.converse-moved.ensures.calm c.mark.ensures.good c.mark.ensures.deaf c.close_up.ensures.goes c.close_up.ensures.idle
+
+pub returns-clause-read : goal.returns-clause-read
+returns-clause-read c = λ good h tells yes.
+    let x = (goes_then c.converse-moved.ensures.goes c.mark.ensures.goes).on h tells in
+    c.close_up.ensures.read x.0 x.1 yes

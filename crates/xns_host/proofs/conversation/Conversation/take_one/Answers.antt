@@ -1,5 +1,6 @@
 use Rattle.std.proofs.Common.{◌∙◌, refl}
 use Rattle.xns_host.specs.declared.conversation.Conversation.{Conversation}
+use Rattle.xns_host.proofs.Waits.{takes_one}
 use Rattle.xns_host.proofs.Tellings.{hands_up, beside, same_closing, same_drains}
 use Rattle.xns_host.proofs.conversation.Conversation.take_one.Goals as goal
 
@@ -18,3 +19,9 @@ returns-clause-drains c =
 
 pub returns-in_default-clause-goes : goal.returns-in_default-clause-goes
 returns-in_default-clause-goes c = hands_up c.the_next_item_is_handed_up.ensures c.args.self.now _ refl refl c.requires c.take.ensures.stands
+
+pub returns-clause-fewer : goal.returns-clause-fewer
+returns-clause-fewer c = λ s v old new. takes_one c.the_next_item_is_handed_up.ensures s v (c.take.ensures.stands s old) new
+
+pub returns-in_default-clause-fewer : goal.returns-in_default-clause-fewer
+returns-in_default-clause-fewer c = λ s v old new. takes_one c.the_next_item_is_handed_up.ensures s v (c.take.ensures.stands s old) new
