@@ -1,6 +1,7 @@
 -- What a packet does to the two flows of its connection.
-use Rattle.std.specs.Prelude.{ℕ, ◌+◌, min, ◌==◌, ◌||◌, nat_lt, not, Bool, if◌then◌else◌, List, [], ◌++◌, Option, Some, None, option_map}
+use Rattle.std.specs.Prelude.{ℕ, ◌+◌, min, ◌==◌, ◌||◌, ◌&&◌, nat_lt, not, Bool, true, if◌then◌else◌, List, [], ◌++◌, Option, Some, None, option_map}
 use Rattle.std.specs.List.{list_any}
+use Rattle.std.specs.Option.{is_some}
 use Rattle.xns_idp.specs.Packet.{PacketModel}
 use Rattle.xns_spp.specs.declared.item.Item.{Item}
 use Rattle.xns_spp.specs.declared.header.Header.{Header}
@@ -138,6 +139,15 @@ unfoldable pub after_packet : Heading → PacketModel → Header → List ℕ �
 after_packet heading packet f content s =
     let known = after_acknowledge heading f.acknowledge s in
     if is_system f then known else after_data heading packet f content known
+
+-- a data packet begins its flow, or its item is no repeat
+abbrev pub brings_new : Option Track → ℕ → Bool
+brings_new None field = true
+brings_new (Some track) field = is_some (new_number (Some track) field)
+
+-- memory is wanted only where a packet brings the flow behind to a number, or is a data packet that brings something new
+abbrev pub wants_memory : Header → Scene → Bool
+wants_memory f s = is_some (acknowledged s.other f.acknowledge) || (not (is_system f) && brings_new s.own.track f.sequence)
 
 -- ---- the end of the input
 

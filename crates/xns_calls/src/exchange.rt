@@ -1,9 +1,10 @@
 //! What a packet does to the flows of its connection.
-ghost use Rattle.std.specs.Prelude.{◌≡◌, ◌<◌, IfOk, IfSome, OnOk};
+ghost use Rattle.std.specs.Option.{is_some};
+ghost use Rattle.std.specs.Prelude.{◌≡◌, ◌<◌, IfOk, IfSome, None, OnErr, OnOk, true};
 ghost use Rattle.xns_idp.specs.Packet.{packet_model};
-ghost use Rattle.xns_calls.specs.Exchange.{acknowledged as acknowledged_of, advanced, after_acknowledge, after_new, after_packet};
-ghost use Rattle.xns_calls.specs.Exchange.{behind_last as behind_last_of, begun as begun_of, ended, first_track};
-ghost use Rattle.xns_calls.specs.Exchange.{new_number as new_number_of, scene};
+ghost use Rattle.xns_calls.specs.Exchange.{acknowledged as acknowledged_of, advanced, after_acknowledge, after_data, after_new};
+ghost use Rattle.xns_calls.specs.Exchange.{after_packet, behind_last as behind_last_of, begun as begun_of, brings_new, ended, first_track};
+ghost use Rattle.xns_calls.specs.Exchange.{new_number as new_number_of, scene, wants_memory};
 ghost use Rattle.xns_calls.specs.Numbers.{most_numbers};
 
 use crate::bringing::{bring, read_or_keep};
@@ -89,6 +90,7 @@ fn begin(
     header: &Header,
 ) -> Result<(), AllocError>
     ensures front { page.new.text.front ≡ page.old.text.front }
+    ensures memory { OnErr result (own.old.track ≡ None) }
     ensures scene { OnOk result ((other : Side) → scene own.new other page.new
         ≡ begun_of heading (packet_model packet.now) header.now (scene own.old other page.old)) }
 {
@@ -140,7 +142,7 @@ fn take_new(
     Ok(())
 }
 
-/// Takes what a packet acknowledges of the flow behind its own.
+/// Takes what a packet acknowledges of the flow behind its own. Memory is refused only where that flow keeps items.
 #[tactic(auto, unfolding(crate::specs::Exchange::after_acknowledge))]
 fn take_acknowledge(
     scratch: &mut Scratch,
@@ -151,6 +153,7 @@ fn take_acknowledge(
     field: u16,
 ) -> Result<(), AllocError>
     ensures front { page.new.text.front ≡ page.old.text.front }
+    ensures memory { OnErr result (is_some (acknowledged_of other.old field) ≡ true) }
     ensures scene { OnOk result (scene own.new other.new page.new ≡ after_acknowledge heading field (scene own.old other.old page.old)) }
 {
     let Some(number) = acknowledged(other, field) else {
@@ -159,8 +162,34 @@ fn take_acknowledge(
     advance(scratch, page, heading.of_other(), other, own, number)
 }
 
-/// Takes a packet of a flow: what it acknowledges, and then its item, if it brings one.
-#[tactic(auto, unfolding(crate::specs::Exchange::after_packet, crate::specs::Exchange::after_data))]
+/// Takes the item of a data packet, with which its flow may begin. Memory is refused only where it begins or the item is new.
+#[tactic(auto, unfolding(crate::specs::Exchange::after_data), using(crate::proofs::Wanted::none_brings))]
+fn take_data(
+    scratch: &mut Scratch,
+    page: &mut Page,
+    heading: Heading,
+    own: &mut Side,
+    other: &mut Side,
+    packet: &Packet<'_>,
+    header: &Header,
+    content: &[u8],
+) -> Result<(), AllocError>
+    ensures front { page.new.text.front ≡ page.old.text.front }
+    ensures memory { OnErr result (brings_new own.old.track header.now.sequence ≡ true) }
+    ensures scene { OnOk result (scene own.new other.new page.new
+        ≡ after_data heading (packet_model packet.now) header.now content.now (scene own.old other.old page.old)) }
+{
+    begin(scratch.alloc, page, heading, own, packet, header)?;
+    let Some(number) = new_number(own, header.sequence) else {
+        return Ok(());
+    };
+    let item = Item::carried(scratch.alloc, header, content)?;
+    take_new(scratch, page, heading, own, other, number, item)
+}
+
+/// Takes a packet of a flow: what it acknowledges, and then its item, if it brings one. Memory is refused only where what it
+/// acknowledges brings the flow behind on, where its flow begins, or where its item is no repeat.
+#[tactic(auto, unfolding(crate::specs::Exchange::after_packet), using(crate::proofs::Wanted::acknowledged_wants))]
 pub fn take_packet(
     scratch: &mut Scratch,
     page: &mut Page,
@@ -172,6 +201,7 @@ pub fn take_packet(
     content: &[u8],
 ) -> Result<(), AllocError>
     ensures front { page.new.text.front ≡ page.old.text.front }
+    ensures memory { OnErr result (wants_memory header.now (scene own.old other.old page.old) ≡ true) }
     ensures scene { OnOk result (scene own.new other.new page.new
         ≡ after_packet heading (packet_model packet.now) header.now content.now (scene own.old other.old page.old)) }
 {
@@ -179,12 +209,7 @@ pub fn take_packet(
     if header.control & SYSTEM != 0 {
         return Ok(());
     }
-    begin(scratch.alloc, page, heading, own, packet, header)?;
-    let Some(number) = new_number(own, header.sequence) else {
-        return Ok(());
-    };
-    let item = Item::carried(scratch.alloc, header, content)?;
-    take_new(scratch, page, heading, own, other, number, item)
+    take_data(scratch, page, heading, own, other, packet, header, content)
 }
 
 /// The number behind the last item that the flow keeps.
