@@ -1,5 +1,6 @@
 -- What a packet does to the two flows of its connection.
-use Rattle.std.specs.Prelude.{ℕ, ◌+◌, min, ◌==◌, ◌||◌, ◌&&◌, nat_lt, not, Bool, true, if◌then◌else◌, List, [], ◌++◌, Option, Some, None, option_map}
+use Rattle.std.specs.Prelude.{ℕ, ◌+◌, min, ◌==◌, ◌||◌, nat_lt, not, Bool, if◌then◌else◌, List, [], ◌++◌, Option, Some, None, option_map}
+use Rattle.std.specs.Prelude.{◌&&◌, true}
 use Rattle.std.specs.List.{list_any}
 use Rattle.std.specs.Option.{is_some}
 use Rattle.xns_idp.specs.Packet.{PacketModel}
