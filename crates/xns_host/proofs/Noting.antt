@@ -5,7 +5,6 @@ use Rattle.std.specs.Option.{is_some, is_none}
 use Rattle.std.proofs.lemmas.List.{get_or-replicate, get_or-set_other, get_or-set_same, length-replicate, length-set, set-get_or}
 use Rattle.std.proofs.lemmas.Option.{get_or_from_slice_get, slice_get-get_or, slice_get_read, slice_get_within}
 use Rattle.courier_messages.specs.declared.message.Message.{Message}
-use Rattle.courier_sessions.specs.Answering.{is_there}
 use Rattle.xns_host.specs.Agenda.{Plan, HasNobody, IsFor, IsNoted, noted, released}
 use Rattle.xns_host.specs.Events.{event_by, event_for, event_in}
 use Rattle.xns_host.specs.Hosting.{IsAllNoted, IsNotedBut, IsNotedIn, facts_in}
@@ -91,7 +90,7 @@ note_same a n most f is less = record {
   stranger = place_set a.strangers n f.stranger_since (omega (arith, is.strangers, less));
 }
 
-there_none : {X : Type 0} (o : Option X) → is_there o ≡ false → o ≡ None
+there_none : {X : Type 0} (o : Option X) → is_some o ≡ false → o ≡ None
 there_none None none = refl
 there_none (Some x) none = absurd (cc)
 
