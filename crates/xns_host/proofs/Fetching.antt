@@ -1,11 +1,11 @@
 -- What a host tells next.
-use Rattle.std.proofs.Common.{◌≡◌, ◌≢◌, ◌∙◌, ap, refl, subst, sym, ℕ, ◌+◌, ◌<◌, true, false, Bool, List, length, Option, Some, None, slice_get, get_or, arith}
+use Rattle.std.proofs.Common.{◌≡◌, ◌∙◌, ap, refl, subst, sym, ℕ, ◌+◌, ◌<◌, true, false, Bool, List, length, Option, Some, None, slice_get, get_or, arith}
 use Rattle.std.specs.Prelude.{slice_set, count_by, cond, ◌||◌, if◌then◌else◌}
 use Rattle.std.specs.Option.{is_some}
 use Rattle.std.proofs.lemmas.List.{length-set}
 use Rattle.std.proofs.lemmas.List.Sums.{sum_by-set}
 use Rattle.std.proofs.lemmas.Option.{slice_get-get_or}
-use Rattle.xns_host.specs.Agenda.{Plan, IsFor}
+use Rattle.xns_host.specs.Agenda.{Plan}
 use Rattle.xns_host.specs.Events.{event_in}
 use Rattle.xns_host.specs.Hosting.{HasNoEvent, HasNoPacket, IsAllNoted, IsApart, IsNextEvent}
 use Rattle.xns_host.specs.Times.{HasEarliest}
@@ -26,7 +26,7 @@ counted o = cond (is_some o) 1 0
 pub fewer : (line : Line) (n : ℕ) → has_turn line n ≡ true → count_by is_some (with_turn line n false).tickets < count_by is_some line.tickets
 fewer line n has =
     let e : count_by is_some (slice_set line.tickets n None) + counted (get_or line.tickets n None) ≡ count_by is_some line.tickets + counted None
-        = sum_by-set counted line.tickets n None None (within line.tickets n has) in
+    = sum_by-set counted line.tickets n None None (within line.tickets n has) in
     let one : counted (get_or line.tickets n None) ≡ 1 = ap (λ (b : Bool). cond b 1 0) has in
     omega (arith, e, one)
 
@@ -58,8 +58,8 @@ pub packet_less : (line next : Line) (n : ℕ) → has_turn line n ≡ true → 
 packet_less line next n has is =
     let less : n < length (slice_set line.tickets n None) = omega (arith, length-set line.tickets n None, within line.tickets n has) in
     let e : count_by is_some (slice_set (slice_set line.tickets n None) n None) + counted (get_or (slice_set line.tickets n None) n None)
-            ≡ count_by is_some (slice_set line.tickets n None) + counted None
-        = sum_by-set counted (slice_set line.tickets n None) n None None less in
+    ≡ count_by is_some (slice_set line.tickets n None) + counted None
+    = sum_by-set counted (slice_set line.tickets n None) n None None less in
     let f : count_by is_some (with_turn line n false).tickets < count_by is_some line.tickets = fewer line n has in
     subst (λ (l : Line). count_by is_some l.tickets < count_by is_some line.tickets) (sym is) (omega (arith, e, f))
 

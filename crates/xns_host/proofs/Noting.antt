@@ -133,10 +133,10 @@ pub changed : (a : Plan) (gs : Places) (n : ℕ) (old v : Option Guest) → IsAl
     → IsNotedBut a (slice_set gs n v) n
 changed a gs n old v all there same =
     let less : n < length gs = slice_get_within gs n old there in record {
-  others = λ k p other is. all.each k p (sym (place_other gs n k v other) ∙ is);
-  free = λ p is. let here : v ≡ p = one_place v p (slice_get (slice_set gs n v) n) (place_set gs n v less) is in
-      (all.each n old there).free ∙ sym same ∙ ap is_none here;
-}
+      others = λ k p other is. all.each k p (sym (place_other gs n k v other) ∙ is);
+      free = λ p is. let here : v ≡ p = one_place v p (slice_get (slice_set gs n v) n) (place_set gs n v less) is in
+          (all.each n old there).free ∙ sym same ∙ ap is_none here;
+    }
 
 -- the place that was left out is noted
 pub noted_all : (a : Plan) (gs : Places) (n most : ℕ) (p : Option Guest) → IsFor a most → n < most → slice_get gs n ≡ Some p → IsNotedBut a gs n
@@ -210,11 +210,13 @@ none_there {X = X} n k p is =
     sym (get_or_from_slice_get (replicate n None) k p None is) ∙ get_or-replicate n k None None less
 
 pub empty_noted : (a : Plan) (gs : Places) (most : ℕ) → ((k : ℕ) → k < most → HasNobody a k) → gs ≡ replicate most None → IsAllNoted a gs
-empty_noted a gs most nobody none = record { each = λ k p is.
-    let there : slice_get (replicate most None) k ≡ Some p = subst (λ (xs : Places). slice_get xs k ≡ Some p) none is in
-    let less : k < most = omega (arith, slice_get_within (replicate most None) k p there, length-replicate {A = Option Guest} most None) in
-    let here : HasNobody a k = nobody k less in
-    subst (λ (q : Option Guest). IsNotedIn a k q) (sym (none_there most k p there)) (record { facts = here.facts; event = λ quiet. refl; free = here.free }) }
+empty_noted a gs most nobody none = record {
+  each = λ k p is.
+      let there : slice_get (replicate most None) k ≡ Some p = subst (λ (xs : Places). slice_get xs k ≡ Some p) none is in
+      let less : k < most = omega (arith, slice_get_within (replicate most None) k p there, length-replicate {A = Option Guest} most None) in
+      let here : HasNobody a k = nobody k less in
+      subst (λ (q : Option Guest). IsNotedIn a k q) (sym (none_there most k p there)) (record { facts = here.facts; event = λ quiet. refl; free = here.free });
+}
 
 -- each of so many numbers has a turn
 pub record AllFree (line : Line) (count most : ℕ) : Type 0 where

@@ -7,7 +7,7 @@ use Rattle.xns_host.specs.Agenda.{GetsNumber, free_number, given_way, HasNoNumbe
 use Rattle.xns_host.specs.Hosting.{IsAllNoted, IsNotedIn, facts_in, lingers_since, stranger_since, Wants, for_stray, for_packet, for_due, IsFirstWant}
 use Rattle.xns_host.specs.Hosting.{IsFull, HasNoneSooner, IsPlace, free_place, of_closed, of_stranger, HasNoRoom}
 use Rattle.xns_host.specs.Identifiers.{is_free}
-use Rattle.xns_host.specs.Times.{IsBy, HasEarliest, IsEarliest}
+use Rattle.xns_host.specs.Times.{IsBy, HasEarliest}
 use Rattle.xns_host.specs.Turns.{has_turn}
 use Rattle.xns_host.specs.Waiting.{due_time}
 use Rattle.xns_host.specs.declared.facts.Facts.{Facts}
@@ -73,7 +73,7 @@ wanted_by a gs strays all for_most sized (packet_waits k has) =
     packet_in a gs strays k here.place (all.each k here.place here.there) here.there has
 wanted_by a gs strays all for_most sized (is_due k t is) =
     let here : HasTime gs k t (λ g. due_time g.connection.wait.due)
-        = has_time a gs k t a.dues (λ f. f.due) (sym sized) refl (λ p there. (all.each k p there).facts.due) is in
+    = has_time a gs k t a.dues (λ f. f.due) (sym sized) refl (λ p there. (all.each k p there).facts.due) is in
     for_due k t here.guest here.there here.is
 
 pub waking : (a : Plan) (gs : Places) (strays : List Outgoing) (time : Option ℕ) → IsAllNoted a gs → IsFor a (length a.dues) → Sized a gs → strays ≡ []
@@ -117,11 +117,11 @@ way_in : {k : ℕ} (a : Plan) (gs : Places) → IsAllNoted a gs → IsFor a (len
     → GivesWay a.closed a.strangers k → IsPlace gs k
 way_in a gs all for_most sized none (longest_closed k t e) =
     let here : HasTime gs k t (λ g. lingers_since g.connection)
-        = has_time a gs k t a.closed (λ f. f.lingers_since) (for_most.closed ∙ sym sized) refl (λ p there. (all.each k p there).facts.closed) e.there in
+    = has_time a gs k t a.closed (λ f. f.lingers_since) (for_most.closed ∙ sym sized) refl (λ p there. (all.each k p there).facts.closed) e.there in
     of_closed k t here.guest (full a gs all none) here.there here.is (none_closed a gs (Some t) all e.least)
 way_in a gs all for_most sized none (longest_silent k t nobody_closed e) =
     let here : HasTime gs k t stranger_since
-        = has_time a gs k t a.strangers (λ f. f.stranger_since) (for_most.strangers ∙ sym sized) refl (λ p there. (all.each k p there).facts.stranger) e.there in
+    = has_time a gs k t a.strangers (λ f. f.stranger_since) (for_most.strangers ∙ sym sized) refl (λ p there. (all.each k p there).facts.stranger) e.there in
     of_stranger k t here.guest (full a gs all none) (none_closed a gs None all nobody_closed) here.there here.is (none_strange a gs (Some t) all e.least)
 
 pub gets_place : {k : ℕ} (a : Plan) (gs : Places) → IsAllNoted a gs → IsFor a (length a.dues) → Sized a gs → GetsNumber a.free a.closed a.strangers k → IsPlace gs k

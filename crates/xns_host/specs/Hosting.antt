@@ -1,13 +1,10 @@
 -- Many connections behind one address.
-use Rattle.std.specs.Prelude.{◌≡◌, ◌≢◌, ℕ, Bool, true, false, not, ◌&&◌, ◌||◌, ◌==◌, nat_lt, List, [], length, if◌then◌else◌, Option, Some}
-use Rattle.std.specs.Prelude.{None, position, slice_get, slice_index_or, drop}
+use Rattle.std.specs.Prelude.{◌≡◌, ◌≢◌, ℕ, Bool, true, false, not, ◌&&◌, ◌||◌, List, [], if◌then◌else◌, Option, Some, None, position}
+use Rattle.std.specs.Prelude.{slice_get}
 use Rattle.std.specs.Option.{is_some, is_none}
-use Rattle.std.specs.Result.{result_ok}
-use Rattle.xns_idp.specs.Reading.{word_at, address_at}
 use Rattle.xns_idp.specs.declared.address.Address.{Address}
-use Rattle.xns_small.specs.ErrorReport.{ErrorReportModel, error_of}
-use Rattle.xns_host.specs.Agenda.{Plan, IsNoted}
 use Rattle.xns_spp.specs.State.{initiator_state}
+use Rattle.xns_host.specs.Agenda.{Plan, IsNoted}
 use Rattle.xns_host.specs.Events.{event_in}
 use Rattle.xns_host.specs.Identifiers.{Ids, is_free}
 use Rattle.xns_host.specs.Story.{has_message, new_story}
@@ -15,7 +12,6 @@ use Rattle.xns_host.specs.Telling.{Tells}
 use Rattle.xns_host.specs.Times.{IsBy}
 use Rattle.xns_host.specs.Turns.{has_turn}
 use Rattle.xns_host.specs.Waiting.{due_time}
-use Rattle.xns_host.specs.declared.due.Due.TheVariants.{Never}
 use Rattle.xns_host.specs.declared.connection.Connection.{Connection}
 use Rattle.xns_host.specs.declared.event.Event.{Event}
 use Rattle.xns_host.specs.declared.facts.Facts.{Facts}

@@ -1,13 +1,14 @@
 //! Many connections behind one address.
 
-ghost use Rattle.std.specs.Prelude.{◌≡◌, ◌≢◌, ◌<◌, ◌≤◌, ◌∷◌, ℕ, List, [], Option, length, true, false, IfOk, IfSome, OnErr, Some, None, Ok, Err, replicate};
-ghost use Rattle.std.specs.Prelude.{◌⊎◌, slice_get, slice_set};
+ghost use Rattle.std.specs.Prelude.{◌≡◌, ◌≢◌, ◌<◌, ◌≤◌, ◌∷◌, ◌⊎◌, ℕ, List, [], Option, length, true, false, IfOk, IfSome, OnErr, Some};
+ghost use Rattle.std.specs.Prelude.{None, Ok, Err, replicate, slice_get, slice_set};
 ghost use Rattle.std.specs.Option.{is_none};
 ghost use Rattle.courier_messages.specs.RawCalls.{words_call};
 ghost use Rattle.xns_idp.specs.Packet.{most_data};
 ghost use Rattle.xns_host.specs.Events.{event_in, event_of};
-ghost use Rattle.xns_host.specs.Hosting.{ChangesOne, HasNoEvent, HasNoRoom, IsAllInUse, IsAllNoted, IsApart, IsConnected};
-ghost use Rattle.xns_host.specs.Hosting.{GoesOutBy, HasNoPacket, SomeGuest, IsFirstWant, IsNextEvent, IsNotedBut, IsPlace, address_in, facts_in, has_guest};
+ghost use Rattle.xns_host.specs.Hosting.{ChangesOne, GoesOutBy, HasNoEvent, HasNoPacket, HasNoRoom, IsAllInUse, IsAllNoted, IsApart};
+ghost use Rattle.xns_host.specs.Hosting.{IsConnected, IsFirstWant, IsNextEvent, IsNotedBut, IsPlace, SomeGuest, address_in, facts_in};
+ghost use Rattle.xns_host.specs.Hosting.{has_guest};
 ghost use Rattle.xns_host.specs.Reasons.{call_fault_of, answer_fault_of};
 ghost use Rattle.xns_host.specs.Refusing.{Answers};
 ghost use Rattle.xns_host.specs.Settings.{IsFit, most_connections, wrong_setting};
@@ -756,7 +757,8 @@ impl Host {
         ensures apart { IsApart self.old.guests.items self.new.guests.items number }
         ensures event { (place : Option Guest) → slice_get self.old.guests.items number ≡ Some place → result ≡ event_in number place }
         ensures none { result ≡ None → (k : ℕ) → slice_get self.new.guests.items k ≡ slice_get self.old.guests.items k }
-        ensures passed { result ≡ None → self.new.agenda ≡ record self.old.agenda { events = with_turn self.old.agenda.events number false } }
+        ensures passed { result ≡ None → self.new.agenda
+            ≡ record self.old.agenda { events = with_turn self.old.agenda.events number false } }
     {
         let now = self.clock.latest();
         let event = event_in(&mut self.guests[number], self.alloc, now, number);

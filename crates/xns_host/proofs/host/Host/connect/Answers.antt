@@ -21,8 +21,8 @@ returns-in_default-next-clause-room c = λ z.
 pub returns-in_default-calling-clause-full : goal.returns-in_default-calling-clause-full
 returns-in_default-calling-clause-full c = λ none.
     let place : IsPlace c.args.self.now.guests.items c.in-Some.number
-        = gets_place c.args.self.now.agenda c.args.self.now.guests.items c.args.self.now.noted c.place.ensures.room c.args.self.now.sized
-          (c.place.ensures.some c.in-Some.number c.in-Some.is) in
+    = gets_place c.args.self.now.agenda c.args.self.now.guests.items c.args.self.now.noted c.place.ensures.room c.args.self.now.sized
+    (c.place.ensures.some c.in-Some.number c.in-Some.is) in
     absurd (not_both c.args.self.now.guests.items none place)
 
 pub returns-clause-connected : goal.returns-clause-connected
@@ -54,6 +54,6 @@ returns-clause-place c =
 pub returns-clause-full : goal.returns-clause-full
 returns-clause-full c = λ none.
     let place : IsPlace c.args.self.now.guests.items c.in-Some.number
-        = gets_place c.args.self.now.agenda c.args.self.now.guests.items c.args.self.now.noted c.place.ensures.room c.args.self.now.sized
-          (c.place.ensures.some c.in-Some.number c.in-Some.is) in
+    = gets_place c.args.self.now.agenda c.args.self.now.guests.items c.args.self.now.noted c.place.ensures.room c.args.self.now.sized
+    (c.place.ensures.some c.in-Some.number c.in-Some.is) in
     absurd (not_both c.args.self.now.guests.items none place)

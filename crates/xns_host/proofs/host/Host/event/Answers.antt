@@ -14,15 +14,15 @@ invariant_of-self c =
     let same : c.event_in-event.new.slot ≡ c.index_mut.result.now = search rules in
     let quiet : event_in c.args.number c.index_mut.result.now ≡ None = search rules in
     let size : length (slice_set c.args.self.now.guests.items c.args.number c.event_in-event.new.slot) ≡ length c.args.self.now.guests.items
-        = length-set c.args.self.now.guests.items c.args.number c.event_in-event.new.slot in
+    = length-set c.args.self.now.guests.items c.args.number c.event_in-event.new.slot in
     let less : c.args.number < length c.args.self.now.agenda.dues = omega (arith, c.requires, c.args.self.now.sized) in record {
-  fit = c.args.self.now.fit;
-  sized = size ∙ c.args.self.now.sized ∙ ap (λ (a : Plan). length a.dues) (sym c.pass_event.ensures.passed);
-  few = omega (arith, size, c.args.self.now.few);
-  settled = size ∙ c.args.self.now.settled;
-  noted = rw c.pass_event.ensures.passed (told_nothing c.args.self.now.agenda c.args.self.now.guests.items c.args.number (length c.args.self.now.agenda.dues)
-      c.index_mut.result.now c.event_in-event.new.slot c.args.self.now.noted c.pass_event.ensures.room less c.requires old same quiet);
-}
+      fit = c.args.self.now.fit;
+      sized = size ∙ c.args.self.now.sized ∙ ap (λ (a : Plan). length a.dues) (sym c.pass_event.ensures.passed);
+      few = omega (arith, size, c.args.self.now.few);
+      settled = size ∙ c.args.self.now.settled;
+      noted = rw c.pass_event.ensures.passed (told_nothing c.args.self.now.agenda c.args.self.now.guests.items c.args.number (length c.args.self.now.agenda.dues)
+          c.index_mut.result.now c.event_in-event.new.slot c.args.self.now.noted c.pass_event.ensures.room less c.requires old same quiet);
+    }
 
 pub note-requires-clause-others : goal.note-requires-clause-others
 note-requires-clause-others c =

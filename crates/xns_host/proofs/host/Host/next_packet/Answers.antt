@@ -1,4 +1,4 @@
-use Rattle.std.proofs.Common.{◌≡◌, [], rules, None, Some, Ok}
+use Rattle.std.proofs.Common.{◌≡◌, [], rules, None, Ok}
 use Rattle.xns_host.specs.Times.{HasEarliest}
 use Rattle.xns_host.proofs.Fetching.{no_packet, packet_less}
 use Rattle.xns_host.proofs.host.Host.next_packet.Goals as goal
