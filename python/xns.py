@@ -13,6 +13,7 @@ it go in that thread; the memory of one that is let go in another thread stays t
 """
 import array
 import collections
+import contextlib
 import ctypes
 import ctypes.util
 import enum
@@ -148,6 +149,9 @@ class Why(enum.IntEnum):
     SILENT = 3
     NOT_SERVED = 4
     REFUSED = 5
+
+
+_KINDS = list(Kind)  # each at its number
 
 
 class Reject(enum.IntEnum):
@@ -421,7 +425,7 @@ class _Event(ctypes.Structure):
         if self.kind == _EVENT_CALL:
             return Call(self.number, message.program, message.version, message.procedure, words)
         if self.kind == _EVENT_ANSWER:
-            return Answer(self.number, Kind(message.kind), message.number, words)
+            return Answer(self.number, _KINDS[message.kind], message.number, words)
         return Closed(self.number, Why(self.closed), Result(self.fault) if self.fault else None)
 
 
@@ -989,11 +993,9 @@ class _Carrier:
         """Sends what is to go out. What can't be sent is as what is lost."""
         for via, packet in self._host.packets(self.now):
             place = self.places[via]
-            try:
+            with contextlib.suppress(OSError):
                 if place is not None:
                     self._udp.sendto(packet, place)
-            except OSError:
-                pass
 
     def wait(self) -> None:
         """Waits until datagrams come or the host wants to be asked, and takes in those that came."""
@@ -1023,7 +1025,8 @@ class Client:
     """Calls over UDP, each of which waits for its answer. Between them it says nothing, so a server gives it up that asks for so long as its settings say."""
 
     def __init__(self, udp: socket.socket, place: tuple, own: Address, peer: Address, **settings: Optional[int]) -> None:
-        """Opens a connection from `own` to `peer`, whose datagrams go to this place, by a host with these settings. Nothing is waited for."""
+        """Opens a connection from `own`, a socket that no other client of its host has, to `peer`, whose datagrams go to this place, by a host with these
+        settings. Nothing is waited for."""
         self._host, self._closed = Host(own, **settings), None
         self._carrier = _Carrier(udp, self._host)
         self._number = self._host.connect(self._carrier.now, self._carrier.places.number(place), own.socket, peer)
@@ -1033,7 +1036,7 @@ class Client:
         """What a call is answered: a return, an abort or a reject. `TimeoutError` where the server is silent, `ConnectionRefusedError` where an Error
         packet says that it is not there, `ConnectionResetError` where the connection is closed; what the server says against the protocol is raised
         by its name. The client is then of no more use."""
-        if self._closed is None:
+        with contextlib.suppress(Closing, NoConnection):  # why it is closed, the event says
             self._host.call(_milliseconds(), self._number, program, version, procedure, words)
         answer = self._next_event()
         if isinstance(answer, Closed):
@@ -1096,10 +1099,8 @@ def serve(
 
 def _answer(host: Host, now: int, number: int, reply: Reply) -> None:
     """Answers a call, unless its connection has closed."""
-    try:
+    with contextlib.suppress(Closing, NoConnection):
         host.answer(now, number, reply)
-    except (Closing, NoConnection):
-        pass
 
 
 # ---- Courier's values, in words

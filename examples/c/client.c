@@ -2,10 +2,18 @@
 #define _POSIX_C_SOURCE 200809L
 #include "udp.h"
 
-static const struct xns_address HERE = { 1, { 0, 0, 0xaa, 0, 3, 4 }, 1024 }, SERVER = { 1, { 0, 0, 0xaa, 0, 1, 2 }, XNS_SOCKET_COURIER };
+static const struct xns_address HERE = { 1, { 0, 0, 0xaa, 0, 3, 4 }, 0 }, SERVER = { 1, { 0, 0, 0xaa, 0, 1, 2 }, XNS_SOCKET_COURIER };
 static const struct xns_settings SETTINGS = { 1, 0, 0, 100, 1000, 0, 6 }; /* a server that is silent for 4.5 seconds is gone */
 static struct xns_host host;
 static size_t connection;
+
+/* A socket of our host that no other client on this machine has: its number is that of our port. */
+static uint16_t own_socket(int udp) {
+    struct sockaddr_in place = udp_place(0);
+    socklen_t size = sizeof place;
+    getsockname(udp, (struct sockaddr *)&place, &size);
+    return ntohs(place.sin_port);
+}
 
 /* Adds the next number; closes where there is none. What is refused memory is tried again. */
 static void go_on(uint64_t now, const char *next) {
@@ -42,7 +50,7 @@ int main(int count, char **given) {
     udp = udp_open(0);
     new_secret(secret);
     check(xns_host_new(&host, &HERE, &SETTINGS, secret));
-    check(xns_host_connect(&host, now, (uint32_t)atoi(given[1]), HERE.socket, &SERVER, &connection));
+    check(xns_host_connect(&host, now, (uint32_t)atoi(given[1]), own_socket(udp), &SERVER, &connection));
     go_on(now, *(given += 2));
     while (event.kind != XNS_EVENT_CLOSED) {
         udp_send_packets(udp, &host, now);

@@ -44,7 +44,7 @@ static bool hear(uint64_t now, struct xns_host *client) {
 int main(void) {
     static const struct xns_address here = { 1, { 0, 0, 0xaa, 0, 1, 2 }, 1000 }, there = { 1, { 0, 0, 0xaa, 0, 3, 4 }, XNS_SOCKET_COURIER };
     static const struct xns_program programs[] = { { 7, 1, 2 } };
-    static const struct xns_settings usual = { 0 };
+    const struct xns_settings usual = XNS_SETTINGS_INIT;
     static const uint8_t a_secret[32] = { 1 }, another_secret[32] = { 2 }; /* of a program that talks to others: random bytes */
     static const uint16_t words[] = { 40, 2 };
     struct xns_host client = XNS_HOST_INIT, service = XNS_HOST_INIT;

@@ -5,7 +5,7 @@ import sys
 
 import xns
 
-SERVER, CLIENT = xns.Address(1, bytes.fromhex("0000aa000102"), 5), xns.Address(1, bytes.fromhex("0000aa000304"), 1024)
+SERVER, CLIENT = xns.Address(1, bytes.fromhex("0000aa000102"), 5), xns.Address(1, bytes.fromhex("0000aa000304"), 0)
 PROGRAM, VERSION, ADD = 7, 1, 1
 
 
@@ -27,7 +27,9 @@ class Tally:
 
 
 def add(udp, place, numbers):
-    client = xns.Client(udp, place, CLIENT, SERVER, first_wait=100, longest_wait=1000, tries=6)
+    udp.bind(("127.0.0.1", 0))
+    own = CLIENT._replace(socket=udp.getsockname()[1])  # a socket that no other client has
+    client = xns.Client(udp, place, own, SERVER, first_wait=100, longest_wait=1000, tries=6)
     for number in numbers:
         answer = client.call(PROGRAM, VERSION, ADD, [number])
         print(answer.kind.name.lower(), *answer.words)

@@ -4,6 +4,7 @@ import heapq
 import random
 import selectors
 import socket
+import struct
 import threading
 import time
 
@@ -18,6 +19,26 @@ def bound():
     return one
 
 
+def from_port_0(data, port):
+    """Sends a datagram whose source port is 0; nothing where that takes rights that one has not."""
+    try:
+        with socket.socket(socket.AF_INET, socket.SOCK_RAW, socket.IPPROTO_UDP) as raw:
+            raw.sendto(struct.pack("!HHHH", 0, port, 8 + len(data), 0) + data, (LOCAL, 0))
+    except PermissionError:
+        pass
+
+
+def send_all_kinds(place, own, server):
+    """Sends a server datagrams of no bytes, of bytes that are no packet, and some that ask for an answer where none can be sent."""
+    echo = xns.echo_request(own, server._replace(socket=2), b"Hi")
+    opening = xns.Endpoint.initiator(own._replace(socket=7), 7, server).resend_first()
+    with bound() as udp:
+        for data in (b"", b"\0", echo[:20], bytes(576), bytes(range(256)) * 5, opening[:-1]):
+            udp.sendto(data, place)
+    for data in (b"", b"\0", echo, opening):
+        from_port_0(data, place[1])
+
+
 class Relay(threading.Thread):
     """Brings each client's datagrams to the server and back. Of so many one is dropped, repeated, delayed or corrupted; none where that is 0. After
     `dies_after` datagrams none goes on, and each client is sent stray bytes every 0.3 seconds."""
@@ -29,7 +50,7 @@ class Relay(threading.Thread):
         super().__init__(daemon=True)
         self.server, self.one_of, self.dies_after, self.clients, self.chance = server, one_of, dies_after, bound(), random.Random(1)
         self.behind, self.late, self.stops, self.next_stray = {}, [], False, 0.0
-        self.seen, self.spoiled = 0, dict.fromkeys(("dropped", "repeated", "delayed", "corrupted"), 0)
+        self.seen, self.empty, self.spoiled = 0, 0, dict.fromkeys(("dropped", "repeated", "delayed", "corrupted"), 0)
 
     @property
     def port(self):
@@ -52,6 +73,7 @@ class Relay(threading.Thread):
 
     def pass_on(self, packet, way):
         self.seen += 1
+        self.empty += not packet
         if self.dies_after is not None and self.seen > self.dies_after:
             return
         if not self.one_of or self.chance.randrange(self.one_of):

@@ -1,16 +1,16 @@
 """`serve` and `Client` of the module, over UDP on this machine, in one process."""
+import contextlib
 import socket
-import struct
 import threading
 import time
 import unittest
 
 import xns
-from relay import LOCAL, Peer, bound
+from relay import LOCAL, Peer, bound, send_all_kinds
 
 SERVER, CLIENT = xns.Address(1, bytes.fromhex("0000aa000102"), 5), xns.Address(1, bytes.fromhex("0000aa000304"), 1024)
 PROGRAMS = [(7, 1, 2)]
-QUICK = {"first_wait": 20, "longest_wait": 100, "tries": 3}  # silent after half a second
+QUICK = {"first_wait": 50, "longest_wait": 200, "tries": 5, "idle": 500}  # asked after half a second, and silent after one more
 
 
 class End(Exception):
@@ -39,20 +39,6 @@ def exchanges(udp):
             udp.sendto(xns.exchange_reply(SERVER, packet, data[::-1]), place)
 
     return answer
-
-
-def from_port_0(data, port):
-    """Sends a datagram whose source port is 0, which takes the rights of root."""
-    with socket.socket(socket.AF_INET, socket.SOCK_RAW, socket.IPPROTO_UDP) as raw:
-        raw.sendto(struct.pack("!HHHH", 0, port, 8 + len(data), 0) + data, (LOCAL, 0))
-
-
-def may_send_raw():
-    try:
-        socket.socket(socket.AF_INET, socket.SOCK_RAW, socket.IPPROTO_UDP).close()
-    except PermissionError:
-        return False
-    return True
 
 
 class Serving(unittest.TestCase):
@@ -89,7 +75,7 @@ class Serving(unittest.TestCase):
         deadline = time.monotonic() + 20
         while self.thread.is_alive() and time.monotonic() < deadline:
             with self.assertRaises(TimeoutError):
-                self.client().call(7, 1, 2)
+                self.client(longest_wait=50, tries=2).call(7, 1, 2)
         self.thread.join(1)
         self.assertIsInstance(self.ended, End)
 
@@ -121,7 +107,7 @@ class Serving(unittest.TestCase):
         for client in (first, second):
             client.call(7, 1, 1)
         with self.assertRaises(TimeoutError):
-            self.client(longest_wait=20).call(7, 1, 1)
+            self.client(longest_wait=50, tries=1).call(7, 1, 1)
         self.assertEqual(first.call(7, 1, 1, [3]).words, [3, 3])
         second.close()
         self.assertEqual(self.client().call(7, 1, 1, [5]).words, [5, 5])
@@ -138,15 +124,9 @@ class Serving(unittest.TestCase):
         self.assertEqual(self.client().call(7, 1, 1, [5]).words, [5, 5])  # it has given its place up
 
     def test_datagrams_of_any_kind(self):
-        client, port = self.client(), self.udp.getsockname()[1]
+        client = self.client()
         client.call(7, 1, 1)
-        echo = xns.echo_request(CLIENT, SERVER._replace(socket=2), b"Hi")
-        opening = xns.Endpoint.initiator(CLIENT, 7, SERVER).resend_first()
-        for data in (b"", b"\0", echo[:20], bytes(576), bytes(range(256)) * 5, opening[:-1]):
-            client._carrier._udp.sendto(data, (LOCAL, port))
-        if may_send_raw():
-            for data in (b"", b"\0", echo, opening):  # an answer to port 0 can't be sent
-                from_port_0(data, port)
+        send_all_kinds(self.udp.getsockname(), CLIENT, SERVER)
         self.assertEqual(client.call(7, 1, 1, [6]).words, [6, 6])
 
     def test_echo_and_packet_exchange_beside_calls(self):
@@ -206,7 +186,8 @@ class Alone(unittest.TestCase):
             peer = Peer.answering(self.nobody, SERVER)
             for item in items:
                 peer.endpoint.send(*item)
-            peer.until(lambda: not peer.endpoint.unacknowledged)
+            with contextlib.suppress(TimeoutError):  # the client need not hear the last of them
+                peer.until(lambda: not peer.endpoint.unacknowledged, 1)
 
         return answer
 
@@ -221,6 +202,18 @@ class Alone(unittest.TestCase):
     def test_a_server_that_closes(self):
         with self.assertRaises(ConnectionResetError):
             self.answered_by(self.says(xns.Item(b"", xns.Stream.END)))
+
+    def test_a_server_that_closes_behind_an_answer(self):
+        client = self.client()
+        answer = self.says(xns.Item(bytes.fromhex("000200010007")), xns.Item(b"", xns.Stream.END))
+        thread = threading.Thread(target=answer, daemon=True)
+        thread.start()
+        self.assertEqual(client.call(7, 1, 1).words, [7])
+        for _ in range(2):
+            with self.assertRaises(ConnectionResetError):
+                client.call(7, 1, 1)
+        client.close()
+        thread.join(5)
 
 
 if __name__ == "__main__":

@@ -13,7 +13,7 @@ import time
 import unittest
 
 import xns
-from relay import Peer, Relay, bound
+from relay import Peer, Relay, bound, send_all_kinds
 
 TALLY = [sys.executable, str(pathlib.Path(__file__).resolve().parents[2] / "examples" / "python" / "tally.py")]
 PYTHON = [*TALLY, "serve"], [*TALLY, "add"]
@@ -108,6 +108,7 @@ class TallyTest(unittest.TestCase):
             self.assertEqual(sorted(totals), list(range(1, CLIENTS * CALLS + 1)))
         self.assertEqual((serving.ended, serving.told), (None, ""))
         self.assertGreater(min(serving.relay.spoiled.values()), 10)
+        self.assertEqual(serving.relay.empty, 0)  # nobody sends a datagram of no bytes
 
     def test_python(self):
         self.serve_and_add(PYTHON[0])
@@ -122,13 +123,21 @@ class TallyTest(unittest.TestCase):
                 answers = serving.client(client, [65535, 65535, 2]).communicate(timeout=60)
             self.assertEqual(answers, ("return 0 65535\nreturn 1 65534\nreturn 2 0\n", ""))
 
+    def test_datagrams_of_any_kind(self):
+        for server, client in BOTH:
+            with Serving(server) as serving:
+                self.assertEqual(serving.client(client, [1]).communicate(timeout=60), ("return 0 1\n", ""))
+                send_all_kinds(serving.place, CLIENT, SERVER)
+                self.assertEqual(serving.client(client, [2]).communicate(timeout=60), ("return 0 3\n", ""))
+            self.assertEqual((serving.ended, serving.told), (None, ""))
+
     def test_many_short_connections(self):
         """At a server for 64: 200 one after another, each in no time."""
         for server, _ in BOTH:
             with Serving(server) as serving, bound() as udp:
                 begun = time.monotonic()
                 for number in range(200):
-                    client = xns.Client(udp, serving.place, CLIENT, SERVER)
+                    client = xns.Client(udp, serving.place, CLIENT._replace(socket=1024 + number), SERVER)
                     self.assertEqual(client.call(7, 1, 1, [1]).words, [0, number + 1])
                     client.close()
                 self.assertLess(time.monotonic() - begun, 10)
