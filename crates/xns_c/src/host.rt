@@ -82,7 +82,7 @@ pub extern "C" fn xns_host_clear(alloc: Global, handle: &mut XnsHost)
 /// From now on connections that peers open to this socket are answered, for these programs, which are copied; where there are none, each
 /// call is handed. If the socket is served already, its list is replaced for new connections.
 ///
-/// `NO_HOST`; `TOO_MANY_SERVICES` where 16 other sockets are served; `NO_MEMORY`.
+/// `NO_HOST`; `NO_MEMORY`; `TOO_MANY_SERVICES` where 16 other sockets are served.
 #[unsafe(no_mangle)]
 pub extern "C" fn xns_host_serve(
     alloc: Global,
