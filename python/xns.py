@@ -892,8 +892,8 @@ class Host(_Object):
         self._for_packets = addressof(self._packet), LONGEST_PACKET, addressof(self._length), addressof(self._via)
 
     def serve(self, socket_number: int, programs: Iterable[Tuple[int, int, int]] = ()) -> None:
-        """From now on connections that peers open to this socket are answered, for these programs, each as (program, low, high); with none each call is
-        told. Calls of others are rejected without an event. `TooManyServices` where 16 other sockets are served."""
+        """From now on connections that peers open to this socket are answered, for these programs, each as (program, low, high); with none each call
+        is told. Calls of others are rejected without an event. `TooManyServices` where 16 other sockets are served."""
         listed = [(_number(program, 32), _number(low, 16), _number(high, 16)) for program, low, high in programs]
         self._done("serve", _number(socket_number, 16), (_Program * max(1, len(listed)))(*listed), len(listed))
 
@@ -1022,11 +1022,12 @@ def _milliseconds() -> int:
 
 
 class Client:
-    """Calls over UDP, each of which waits for its answer. Between them it says nothing, so a server gives it up that asks for so long as its settings say."""
+    """Calls over UDP, each of which waits for its answer. Between them it says nothing: a server that asks for a word meanwhile gives it up after a
+    while, with the settings of the module after 50 seconds."""
 
     def __init__(self, udp: socket.socket, place: tuple, own: Address, peer: Address, **settings: Optional[int]) -> None:
-        """Opens a connection from `own`, a socket that no other client of its host has, to `peer`, whose datagrams go to this place, by a host with these
-        settings. Nothing is waited for."""
+        """Opens a connection from `own`, a socket that no other client of its host has, to `peer`, whose datagrams go to this place, by a host with
+        these settings. Nothing is waited for."""
         self._host, self._closed = Host(own, **settings), None
         self._carrier = _Carrier(udp, self._host)
         self._number = self._host.connect(self._carrier.now, self._carrier.places.number(place), own.socket, peer)

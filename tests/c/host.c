@@ -403,7 +403,17 @@ static void server_fault(const struct said *items, size_t length, enum xns_resul
     free_both();
 }
 
+/* A message that has no end within 131,072 bytes, which are 245 items and some bytes. */
+static void long_fault(void) {
+    enum { ITEMS = 246 };
+    static const char zeros[XNS_LONGEST_ITEM];
+    struct said items[1 + ITEMS] = { VERSIONS };
+    for (size_t i = 1; i <= ITEMS; i++) items[i] = (struct said){ 0, 0, 0, zeros, sizeof zeros };
+    client_fault(items, 1 + ITEMS, XNS_LONG_MESSAGE);
+}
+
 static void faults(void) {
+    long_fault();
     client_fault((const struct said[]){ ATTENTION }, 1, XNS_ATTENTION);
     client_fault((const struct said[]){ VERSIONS, HALF, ATTENTION }, 3, XNS_ATTENTION);
     client_fault((const struct said[]){ VERSIONS, CALLED, ATTENTION }, 3, XNS_ATTENTION);

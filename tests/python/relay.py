@@ -98,7 +98,7 @@ class Relay(threading.Thread):
         if self.dies_after is not None and self.seen > self.dies_after and self.next_stray <= now:
             self.next_stray = now + self.STRAY
             for client in self.behind:
-                self.send(self.chance.randbytes(self.chance.randrange(80)), (self.clients, client))
+                self.send(bytes(self.chance.choices(range(256), k=self.chance.randrange(80))), (self.clients, client))
 
     @staticmethod
     def send(packet, way):

@@ -388,9 +388,9 @@ class HostTest(unittest.TestCase):
             self.service.serve(200)
 
     def test_settings(self):
-        for settings in ({"tries": 0}, {"tries": 256}, {"window": 65}, {"backlog": -1}, {"connections": 65536}, {"idle": 2**32}, {"longest_wait": 2**64}):
+        for name, value in (("tries", 0), ("tries", 256), ("window", 65), ("backlog", -1), ("connections", 65536), ("idle", 2**32), ("idle", 2**64)):
             with self.assertRaises(ValueError):
-                xns.Host(HERE, **settings)
+                xns.Host(HERE, **{name: value})
         with self.assertRaises(xns.BadArgument):
             xns.Host(HERE, longest_wait=249)
         with self.assertRaises(TypeError):
