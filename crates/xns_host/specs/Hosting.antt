@@ -161,7 +161,7 @@ address_in network host socket = record { network = network; host = host; socket
 pub record IsConnected (guests : List (Option Guest)) (number : ℕ) (settings : Settings) (own to : Address) (way : ℕ) : Type 0 where
   pub guest : Guest
   pub there : slice_get guests number ≡ Some (Some guest)
-  pub tells : Tells guest.connection.conversation (new_story (initiator_state own guest.id to settings.window settings.backlog))
+  pub tells : Tells guest.connection.conversation (new_story None (initiator_state own guest.id to settings.window settings.backlog))
   pub unclosed : guest.connection.closed ≡ None
   pub via : guest.via ≡ way
   pub peer : guest.peer ≡ to

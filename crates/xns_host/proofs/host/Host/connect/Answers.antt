@@ -38,7 +38,7 @@ returns-clause-connected c = record {
   };
   there = c.put.ensures.there;
   tells = subst (λ (own : Address). Tells c.in-Ok.connection.conversation
-      (new_story (initiator_state own c.in-Some-next.id c.args.peer c.args.self.now.settings.window c.args.self.now.settings.backlog)))
+      (new_story None (initiator_state own c.in-Some-next.id c.args.peer c.args.self.now.settings.window c.args.self.now.settings.backlog)))
       c.address-own.ensures c.in-Ok.ensures.tells;
   unclosed = c.in-Ok.ensures.open.0;
   via = refl;
