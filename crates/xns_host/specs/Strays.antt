@@ -1,5 +1,5 @@
 -- Packets of no connection that are to go out.
-use Rattle.std.specs.Prelude.{◌≡◌, ℕ, ◌≤◌, List, [], ◌∷◌, ◌++◌, length, nat_lt, if◌then◌else◌}
+use Rattle.std.specs.Prelude.{◌≡◌, ◌⊎◌, ℕ, ◌≤◌, List, [], ◌∷◌, ◌++◌, length, nat_lt, if◌then◌else◌}
 use Rattle.xns_host.specs.declared.outgoing.Outgoing.{Outgoing}
 
 -- those that wait, the first one first, at most so many
@@ -21,3 +21,11 @@ stray_of via packet = record { via = via; packet = packet }
 -- what is over is as if lost
 abbrev pub with_stray : StrayQueue → Outgoing → StrayQueue
 with_stray q s = if nat_lt (length q.waiting) q.most then record q { waiting = q.waiting ++ s ∷ [] } else q
+
+-- it is behind the others, where there is room; or memory was refused, and it is as if lost
+abbrev pub MayHaveStray : StrayQueue → StrayQueue → Outgoing → Type 0
+MayHaveStray old new s = (new ≡ with_stray old s) ⊎ (new ≡ old)
+
+-- where Echo requests come (XSIS 028112, Echo Protocol)
+abbrev pub echo_socket : ℕ
+echo_socket = 2

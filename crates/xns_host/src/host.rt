@@ -4,7 +4,10 @@ ghost use Rattle.std.specs.Prelude.{◌≡◌, ◌≢◌, ◌<◌, ◌≤◌, �
 ghost use Rattle.std.specs.Prelude.{None, Ok, Err, replicate, slice_get, slice_set};
 ghost use Rattle.std.specs.Option.{is_none};
 ghost use Rattle.courier_messages.specs.RawCalls.{words_call};
-ghost use Rattle.xns_idp.specs.Packet.{most_data};
+ghost use Rattle.xns_idp.specs.Packet.{PacketModel, most_data, packet_model};
+ghost use Rattle.xns_idp.specs.Reading.{packet_of};
+ghost use Rattle.xns_small.specs.Echo.{IsAnswered, echo_reply};
+ghost use Rattle.xns_host.specs.Strays.{MayHaveStray, echo_socket, stray_of};
 ghost use Rattle.xns_host.specs.Events.{event_in, event_of};
 ghost use Rattle.xns_host.specs.Hosting.{ChangesOne, GoesOutBy, HasNoEvent, HasNoPacket, HasNoRoom, IsAllInUse, IsAllNoted, IsApart};
 ghost use Rattle.xns_host.specs.Hosting.{IsConnected, IsFirstWant, IsNextEvent, IsNotedBut, IsPlace, SomeGuest, address_in, facts_in};
@@ -579,6 +582,10 @@ impl Host {
     pub fn receive(&mut self, now: u64, via: u32, bytes: &[u8]) -> bool
         ensures one { ChangesOne self.old.guests.items self.new.guests.items }
         ensures unchanged { result ≡ false → (k : ℕ) → slice_get self.new.guests.items k ≡ slice_get self.old.guests.items k }
+        ensures echo { (p : PacketModel) (taken : ℕ) → packet_of bytes.now ≡ Ok (p, taken)
+            → IsAnswered (address_in self.old.network self.old.host echo_socket) p → (result ≡ true)
+            × (self.new.guests ≡ self.old.guests) × MayHaveStray self.old.strays self.new.strays (stray_of via
+            (echo_reply (address_in self.old.network self.old.host echo_socket) p)) }
     {
         let now = self.clock.tell(now);
         let Ok((packet, _)) = decode(bytes) else {
@@ -595,6 +602,9 @@ impl Host {
     /// Answers an Echo request; whether it was one. Where there is no room or no memory it is as if lost.
     fn echo(&mut self, via: u32, packet: &Packet<'_>) -> bool
         requires { length packet.now.body.now ≤ most_data }
+        ensures answered { IsAnswered (address_in self.old.network self.old.host echo_socket) (packet_model packet.now) → (result ≡ true)
+            × MayHaveStray self.old.strays self.new.strays (stray_of via
+            (echo_reply (address_in self.old.network self.old.host echo_socket) (packet_model packet.now))) }
         ensures guests { self.new.guests ≡ self.old.guests }
         ensures agenda { self.new.agenda ≡ self.old.agenda }
     {
