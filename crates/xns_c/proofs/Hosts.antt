@@ -1,25 +1,39 @@
 -- What is fetched of a host is given, or stays.
-use Rattle.std.proofs.Common.{◌≡◌, ◌≢◌, ◌<◌, ◌≤◌, ℕ, List, length, Some, refl, sym, ap, ◌∙◌, subst, arith}
+use Rattle.std.proofs.Common.{◌≡◌, ◌≢◌, ◌<◌, ◌≤◌, ℕ, List, length, Some, None, ◌⊎◌, inl, inr, refl, sym, ap, ◌∙◌, subst, arith}
+use Rattle.std.proofs.lemmas.Bool.{cases_lt}
+use Rattle.xns_host.specs.Hosting.{IsNextEvent}
 use Rattle.xns_host.specs.declared.event.Event.{Event}
+use Rattle.xns_host.specs.declared.host.Host.{Host}
 use Rattle.xns_host.specs.declared.outgoing.Outgoing.{Outgoing}
 use Rattle.xns_c.specs.Events.{EventIsGiven}
 use Rattle.xns_c.specs.Given.{IsPut}
 use Rattle.xns_c.specs.Hosts.{FetchesEvent, FetchesPacket, GivesPacket, left_of}
-use Rattle.xns_c.specs.Results.{ok, short_buffer}
+use Rattle.xns_c.specs.Results.{ok, nothing, short_buffer}
 use Rattle.xns_c.specs.declared.event.XnsEvent.{XnsEvent}
 use Rattle.xns_c.specs.declared.kept_host.KeptHost.{KeptHost}
 
 -- an event that was fetched, or was kept, is given
 pub event_fetched : (k n m : KeptHost) (e : Event) (before after : XnsEvent) (old new : List ℕ) (had count number : ℕ)
-    → n.event ≡ Some e → ((x : Event) → k.event ≡ Some x → n ≡ k) → n.packet ≡ k.packet → EventIsGiven e after old new count number
-    → m.host ≡ n.host → m.event ≡ left_of (Some e) number → m.packet ≡ n.packet → FetchesEvent k m before after old new had count number
-event_fetched k n m e before after old new had count number there kept packet given host left same = record {
+    → n.event ≡ Some e → ((x : Event) → k.event ≡ Some x → n ≡ k)
+    → ((x : Event) → k.event ≡ None → n.event ≡ Some x → IsNextEvent k.host.guests.items n.host.guests.items x)
+    → n.packet ≡ k.packet → EventIsGiven e after old new count number → m.host ≡ n.host → m.event ≡ left_of (Some e) number → m.packet ≡ n.packet → FetchesEvent k m before after old new had count number
+event_fetched k n m e before after old new had count number there kept told packet given host left same = record {
   found = Some e;
+  told = λ x no is. subst (λ (h : Host). IsNextEvent k.host.guests.items h.guests.items x) (sym host) (told x no (there ∙ is));
+  none = λ no is. absurd cc;
   kept = λ x is. (sym there ∙ (ap (λ (y : KeptHost). y.event) (kept x is) ∙ is), host ∙ ap (λ (y : KeptHost). y.host) (kept x is));
   given = given;
   left = left;
   packet = same ∙ packet;
 }
+
+-- where there is a packet, it is not said that there is none
+is_told : (p : Outgoing) (old new : List ℕ) (had written way via number : ℕ)
+    → GivesPacket (Some p) old new had written way via number → number ≡ nothing → ⊥
+is_told p old new had written way via number given is = elim (cases_lt (length old) (length p.packet)) [
+  | inl less ↦ absurd (omega (arith, is, (given.1 less).0))
+  | inr fits ↦ absurd (omega (arith, is, (given.0 fits).0))
+]
 
 -- the same of a packet
 pub packet_fetched : (k n m : KeptHost) (p : Outgoing) (old new : List ℕ) (had written way via number : ℕ)
@@ -27,6 +41,7 @@ pub packet_fetched : (k n m : KeptHost) (p : Outgoing) (old new : List ℕ) (had
     → m.host ≡ n.host → m.packet ≡ left_of (Some p) number → m.event ≡ n.event → FetchesPacket k m old new had written way via number
 packet_fetched k n m p old new had written way via number there kept event given host left same = record {
   found = Some p;
+  rested = λ is. absurd (is_told p old new had written way via number given is);
   kept = λ x is. (sym there ∙ (ap (λ (y : KeptHost). y.packet) (kept x is) ∙ is), host ∙ ap (λ (y : KeptHost). y.host) (kept x is));
   given = given;
   left = left;

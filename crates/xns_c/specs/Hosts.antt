@@ -1,10 +1,11 @@
 -- What becomes of a host that C holds.
-use Rattle.std.specs.Prelude.{◌≡◌, ◌≢◌, ◌⊎◌, ◌<◌, ◌≤◌, ℕ, true, false, ◌==◌, if◌then◌else◌, List, [], length, Option, Some, None, slice_get}
+use Rattle.std.specs.Prelude.{◌≡◌, ◌≢◌, ◌⊎◌, ◌<◌, ◌≤◌, ℕ, false, ◌==◌, if◌then◌else◌, List, length, Option, Some, None, slice_get}
 use Rattle.courier_messages.specs.RawCalls.{RawCall}
 use Rattle.courier_sessions.specs.declared.answer.Answer.{Answer}
-use Rattle.xns_host.specs.Hosting.{IsApart, has_guest}
+use Rattle.xns_idp.specs.declared.address.Address.{Address}
+use Rattle.xns_host.specs.Hosting.{IsApart, IsConnected, IsNextEvent, ChangesOne, HasNoEvent, HasNoPacket, HasNoRoom, Wants}
+use Rattle.xns_host.specs.Hosting.{has_guest, address_in}
 use Rattle.xns_host.specs.Reasons.{call_fault_of, answer_fault_of}
-use Rattle.xns_host.specs.Turns.{has_turn}
 use Rattle.xns_host.specs.declared.conversation.Conversation.{Conversation}
 use Rattle.xns_host.specs.declared.event.Event.{Event}
 use Rattle.xns_host.specs.declared.guest.Guest.{Guest}
@@ -13,7 +14,8 @@ use Rattle.xns_host.specs.declared.outgoing.Outgoing.{Outgoing}
 use Rattle.xns_c.specs.Events.{EventIsGiven, event_number}
 use Rattle.xns_c.specs.Faults.{unless_fault}
 use Rattle.xns_c.specs.Given.{IsPut}
-use Rattle.xns_c.specs.Results.{ok, nothing, no_memory, short_buffer, bad_argument, no_host, no_connection}
+use Rattle.xns_c.specs.Results.{ok, nothing, no_memory, short_buffer, bad_argument, no_host, no_connection, no_slot}
+use Rattle.xns_c.specs.Settings.{never}
 use Rattle.xns_c.specs.declared.event.XnsEvent.{XnsEvent}
 use Rattle.xns_c.specs.declared.kept_host.KeptHost.{KeptHost}
 
@@ -86,19 +88,32 @@ pub record Serves (k n : KeptHost) : Type 0 where
   pub agenda : n.host.agenda ≡ k.host.agenda
   pub kept : StaysKept k n
 
--- a packet that is not for the host changes no connection
+-- a packet that is not for the host changes no connection, and one that is changes one at most
 pub record Receives (k n : KeptHost) (result : ℕ) : Type 0 where
   pub answer : (result ≡ ok) ⊎ (result ≡ nothing)
+  pub one : ChangesOne k.host.guests.items n.host.guests.items
   pub unchanged : result ≡ nothing → (i : ℕ) → guest_at n i ≡ guest_at k i
   pub kept : StaysKept k n
 
--- when it wants to be asked: at once where something is kept or is to go out, and no later than each time that is set
+-- something of the host wants to be asked at this time
+abbrev pub WantsAt : KeptHost → ℕ → Type 0
+WantsAt k time = Wants k.host.strays.waiting k.host.guests.items time
+
+-- when it wants to be asked: at once where something is kept, and else at the first time that something of the host wants it, or never
 pub record Wakes (k : KeptHost) (time : ℕ) : Type 0 where
   pub event : k.event ≢ None → time ≡ 0
   pub packet : k.packet ≢ None → time ≡ 0
-  pub due : (i t : ℕ) → slice_get k.host.agenda.dues i ≡ Some (Some t) → time ≤ t
-  pub turn : (i : ℕ) → has_turn k.host.agenda.packets i ≡ true → time ≡ 0
-  pub stray : k.host.strays.waiting ≢ [] → time ≡ 0
+  pub least : (t : ℕ) → WantsAt k t → time ≤ t
+  pub wanted : k.event ≡ None → k.packet ≡ None → (time ≡ never) ⊎ WantsAt k time
+
+-- a new connection has this number, and all others are as they were; or none is made, and none is changed
+pub record Connects (k n : KeptHost) (socket : ℕ) (to : Address) (way number result : ℕ) : Type 0 where
+  pub connected : result ≡ ok → IsConnected n.host.guests.items number k.host.settings (address_in k.host.network k.host.host socket) to way
+  pub apart : result ≡ ok → IsApart k.host.guests.items n.host.guests.items number
+  pub full : HasNoRoom k.host.guests.items → result ≡ no_slot
+  pub fault : result ≢ ok → (result ≡ no_slot) ⊎ (result ≡ no_memory)
+  pub unchanged : result ≢ ok → (i : ℕ) → guest_at n i ≡ guest_at k i
+  pub kept : StaysKept k n
 
 -- ---- what is fetched
 
@@ -111,10 +126,12 @@ abbrev pub GivesEvent : Option Event → XnsEvent → XnsEvent → List ℕ → 
 GivesEvent None before after old new had count result = (result ≡ nothing) × (after ≡ before) × (new ≡ old) × (count ≡ had)
 GivesEvent (Some e) before after old new had count result = EventIsGiven e after old new count result
 
--- an event that is kept is the next one
+-- an event that is kept is the next one; where none is kept it is what one of the connections had to tell, and there is none where none had
 pub record FetchesEvent (k n : KeptHost) (before after : XnsEvent) (old new : List ℕ) (had count result : ℕ) : Type 0 where
   pub found : Option Event
   pub kept : (e : Event) → k.event ≡ Some e → (found ≡ Some e) × (n.host ≡ k.host)
+  pub told : (e : Event) → k.event ≡ None → found ≡ Some e → IsNextEvent k.host.guests.items n.host.guests.items e
+  pub none : k.event ≡ None → found ≡ None → HasNoEvent k.host.guests.items
   pub given : GivesEvent found before after old new had count result
   pub left : n.event ≡ left_of found result
   pub packet : n.packet ≡ k.packet
@@ -127,10 +144,11 @@ GivesPacket (Some p) old new had written way via result =
     (length p.packet ≤ length old → (result ≡ ok) × IsPut p.packet old new written × (via ≡ p.via))
     × (length old < length p.packet → (result ≡ short_buffer) × (written ≡ length p.packet) × (new ≡ old) × (via ≡ way))
 
--- a packet that is kept is the next one
+-- a packet that is kept is the next one; where there is none, no connection has one that may be to go out
 pub record FetchesPacket (k n : KeptHost) (old new : List ℕ) (had written way via result : ℕ) : Type 0 where
   pub found : Option Outgoing
   pub kept : (p : Outgoing) → k.packet ≡ Some p → (found ≡ Some p) × (n.host ≡ k.host)
+  pub rested : result ≡ nothing → HasNoPacket n.host.guests.items
   pub given : GivesPacket found old new had written way via result
   pub left : n.packet ≡ left_of found result
   pub event : n.event ≡ k.event

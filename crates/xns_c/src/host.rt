@@ -9,7 +9,7 @@ ghost use Rattle.xns_host.specs.declared.host_fault.HostFault.TheVariants.{OutOf
 ghost use Rattle.xns_host.specs.declared.setting.Setting.{Setting};
 ghost use Rattle.xns_c.specs.Handle.{kept_of};
 ghost use Rattle.xns_c.specs.Heads.{answer_in};
-ghost use Rattle.xns_c.specs.Hosts.{Does, Calls, AnswersCall, Closes, StaysKept, Serves, Receives, Wakes, FetchesEvent, FetchesPacket};
+ghost use Rattle.xns_c.specs.Hosts.{Does, Calls, AnswersCall, Closes, Connects, Serves, Receives, Wakes, FetchesEvent, FetchesPacket};
 ghost use Rattle.xns_c.specs.Hosts.{IsNew, guest_at};
 ghost use Rattle.xns_c.specs.Results.{ok, no_host, no_connection, bad_argument};
 ghost use Rattle.xns_c.specs.Settings.{settings_in, never};
@@ -113,7 +113,8 @@ pub extern "C" fn xns_host_connect(
     peer: &XnsAddress,
     number: &mut usize,
 ) -> u32
-    ensures kept { Does (kept_of handle.old) (kept_of handle.new) result (λ k n. StaysKept k n) }
+    ensures connects { Does (kept_of handle.old) (kept_of handle.new) result
+        (λ k n. Connects k n socket (address_in peer.now) via number.new result) }
     ensures untold { result ≢ ok → number.new ≡ number.old }
 {
     let Some(mut kept) = handle.take(alloc) else {

@@ -2,15 +2,17 @@
 
 ghost use Rattle.std.specs.Prelude.{◌≡◌, ◌≢◌, IfOk, OnErr, Some, None, Ok, Err, length};
 ghost use Rattle.courier_messages.specs.RawCalls.{words_call};
+ghost use Rattle.xns_host.specs.Hosting.{HasNoEvent, HasNoPacket, IsNextEvent};
 ghost use Rattle.xns_host.specs.Settings.{wrong_setting};
 ghost use Rattle.xns_host.specs.declared.event.Event.{Event};
 ghost use Rattle.xns_host.specs.declared.host_fault.HostFault.TheVariants.{OutOfRange};
 ghost use Rattle.xns_host.specs.declared.outgoing.Outgoing.{Outgoing};
 ghost use Rattle.xns_host.specs.declared.setting.Setting.{Setting};
 ghost use Rattle.xns_c.specs.Heads.{answer_in};
-ghost use Rattle.xns_c.specs.Hosts.{Calls, AnswersCall, Closes, StaysKept, Serves, Receives, Wakes, FetchesEvent, FetchesPacket};
+ghost use Rattle.xns_c.specs.Hosts.{Calls, AnswersCall, Closes, Connects, Serves, Receives, Wakes, FetchesEvent, FetchesPacket};
 ghost use Rattle.xns_c.specs.Hosts.{kept_after};
 ghost use Rattle.xns_c.specs.Results.{ok};
+ghost use Rattle.xns_c.specs.Structs.{address_in};
 
 use crate::address::XnsAddress;
 use crate::event::XnsEvent;
@@ -72,7 +74,7 @@ impl KeptHost {
         peer: &XnsAddress,
         number: &mut usize,
     ) -> u32
-        ensures kept { StaysKept self.old self.new }
+        ensures connects { Connects self.old self.new socket (address_in peer.now) via number.new result }
         ensures untold { result ≢ ok → number.new ≡ number.old }
     {
         match self.host.connect(now, via, socket, peer.address()) {
@@ -152,6 +154,9 @@ impl KeptHost {
     /// Fetches the next event, where none is kept.
     fn fetch_event(&mut self)
         ensures kept { (e : Event) → self.old.event ≡ Some e → self.new ≡ self.old }
+        ensures told { (e : Event) → self.old.event ≡ None → self.new.event ≡ Some e
+            → IsNextEvent self.old.host.guests.items self.new.host.guests.items e }
+        ensures none { self.old.event ≡ None → self.new.event ≡ None → HasNoEvent self.old.host.guests.items }
         ensures packet { self.new.packet ≡ self.old.packet }
     {
         if self.event.is_none() {
@@ -179,6 +184,7 @@ impl KeptHost {
         ensures kept { (p : Outgoing) → self.old.packet ≡ Some p → (result ≡ Ok tt) × (self.new ≡ self.old) }
         ensures event { self.new.event ≡ self.old.event }
         ensures none { OnErr result (self.new.packet ≡ None) }
+        ensures rested { result ≡ Ok tt → self.new.packet ≡ None → HasNoPacket self.new.host.guests.items }
     {
         if self.packet.is_none() {
             self.packet = self.host.next_packet(now)?;
