@@ -2,7 +2,7 @@
 use Rattle.std.proofs.Common.{zero, suc, ◌≡◌, ◌≢◌, ◌∙◌, ◌⊎◌, inl, inr, sym, ap, subst, refl, ℕ, ◌+◌, ◌-◌, ◌*◌, ◌/◌, ◌<◌, ◌≤◌, Bool, true, false, List, length, replicate, get_or, Option, Some, None, slice_get, arith}
 use Rattle.std.specs.Prelude.{nat_le, nat_lt, slice_set, if◌then◌else◌}
 use Rattle.std.proofs.lemmas.Bool.{leb-false, leb-true, lt-ltb, ltb-true}
-use Rattle.std.proofs.lemmas.List.{get_or-set_other, get_or-set_same, length-set}
+use Rattle.std.proofs.lemmas.List.{get_or-set_other, get_or-set_same, length-set, set-get_or}
 use Rattle.std.proofs.lemmas.Option.{get_or_from_slice_get, slice_get-get_or, slice_get_within}
 use Rattle.xns_host.specs.Times.{IsBy, HasEarliest, HasNoneBy, IsTree, IsTreeBut, node, sooner}
 
@@ -60,6 +60,11 @@ changed_leaf tree times k v t = record {
       let two : node tree (slice_set times k v) (2 * i + 1) ≡ node tree times (2 * i + 1) = times_other tree times k v (2 * i + 1) (λ e. right (sym e)) in
       t.rule i some less ∙ ap (λ x. sooner x (node tree times (2 * i + 1))) (sym one) ∙ ap (sooner (node tree (slice_set times k v) (2 * i))) (sym two);
 }
+
+-- a time that stands is set again
+pub same_leaf : (times : List Time) (k : ℕ) (t : Time) → slice_get times k ≡ Some t → times ≡ slice_set times k t
+same_leaf times k t here =
+    subst (λ (z : Time). times ≡ slice_set times k z) (get_or_from_slice_get times k t None here) (sym (set-get_or times k None))
 
 module _ (tree times : List Time) (at p : ℕ) (v : Time) (b : IsTreeBut tree times at) (half : (at ≡ 2 * p) ⊎ (at ≡ 2 * p + 1)) (some : 1 ≤ p) (within : p < length tree)
     (is : v ≡ sooner (node tree times (2 * p)) (node tree times (2 * p + 1))) where

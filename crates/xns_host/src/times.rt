@@ -56,6 +56,16 @@ fn node(tree: &[Option<u64>], times: &[Option<u64>], at: usize) -> Option<u64>
     }
 }
 
+/// Whether two times are the same.
+fn is_same(one: Option<u64>, other: Option<u64>) -> bool
+    ensures { result ≡ true → one ≡ other }
+{
+    match other {
+        Some(time) => is_at(one, time),
+        None => one.is_none(),
+    }
+}
+
 /// Mends the tree above a node, whose time was changed.
 #[tactic(auto, using(crate::proofs::Tree::whole))]
 fn mend(tree: &mut [Option<u64>], times: &[Option<u64>], changed: usize)
@@ -159,11 +169,14 @@ impl Times {
     }
 
     /// Sets the time of a number, or takes it away.
-    #[tactic(auto, using(crate::proofs::Tree::changed_leaf))]
+    #[tactic(auto, using(crate::proofs::Tree::changed_leaf, crate::proofs::Tree::same_leaf))]
     pub fn set(&mut self, number: usize, time: Option<u64>)
         requires { number < length self.old }
         ensures { self.new ≡ slice_set self.old number time }
     {
+        if is_same(self.times[number], time) {
+            return;
+        }
         self.times[number] = time;
         let changed = self.tree.len() + number;
         mend(self.tree.as_mut_slice(), self.times.as_slice(), changed);
