@@ -99,11 +99,29 @@ module _ (tree times : List Time) (at p : ℕ) (v : Time) (b : IsTreeBut tree ti
         let far = apart i other in
         get_or-set_other tree p i v None other ∙ b.rule i least (omega (arith, size, less)) far.0 far.1 ∙ below i left right
 
+  -- where the node above is right, all are
+  pub settled : get_or tree p None ≡ v → IsTree tree times
+  settled here = record {
+    same = b.same;
+    rule = λ i least less. by i least less (same_or i);
+  } where
+    by : (i : ℕ) → 1 ≤ i → i < length tree → (i ≡ p) ⊎ (i ≢ p)
+        → get_or tree i None ≡ sooner (node tree times (2 * i)) (node tree times (2 * i + 1))
+    by i least less (inl e) = subst
+        (λ (n : ℕ). get_or tree n None ≡ sooner (node tree times (2 * n)) (node tree times (2 * n + 1))) (sym e) (here ∙ is)
+    by i least less (inr other) = let far = apart i other in b.rule i least less far.0 far.1
+
 pub mended_above : (tree times : List Time) (at : ℕ) (v : Time) → IsTreeBut tree times at → 2 ≤ at → at < length tree + length times
     → v ≡ sooner (node tree times (2 * (at / 2))) (node tree times (2 * (at / 2) + 1)) → IsTreeBut (slice_set tree (at / 2) v) times (at / 2)
 mended_above tree times at v b two within is =
     let same : length tree ≡ length times = b.same in
     mended tree times at (at / 2) v b (halves at) (omega (arith, two)) (omega (arith, two, within, same)) is
+
+pub stopped_above : (tree times : List Time) (at : ℕ) (v : Time) → IsTreeBut tree times at → 2 ≤ at → at < length tree + length times
+    → v ≡ sooner (node tree times (2 * (at / 2))) (node tree times (2 * (at / 2) + 1)) → get_or tree (at / 2) None ≡ v → IsTree tree times
+stopped_above tree times at v b two within is here =
+    let same : length tree ≡ length times = b.same in
+    settled tree times at (at / 2) v b (halves at) (omega (arith, two)) (omega (arith, two, within, same)) is here
 
 pub whole : (tree times : List Time) (at : ℕ) → at ≡ 1 → IsTreeBut tree times at → IsTree tree times
 whole tree times at e b = record { same = b.same; rule = λ i some less. b.rule i some less (λ f. absurd (omega (arith, e, f, some))) (λ f. absurd (omega (arith, e, f, some))) }

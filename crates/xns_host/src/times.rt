@@ -1,7 +1,7 @@
 //! A time for some of the connections, and which is the earliest.
 
 ghost use Rattle.std.specs.Prelude.{◌≡◌, ◌≢◌, ◌≤◌, ◌<◌, ◌+◌, ◌*◌, ℕ, length, replicate, true, false, IfOk, Some, None, slice_get};
-ghost use Rattle.std.specs.Prelude.{slice_set};
+ghost use Rattle.std.specs.Prelude.{slice_index_or, slice_set};
 ghost use Rattle.xns_host.specs.Times.{HasEarliest, HasNoneBy, IsEarliest, IsTree, IsTreeBut, node, sooner};
 
 use std::alloc::{AllocError, Global};
@@ -66,7 +66,24 @@ fn is_same(one: Option<u64>, other: Option<u64>) -> bool
     }
 }
 
-/// Mends the tree above a node, whose time was changed.
+/// The time that a node above the times is to have.
+fn right_time(tree: &[Option<u64>], times: &[Option<u64>], at: usize) -> Option<u64>
+    requires same { length tree.now ≡ length times.now }
+    requires within { at < length tree.now }
+    ensures { result ≡ sooner (node tree.now times.now (2 * at)) (node tree.now times.now (2 * at + 1)) }
+{
+    sooner(node(tree, times, 2 * at), node(tree, times, 2 * at + 1))
+}
+
+/// Whether a node above the times has this time.
+fn has_time(tree: &[Option<u64>], at: usize, time: Option<u64>) -> bool
+    requires { at < length tree.now }
+    ensures { result ≡ true → slice_index_or tree.now at None ≡ time }
+{
+    is_same(tree[at], time)
+}
+
+/// Mends the tree above a node, whose time was changed: up to the first node that stays as it was.
 #[tactic(auto, using(crate::proofs::Tree::whole))]
 fn mend(tree: &mut [Option<u64>], times: &[Option<u64>], changed: usize)
     requires same { length tree.old ≡ length times.now }
@@ -78,7 +95,11 @@ fn mend(tree: &mut [Option<u64>], times: &[Option<u64>], changed: usize)
     let mut at = changed;
     while at > 1 {
         at /= 2;
-        tree[at] = sooner(node(tree, times, 2 * at), node(tree, times, 2 * at + 1));
+        let time = right_time(tree, times, at);
+        if has_time(tree, at, time) {
+            return;
+        }
+        tree[at] = time;
     }
 }
 
