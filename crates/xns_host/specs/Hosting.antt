@@ -7,7 +7,8 @@ use Rattle.xns_spp.specs.State.{initiator_state}
 use Rattle.xns_host.specs.Agenda.{Plan, IsNoted}
 use Rattle.xns_host.specs.Events.{event_in}
 use Rattle.xns_host.specs.Identifiers.{Ids, is_free}
-use Rattle.xns_host.specs.Story.{has_message, new_story}
+use Rattle.xns_host.specs.Living.{GoesFrom}
+use Rattle.xns_host.specs.Story.{Story, has_message, new_story}
 use Rattle.xns_host.specs.Telling.{Tells}
 use Rattle.xns_host.specs.Times.{IsBy}
 use Rattle.xns_host.specs.Turns.{has_turn}
@@ -59,6 +60,11 @@ has_guest (Some (Some g)) = true
 -- the connections with other numbers are as they were
 pub record IsApart (old new : List (Option Guest)) (number : ℕ) : Type 0 where
   pub others : (k : ℕ) → k ≢ number → slice_get new k ≡ slice_get old k
+
+-- the connection in this place went on from where that one was when the program had done this, whatever it had done before
+abbrev pub WentOn : Connection → (Story → Story) → Option Guest → Type 0
+WentOn c deed None = ⊥
+WentOn c deed (Some g) = GoesFrom c.conversation g.connection.conversation deed
 
 -- the event is what one of the connections had to tell, and the others are as they were
 pub record IsNextEvent (old new : List (Option Guest)) (event : Event) : Type 0 where

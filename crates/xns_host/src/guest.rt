@@ -1,6 +1,6 @@
 //! A connection in its place at a host.
 
-ghost use Rattle.std.specs.Prelude.{◌≡◌, OnErr, OnOk};
+ghost use Rattle.std.specs.Prelude.{◌≡◌, ℕ, [], ◌∷◌, ◌++◌, OnErr, OnOk, Ok, Some};
 ghost use Rattle.xns_host.specs.Hosting.{facts_of, lingers_since, may_go, stranger_since};
 ghost use Rattle.courier_messages.specs.RawCalls.{words_call};
 ghost use Rattle.xns_spp.specs.Held.{StandsFor};
@@ -8,6 +8,9 @@ ghost use Rattle.xns_spp.specs.State.{State};
 ghost use Rattle.xns_host.specs.Quotes.{is_opened_by};
 ghost use Rattle.xns_host.specs.Reasons.{call_fault_of, answer_fault_of};
 ghost use Rattle.xns_host.specs.Refusing.{Answers};
+ghost use Rattle.courier_sessions.specs.Answering.{answer_message};
+ghost use Rattle.xns_host.specs.Living.{GoesFrom};
+ghost use Rattle.xns_host.specs.Story.{asked_of};
 ghost use Rattle.xns_host.specs.Telling.{Hears};
 
 use crate::connection::Connection;
@@ -67,6 +70,8 @@ impl Guest {
         words: &[u16],
     ) -> Result<(), HostFault>
         ensures answer { Answers (call_fault_of self.old.connection.conversation (words_call program version procedure words.now)) result }
+        ensures called { result ≡ Ok tt → GoesFrom self.old.connection.conversation self.new.connection.conversation
+            (λ h. record h { made = h.made ++ words_call program version procedure words.now ∷ [] }) }
         ensures unchanged { OnErr result (self.new ≡ self.old) }
     {
         self.connection
@@ -83,6 +88,9 @@ impl Guest {
         words: &[u16],
     ) -> Result<(), HostFault>
         ensures answer { Answers (answer_fault_of self.old.connection.conversation answer words.now) result }
+        ensures answered { (k : ℕ) → asked_of self.old.connection.conversation.side ≡ Some k → result ≡ Ok tt
+            → GoesFrom self.old.connection.conversation self.new.connection.conversation
+            (λ h. record h { answers = h.answers ++ answer_message answer k words.now ∷ [] }) }
         ensures unchanged { OnErr result (self.new ≡ self.old) }
     {
         self.connection.answer(alloc, now, answer, words)?;

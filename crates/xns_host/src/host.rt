@@ -1,6 +1,6 @@
 //! Many connections behind one address.
 
-ghost use Rattle.std.specs.Prelude.{◌≡◌, ◌≢◌, ◌<◌, ◌≤◌, ◌∷◌, ◌⊎◌, ℕ, List, [], Option, length, true, false, IfOk, IfSome, OnErr, Some};
+ghost use Rattle.std.specs.Prelude.{◌≡◌, ◌≢◌, ◌<◌, ◌≤◌, ◌∷◌, ◌++◌, ◌⊎◌, ℕ, List, [], Option, length, true, false, IfOk, IfSome, OnErr, Some};
 ghost use Rattle.std.specs.Prelude.{None, Ok, Err, replicate, slice_get, slice_set};
 ghost use Rattle.std.specs.Option.{is_none};
 ghost use Rattle.courier_messages.specs.RawCalls.{words_call};
@@ -11,7 +11,9 @@ ghost use Rattle.xns_host.specs.Strays.{MayHaveStray, echo_socket, stray_of};
 ghost use Rattle.xns_host.specs.Events.{event_in, event_of};
 ghost use Rattle.xns_host.specs.Hosting.{ChangesOne, GoesOutBy, HasNoEvent, HasNoPacket, HasNoRoom, IsAllInUse, IsAllNoted, IsApart};
 ghost use Rattle.xns_host.specs.Hosting.{IsConnected, IsFirstWant, IsNextEvent, IsNotedBut, IsPlace, SomeGuest, address_in, facts_in};
-ghost use Rattle.xns_host.specs.Hosting.{has_guest};
+ghost use Rattle.xns_host.specs.Hosting.{WentOn, has_guest};
+ghost use Rattle.xns_host.specs.Story.{asked_of};
+ghost use Rattle.courier_sessions.specs.Answering.{answer_message};
 ghost use Rattle.xns_host.specs.Reasons.{call_fault_of, answer_fault_of};
 ghost use Rattle.xns_host.specs.Refusing.{Answers};
 ghost use Rattle.xns_host.specs.Settings.{IsFit, most_connections, wrong_setting};
@@ -150,6 +152,8 @@ fn call_in(
     ensures none { slot.old ≡ None → result ≡ Err (NoConnection number) }
     ensures answer { (g : Guest) → slot.old ≡ Some g → Answers
         (call_fault_of g.connection.conversation (words_call program version procedure words.now)) result }
+    ensures called { (g : Guest) → slot.old ≡ Some g → result ≡ Ok tt → WentOn g.connection
+        (λ h. record h { made = h.made ++ words_call program version procedure words.now ∷ [] }) slot.new }
     ensures unchanged { OnErr result (slot.new ≡ slot.old) }
     ensures kept { is_none slot.new ≡ is_none slot.old }
 {
@@ -171,6 +175,8 @@ fn answer_in(
 ) -> Result<(), HostFault>
     ensures none { slot.old ≡ None → result ≡ Err (NoConnection number) }
     ensures answer { (g : Guest) → slot.old ≡ Some g → Answers (answer_fault_of g.connection.conversation answer words.now) result }
+    ensures answered { (g : Guest) (k : ℕ) → slot.old ≡ Some g → asked_of g.connection.conversation.side ≡ Some k → result ≡ Ok tt
+        → WentOn g.connection (λ h. record h { answers = h.answers ++ answer_message answer k words.now ∷ [] }) slot.new }
     ensures unchanged { OnErr result (slot.new ≡ slot.old) }
     ensures kept { is_none slot.new ≡ is_none slot.old }
 {
@@ -502,6 +508,9 @@ impl Host {
         ensures none { has_guest (slice_get self.old.guests.items number) ≡ false → result ≡ Err (NoConnection number) }
         ensures answer { (g : Guest) → slice_get self.old.guests.items number ≡ Some (Some g)
             → Answers (call_fault_of g.connection.conversation (words_call program version procedure words.now)) result }
+        ensures called { (g : Guest) (place : Option Guest) → slice_get self.old.guests.items number ≡ Some (Some g) → result ≡ Ok tt
+            → slice_get self.new.guests.items number ≡ Some place
+            → WentOn g.connection (λ h. record h { made = h.made ++ words_call program version procedure words.now ∷ [] }) place }
         ensures unchanged { OnErr result ((k : ℕ) → slice_get self.new.guests.items k ≡ slice_get self.old.guests.items k) }
         ensures agenda { OnErr result (self.new.agenda ≡ self.old.agenda) }
     {
@@ -540,6 +549,9 @@ impl Host {
         ensures none { has_guest (slice_get self.old.guests.items number) ≡ false → result ≡ Err (NoConnection number) }
         ensures answer { (g : Guest) → slice_get self.old.guests.items number ≡ Some (Some g)
             → Answers (answer_fault_of g.connection.conversation answer words.now) result }
+        ensures answered { (g : Guest) (k : ℕ) (place : Option Guest) → slice_get self.old.guests.items number ≡ Some (Some g)
+            → asked_of g.connection.conversation.side ≡ Some k → result ≡ Ok tt → slice_get self.new.guests.items number ≡ Some place
+            → WentOn g.connection (λ h. record h { answers = h.answers ++ answer_message answer k words.now ∷ [] }) place }
         ensures unchanged { OnErr result ((k : ℕ) → slice_get self.new.guests.items k ≡ slice_get self.old.guests.items k) }
         ensures agenda { OnErr result (self.new.agenda ≡ self.old.agenda) }
     {
@@ -564,6 +576,7 @@ impl Host {
     pub fn close(&mut self, now: u64, number: usize) -> Result<(), HostFault>
         ensures apart { IsApart self.old.guests.items self.new.guests.items number }
         ensures none { has_guest (slice_get self.old.guests.items number) ≡ false → result ≡ Err (NoConnection number) }
+        ensures some { (g : Guest) → slice_get self.old.guests.items number ≡ Some (Some g) → result ≡ Ok tt }
         ensures unchanged { OnErr result ((k : ℕ) → slice_get self.new.guests.items k ≡ slice_get self.old.guests.items k) }
         ensures agenda { OnErr result (self.new.agenda ≡ self.old.agenda) }
     {
