@@ -1,12 +1,16 @@
 -- Where a packet wants memory.
 use Rattle.std.proofs.Common.{◌≡◌, ◌∙◌, ap, sym, refl, ℕ, Bool, true, false, Option, Some, None, Result, Ok, Err}
 use Rattle.std.specs.Option.{is_some}
-use Rattle.std.specs.Prelude.{OnErr, not, ◌||◌, ◌&&◌}
+use Rattle.std.specs.Prelude.{OnErr, not, slice_get, ◌||◌, ◌&&◌}
 use Rattle.xns_idp.specs.Packet.{PacketModel}
+use Rattle.xns_dump.specs.Flows.{flow_of}
+use Rattle.xns_dump.specs.declared.flows.flow.Flow.{Flow}
 use Rattle.xns_lines.specs.declared.page.Page.{Page}
 use Rattle.xns_spp.specs.Header.{is_system}
 use Rattle.xns_spp.specs.declared.header.Header.{Header}
+use Rattle.xns_calls.specs.Capture.{Known, begins_flow, flow_behind, place_of, scene_in, wants_at, wants_in, wants_places, wants_sequenced}
 use Rattle.xns_calls.specs.Exchange.{Scene, acknowledged, after_acknowledge, begin_track, begun, brings_new, new_number, scene, wants_memory}
+use Rattle.xns_calls.specs.declared.connection.Connection.{Connection}
 use Rattle.xns_calls.specs.declared.heading.Heading.{Heading}
 use Rattle.xns_calls.specs.declared.side.Side.{Side}
 use Rattle.xns_calls.specs.declared.track.Track.{Track}
@@ -42,6 +46,29 @@ or_right false q e = e
 -- the flow behind is brought to a number
 pub acknowledged_wants : (f : Header) (own other : Side) (page : Page) → is_some (acknowledged other f.acknowledge) ≡ true → wants_memory f (scene own other page) ≡ true
 acknowledged_wants f own other page e = or_left (is_some (acknowledged other f.acknowledge)) (not (is_system f) && brings_new own.track f.sequence) e
+
+-- a flow that begins wants memory
+pub begun_wants : (f : Header) (own other : Side) (page : Page) → begins_flow f own.track ≡ true → wants_memory f (scene own other page) ≡ true
+begun_wants f own other page e = or_right (is_some (acknowledged other f.acknowledge)) (not (is_system f) && brings_new own.track f.sequence) (by_track own.track e)
+  where
+    by_track : (o : Option Track) → begins_flow f o ≡ true → (not (is_system f) && brings_new o f.sequence) ≡ true
+    by_track None h = ap (λ p. p && true) h
+    by_track (Some track) h = (cc)
+
+-- so does one to the connection at a place
+pub at_wants : (i : ℕ) (is_behind : Bool) (f : Header) (connection : Connection) (k : Known) → slice_get k.connections i ≡ Some connection → wants_memory f (scene_in is_behind connection k) ≡ true
+    → wants_at i is_behind f k ≡ true
+at_wants i is_behind f connection k at e = ap (λ o. wants_in is_behind f o k) at ∙ e
+
+-- a packet of the flow behind that of a connection is one to that connection
+pub behind_wants : (packet : PacketModel) (f : Header) (k : Known) (flow other : Flow) (i : ℕ) → flow ≡ flow_of packet f → other ≡ flow_behind flow
+    → None ≡ place_of flow k.connections → Some i ≡ place_of other k.connections → wants_at i true f k ≡ true → wants_sequenced packet f k ≡ true
+unfolding wants_sequenced
+behind_wants packet f k flow other i is_flow is_behind none some wants =
+    let first : place_of (flow_of packet f) k.connections ≡ None = ap (λ q. place_of q k.connections) (sym is_flow) ∙ sym none in
+    let second : place_of (flow_behind (flow_of packet f)) k.connections ≡ Some i =
+    ap (λ q. place_of (flow_behind q) k.connections) (sym is_flow) ∙ ap (λ q. place_of q k.connections) (sym is_behind) ∙ sym some in
+    ap (λ o. wants_places f o (place_of (flow_behind (flow_of packet f)) k.connections) k) first ∙ ap (λ o. wants_places f None o k) second ∙ wants
 
 -- what is new behind that was new before
 pub data_wants : (h : Heading) (f : Header) (own other own' other' : Side) (page page' : Page) → scene own' other' page' ≡ after_acknowledge h f.acknowledge (scene own other page) → is_system f ≡ false
