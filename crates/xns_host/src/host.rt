@@ -1,17 +1,15 @@
 //! Many connections behind one address.
 
-ghost use Rattle.std.specs.Prelude.{◌≡◌, ◌≢◌, ◌<◌, ◌≤◌, ◌∷◌, ◌++◌, ◌⊎◌, ℕ, List, [], Option, length, true, false, IfOk, IfSome, OnErr, Some};
-ghost use Rattle.std.specs.Prelude.{None, Ok, Err, replicate, slice_get, slice_set};
-ghost use Rattle.std.specs.Option.{is_none};
+ghost use Rattle.std.specs.Prelude.{◌≡◌, ◌<◌, ◌≤◌, ◌∷◌, ◌++◌, ◌⊎◌, ℕ, List, [], Option, length, true, false, IfOk, IfSome, OnErr, Some};
+ghost use Rattle.std.specs.Prelude.{None, Ok, Err, slice_get};
 ghost use Rattle.courier_messages.specs.RawCalls.{words_call};
 ghost use Rattle.xns_idp.specs.Packet.{PacketModel, most_data, packet_model};
 ghost use Rattle.xns_idp.specs.Reading.{packet_of};
 ghost use Rattle.xns_small.specs.Echo.{IsAnswered, echo_reply};
 ghost use Rattle.xns_host.specs.Strays.{MayHaveStray, echo_socket, stray_of};
-ghost use Rattle.xns_host.specs.Events.{event_in, event_of};
+ghost use Rattle.xns_host.specs.Events.{event_in};
 ghost use Rattle.xns_host.specs.Hosting.{ChangesOne, GoesOutBy, HasNoEvent, HasNoPacket, HasNoRoom, IsAllInUse, IsAllNoted, IsApart};
-ghost use Rattle.xns_host.specs.Hosting.{IsConnected, IsFirstWant, IsNextEvent, IsNotedBut, IsPlace, SomeGuest, address_in, facts_in};
-ghost use Rattle.xns_host.specs.Hosting.{WentOn, has_guest};
+ghost use Rattle.xns_host.specs.Hosting.{IsConnected, IsFirstWant, IsNextEvent, IsPlace, SomeGuest, WentOn, address_in, has_guest};
 ghost use Rattle.xns_host.specs.Story.{asked_of};
 ghost use Rattle.courier_sessions.specs.Answering.{answer_message};
 ghost use Rattle.xns_host.specs.Reasons.{call_fault_of, answer_fault_of};
@@ -27,7 +25,6 @@ use crate::agenda::Agenda;
 use crate::clock::Clock;
 use crate::connection::Connection;
 use crate::event::Event;
-use crate::facts::Facts;
 use crate::guest::Guest;
 use crate::host_fault::HostFault;
 use crate::opening_quote::{OpeningQuote, quoted_opening};
@@ -36,8 +33,11 @@ use crate::peer::Peer;
 use crate::register::Register;
 use crate::services::Services;
 use crate::settings::Settings;
+use crate::slots::{
+    act_in, answer_in, call_in, close_in, event_in, fill, hear_in, is_done_in, no_guests,
+    not_served_in, note, packet_in, vacate,
+};
 use crate::strays::Strays;
-use courier_messages::{Head, PiecedMessage};
 use courier_sessions::{Answer, Program};
 use std::alloc::{AllocError, Global};
 use xns_idp::packet_type::{ECHO, ERROR, SEQUENCED_PACKET};
@@ -70,259 +70,6 @@ pub struct Host {
     ghost settled: { length guests.items ≡ settings.connections },
     // What is to be done of each connection is noted, and of nothing else.
     ghost noted: { IsAllNoted agenda guests.items },
-}
-
-/// Places for so many connections.
-fn no_guests(alloc: Global, most: usize) -> Result<Vec<Option<Guest>>, AllocError>
-    ensures { IfOk result (λ v. v.items ≡ replicate most None) }
-{
-    let mut guests = Vec::with_capacity(alloc, most)?;
-    for _ in 0..most {
-        guests.push(None)?;
-    }
-    Ok(guests)
-}
-
-/// What a host has to know of the connection of a place.
-fn facts_in(place: &Option<Guest>) -> Facts
-    ensures { result ≡ facts_in place.now }
-{
-    match place {
-        Some(guest) => guest.facts(),
-        None => Facts::NONE,
-    }
-}
-
-/// Notes what is to be done of the connection with this number.
-#[tactic(auto, using(crate::proofs::Noting::noted_all))]
-fn note(guests: &[Option<Guest>], agenda: &mut Agenda, number: usize)
-    requires within { number < length guests.now }
-    requires sized { length guests.now ≡ length agenda.old.dues }
-    requires others { IsNotedBut agenda.old guests.now number }
-    ensures noted { IsAllNoted agenda.new guests.now }
-    ensures sized { length agenda.new.dues ≡ length agenda.old.dues }
-    ensures packets { (place : Option Guest) → slice_get guests.now number ≡ Some place
-        → agenda.new.packets ≡ with_turn agenda.old.packets number (facts_in place).has_packet }
-{
-    let facts = facts_in(&guests[number]);
-    agenda.note(number, facts);
-}
-
-/// Takes the connection with this number out of its place.
-#[tactic(auto, using(crate::proofs::Noting::vacated))]
-fn vacate(guests: &mut Vec<Option<Guest>>, agenda: &mut Agenda, number: usize) -> Option<Guest>
-    requires within { number < length guests.old.items }
-    requires sized { length guests.old.items ≡ length agenda.old.dues }
-    requires noted { IsAllNoted agenda.old guests.old.items }
-    ensures noted { IsAllNoted agenda.new guests.new.items }
-    ensures sized { length agenda.new.dues ≡ length agenda.old.dues }
-    ensures gone { guests.new.items ≡ slice_set guests.old.items number None }
-{
-    agenda.release(number);
-    guests[number].take()
-}
-
-/// Puts a connection into a place.
-#[tactic(auto, using(crate::proofs::Noting::filled))]
-fn fill(guests: &mut Vec<Option<Guest>>, agenda: &mut Agenda, number: usize, guest: Guest)
-    requires within { number < length guests.old.items }
-    requires sized { length guests.old.items ≡ length agenda.old.dues }
-    requires noted { IsAllNoted agenda.old guests.old.items }
-    ensures noted { IsAllNoted agenda.new guests.new.items }
-    ensures sized { length agenda.new.dues ≡ length agenda.old.dues }
-    ensures there { guests.new.items ≡ slice_set guests.old.items number (Some guest) }
-{
-    let mut filling = Some(guest);
-    std::mem::swap(&mut guests[number], &mut filling);
-    agenda.take(number);
-    note(guests.as_slice(), agenda, number);
-}
-
-/// Puts out a call on the connection of a place.
-fn call_in(
-    slot: &mut Option<Guest>,
-    alloc: Global,
-    now: u64,
-    number: usize,
-    program: u32,
-    version: u16,
-    procedure: u16,
-    words: &[u16],
-) -> Result<(), HostFault>
-    ensures none { slot.old ≡ None → result ≡ Err (NoConnection number) }
-    ensures answer { (g : Guest) → slot.old ≡ Some g → Answers
-        (call_fault_of g.connection.conversation (words_call program version procedure words.now)) result }
-    ensures called { (g : Guest) → slot.old ≡ Some g → result ≡ Ok tt → WentOn g.connection
-        (λ h. record h { made = h.made ++ words_call program version procedure words.now ∷ [] }) slot.new }
-    ensures unchanged { OnErr result (slot.new ≡ slot.old) }
-    ensures kept { is_none slot.new ≡ is_none slot.old }
-{
-    let Some(guest) = slot else {
-        return Err(HostFault::NoConnection { number });
-    };
-    guest.call(alloc, now, program, version, procedure, words)?;
-    Ok(())
-}
-
-/// Answers the call that was handed of the connection of a place.
-fn answer_in(
-    slot: &mut Option<Guest>,
-    alloc: Global,
-    now: u64,
-    number: usize,
-    answer: Answer,
-    words: &[u16],
-) -> Result<(), HostFault>
-    ensures none { slot.old ≡ None → result ≡ Err (NoConnection number) }
-    ensures answer { (g : Guest) → slot.old ≡ Some g → Answers (answer_fault_of g.connection.conversation answer words.now) result }
-    ensures answered { (g : Guest) (k : ℕ) → slot.old ≡ Some g → asked_of g.connection.conversation.side ≡ Some k → result ≡ Ok tt
-        → WentOn g.connection (λ h. record h { answers = h.answers ++ answer_message answer k words.now ∷ [] }) slot.new }
-    ensures unchanged { OnErr result (slot.new ≡ slot.old) }
-    ensures kept { is_none slot.new ≡ is_none slot.old }
-{
-    let Some(guest) = slot else {
-        return Err(HostFault::NoConnection { number });
-    };
-    guest.answer(alloc, now, answer, words)?;
-    Ok(())
-}
-
-/// Does what is due of the connection of a place; whether it may be forgotten then.
-fn act_in(slot: &mut Option<Guest>, now: u64) -> bool
-    ensures kept { is_none slot.new ≡ is_none slot.old }
-{
-    let Some(guest) = slot else {
-        return false;
-    };
-    guest.connection.act(now);
-    guest.is_done()
-}
-
-/// Closes the connection of a place, if it is the one that a quoted packet was to open; whether it is.
-fn not_served_in(slot: &mut Option<Guest>, now: u64, quote: &OpeningQuote) -> bool
-    ensures unchanged { result ≡ false → slot.new ≡ slot.old }
-    ensures kept { is_none slot.new ≡ is_none slot.old }
-{
-    let Some(guest) = slot else {
-        return false;
-    };
-    if !guest.is_opened_by(quote) {
-        return false;
-    }
-    guest.connection.not_served(now);
-    true
-}
-
-/// Takes in a packet that names the connection of a place; whether it is one of it.
-fn hear_in(slot: &mut Option<Guest>, alloc: Global, now: u64, confirms: bool, bytes: &[u8]) -> bool
-    ensures unchanged { result ≡ false → slot.new ≡ slot.old }
-    ensures kept { is_none slot.new ≡ is_none slot.old }
-{
-    let Some(guest) = slot else {
-        return false;
-    };
-    if !guest.connection.is_ours(bytes) {
-        return false;
-    }
-    let _ = guest.receive(alloc, now, confirms, bytes);
-    true
-}
-
-/// What the connection of a place, with this number, has to tell, once. `None`: nothing.
-fn event_in(slot: &mut Option<Guest>, alloc: Global, now: u64, number: usize) -> Option<Event>
-    ensures event { result ≡ event_in number slot.old }
-    ensures none { result ≡ None → slot.new ≡ slot.old }
-    ensures kept { is_none slot.new ≡ is_none slot.old }
-{
-    let Some(guest) = slot else {
-        return None;
-    };
-    if let Some(message) = guest.connection.take_message(alloc, now) {
-        guest.heard_of = true;
-        return Some(event_of(number, message));
-    }
-    let why = guest.connection.take_why()?;
-    Some(Event::Closed { number, why })
-}
-
-/// Whether the connection of a place may be forgotten.
-fn is_done_in(slot: &Option<Guest>) -> bool {
-    match slot {
-        Some(guest) => guest.is_done(),
-        None => false,
-    }
-}
-
-/// The next packet of the connection of a place. `None`: there is none, until something is done again. The only error is want of
-/// memory: what is to go out stays so.
-fn packet_in(
-    slot: &mut Option<Guest>,
-    alloc: Global,
-    now: u64,
-) -> Result<Option<Outgoing>, AllocError>
-    ensures rested { result ≡ Ok None → (facts_in slot.new).has_packet ≡ false }
-    ensures via { IfOk result (λ made. IfSome made (λ o. GoesOutBy slot.new o)) }
-    ensures kept { is_none slot.new ≡ is_none slot.old }
-{
-    let Some(guest) = slot else {
-        return Ok(None);
-    };
-    let via = guest.via;
-    match guest.connection.next_packet(alloc, now)? {
-        Some(packet) => Ok(Some(Outgoing { via, packet })),
-        // Memory was refused while items moved.
-        None if guest.connection.has_packet() => Err(AllocError),
-        None => Ok(None),
-    }
-}
-
-/// Closes the connection of a place.
-fn close_in(
-    slot: &mut Option<Guest>,
-    alloc: Global,
-    now: u64,
-    number: usize,
-) -> Result<(), HostFault>
-    ensures none { slot.old ≡ None → result ≡ Err (NoConnection number) }
-    ensures some { slot.old ≢ None → result ≡ Ok tt }
-    ensures unchanged { OnErr result (slot.new ≡ slot.old) }
-    ensures kept { is_none slot.new ≡ is_none slot.old }
-{
-    let Some(guest) = slot else {
-        return Err(HostFault::NoConnection { number });
-    };
-    guest.connection.close(alloc, now);
-    Ok(())
-}
-
-/// What the program is told of a message of the connection with this number.
-fn event_of(number: usize, message: PiecedMessage) -> Event
-    ensures { result ≡ event_of number message }
-{
-    let answer = match message.head() {
-        Head::Call {
-            program,
-            version,
-            procedure,
-            ..
-        } => {
-            return Event::Call {
-                number,
-                program,
-                version,
-                procedure,
-                message,
-            };
-        }
-        Head::Return { .. } => Answer::Return,
-        Head::Abort { error, .. } => Answer::Abort { error },
-        Head::Reject { reason, .. } => Answer::Reject { reason },
-    };
-    Event::Answer {
-        number,
-        answer,
-        message,
-    }
 }
 
 impl Host {

@@ -26,6 +26,7 @@ mod services;
 mod setting;
 mod settings;
 mod side;
+mod slots;
 mod strays;
 mod times;
 mod turns;

@@ -1,6 +1,6 @@
 use Rattle.std.proofs.Common.{◌<◌, length, arith}
 use Rattle.xns_host.proofs.Noting.{vacated}
-use Rattle.xns_host.proofs.host.vacate.Goals as goal
+use Rattle.xns_host.proofs.slots.vacate.Goals as goal
 
 pub returns-clause-noted : goal.returns-clause-noted
 returns-clause-noted c =

@@ -1,7 +1,7 @@
 use Rattle.std.proofs.Common.{◌≡◌, ◌<◌, Some, length, refl, slice_get, arith}
 use Rattle.std.proofs.lemmas.Option.{slice_get_read}
 use Rattle.xns_host.proofs.Noting.{noted_all}
-use Rattle.xns_host.proofs.host.note.Goals as goal
+use Rattle.xns_host.proofs.slots.note.Goals as goal
 
 pub returns-clause-noted : goal.returns-clause-noted
 returns-clause-noted c =

@@ -1,7 +1,7 @@
 use Rattle.std.proofs.Common.{◌≡◌, ◌∙◌, ap, sym, rules, Some}
 use Rattle.xns_host.specs.declared.connection.Connection.{Connection}
 use Rattle.xns_host.proofs.Fetching.{untold}
-use Rattle.xns_host.proofs.host.event_in.Goals as goal
+use Rattle.xns_host.proofs.slots.event_in.Goals as goal
 
 pub returns-in_err-why-clause-none : goal.returns-in_err-why-clause-none
 returns-in_err-why-clause-none c = λ none.

@@ -1,7 +1,7 @@
 use Rattle.std.proofs.Common.{◌≡◌, ◌<◌, Some, length, arith}
 use Rattle.std.specs.Prelude.{slice_set}
 use Rattle.xns_host.proofs.Noting.{filled}
-use Rattle.xns_host.proofs.host.fill.Goals as goal
+use Rattle.xns_host.proofs.slots.fill.Goals as goal
 
 pub note-requires-clause-others : goal.note-requires-clause-others
 note-requires-clause-others c =
