@@ -1,3 +1,5 @@
+ghost use Rattle.std.specs.Prelude.{◌≡◌, Some, false};
+
 use crate::dropped::Dropped;
 
 /// What became of a packet that was taken in without an answer.
@@ -9,4 +11,18 @@ pub struct Input {
     pub owes_reply: bool,
     /// Why the packet's item was neither taken nor kept; `None` where it was, or where the packet brings none.
     pub dropped: Option<Dropped>,
+}
+
+impl Input {
+    /// What becomes of a packet that is not looked at.
+    #[inline(always)]
+    pub(crate) fn of_dropped(reason: Dropped) -> Input
+        ensures { result ≡ record { took = 0; owes_reply = false; dropped = Some reason } }
+    {
+        Input {
+            took: 0,
+            owes_reply: false,
+            dropped: Some(reason),
+        }
+    }
 }
