@@ -1,14 +1,15 @@
 //! A conversation with its waits.
 
-ghost use Rattle.std.specs.Prelude.{◌≡◌, ◌≢◌, ◌<◌, ◌&&◌, ◌||◌, ◌∷◌, ◌++◌, [], ℕ, not, nat_lt, if◌then◌else◌, true, false, OnOk, OnErr};
+ghost use Rattle.std.specs.Prelude.{◌≡◌, ◌≢◌, ◌<◌, ◌&&◌, ◌||◌, ◌∷◌, ◌++◌, [], ℕ, List, not, nat_lt, if◌then◌else◌, true, false, OnOk, OnErr};
 ghost use Rattle.std.specs.Prelude.{IfOk, Some, None, Ok};
 ghost use Rattle.std.specs.Option.{is_some};
 ghost use Rattle.courier_messages.specs.declared.message.Message.{Message};
 ghost use Rattle.courier_messages.specs.RawCalls.{words_call};
 ghost use Rattle.courier_sessions.specs.Answering.{answer_message};
-ghost use Rattle.xns_spp.specs.Ends.{is_open};
+ghost use Rattle.xns_spp.specs.Ends.{is_open, is_ours_at};
 ghost use Rattle.xns_spp.specs.Held.{StandsFor};
-ghost use Rattle.xns_spp.specs.Receiving.{is_ours, after_receive, StoresBytes};
+ghost use Rattle.xns_spp.specs.Packet.{IsSppPacket, spp_packet_of};
+ghost use Rattle.xns_spp.specs.Receiving.{after_receive, StoresBytes};
 ghost use Rattle.xns_spp.specs.Sending.{tick_answer};
 ghost use Rattle.xns_spp.specs.State.{State, initiator_state, responder_state};
 ghost use Rattle.xns_spp.specs.Telling.{own_name, peer_name, unacknowledged_count};
@@ -39,7 +40,7 @@ use courier_messages::{PiecedMessage, SessionFault};
 use courier_sessions::{Answer, FeedRefusal, Program, WordCaller, WordServer};
 use std::alloc::{AllocError, Global};
 use xns_idp::Address;
-use xns_spp::{Bytes, Dropped, Endpoint, Input};
+use xns_spp::{Bytes, Dropped, Endpoint, Input, SppPacket};
 
 /// A connection: what it says, when it says it again, and why it is closed.
 #[derive(Drop)]
@@ -423,22 +424,25 @@ impl Connection {
         );
     }
 
-    /// Takes in the bytes of a packet, at this time. Where memory is refused it is as if the packet were lost.
-    pub fn receive(&mut self, alloc: Global, now: u64, bytes: &[u8]) -> Result<(), AllocError>
-        ensures tells { OnOk result (Hears self.old.conversation self.new.conversation bytes.now) }
-        ensures calm { OnOk result (self.new.owed.moving ≡ false → drains self.new.conversation.side self.new.conversation.closing ≡ false
-            → CalmFrom self.old.conversation self.new.conversation (λ h. record h { state = after_receive h.state bytes.now })) }
-        ensures read { OnOk result (self.new.owed.moving ≡ false → self.new.closed ≡ self.old.closed
-            → ReadsAll self.old.conversation self.new.conversation) }
+    /// Takes in a packet that was read from bytes, at this time. Where memory is refused it is as if the packet were lost.
+    pub fn receive(&mut self, alloc: Global, now: u64, packet: &SppPacket) -> Result<(), AllocError>
+        requires { IsSppPacket packet.now }
+        ensures tells { OnOk result ((b : List ℕ) → spp_packet_of b ≡ Ok packet.now → Hears self.old.conversation self.new.conversation b) }
+        ensures calm { OnOk result ((b : List ℕ) → spp_packet_of b ≡ Ok packet.now → self.new.owed.moving ≡ false
+            → drains self.new.conversation.side self.new.conversation.closing ≡ false
+            → CalmFrom self.old.conversation self.new.conversation (λ h. record h { state = after_receive h.state b })) }
+        ensures read { OnOk result ((b : List ℕ) → spp_packet_of b ≡ Ok packet.now → self.new.owed.moving ≡ false
+            → self.new.closed ≡ self.old.closed → ReadsAll self.old.conversation self.new.conversation) }
         ensures closed { self.old.closed ≢ None → self.new.closed ≡ self.old.closed }
         ensures told { self.new.told ≡ self.old.told }
         ensures fresh { OnOk result (self.new.owed.fresh ≡ true) }
         ensures unchanged { OnErr result (self.new ≡ self.old) }
-        ensures memory { OnErr result ((s : State) → StandsFor self.old.conversation.endpoint s → StoresBytes s bytes.now) }
+        ensures memory { OnErr result ((s : State) (b : List ℕ) → StandsFor self.old.conversation.endpoint s
+            → spp_packet_of b ≡ Ok packet.now → StoresBytes s b) }
     {
         let before = self.conversation.endpoint.unacknowledged();
         let was_open = self.conversation.endpoint.is_open();
-        let input = self.conversation.receive(alloc, bytes)?;
+        let input = self.conversation.receive(alloc, packet)?;
         let more = is_progress(&self.conversation, before, was_open);
         let left = self.conversation.endpoint.unacknowledged() > 0;
         note(input, more, left, &mut self.owed, &mut self.wait, now);
@@ -713,11 +717,11 @@ impl Connection {
         self.conversation.endpoint.is_open()
     }
 
-    /// Whether the bytes are a packet of the connection.
-    pub fn is_ours(&self, bytes: &[u8]) -> bool
-        ensures { (s : State) → StandsFor self.now.conversation.endpoint s → result ≡ is_ours s bytes.now }
+    /// Whether a packet belongs to the connection.
+    pub fn is_ours(&self, packet: &SppPacket) -> bool
+        ensures { (s : State) → StandsFor self.now.conversation.endpoint s → result ≡ is_ours_at s.ends packet.now }
     {
-        self.conversation.endpoint.is_ours(bytes)
+        self.conversation.endpoint.is_packet_ours(packet)
     }
 
     /// Its own address and connection identifier.

@@ -6,6 +6,7 @@ ghost use Rattle.courier_messages.specs.RawCalls.{words_call};
 ghost use Rattle.courier_sessions.specs.declared.feed_refusal.FeedRefusal.TheVariants.{NoMemory};
 ghost use Rattle.courier_sessions.specs.Answering.{answer_message};
 ghost use Rattle.xns_spp.specs.Held.{StandsFor};
+ghost use Rattle.xns_spp.specs.Packet.{IsSppPacket, spp_packet_of};
 ghost use Rattle.xns_spp.specs.Receiving.{input_answer, after_receive, StoresBytes};
 ghost use Rattle.xns_spp.specs.Sending.{send_answer, after_send, flush_answer, tick_answer, waiting_count};
 ghost use Rattle.std.specs.Option.{option_to_list};
@@ -24,7 +25,7 @@ use courier_messages::PiecedMessage;
 use courier_sessions::{Answer, FeedRefusal};
 use std::alloc::{AllocError, Global};
 use std::collections::VecDeque;
-use xns_spp::{Bytes, Endpoint, Input, Item};
+use xns_spp::{Bytes, Endpoint, Input, Item, SppPacket};
 
 /// The datastream of the item that asks for an end of the connection.
 const END: u8 = 254;
@@ -259,18 +260,21 @@ impl Conversation {
         self.closing.wanted = true;
     }
 
-    /// Takes in the bytes of a packet. The only error is want of memory: it is as if the packet were lost.
-    pub fn receive(&mut self, alloc: Global, bytes: &[u8]) -> Result<Input, AllocError>
-        ensures answer { IfOk result (λ i. (s : State) → StandsFor self.old.endpoint s → i ≡ input_answer s bytes.now) }
-        ensures tells { OnOk result ((h : Story) → Tells self.old h
-            → Tells self.new (record h { state = after_receive h.state bytes.now })) }
+    /// Takes in a packet that was read from bytes. The only error is want of memory: it is as if the packet were lost.
+    pub fn receive(&mut self, alloc: Global, packet: &SppPacket) -> Result<Input, AllocError>
+        requires { IsSppPacket packet.now }
+        ensures answer { IfOk result (λ i. (s : State) (b : List ℕ) → StandsFor self.old.endpoint s → spp_packet_of b ≡ Ok packet.now
+            → i ≡ input_answer s b) }
+        ensures tells { OnOk result ((h : Story) (b : List ℕ) → Tells self.old h → spp_packet_of b ≡ Ok packet.now
+            → Tells self.new (record h { state = after_receive h.state b })) }
         ensures beside { (self.new.side ≡ self.old.side) × (self.new.closing ≡ self.old.closing) }
         ensures unchanged { OnErr result (self.new ≡ self.old) }
-        ensures memory { OnErr result ((s : State) → StandsFor self.old.endpoint s → StoresBytes s bytes.now) }
+        ensures memory { OnErr result ((s : State) (b : List ℕ) → StandsFor self.old.endpoint s → spp_packet_of b ≡ Ok packet.now
+            → StoresBytes s b) }
     {
         xns_spp::laws::an_end_only_grows();
         xns_spp::laws::other_steps_accept_and_hand_up_nothing();
-        self.endpoint.input(alloc, bytes)
+        self.endpoint.input_packet(alloc, packet)
     }
 
     /// Whether something waits for the peer: it is not open, or an item is not acknowledged.

@@ -1,9 +1,10 @@
 //! A connection in its place at a host.
 
-ghost use Rattle.std.specs.Prelude.{◌≡◌, ℕ, [], ◌∷◌, ◌++◌, OnErr, OnOk, Ok, Some};
+ghost use Rattle.std.specs.Prelude.{◌≡◌, ℕ, List, [], ◌∷◌, ◌++◌, OnErr, OnOk, Ok, Some};
 ghost use Rattle.xns_host.specs.Hosting.{facts_of, lingers_since, may_go, stranger_since};
 ghost use Rattle.courier_messages.specs.RawCalls.{words_call};
 ghost use Rattle.xns_spp.specs.Held.{StandsFor};
+ghost use Rattle.xns_spp.specs.Packet.{IsSppPacket, spp_packet_of};
 ghost use Rattle.xns_spp.specs.State.{State};
 ghost use Rattle.xns_host.specs.Quotes.{is_opened_by};
 ghost use Rattle.xns_host.specs.Reasons.{call_fault_of, answer_fault_of};
@@ -21,6 +22,7 @@ use crate::peer::Peer;
 use courier_sessions::Answer;
 use std::alloc::{AllocError, Global};
 use xns_idp::Address;
+use xns_spp::SppPacket;
 
 /// A connection, and what a host knows of it.
 #[derive(Drop)]
@@ -41,18 +43,20 @@ pub struct Guest {
 }
 
 impl Guest {
-    /// Takes in the bytes of a packet, at this time. Where memory is refused it is as if the packet were lost.
+    /// Takes in a packet that was read from bytes, at this time. Where memory is refused it is as if the packet were lost.
     pub fn receive(
         &mut self,
         alloc: Global,
         now: u64,
         confirms: bool,
-        bytes: &[u8],
+        packet: &SppPacket,
     ) -> Result<(), AllocError>
-        ensures hears { OnOk result (Hears self.old.connection.conversation self.new.connection.conversation bytes.now) }
+        requires { IsSppPacket packet.now }
+        ensures hears { OnOk result ((b : List ℕ) → spp_packet_of b ≡ Ok packet.now
+            → Hears self.old.connection.conversation self.new.connection.conversation b) }
         ensures unchanged { OnErr result (self.new ≡ self.old) }
     {
-        self.connection.receive(alloc, now, bytes)?;
+        self.connection.receive(alloc, now, packet)?;
         if confirms {
             self.confirmed = true;
         }

@@ -3,8 +3,9 @@
 ghost use Rattle.std.specs.Prelude.{◌≡◌, ◌<◌, ◌≤◌, ◌∷◌, ◌++◌, ◌⊎◌, ℕ, List, [], Option, length, true, false, IfOk, IfSome, OnErr, Some};
 ghost use Rattle.std.specs.Prelude.{None, Ok, Err, slice_get};
 ghost use Rattle.courier_messages.specs.RawCalls.{words_call};
-ghost use Rattle.xns_idp.specs.Packet.{PacketModel, most_data, packet_model};
+ghost use Rattle.xns_idp.specs.Packet.{IsPacket, PacketModel, most_data, packet_model};
 ghost use Rattle.xns_idp.specs.Reading.{packet_of};
+ghost use Rattle.xns_spp.specs.Packet.{IsSppPacket};
 ghost use Rattle.xns_small.specs.Echo.{IsAnswered, echo_reply};
 ghost use Rattle.xns_host.specs.Strays.{MayHaveStray, echo_socket, stray_of};
 ghost use Rattle.xns_host.specs.Events.{event_in};
@@ -42,7 +43,7 @@ use courier_sessions::{Answer, Program};
 use std::alloc::{AllocError, Global};
 use xns_idp::packet_type::{ECHO, ERROR, SEQUENCED_PACKET};
 use xns_idp::{Address, Packet, decode};
-use xns_spp::{SppPacket, read_packet};
+use xns_spp::{SppPacket, carried_packet};
 
 /// The socket of the Echo protocol (XSIS 028112, Echo Protocol).
 const ECHO_SOCKET: u16 = 2;
@@ -354,7 +355,7 @@ impl Host {
         match packet.kind {
             ECHO => self.echo(via, &packet),
             ERROR => self.refused(now, &packet),
-            SEQUENCED_PACKET => self.sequenced(now, via, bytes),
+            SEQUENCED_PACKET => self.sequenced(now, via, &packet),
             _ => false,
         }
     }
@@ -408,11 +409,13 @@ impl Host {
 
     /// Takes a sequenced packet in; whether it was for the host.
     #[tactic(auto, using(crate::proofs::Apart::one_changed, crate::proofs::Apart::none_changed))]
-    fn sequenced(&mut self, now: u64, via: u32, bytes: &[u8]) -> bool
+    fn sequenced(&mut self, now: u64, via: u32, carrier: &Packet<'_>) -> bool
+        requires fits { IsPacket (packet_model carrier.now) }
+        requires size { length carrier.now.body.now ≤ most_data }
         ensures one { ChangesOne self.old.guests.items self.new.guests.items }
         ensures unchanged { result ≡ false → (k : ℕ) → slice_get self.new.guests.items k ≡ slice_get self.old.guests.items k }
     {
-        let Ok(packet) = read_packet(bytes) else {
+        let Ok(packet) = carried_packet(carrier) else {
             return false;
         };
         if packet.target.host != self.host {
@@ -425,20 +428,21 @@ impl Host {
             packet.target.socket,
         );
         match self.register.find(id, &peer) {
-            Some(number) => self.hear(now, usize::from(number), id != 0, bytes),
-            None => self.opening(now, via, peer, &packet, bytes),
+            Some(number) => self.hear(now, usize::from(number), id != 0, &packet),
+            None => self.opening(now, via, peer, &packet),
         }
     }
 
     /// Takes a packet in that names the connection with this number; whether it is one of it.
-    fn hear(&mut self, now: u64, number: usize, confirms: bool, bytes: &[u8]) -> bool
+    fn hear(&mut self, now: u64, number: usize, confirms: bool, packet: &SppPacket) -> bool
+        requires { IsSppPacket packet.now }
         ensures apart { IsApart self.old.guests.items self.new.guests.items number }
         ensures unchanged { result ≡ false → (k : ℕ) → slice_get self.new.guests.items k ≡ slice_get self.old.guests.items k }
     {
         if number >= self.guests.len() {
             return false;
         }
-        let heard = hear_in(&mut self.guests[number], self.alloc, now, confirms, bytes);
+        let heard = hear_in(&mut self.guests[number], self.alloc, now, confirms, packet);
         note(self.guests.as_slice(), &mut self.agenda, number);
         heard
     }
@@ -446,14 +450,8 @@ impl Host {
     /// Takes a packet in that names no connection; whether it opens one at a socket that is served. Where there is no room, it is as if
     /// lost.
     #[tactic(auto, using(crate::proofs::Apart::one_changed, crate::proofs::Apart::none_changed, crate::proofs::Apart::apart_then))]
-    fn opening(
-        &mut self,
-        now: u64,
-        via: u32,
-        opener: Peer,
-        packet: &SppPacket<'_>,
-        bytes: &[u8],
-    ) -> bool
+    fn opening(&mut self, now: u64, via: u32, opener: Peer, packet: &SppPacket) -> bool
+        requires { IsSppPacket packet.now }
         ensures one { ChangesOne self.old.guests.items self.new.guests.items }
         ensures unchanged { result ≡ false → (k : ℕ) → slice_get self.new.guests.items k ≡ slice_get self.old.guests.items k }
     {
@@ -468,7 +466,7 @@ impl Host {
             return true;
         };
         if let Some(number) = self.open(now, via, socket, opener, peer, peer_id, programs) {
-            self.hear(now, number, false, bytes);
+            self.hear(now, number, false, packet);
         }
         true
     }

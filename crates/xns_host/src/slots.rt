@@ -4,6 +4,7 @@ ghost use Rattle.std.specs.Prelude.{◌≡◌, ◌≢◌, ◌<◌, ◌∷◌, �
 ghost use Rattle.std.specs.Prelude.{replicate, slice_get, slice_set};
 ghost use Rattle.std.specs.Option.{is_none};
 ghost use Rattle.courier_messages.specs.RawCalls.{words_call};
+ghost use Rattle.xns_spp.specs.Packet.{IsSppPacket};
 ghost use Rattle.xns_host.specs.Events.{event_in, event_of};
 ghost use Rattle.xns_host.specs.Hosting.{GoesOutBy, IsAllNoted, IsNotedBut, WentOn, facts_in};
 ghost use Rattle.xns_host.specs.Story.{asked_of};
@@ -24,6 +25,7 @@ use crate::outgoing::Outgoing;
 use courier_messages::{Head, PiecedMessage};
 use courier_sessions::Answer;
 use std::alloc::{AllocError, Global};
+use xns_spp::SppPacket;
 
 /// Places for so many connections.
 pub fn no_guests(alloc: Global, most: usize) -> Result<Vec<Option<Guest>>, AllocError>
@@ -172,18 +174,19 @@ pub fn hear_in(
     alloc: Global,
     now: u64,
     confirms: bool,
-    bytes: &[u8],
+    packet: &SppPacket,
 ) -> bool
+    requires { IsSppPacket packet.now }
     ensures unchanged { result ≡ false → slot.new ≡ slot.old }
     ensures kept { is_none slot.new ≡ is_none slot.old }
 {
     let Some(guest) = slot else {
         return false;
     };
-    if !guest.connection.is_ours(bytes) {
+    if !guest.connection.is_ours(packet) {
         return false;
     }
-    let _ = guest.receive(alloc, now, confirms, bytes);
+    let _ = guest.receive(alloc, now, confirms, packet);
     true
 }
 
