@@ -28,7 +28,7 @@ use Rattle.courier_sessions.specs.declared.feed_refusal.FeedRefusal.{FeedRefusal
 use Rattle.courier_sessions.specs.declared.feed_refusal.FeedRefusal.TheVariants.{Stopped, Busy, TooLong, Attention, Fault, NoMemory}
 use Rattle.courier_sessions.specs.declared.program.Program.{Program}
 use Rattle.courier_sessions.specs.declared.unlisted.Unlisted.{Unlisted}
-use Rattle.xns_host.specs.Story.{Story, CallerHas, ServerHas, AreRejected, Flows, Runs, start, sends, takes, flushes, resends, GoesOn, Moves, IsListed, MovesAll, Calms}
+use Rattle.xns_host.specs.Story.{Story, CallerHas, ServerHas, AreRejected, Flows, Runs, start, sends, takes, flushes, resends, tells, GoesOn, Moves, IsListed, MovesAll, Calms}
 use Rattle.xns_host.specs.Telling.{Goes, Calm, CalmFrom, Tells}
 use Rattle.xns_host.specs.declared.conversation.Conversation.{Conversation}
 use Rattle.xns_host.specs.declared.side.Side.{Side}
@@ -37,12 +37,13 @@ use Rattle.xns_host.proofs.Rejecting.{all_answered, one_rejected}
 
 -- ---- an end's own steps
 
-pub runs_on : {s t u : State} → Runs s t → Runs t u → Runs s u
+unfoldable pub runs_on : {s t u : State} → Runs s t → Runs t u → Runs s u
 runs_on p start = p
 runs_on p (sends q x) = sends (runs_on p q) x
 runs_on p (takes q) = takes (runs_on p q)
 runs_on p (flushes q) = flushes (runs_on p q)
 runs_on p (resends q) = resends (runs_on p q)
+runs_on p (tells q asks) = tells (runs_on p q) asks
 
 sent_runs : {S : Type 0} {s : State} (t : S) (v : State) (x : Item) (o : Option SendFault) (z : S × State) → Runs s v → sending o t (after_send v x) ≡ Some (Ok z) → Runs s z.1
 sent_runs {S} {s} t v x None z p e =
@@ -202,7 +203,7 @@ ends_at P side last (Err e) n s same stop = refused_at P side last.0 (take_answe
 -- ---- what goes on
 
 -- only the end's own steps were made
-pub same_messages : (h m : Story) → Runs h.state m.state → m.programs ≡ h.programs → m.made ≡ h.made → m.handed ≡ h.handed → m.taken ≡ h.taken → m.answers ≡ h.answers → GoesOn h m
+unfoldable pub same_messages : (h m : Story) → Runs h.state m.state → m.programs ≡ h.programs → m.made ≡ h.made → m.handed ≡ h.handed → m.taken ≡ h.taken → m.answers ≡ h.answers → GoesOn h m
 same_messages h m path programs made handed taken answers = record {
   programs = programs;
   path = path;
@@ -213,7 +214,7 @@ same_messages h m path programs made handed taken answers = record {
   even = ap (λ (l : List Message). length l + length h.answers) taken ∙ ap (λ (l : List Message). length h.taken + length l) (sym answers);
 }
 
-pub goes_on : (h m n : Story) → GoesOn h m → GoesOn m n → GoesOn h n
+unfoldable pub goes_on : (h m n : Story) → GoesOn h m → GoesOn m n → GoesOn h n
 goes_on h m n p q = record {
   programs = q.programs ∙ p.programs;
   path = runs_on p.path q.path;

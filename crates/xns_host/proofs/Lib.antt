@@ -2,6 +2,7 @@ mod Agendas
 mod Apart
 mod Dues
 mod Fetching
+mod Giving
 mod Handing
 mod Leading
 mod Listing

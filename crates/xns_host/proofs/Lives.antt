@@ -17,8 +17,9 @@ use Rattle.xns_spp.specs.Fronts.{begins_length}
 use Rattle.xns_spp.specs.Growth.{Begins}
 use Rattle.xns_spp.specs.Receiving.{after_receive}
 use Rattle.xns_spp.specs.State.{State}
+use Rattle.xns_host.specs.Acting.{Acts, idling, calling, handing, answering, IsTold}
 use Rattle.xns_host.specs.Agreeing.{ArePeers, Agree}
-use Rattle.xns_host.specs.Living.{Deeds, Lives, opens, goes, hears, calls, takes, gives, Reaches, stays, runs, receives, IsLived, ProgramsAgree, to_listed}
+use Rattle.xns_host.specs.Living.{Deeds, no_deeds, Lives, opens, goes, hears, calls, takes, gives, Reaches, stays, runs, receives, IsLived, ProgramsAgree, to_listed}
 use Rattle.xns_host.specs.Story.{Story, SideHas, ServerHas, AreRejected, GoesOn, new_story, asked_of, listed_call, waiting_message, with_handed}
 use Rattle.xns_host.specs.Telling.{Tells}
 use Rattle.xns_host.specs.declared.conversation.Conversation.{Conversation}
@@ -200,6 +201,29 @@ lived programs s (takes {c = c} before m is step) =
 lived programs s (gives {c = c} before kind k words asked step) =
     let p = lived programs s before in
     lives_on (gave_base c.side k (answer_message kind k words) p.tells.has asked (same_base p)) (step p.story p.tells)
+
+-- ---- one story, step after step
+
+pub told_at_first : (programs : Option (List Program)) (s : State) (c : Conversation) → Tells c (new_story programs s) → IsTold programs s c no_deeds (new_story programs s)
+unfolding lived
+told_at_first programs s c tells = (lived programs s (opens tells), refl)
+
+base_of : {programs : Option (List Program)} {start : State} {c : Conversation} {l r : Deeds} {b : Story} → (p : IsLived programs start c l) → Acts c p.story l b r → IsBase programs start r b
+base_of p idling = same_base p
+base_of p (calling call) = called_base call (same_base p)
+base_of {c = c} p (handing m is) = taken_base c.side m p.tells.has is (same_base p)
+base_of {c = c} p (answering kind k words asked) = gave_base c.side k (answer_message kind k words) p.tells.has asked (same_base p)
+
+pub acts_on : (programs : Option (List Program)) (start : State) (c d : Conversation) (l r : Deeds) (h b m : Story) → IsTold programs start c l h → Acts c h l b r → Tells d m → GoesOn b m → IsTold programs start d r m
+unfolding lives_on
+acts_on programs start c d l r h b m told act tells on =
+    (lives_on (base_of told.0 (subst (λ (x : Story). Acts c x l b r) (sym told.1) act)) (m, tells, on), refl)
+
+pub hears_on : (programs : Option (List Program)) (start : State) (c d : Conversation) (l : Deeds) (h m : Story) (bytes : List ℕ) → IsTold programs start c l h → Tells d m → GoesOn (record h { state = after_receive h.state bytes }) m → IsTold programs start d l m
+unfolding lives_on
+hears_on programs start c d l h m bytes told tells on =
+    let base = subst (λ (x : Story). IsBase programs start l (record x { state = after_receive x.state bytes })) told.1 (heard_base bytes (same_base told.0)) in
+    (lives_on base (m, tells, on), refl)
 
 -- ---- two programs
 

@@ -1,3 +1,4 @@
+pub mod Acting
 pub mod Agenda
 pub mod Agreeing
 pub mod Closing

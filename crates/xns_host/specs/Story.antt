@@ -1,14 +1,14 @@
 -- What one connection has done: the history of its end and of its side.
 use Rattle.std.specs.Prelude.{◌≡◌, ℕ, ◌+◌, List, [], ◌∷◌, ◌++◌, Bool, false, if◌then◌else◌, length, take, slice_get, Option, Some, None}
-use Rattle.std.specs.Option.{is_some}
+use Rattle.std.specs.Option.{is_some, option_to_list}
 use Rattle.courier_messages.specs.declared.message.Message.{Message}
 use Rattle.courier_messages.specs.Conversation.{Phase}
 use Rattle.courier_messages.specs.RawCalls.{RawCall}
 use Rattle.xns_spp.specs.Growth.{Begins}
 use Rattle.xns_spp.specs.Held.{Held, StandsFor}
-use Rattle.xns_spp.specs.Sending.{after_send, after_take, after_flush}
+use Rattle.xns_spp.specs.Sending.{after_send, after_take, flush_answer, after_flush}
 use Rattle.xns_spp.specs.State.{State}
-use Rattle.xns_spp.specs.Telling.{after_resend}
+use Rattle.xns_spp.specs.Telling.{resend_answer, after_resend, told_answer}
 use Rattle.xns_spp.specs.declared.item.Item.{Item}
 use Rattle.courier_sessions.specs.Answering.{Answering, is_busy, why_unlisted, reject_message, transaction_in}
 use Rattle.courier_sessions.specs.Answerings.{HasAnswered}
@@ -124,6 +124,16 @@ pub data Runs (s : State) : State → Type 0 where
   takes : {v : State} → Runs s v → Runs s (after_take v)
   flushes : {v : State} → Runs s v → Runs s (after_flush v)
   resends : {v : State} → Runs s v → Runs s (after_resend v)
+  tells : {v : State} → Runs s v → (asks : Bool) → Runs s v
+
+-- the packets that are made on the way, in order
+abbrev pub made_on : {s v : State} → Runs s v → List (List ℕ)
+made_on start = []
+made_on (sends p x) = made_on p
+made_on (takes p) = made_on p
+made_on (flushes {v = v} p) = made_on p ++ flush_answer v
+made_on (resends {v = v} p) = made_on p ++ option_to_list (resend_answer v)
+made_on (tells {v = v} p asks) = made_on p ++ option_to_list (told_answer v asks)
 
 -- the program made no call, was handed nothing and gave no answer: as many calls were answered as were taken
 pub record GoesOn (h m : Story) : Type 0 where

@@ -1,5 +1,6 @@
 -- What a connection has done, with the closing exchange (XSIS 028112, Sequenced Packet Protocol, Termination).
-use Rattle.std.specs.Prelude.{◌≡◌, ℕ, List, [], ◌++◌, Bool, true, false, not, ◌&&◌, ◌||◌, ◌==◌, nat_lt, take}
+use Rattle.std.specs.Prelude.{◌≡◌, ℕ, List, [], ◌++◌, Bool, true, false, not, ◌&&◌, ◌||◌, ◌==◌, nat_lt, take, Option}
+use Rattle.std.specs.Option.{option_to_list}
 use Rattle.courier_sessions.specs.Answering.{has_items}
 use Rattle.xns_spp.specs.Ends.{is_open}
 use Rattle.xns_spp.specs.Growth.{Begins}
@@ -9,7 +10,7 @@ use Rattle.xns_spp.specs.Sending.{flush_answer, waiting_count}
 use Rattle.xns_spp.specs.State.{State}
 use Rattle.xns_spp.specs.Telling.{unacknowledged_count}
 use Rattle.xns_host.specs.Closing.{closing_items, drains}
-use Rattle.xns_host.specs.Story.{Story, SideHas, GoesOn, out_of, has_call, IsMoved, IsListed}
+use Rattle.xns_host.specs.Story.{Story, SideHas, GoesOn, made_on, out_of, has_call, IsMoved, IsListed}
 use Rattle.xns_host.specs.declared.closing.Closing.{Closing}
 use Rattle.xns_host.specs.declared.conversation.Conversation.{Conversation}
 
@@ -41,6 +42,16 @@ pub record Tells (conversation : Conversation) (h : Story) : Type 0 where
 pub record Goes (old new : Conversation) : Type 0 where
   pub still : drains new.side new.closing ≡ false → drains old.side old.closing ≡ false
   pub on : (h : Story) → Tells old h → (m : Story) × Tells new m × GoesOn h m
+
+-- the same, and it gives this packet, or none: the first of those that waited and of those that were made on the way, behind; the others
+-- wait, in order
+pub record Gives (old new : Conversation) (packet : Option (List ℕ)) : Type 0 where
+  pub on : (h : Story) → Tells old h
+      → (m : Story) × Tells new m × (on : GoesOn h m) × (option_to_list packet ++ new.packets.items ≡ old.packets.items ++ made_on on.path)
+
+-- the same, after what can move has moved, and nothing was added to the packets that wait
+abbrev pub MovesAndGives : (old new : Conversation) → Option (List ℕ) → Type 0
+MovesAndGives old new packet = (mid : Conversation) × Goes old mid × (mid.packets ≡ old.packets) × Gives mid new packet
 
 -- the same, and no item is left that may go out for the first time
 pub record Rested (old new : Conversation) : Type 0 where

@@ -20,7 +20,7 @@ ghost use Rattle.xns_host.specs.Reasons.{call_fault_of, answer_fault_of};
 ghost use Rattle.xns_host.specs.Refusing.{Answers};
 ghost use Rattle.xns_host.specs.Settings.{IsFit};
 ghost use Rattle.xns_host.specs.Story.{Story, GoesOn, new_story, asked_of, waiting_message, with_handed, has_message};
-ghost use Rattle.xns_host.specs.Telling.{Tells, Goes, Rested, Calm, CalmFrom, Hears, ReadsAll, waits, is_over};
+ghost use Rattle.xns_host.specs.Telling.{Tells, Goes, MovesAndGives, Rested, Calm, CalmFrom, Hears, ReadsAll, waits, is_over};
 ghost use Rattle.xns_host.specs.Waiting.{act_at, after_act, after_step, after_word, lingering, new_waiting};
 ghost use Rattle.xns_host.specs.declared.act.Act.TheVariants.{GiveUp};
 ghost use Rattle.xns_host.specs.declared.why.Why.TheVariants.{NotServed};
@@ -155,6 +155,7 @@ fn after_moving(
     requires open_due { closed ≡ None → is_open_due wait.old.due ≡ true }
     requires closed_due { closed ≢ None → is_closed_due wait.old.due ≡ true }
     ensures goes { Goes conversation.old conversation.new }
+    ensures packets { conversation.new.packets ≡ conversation.old.packets }
     ensures closed { closed ≢ None → result ≡ closed }
     ensures why { closed ≡ None → (s : State) → StandsFor conversation.old.endpoint s
         → result ≡ why_after conversation.old.closing (is_over conversation.old.closing s) moved }
@@ -195,6 +196,7 @@ fn settled(
     requires open_due { closed ≡ None → is_open_due wait.old.due ≡ true }
     requires closed_due { closed ≢ None → is_closed_due wait.old.due ≡ true }
     ensures goes { Goes conversation.old conversation.new }
+    ensures packets { conversation.new.packets ≡ conversation.old.packets }
     ensures closed { closed ≢ None → result ≡ closed }
     ensures timed { result ≡ None → (s : State) → StandsFor conversation.new.endpoint s → tick_answer s ≢ []
         → is_again wait.new.due ≡ true }
@@ -306,6 +308,7 @@ impl Connection {
         ensures endpoint { result.conversation.endpoint ≡ endpoint }
         ensures side { result.conversation.side ≡ side }
         ensures closing { result.conversation.closing ≡ NONE }
+        ensures packets { result.conversation.packets.items ≡ [] }
         ensures open { (result.closed ≡ None) × (result.told ≡ false) }
         ensures owed { (result.owed.again ≡ again) × (result.owed.fresh ≡ true) }
         ensures wait { (s : State) → StandsFor endpoint s → result.wait ≡ after_step (new_waiting pace now) (waits s) now }
@@ -341,6 +344,7 @@ impl Connection {
         requires id { 0 < id }
         ensures tells { IfOk result (λ t. Tells t.conversation
             (new_story None (initiator_state own id peer settings.now.window settings.now.backlog))) }
+        ensures packets { IfOk result (λ t. t.conversation.packets.items ≡ []) }
         ensures open { IfOk result (λ t. (t.closed ≡ None) × (t.owed.again ≡ true)) }
     {
         courier_sessions::laws::a_session_is_its_conversation();
@@ -380,6 +384,7 @@ impl Connection {
         ensures tells { IfOk result (λ t. Tells t.conversation
             (new_story (Some programs.items)
             (responder_state own id peer peer_id settings.now.window settings.now.backlog))) }
+        ensures packets { IfOk result (λ t. t.conversation.packets.items ≡ []) }
         ensures open { IfOk result (λ t. (t.closed ≡ None) × (t.owed.again ≡ false)) }
     {
         courier_sessions::laws::a_server_session_is_its_conversation();
@@ -406,6 +411,7 @@ impl Connection {
     /// Moves what can move.
     fn go_on(&mut self, alloc: Global, now: u64)
         ensures goes { Goes self.old.conversation self.new.conversation }
+        ensures packets { self.new.conversation.packets ≡ self.old.conversation.packets }
         ensures calm { self.new.owed.moving ≡ false → drains self.new.conversation.side self.new.conversation.closing ≡ false
             → Calm self.old.conversation self.new.conversation }
         ensures closed { self.old.closed ≢ None → self.new.closed ≡ self.old.closed }
@@ -434,6 +440,7 @@ impl Connection {
         ensures read { OnOk result ((b : List ℕ) → spp_packet_of b ≡ Ok packet.now → self.new.owed.moving ≡ false
             → self.new.closed ≡ self.old.closed → ReadsAll self.old.conversation self.new.conversation) }
         ensures closed { self.old.closed ≢ None → self.new.closed ≡ self.old.closed }
+        ensures packets { self.new.conversation.packets ≡ self.old.conversation.packets }
         ensures told { self.new.told ≡ self.old.told }
         ensures fresh { OnOk result (self.new.owed.fresh ≡ true) }
         ensures unchanged { OnErr result (self.new ≡ self.old) }
@@ -460,6 +467,7 @@ impl Connection {
     /// Moves what memory was refused for.
     fn move_owed(&mut self, alloc: Global, now: u64)
         ensures goes { Goes self.old.conversation self.new.conversation }
+        ensures packets { self.new.conversation.packets ≡ self.old.conversation.packets }
         ensures closed { self.old.closed ≢ None → self.new.closed ≡ self.old.closed }
         ensures told { self.new.told ≡ self.old.told }
     {
@@ -476,6 +484,7 @@ impl Connection {
         ensures wait { self.new.wait ≡ after_act self.old.wait now }
         ensures owed { self.new.owed ≡ owed_after self.old.owed result }
         ensures goes { Goes self.old.conversation self.new.conversation }
+        ensures packets { self.new.conversation.packets ≡ self.old.conversation.packets }
         ensures same { result ≢ GiveUp → (self.new.conversation ≡ self.old.conversation) × (self.new.closed ≡ self.old.closed) }
         ensures given_up { result ≡ GiveUp → (self.old.closed ≡ None)
             × (self.new.closed ≡ Some (why_given_up self.old.conversation.closing)) }
@@ -494,6 +503,7 @@ impl Connection {
     /// Nobody hears the packet that was to open the connection: it is closed, unless it is open or closed.
     pub fn not_served(&mut self, now: u64)
         ensures goes { Goes self.old.conversation self.new.conversation }
+        ensures packets { self.new.conversation.packets ≡ self.old.conversation.packets }
         ensures closed { self.old.closed ≢ None → self.new ≡ self.old }
         ensures open { (s : State) → StandsFor self.old.conversation.endpoint s → is_open s.ends ≡ true → self.new ≡ self.old }
         ensures not_served { (s : State) → StandsFor self.old.conversation.endpoint s → is_open s.ends ≡ false → self.old.closed ≡ None
@@ -515,6 +525,8 @@ impl Connection {
     /// what is to go out stays so.
     pub fn next_packet(&mut self, alloc: Global, now: u64) -> Result<Option<Bytes>, AllocError>
         ensures goes { Goes self.old.conversation self.new.conversation }
+        ensures gives { IfOk result (λ o. MovesAndGives self.old.conversation self.new.conversation o) }
+        ensures given_none { OnErr result (MovesAndGives self.old.conversation self.new.conversation None) }
         ensures rested { result ≡ Ok None → Rested self.old.conversation self.new.conversation }
         ensures none { result ≡ Ok None → (self.new.owed.again ≡ false) × (self.new.owed.asks ≡ false) × (self.new.owed.word ≡ false)
             × (self.new.owed.fresh ≡ self.new.owed.moving) }
@@ -549,6 +561,7 @@ impl Connection {
         ensures read { result ≡ Ok tt → self.new.owed.moving ≡ false → self.new.closed ≡ self.old.closed
             → ReadsAll self.old.conversation self.new.conversation }
         ensures closed { self.old.closed ≢ None → self.new.closed ≡ self.old.closed }
+        ensures packets { self.new.conversation.packets ≡ self.old.conversation.packets }
         ensures told { self.new.told ≡ self.old.told }
         ensures fresh { result ≡ Ok tt → self.new.owed.fresh ≡ true }
         ensures unchanged { OnErr result (self.new ≡ self.old) }
@@ -586,6 +599,7 @@ impl Connection {
         ensures read { (k : ℕ) → asked_of self.old.conversation.side ≡ Some k → result ≡ Ok tt → self.new.owed.moving ≡ false
             → self.new.closed ≡ self.old.closed → ReadsAll self.old.conversation self.new.conversation }
         ensures closed { self.old.closed ≢ None → self.new.closed ≡ self.old.closed }
+        ensures packets { self.new.conversation.packets ≡ self.old.conversation.packets }
         ensures told { self.new.told ≡ self.old.told }
         ensures fresh { result ≡ Ok tt → self.new.owed.fresh ≡ true }
         ensures unchanged { OnErr result (self.new ≡ self.old) }
@@ -605,6 +619,7 @@ impl Connection {
     /// Closes once all that it has to say is said.
     pub fn close(&mut self, alloc: Global, now: u64)
         ensures goes { Goes self.old.conversation self.new.conversation }
+        ensures packets { self.new.conversation.packets ≡ self.old.conversation.packets }
         ensures calm { self.new.owed.moving ≡ false → drains self.new.conversation.side self.new.conversation.closing ≡ false
             → Calm self.old.conversation self.new.conversation }
         ensures read { self.new.owed.moving ≡ false → self.new.closed ≡ self.old.closed
@@ -635,6 +650,7 @@ impl Connection {
         ensures read { (m : Message) → result ≡ Some m → self.new.owed.moving ≡ false → self.new.closed ≡ self.old.closed
             → ReadsAll self.old.conversation self.new.conversation }
         ensures closed { self.old.closed ≢ None → self.new.closed ≡ self.old.closed }
+        ensures packets { self.new.conversation.packets ≡ self.old.conversation.packets }
         ensures told { self.new.told ≡ self.old.told }
         ensures none { result ≡ None → self.new ≡ self.old }
     {

@@ -71,7 +71,7 @@ fn noted(closing: Closing, stream: u8) -> Closing
 
 impl Conversation {
     ghost use Rattle.xns_host.specs.Reasons.{call_fault_of, answer_fault_of};
-    ghost use Rattle.xns_host.specs.Telling.{Tells, Goes, Rested, Calm, NoneWaits, ReadsAll, owes_end, owes_reply, waits, is_over};
+    ghost use Rattle.xns_host.specs.Telling.{Tells, Goes, Gives, Rested, Calm, NoneWaits, ReadsAll, owes_end, owes_reply, waits, is_over};
 
     /// One in which nothing was said.
     pub fn new(alloc: Global, endpoint: Endpoint, side: Side) -> Conversation
@@ -102,6 +102,7 @@ impl Conversation {
     fn take_one(&mut self)
         requires { drains self.old.side self.old.closing ≡ true }
         ensures goes { Goes self.old self.new }
+        ensures packets { self.new.packets ≡ self.old.packets }
         ensures drains { drains self.new.side self.new.closing ≡ true }
         ensures fewer { (s v : State) → StandsFor self.old.endpoint s → StandsFor self.new.endpoint v
             → waiting_count v ≤ waiting_count s - 1 }
@@ -117,6 +118,7 @@ impl Conversation {
     fn drain(&mut self)
         requires { drains self.old.side self.old.closing ≡ true }
         ensures goes { Goes self.old self.new }
+        ensures packets { self.new.packets ≡ self.old.packets }
         ensures read { (h : Story) → Tells self.old h → NoneWaits self.new.endpoint }
     {
         for turn in 0..self.endpoint.waiting() {
@@ -127,6 +129,7 @@ impl Conversation {
     /// Takes all that waits, where it is looked at for the closing exchange alone.
     fn drain_out(&mut self)
         ensures goes { Goes self.old self.new }
+        ensures packets { self.new.packets ≡ self.old.packets }
         ensures idle { drains self.new.side self.new.closing ≡ false → self.new ≡ self.old }
         ensures read { ReadsAll self.old self.new }
     {
@@ -157,6 +160,7 @@ impl Conversation {
         ensures answer { (s : State) → StandsFor self.old.endpoint s → result ≡ is_ok (send_answer s (closing_item stream)) }
         ensures stands { (s : State) → StandsFor self.old.endpoint s → StandsFor self.new.endpoint (after_send s (closing_item stream)) }
         ensures beside { (self.new.side ≡ self.old.side) × (self.new.closing ≡ self.old.closing) }
+        ensures packets { self.new.packets ≡ self.old.packets }
         ensures refused { result ≡ false → self.new ≡ self.old }
     {
         self.endpoint.send(closing_item(alloc, stream)).is_ok()
@@ -165,6 +169,7 @@ impl Conversation {
     /// Answers an End, once.
     fn say_reply(&mut self, alloc: Global)
         ensures goes { Goes self.old self.new }
+        ensures packets { self.new.packets ≡ self.old.packets }
         ensures idle { drains self.new.side self.new.closing ≡ false → self.new ≡ self.old }
         ensures drains { drains self.new.side self.new.closing ≡ drains self.old.side self.old.closing }
         ensures waiting { (s v : State) → StandsFor self.old.endpoint s → StandsFor self.new.endpoint v
@@ -182,6 +187,7 @@ impl Conversation {
     /// Asks for an end, once, where that is wanted: behind all that is out, and after the answer to a call that waits.
     fn say_end(&mut self, alloc: Global)
         ensures goes { Goes self.old self.new }
+        ensures packets { self.new.packets ≡ self.old.packets }
         ensures idle { drains self.new.side self.new.closing ≡ false → self.new ≡ self.old }
     {
         xns_spp::laws::items_are_accepted_or_change_nothing();
@@ -196,6 +202,7 @@ impl Conversation {
     /// Moves items between the side and the endpoint, unless what comes is looked at for the closing exchange alone.
     fn converse(&mut self, alloc: Global) -> Result<(), FeedRefusal>
         ensures goes { Goes self.old self.new }
+        ensures packets { self.new.packets ≡ self.old.packets }
         ensures calm { result ≡ Ok tt → drains self.new.side self.new.closing ≡ false → Calm self.old self.new }
     {
         if self.drains() {
@@ -207,6 +214,7 @@ impl Conversation {
     /// Says what is to be said of closing, and looks at what waits where it is looked at for that alone.
     fn close_up(&mut self, alloc: Global)
         ensures goes { Goes self.old self.new }
+        ensures packets { self.new.packets ≡ self.old.packets }
         ensures idle { drains self.new.side self.new.closing ≡ false → self.new ≡ self.old }
         ensures read { ReadsAll self.old self.new }
     {
@@ -218,6 +226,7 @@ impl Conversation {
     /// What comes is read no more, but for the closing exchange.
     pub fn give_up(&mut self)
         ensures goes { Goes self.old self.new }
+        ensures packets { self.new.packets ≡ self.old.packets }
         ensures drains { drains self.new.side self.new.closing ≡ true }
         ensures endpoint { self.new.endpoint ≡ self.old.endpoint }
     {
@@ -227,6 +236,7 @@ impl Conversation {
     /// The side reads no more where it refused an item, unless memory was refused.
     fn mark(&mut self, moved: Result<(), FeedRefusal>)
         ensures goes { Goes self.old self.new }
+        ensures packets { self.new.packets ≡ self.old.packets }
         ensures good { moved ≡ Ok tt → self.new ≡ self.old }
         ensures deaf { moved ≢ Ok tt → moved ≢ Err NoMemory → drains self.new.side self.new.closing ≡ true }
     {
@@ -240,6 +250,7 @@ impl Conversation {
     /// same call goes on.
     pub fn settle(&mut self, alloc: Global) -> Result<(), FeedRefusal>
         ensures goes { Goes self.old self.new }
+        ensures packets { self.new.packets ≡ self.old.packets }
         ensures calm { result ≢ Err NoMemory → drains self.new.side self.new.closing ≡ false → Calm self.old self.new }
         ensures read { result ≢ Err NoMemory → ReadsAll self.old self.new }
     {
@@ -255,6 +266,7 @@ impl Conversation {
     /// The program wants an end.
     pub fn close(&mut self)
         ensures goes { Goes self.old self.new }
+        ensures packets { self.new.packets ≡ self.old.packets }
         ensures endpoint { self.new.endpoint ≡ self.old.endpoint }
     {
         self.closing.wanted = true;
@@ -268,6 +280,7 @@ impl Conversation {
         ensures tells { OnOk result ((h : Story) (b : List ℕ) → Tells self.old h → spp_packet_of b ≡ Ok packet.now
             → Tells self.new (record h { state = after_receive h.state b })) }
         ensures beside { (self.new.side ≡ self.old.side) × (self.new.closing ≡ self.old.closing) }
+        ensures packets { self.new.packets ≡ self.old.packets }
         ensures unchanged { OnErr result (self.new ≡ self.old) }
         ensures memory { OnErr result ((s : State) (b : List ℕ) → StandsFor self.old.endpoint s → spp_packet_of b ≡ Ok packet.now
             → StoresBytes s b) }
@@ -307,6 +320,7 @@ impl Conversation {
             → Tells self.new (record h { made = h.made ++ words_call program version procedure words.now ∷ [] }) }
         ensures drains { drains self.new.side self.new.closing ≡ drains self.old.side self.old.closing }
         ensures endpoint { self.new.endpoint ≡ self.old.endpoint }
+        ensures packets { self.new.packets ≡ self.old.packets }
         ensures unchanged { OnErr result (self.new ≡ self.old) }
     {
         if self.drains() {
@@ -326,6 +340,7 @@ impl Conversation {
             → Tells self.new (record h { answers = h.answers ++ answer_message answer k words.now ∷ [] }) }
         ensures drains { drains self.new.side self.new.closing ≡ drains self.old.side self.old.closing }
         ensures endpoint { self.new.endpoint ≡ self.old.endpoint }
+        ensures packets { self.new.packets ≡ self.old.packets }
         ensures unchanged { OnErr result (self.new ≡ self.old) }
     {
         if self.drains() {
@@ -340,6 +355,7 @@ impl Conversation {
         ensures handed { (h : Story) (m : Message) → Tells self.old h → result ≡ Some m → Tells self.new (with_handed self.old.side h m) }
         ensures drains { drains self.new.side self.new.closing ≡ drains self.old.side self.old.closing }
         ensures endpoint { self.new.endpoint ≡ self.old.endpoint }
+        ensures packets { self.new.packets ≡ self.old.packets }
         ensures none { result ≡ None → self.new ≡ self.old }
     {
         self.side.take_message()
@@ -349,6 +365,7 @@ impl Conversation {
     fn flush(&mut self, alloc: Global) -> Result<(), AllocError>
         requires { self.old.packets.items ≡ [] }
         ensures goes { Goes self.old self.new }
+        ensures gives { Gives self.old self.new None }
         ensures rested { OnOk result (Rested self.old self.new) }
         ensures packets { OnOk result ((s : State) → StandsFor self.old.endpoint s → self.new.packets.items ≡ flush_answer s) }
         ensures unchanged { OnErr result (self.new ≡ self.old) }
@@ -364,6 +381,7 @@ impl Conversation {
         ensures goes { Goes self.old self.new }
         ensures answer { IfOk result (λ o. (s : State) → StandsFor self.old.endpoint s → o ≡ resend_answer s) }
         ensures packets { self.new.packets.items ≡ self.old.packets.items }
+        ensures gives { self.old.packets.items ≡ [] → IfOk result (λ o. Gives self.old self.new o) }
         ensures unchanged { OnErr result (self.new ≡ self.old) }
     {
         xns_spp::laws::other_steps_accept_and_hand_up_nothing();
@@ -374,6 +392,7 @@ impl Conversation {
     /// The next packet of those that were made.
     fn fetch(&mut self) -> Option<Bytes>
         ensures goes { Goes self.old self.new }
+        ensures gives { Gives self.old self.new result }
         ensures packets { self.old.packets.items ≡ option_to_list result ++ self.new.packets.items }
         ensures none { result ≡ None → self.new.packets.items ≡ [] }
         ensures rest { self.new ≡ record self.old { packets = self.new.packets } }
@@ -384,6 +403,8 @@ impl Conversation {
     /// The next packet of those that were made, or that is to go out again.
     fn older_packet(&mut self, alloc: Global, owed: &mut Owed) -> Result<Option<Bytes>, AllocError>
         ensures goes { Goes self.old self.new }
+        ensures gives { IfOk result (λ o. Gives self.old self.new o) }
+        ensures given_none { OnErr result (Gives self.old self.new None) }
         ensures none { result ≡ Ok None → (self.new.packets.items ≡ []) × (owed.new.again ≡ false) }
         ensures beside { (owed.new.asks ≡ owed.old.asks) × (owed.new.moving ≡ owed.old.moving) × (owed.new.fresh ≡ owed.old.fresh) }
         ensures refused { OnErr result (owed.new ≡ owed.old) }
@@ -405,6 +426,7 @@ impl Conversation {
         ensures none { result ≡ Ok None → (owed.new.asks ≡ false) × (owed.new.word ≡ false) }
         ensures answer { (s : State) (b : List ℕ) → StandsFor self.now.endpoint s → result ≡ Ok (Some b)
             → told_answer s owed.old.asks ≡ Some b }
+        ensures gives { self.now.packets.items ≡ [] → IfOk result (λ o. Gives self.now self.now o) }
         ensures beside { (owed.new.again ≡ owed.old.again) × (owed.new.moving ≡ owed.old.moving) × (owed.new.fresh ≡ owed.old.fresh) }
         ensures refused { OnErr result (owed.new ≡ owed.old) }
     {
@@ -421,6 +443,8 @@ impl Conversation {
     fn newer_packet(&mut self, alloc: Global, owed: &mut Owed) -> Result<Option<Bytes>, AllocError>
         requires { self.old.packets.items ≡ [] }
         ensures goes { Goes self.old self.new }
+        ensures gives { IfOk result (λ o. Gives self.old self.new o) }
+        ensures given_none { OnErr result (Gives self.old self.new None) }
         ensures rested { result ≡ Ok None → Rested self.old self.new }
         ensures none { result ≡ Ok None → (owed.new.asks ≡ false) × (owed.new.word ≡ false) }
         ensures beside { (owed.new.again ≡ owed.old.again) × (owed.new.moving ≡ owed.old.moving) × (owed.new.fresh ≡ owed.old.fresh) }
@@ -441,6 +465,8 @@ impl Conversation {
         owed: &mut Owed,
     ) -> Result<Option<Bytes>, AllocError>
         ensures goes { Goes self.old self.new }
+        ensures gives { IfOk result (λ o. Gives self.old self.new o) }
+        ensures given_none { OnErr result (Gives self.old self.new None) }
         ensures rested { result ≡ Ok None → Rested self.old self.new }
         ensures none { result ≡ Ok None → (owed.new.again ≡ false) × (owed.new.asks ≡ false) × (owed.new.word ≡ false) }
         ensures beside { (owed.new.moving ≡ owed.old.moving) × (owed.new.fresh ≡ owed.old.fresh) }

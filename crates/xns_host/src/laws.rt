@@ -4,13 +4,15 @@ ghost use Rattle.std.specs.Prelude.{◌≡◌, ◌⊎◌, ◌≤◌, ◌+◌, �
 ghost use Rattle.courier_sessions.specs.Answering.{Answering, is_busy, fed as call_fed};
 ghost use Rattle.courier_sessions.specs.Talk.{Talk, fed as answer_fed};
 ghost use Rattle.courier_sessions.specs.declared.program.Program.{Program};
+ghost use Rattle.xns_spp.specs.Receiving.{after_receive};
 ghost use Rattle.xns_spp.specs.State.{State};
 ghost use Rattle.xns_spp.specs.Growth.{Begins};
 ghost use Rattle.xns_spp.specs.declared.item.Item.{Item};
+ghost use Rattle.xns_host.specs.Acting.{Acts, IsTold};
 ghost use Rattle.xns_host.specs.Agreeing.{handed_up, HasCalled, HasServed, ArePeers, IsClosing, Agree};
 ghost use Rattle.xns_host.specs.Closing.{drains};
-ghost use Rattle.xns_host.specs.Living.{Deeds, Lives, IsLived, ProgramsAgree};
-ghost use Rattle.xns_host.specs.Story.{Story};
+ghost use Rattle.xns_host.specs.Living.{Deeds, no_deeds, Lives, IsLived, ProgramsAgree};
+ghost use Rattle.xns_host.specs.Story.{Story, GoesOn, new_story};
 ghost use Rattle.xns_host.specs.Telling.{Tells};
 ghost use Rattle.xns_host.specs.Waiting.{Waiting, Silence, act_at, after_act, later, next_length};
 ghost use Rattle.xns_host.specs.declared.act.Act.TheVariants.{Again};
@@ -65,6 +67,18 @@ pub fn connections_agree()
 pub fn a_connection_always_has_a_story()
     ensures { (programs : Option (List Program)) (start : State) (c : Conversation) (l : Deeds) → Lives programs start c l
         → IsLived programs start c l }
+{}
+
+/// A story of a connection goes on with each step, from where the program had something done, or a packet had come: what the step leads to
+/// is a story of the connection then. So one story can be followed from the new connection on.
+pub fn one_story_goes_on()
+    ensures opens { (programs : Option (List Program)) (start : State) (c : Conversation) → Tells c (new_story programs start)
+        → IsTold programs start c no_deeds (new_story programs start) }
+    ensures acts { (programs : Option (List Program)) (start : State) (c d : Conversation) (l r : Deeds) (h b m : Story)
+        → IsTold programs start c l h → Acts c h l b r → Tells d m → GoesOn b m → IsTold programs start d r m }
+    ensures hears { (programs : Option (List Program)) (start : State) (c d : Conversation) (l : Deeds) (h m : Story) (bytes : List ℕ)
+        → IsTold programs start c l h → Tells d m → GoesOn (record h { state = after_receive h.state bytes }) m
+        → IsTold programs start d l m }
 {}
 
 /// Two programs whose connections are peers, where what the end of each handed up begins what the other's accepted: the one that is

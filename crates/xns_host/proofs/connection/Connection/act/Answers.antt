@@ -8,6 +8,7 @@ returns c = record {
   wait = c.act-act.ensures.after;
   owed = c.owed_after-self.ensures;
   goes = goes_not c.args.self.now.conversation;
+  packets = refl;
   same = λ z. (refl, refl);
   given_up = λ z. absurd (c.in_default.not-GiveUp z);
   told = refl;

@@ -1,4 +1,5 @@
 use Rattle.xns_host.proofs.Leading.{goes_then}
+use Rattle.xns_host.proofs.Giving.{moves_and_gives, moves_and_none}
 use Rattle.xns_host.proofs.Tellings.{rested_then}
 use Rattle.xns_host.proofs.connection.Connection.next_packet.Goals as goal
 
@@ -7,3 +8,9 @@ returns-clause-goes c = goes_then c.move_owed.ensures.goes c.next_packet-packet.
 
 pub returns-clause-rested : goal.returns-clause-rested
 returns-clause-rested c = λ is. rested_then c.move_owed.ensures.goes (c.next_packet-packet.ensures.rested is)
+
+pub returns-clause-gives : goal.returns-clause-gives
+returns-clause-gives c = moves_and_gives _ c.next_packet-packet.result c.move_owed.ensures.goes c.move_owed.ensures.packets c.next_packet-packet.ensures.gives
+
+pub returns-clause-given_none : goal.returns-clause-given_none
+returns-clause-given_none c = moves_and_none _ c.next_packet-packet.result c.move_owed.ensures.goes c.move_owed.ensures.packets c.next_packet-packet.ensures.given_none

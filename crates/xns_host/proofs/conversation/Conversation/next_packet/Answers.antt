@@ -1,5 +1,8 @@
 use Rattle.xns_host.proofs.Leading.{goes_then}
 use Rattle.xns_host.proofs.Tellings.{rested_then}
+use Rattle.std.proofs.Common.{subst, ℕ, List, Option}
+use Rattle.xns_host.specs.Telling.{Gives}
+use Rattle.xns_host.proofs.Giving.{then_gives, then_none}
 use Rattle.xns_host.proofs.conversation.Conversation.next_packet.Goals as goal
 
 pub returns-clause-goes : goal.returns-clause-goes
@@ -7,3 +10,9 @@ returns-clause-goes c = goes_then c.older_packet.ensures.goes c.newer_packet.ens
 
 pub returns-clause-rested : goal.returns-clause-rested
 returns-clause-rested c = λ is. rested_then c.older_packet.ensures.goes (c.newer_packet.ensures.rested is)
+
+pub returns-clause-gives : goal.returns-clause-gives
+returns-clause-gives c = then_gives _ c.newer_packet.result (subst (λ (o : Option (List ℕ)). Gives c.args.self.now c.older_packet.new.self o) c.in_default.is c.in_ok-packet.ensures.gives) c.newer_packet.ensures.gives
+
+pub returns-clause-given_none : goal.returns-clause-given_none
+returns-clause-given_none c = then_none _ c.newer_packet.result (subst (λ (o : Option (List ℕ)). Gives c.args.self.now c.older_packet.new.self o) c.in_default.is c.in_ok-packet.ensures.gives) c.newer_packet.ensures.given_none
