@@ -48,7 +48,7 @@ gives_then {s} {t} {u} {o} p q = record {
         y.1,
         goes_on h x.0 y.0 x.2 y.2,
         y.3 ∙ ap (λ (bs : Packets). bs ++ made_on y.2.path) x.3 ∙ append_assoc s.packets.items (made_on x.2.path) (made_on y.2.path)
-        ∙ ap (λ (bs : Packets). s.packets.items ++ bs) (sym (made_then x.2.path y.2.path)),
+            ∙ ap (λ (bs : Packets). s.packets.items ++ bs) (sym (made_then x.2.path y.2.path)),
       );
 }
 

@@ -1,0 +1,148 @@
+-- What an end's own steps do to the world.
+use Rattle.std.proofs.Common.{◌≡◌, ◌∙◌, ap, sym, refl, subst, ℕ, zero, suc, true, false, List, [], ◌∷◌, ◌++◌, append-nil, append_assoc, map, length, Some}
+use Rattle.std.specs.Prelude.{slice_get, is_ok}
+use Rattle.std.specs.Option.{option_to_list}
+use Rattle.std.proofs.lemmas.List.{map-append}
+use Rattle.std.proofs.lemmas.Option.{get_or_from_slice_get, slice_get_within}
+use Rattle.xns_spp.specs.Fronts.{last_of}
+use Rattle.xns_spp.specs.Growth.{Begins}
+use Rattle.xns_spp.specs.Item.{IsItem, IsShortItem}
+use Rattle.xns_spp.specs.Sending.{send_answer, after_send, after_take, flush_answer, after_flush}
+use Rattle.xns_spp.specs.State.{State, IsState}
+use Rattle.xns_spp.specs.Telling.{resend_answer, after_resend, told_answer}
+use Rattle.xns_spp.specs.declared.item.Item.{Item}
+use Rattle.item_world.specs.EndLaws.{EndLaws}
+use Rattle.item_world.specs.Events.{sending, taking, flushing, resending, telling}
+use Rattle.item_world.specs.Invariant.{Holds}
+use Rattle.item_world.specs.Laws.{EachStepKeepsTheOrder}
+use Rattle.item_world.specs.Side.{other}
+use Rattle.item_world.specs.World.{World, end_of, moved, moment, emitted, packets_of, sender_and_bytes, sends}
+use Rattle.item_world.specs.declared.emitted.Emitted.{Emitted}
+use Rattle.item_world.specs.declared.moment.Moment.{Moment}
+use Rattle.item_world.specs.declared.side.Side.{Side}
+use Rattle.item_world.specs.declared.side.Side.TheVariants.{A, B}
+use Rattle.xns_host.specs.Story.{Runs, start, sends as accepts, takes, flushes, resends, tells, made_on}
+use Rattle.host_world.specs.Meeting.{led}
+
+-- ---- one move
+
+pub same_end : (w : World) (side : Side) (s : State) (bs : List (List ℕ)) → end_of (moved w side s bs) side ≡ s
+same_end w A s bs = refl
+same_end w B s bs = refl
+
+pub same_other : (w : World) (side : Side) (s : State) (bs : List (List ℕ)) → end_of (moved w side s bs) (other side) ≡ end_of w (other side)
+same_other w A s bs = refl
+same_other w B s bs = refl
+
+-- where the end stays and nothing is sent, nothing changes
+stays : (w : World) (side : Side) → moved w side (end_of w side) [] ≡ w
+stays w A = ap (λ (bag : List Emitted). record w { bag = bag }) (append-nil w.bag)
+stays w B = ap (λ (bag : List Emitted). record w { bag = bag }) (append-nil w.bag)
+
+abbrev pub by : Side → List ℕ → Side × List ℕ
+by side bytes = (side, bytes)
+
+sent_by : (side : Side) (at : Moment) (bs : List (List ℕ)) → map sender_and_bytes (map (emitted side at) bs) ≡ map (by side) bs
+sent_by side at [] = refl
+sent_by side at (b ∷ bs) = ap (λ (l : List (Side × List ℕ)). (side, b) ∷ l) (sent_by side at bs)
+
+pub moved_bag : (w : World) (side : Side) (s : State) (bs : List (List ℕ)) → packets_of (moved w side s bs) ≡ packets_of w ++ map (by side) bs
+moved_bag w side s bs =
+    let at : Moment = moment s (end_of w (other side)) in
+    map-append sender_and_bytes w.bag (map (emitted side at) bs) ∙ ap (λ (l : List (Side × List ℕ)). packets_of w ++ l) (sent_by side at bs)
+
+-- ---- all of them
+
+pub led_end : (w : World) (side : Side) {s v : State} (p : Runs s v) → end_of w side ≡ s → end_of (led w side p) side ≡ v
+led_end w side start e = e
+led_end w side (accepts p x) e = let u : World = led w side p in same_end u side (after_send (end_of u side) x) [] ∙ ap (λ (s : State). after_send s x) (led_end w side p e)
+led_end w side (takes p) e = let u : World = led w side p in same_end u side (after_take (end_of u side)) [] ∙ ap after_take (led_end w side p e)
+led_end w side (flushes p) e = let u : World = led w side p in same_end u side (after_flush (end_of u side)) (flush_answer (end_of u side)) ∙ ap after_flush (led_end w side p e)
+led_end w side (resends p) e = let u : World = led w side p in same_end u side (after_resend (end_of u side)) (option_to_list (resend_answer (end_of u side))) ∙ ap after_resend (led_end w side p e)
+led_end w side (tells p asks) e = let u : World = led w side p in same_end u side (end_of u side) (option_to_list (told_answer (end_of u side) asks)) ∙ led_end w side p e
+
+pub led_other : (w : World) (side : Side) {s v : State} (p : Runs s v) → end_of (led w side p) (other side) ≡ end_of w (other side)
+led_other w side start = refl
+led_other w side (accepts p x) = let u : World = led w side p in same_other u side (after_send (end_of u side) x) [] ∙ led_other w side p
+led_other w side (takes p) = let u : World = led w side p in same_other u side (after_take (end_of u side)) [] ∙ led_other w side p
+led_other w side (flushes p) = let u : World = led w side p in same_other u side (after_flush (end_of u side)) (flush_answer (end_of u side)) ∙ led_other w side p
+led_other w side (resends p) = let u : World = led w side p in same_other u side (after_resend (end_of u side)) (option_to_list (resend_answer (end_of u side))) ∙ led_other w side p
+led_other w side (tells p asks) = let u : World = led w side p in same_other u side (end_of u side) (option_to_list (told_answer (end_of u side) asks)) ∙ led_other w side p
+
+-- ---- the bag has what was made on the way
+
+abbrev Sent : Type 0
+Sent = List (Side × List ℕ)
+
+more_made : (before now base : Sent) (side : Side) (made bs cs : List (List ℕ)) → now ≡ before ++ map (by side) bs → before ≡ base ++ map (by side) made → bs ≡ cs → now ≡ base ++ map (by side) (made ++ cs)
+more_made before now base side made bs cs one some same =
+    one ∙ ap (λ (l : Sent). l ++ map (by side) bs) some ∙ append_assoc base (map (by side) made) (map (by side) bs)
+    ∙ ap (λ (l : Sent). base ++ l) (sym (map-append (by side) made bs) ∙ ap (λ (l : List (List ℕ)). map (by side) (made ++ l)) same)
+
+none_made : (before now base : Sent) (side : Side) (made : List (List ℕ)) → now ≡ before ++ [] → before ≡ base ++ map (by side) made → now ≡ base ++ map (by side) made
+none_made before now base side made one some = one ∙ append-nil before ∙ some
+
+pub led_bag : (w : World) (side : Side) {s v : State} (p : Runs s v) → end_of w side ≡ s → packets_of (led w side p) ≡ packets_of w ++ map (by side) (made_on p)
+led_bag w side start e = sym (append-nil (packets_of w))
+led_bag w side (accepts p x) e =
+    let u : World = led w side p in
+    none_made (packets_of u) (packets_of (led w side (accepts p x))) (packets_of w) side (made_on p) (moved_bag u side (after_send (end_of u side) x) []) (led_bag w side p e)
+led_bag w side (takes p) e =
+    let u : World = led w side p in
+    none_made (packets_of u) (packets_of (led w side (takes p))) (packets_of w) side (made_on p) (moved_bag u side (after_take (end_of u side)) []) (led_bag w side p e)
+led_bag w side (flushes {v = v} p) e =
+    let u : World = led w side p in
+    more_made (packets_of u) (packets_of (led w side (flushes p))) (packets_of w) side (made_on p) (flush_answer (end_of u side)) (flush_answer v)
+    (moved_bag u side (after_flush (end_of u side)) (flush_answer (end_of u side))) (led_bag w side p e) (ap flush_answer (led_end w side p e))
+led_bag w side (resends {v = v} p) e =
+    let u : World = led w side p in
+    more_made (packets_of u) (packets_of (led w side (resends p))) (packets_of w) side (made_on p) (option_to_list (resend_answer (end_of u side))) (option_to_list (resend_answer v))
+    (moved_bag u side (after_resend (end_of u side)) (option_to_list (resend_answer (end_of u side)))) (led_bag w side p e) (ap (λ (s : State). option_to_list (resend_answer s)) (led_end w side p e))
+led_bag w side (tells {v = v} p asks) e =
+    let u : World = led w side p in
+    more_made (packets_of u) (packets_of (led w side (tells p asks))) (packets_of w) side (made_on p) (option_to_list (told_answer (end_of u side) asks)) (option_to_list (told_answer v asks))
+    (moved_bag u side (end_of u side) (option_to_list (told_answer (end_of u side) asks))) (led_bag w side p e) (ap (λ (s : State). option_to_list (told_answer s asks)) (led_end w side p e))
+
+-- ---- what is true at every moment stays so
+
+-- the accepted items have numbers within their types' bounds
+abbrev AreItems : State → Type 0
+AreItems s = (k : ℕ) (x : Item) → slice_get s.accepted k ≡ Some x → IsItem x
+
+pub are_items : (s : State) → IsState s → AreItems s
+are_items s fits k x is = let i : IsShortItem x = subst IsShortItem (get_or_from_slice_get s.accepted k x x is) (fits.items k x (slice_get_within s.accepted k x is)) in i.fits
+
+in_front : {X : Type 0} (xs ys : List X) (k : ℕ) (x : X) → slice_get xs k ≡ Some x → slice_get (xs ++ ys) k ≡ Some x
+in_front [] ys k x e = absurd (cc)
+in_front (z ∷ xs) ys zero x e = e
+in_front (z ∷ xs) ys (suc k) x e = in_front xs ys k x e
+
+pub in_both : {X : Type 0} (xs ys : List X) (k : ℕ) (x : X) → Begins xs ys → slice_get xs k ≡ Some x → slice_get ys k ≡ Some x
+in_both {X} xs ys k x b e = subst (λ (l : List X). slice_get l k ≡ Some x) b.1 (in_front xs b.0 k x e)
+
+-- as far as a step only accepts more
+fewer_items : (s v : State) → Begins s.accepted v.accepted → AreItems v → AreItems s
+fewer_items s v b items k x is = items k x (in_both s.accepted v.accepted k x b is)
+
+same_begins : (s v : State) → v.accepted ≡ s.accepted → Begins s.accepted v.accepted
+same_begins s v e = ([], append-nil s.accepted ∙ sym e)
+
+pub led_holds : EndLaws → EachStepKeepsTheOrder → (w : World) (side : Side) {s v : State} (p : Runs s v) → end_of w side ≡ s → AreItems v → Holds w → Holds (led w side p)
+led_holds laws keeps w side start e items h = h
+led_holds laws keeps w side (accepts {v = v} p x) e items h =
+    let u : World = led w side p in
+    let here : end_of u side ≡ v = led_end w side p e in
+    let grows : Begins v.accepted (after_send v x).accepted = (laws.grows.send v x).accepted in
+    let before : Holds u = led_holds laws keeps w side p e (fewer_items v (after_send v x) grows items) h in
+    elim (is_ok (send_answer v x)) as (λ b. is_ok (send_answer v x) ≡ b → Holds (sends u side x)) [
+      | true ↦ λ yes.
+          let more : v.accepted ++ x ∷ [] ≡ (after_send v x).accepted = sym (ap (λ (s : State). s.accepted) (laws.accepts.accepted v x yes)) in
+          keeps.each u (sending side x) (items (length v.accepted) x (last_of v.accepted x (after_send v x).accepted ([], append-nil (v.accepted ++ x ∷ []) ∙ more))) before
+      | false ↦ λ no.
+          let same : after_send (end_of u side) x ≡ end_of u side = ap (λ (s : State). after_send s x) here ∙ laws.accepts.refused v x no ∙ sym here in
+          subst Holds (sym (ap (λ (s : State). moved u side s []) same ∙ stays u side)) before
+    ] refl
+led_holds laws keeps w side (takes {v = v} p) e items h = keeps.each (led w side p) (taking side) tt (led_holds laws keeps w side p e (fewer_items v (after_take v) (laws.grows.take v).accepted items) h)
+led_holds laws keeps w side (flushes {v = v} p) e items h = keeps.each (led w side p) (flushing side) tt (led_holds laws keeps w side p e (fewer_items v (after_flush v) (same_begins v (after_flush v) (laws.stays.flush v).accepted) items) h)
+led_holds laws keeps w side (resends {v = v} p) e items h = keeps.each (led w side p) (resending side) tt (led_holds laws keeps w side p e (fewer_items v (after_resend v) (same_begins v (after_resend v) (laws.stays.resend v).accepted) items) h)
+led_holds laws keeps w side (tells p asks) e items h = keeps.each (led w side p) (telling side asks) tt (led_holds laws keeps w side p e items h)

@@ -1,0 +1,3 @@
+pub mod Station
+pub mod Meeting
+pub mod Meets
