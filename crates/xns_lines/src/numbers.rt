@@ -20,12 +20,15 @@ pub fn append_decimal(report: &mut Report, number: usize) -> Result<(), AllocErr
     append_decimal_u64(report, number as u64)
 }
 
-/// Appends a number of 64 bits in decimal.
+/// Appends a number of 64 bits in decimal. One digit, which many numbers have, is the quicker for being written as it is.
 pub fn append_decimal_u64(report: &mut Report, number: u64) -> Result<(), AllocError>
     ensures text { Adds result report.old report.new (decimal number) }
     ensures memory { OnErr result (LacksRoom report.old (decimal number)) }
     ensures room { report.old.room ≤ report.new.room }
 {
+    if number < 10 {
+        return report.append(&[b'0' + number as u8]);
+    }
     let mut buffer = Buffer::new();
     report.append(buffer.format(number).as_bytes())
 }
@@ -39,7 +42,9 @@ pub fn append_hex(report: &mut Report, bytes: &[u8]) -> Result<(), AllocError>
 
 /// Appends a word as four hex digits in lower case.
 pub fn append_word(report: &mut Report, word: u16) -> Result<(), AllocError>
-    ensures { Adds result report.old report.new (hex_word word) }
+    ensures text { Adds result report.old report.new (hex_word word) }
+    ensures memory { OnErr result (LacksRoom report.old (hex_word word)) }
+    ensures room { report.old.room ≤ report.new.room }
 {
     let mut digits = [0; 4];
     write_digits(&word.to_be_bytes(), &mut digits);
