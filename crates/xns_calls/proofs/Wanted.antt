@@ -1,5 +1,5 @@
 -- Where a packet wants memory.
-use Rattle.std.proofs.Common.{◌≡◌, ◌∙◌, ap, sym, refl, ℕ, Bool, true, false, Option, Some, None, Result, Ok, Err}
+use Rattle.std.proofs.Common.{◌≡◌, ◌∙◌, ap, sym, refl, ℕ, Bool, true, false, List, Option, Some, None, Result, Ok, Err}
 use Rattle.std.specs.Option.{is_some}
 use Rattle.std.specs.Prelude.{OnErr, not, slice_get, ◌||◌, ◌&&◌}
 use Rattle.xns_idp.specs.Packet.{PacketModel}
@@ -8,9 +8,10 @@ use Rattle.xns_dump.specs.declared.flows.flow.Flow.{Flow}
 use Rattle.xns_lines.specs.declared.page.Page.{Page}
 use Rattle.xns_spp.specs.Header.{is_system}
 use Rattle.xns_spp.specs.declared.header.Header.{Header}
-use Rattle.xns_calls.specs.Capture.{Known, begins_flow, flow_behind, place_of, scene_in, wants_at, wants_in, wants_places, wants_sequenced}
-use Rattle.xns_calls.specs.Exchange.{Scene, acknowledged, after_acknowledge, begin_track, begun, brings_new, new_number, scene, wants_memory}
+use Rattle.xns_calls.specs.Capture.{Known, begins_flow, flow_behind, place_of, scene_in, side_in, wants_at, wants_end, wants_end_in, wants_in, wants_places, wants_sequenced}
+use Rattle.xns_calls.specs.Exchange.{Scene, acknowledged, after_acknowledge, begin_track, begun, behind_last, brings_new, new_number, scene, wants_memory}
 use Rattle.xns_calls.specs.declared.connection.Connection.{Connection}
+use Rattle.xns_calls.specs.declared.flow_place.FlowPlace.{FlowPlace}
 use Rattle.xns_calls.specs.declared.heading.Heading.{Heading}
 use Rattle.xns_calls.specs.declared.side.Side.{Side}
 use Rattle.xns_calls.specs.declared.track.Track.{Track}
@@ -59,6 +60,11 @@ begun_wants f own other page e = or_right (is_some (acknowledged other f.acknowl
 pub at_wants : (i : ℕ) (is_behind : Bool) (f : Header) (connection : Connection) (k : Known) → slice_get k.connections i ≡ Some connection → wants_memory f (scene_in is_behind connection k) ≡ true
     → wants_at i is_behind f k ≡ true
 at_wants i is_behind f connection k at e = ap (λ o. wants_in is_behind f o k) at ∙ e
+
+-- so does the end of a flow that keeps items
+pub end_wants : (flow : FlowPlace) (connection : Connection) (connections : List Connection) → slice_get connections flow.place ≡ Some connection
+    → is_some (behind_last (side_in flow.is_behind connection).track) ≡ true → wants_end (Some flow) connections ≡ true
+end_wants flow connection connections at e = ap (λ o. wants_end_in flow.is_behind o) at ∙ e
 
 -- a packet of the flow behind that of a connection is one to that connection
 pub behind_wants : (packet : PacketModel) (f : Header) (k : Known) (flow other : Flow) (i : ℕ) → flow ≡ flow_of packet f → other ≡ flow_behind flow

@@ -221,7 +221,7 @@ fn behind_last(side: &Side) -> Option<u64>
     Some(last + 1)
 }
 
-/// Brings a flow behind the last item that it keeps, if it keeps one.
+/// Brings a flow behind the last item that it keeps, if it keeps one. Memory is refused only there.
 #[tactic(auto, unfolding(crate::specs::Exchange::ended))]
 pub fn end_flow(
     scratch: &mut Scratch,
@@ -231,6 +231,7 @@ pub fn end_flow(
     other: &mut Side,
 ) -> Result<(), AllocError>
     ensures front { page.new.text.front ≡ page.old.text.front }
+    ensures memory { OnErr result (is_some (behind_last_of own.old.track) ≡ true) }
     ensures scene { OnOk result (scene own.new other.new page.new ≡ ended heading (scene own.old other.old page.old)) }
 {
     let Some(number) = behind_last(own) else {
