@@ -1,9 +1,10 @@
 use crate::outcome::Outcome;
 use crate::player::SERVER;
 use crate::put_count;
+use crate::station::{Station, both};
 use courier_sessions::{Answer, Program};
 use std::alloc::{AllocError, Global};
-use xns_host::{Event, Host, HostFault, Settings};
+use xns_host::{Event, HostFault, Settings};
 
 /// How many connections a crowd has at once.
 const CONNECTIONS: usize = 1_000;
@@ -25,8 +26,8 @@ const CLOSING: u64 = 60_000;
 #[derive(Drop)]
 pub struct Crowd {
     alloc: Global,
-    client: Host,
-    server: Host,
+    client: Station,
+    server: Station,
     now: u64,
     packets: usize,
     /// Calls that were not made, since the one before them waited still.
@@ -35,16 +36,21 @@ pub struct Crowd {
 }
 
 /// A host of a crowd.
-fn host_of(alloc: Global, host: [u8; 6]) -> Result<Host, HostFault> {
+fn host_of(alloc: Global, host: [u8; 6]) -> Result<Station, HostFault> {
     let settings = Settings {
         connections: CONNECTIONS,
         ..Settings::default()
     };
-    Host::new(alloc, 1, host, settings, [3; 32])
+    Station::new(alloc, 1, host, settings, [3; 32])
 }
 
 /// Carries the packets of one host to the other, of which some are lost.
-fn carry(now: u64, packets: &mut usize, from: &mut Host, to: &mut Host) -> Result<(), HostFault> {
+fn carry(
+    now: u64,
+    packets: &mut usize,
+    from: &mut Station,
+    to: &mut Station,
+) -> Result<(), HostFault> {
     for _ in 0..CONNECTIONS {
         let Some(out) = from.next_packet(now)? else {
             break;
@@ -64,10 +70,12 @@ fn words_at(number: usize, now: u64) -> [u16; 3] {
 
 impl Crowd {
     pub fn new(alloc: Global) -> Result<Crowd, HostFault> {
+        let client = host_of(alloc, [0, 0, 170, 0, 4, 0])?;
+        let (client, server) = both(client, host_of(alloc, SERVER.host))?;
         Ok(Crowd {
             alloc,
-            client: host_of(alloc, [0, 0, 170, 0, 4, 0])?,
-            server: host_of(alloc, SERVER.host)?,
+            client,
+            server,
             now: 0,
             packets: 0,
             busy: 0,
@@ -87,7 +95,7 @@ impl Crowd {
     /// Makes a call, unless the one before it waits still.
     fn call(&mut self, number: usize) {
         let words = words_at(number, self.now);
-        if self.client.call(self.now, number, 7, 2, 1, &words).is_err() {
+        if self.client.call(self.now, number, 7, &words).is_err() {
             self.busy = self.busy.saturating_add(1);
         }
     }

@@ -19,6 +19,7 @@ mod player;
 mod restart;
 mod scene;
 mod speed;
+mod station;
 mod strangers;
 mod stubborn;
 mod words;
@@ -84,17 +85,22 @@ fn show_all(rt: &HostRuntime) -> Result<(), anyhow::Error> {
     speed::run(rt, Made::ByHand, 1, 20)
 }
 
+/// Prints what came of a play.
+fn say(rt: &HostRuntime, name: &str, text: &str) -> Result<(), anyhow::Error> {
+    println!(rt; "{name}: {text}")?;
+    Ok(())
+}
+
 /// Plays a scene, and prints what came of it.
 fn show_play(rt: &HostRuntime, scene: Scene) -> Result<(), anyhow::Error> {
     let mut text = String::new(rt.alloc());
     play_scene(rt.alloc(), scene, &mut text)?;
-    println!(rt; "{}: {}", scene.name, text.as_str())?;
-    Ok(())
+    say(rt, scene.name, text.as_str())
 }
 
 /// Plays a scene, and puts what came of it.
 fn play_scene(alloc: Global, scene: Scene, text: &mut String) -> Result<(), anyhow::Error> {
-    let mut play = Play::new(alloc, scene)?;
+    let mut play = Play::new(alloc, scene);
     play.run_and_tell(text)
 }
 
@@ -102,8 +108,7 @@ fn play_scene(alloc: Global, scene: Scene, text: &mut String) -> Result<(), anyh
 fn show_meeting(rt: &HostRuntime, manner: Manner) -> Result<(), anyhow::Error> {
     let mut text = String::new(rt.alloc());
     play_meeting(rt.alloc(), manner, &mut text)?;
-    println!(rt; "{}: {}", manner.name(), text.as_str())?;
-    Ok(())
+    say(rt, manner.name(), text.as_str())
 }
 
 /// Has a host meet an odd peer, and puts what came of it.
@@ -116,11 +121,11 @@ fn play_meeting(alloc: Global, manner: Manner, text: &mut String) -> Result<(), 
 fn show_crowd(rt: &HostRuntime, seconds: u32) -> Result<(), anyhow::Error> {
     let mut text = String::new(rt.alloc());
     play_crowd(rt.alloc(), seconds, &mut text)?;
-    println!(rt;
-        "1,000 connections with a call every second, 1 in 100 lost: {}",
-        text.as_str()
-    )?;
-    Ok(())
+    say(
+        rt,
+        "1,000 connections with a call every second, 1 in 100 lost",
+        text.as_str(),
+    )
 }
 
 /// Plays a thousand connections for so many seconds, and puts what came of them.
@@ -136,8 +141,7 @@ fn show_stubborn(rt: &HostRuntime) -> Result<(), anyhow::Error> {
     } else {
         "broken"
     };
-    println!(rt; "a whole conversation: {what}")?;
-    Ok(())
+    say(rt, "a whole conversation", what)
 }
 
 /// Has two hosts talk that ask once more for what is refused memory; whether all came as it should.

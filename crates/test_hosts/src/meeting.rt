@@ -1,7 +1,8 @@
 use crate::manner::Manner;
 use crate::player::SERVER;
+use crate::station::Station;
 use std::alloc::{AllocError, Global};
-use xns_host::{Event, Host, Settings, Why};
+use xns_host::{Event, HostFault, Settings, Why};
 use xns_idp::Address;
 use xns_spp::{Bytes, Endpoint, Item, opening};
 
@@ -28,7 +29,7 @@ const HALF_A_CALL: [u8; 12] = [0, 3, 0, 3, 0, 0, 0, 0, 0, 0, 0, 7];
 pub struct Meeting {
     alloc: Global,
     manner: Manner,
-    host: Host,
+    host: Station,
     /// `None`: it was not called yet.
     peer: Option<Endpoint>,
     /// What the peer said first.
@@ -48,15 +49,15 @@ fn item_of(alloc: Global, stream: u8, bytes: &[u8]) -> Result<Item, AllocError> 
 }
 
 impl Meeting {
-    pub fn new(alloc: Global, manner: Manner) -> Result<Meeting, anyhow::Error> {
-        let host = Host::new(
+    pub fn new(alloc: Global, manner: Manner) -> Result<Meeting, HostFault> {
+        let host = Station::new(
             alloc,
             SERVER.network,
             SERVER.host,
             Settings::default(),
             [1; 32],
         )?;
-        let mut meeting = Meeting {
+        Ok(Meeting {
             alloc,
             manner,
             host,
@@ -65,19 +66,22 @@ impl Meeting {
             now: 0,
             packets: 0,
             closed: None,
-        };
-        if manner == Manner::ClosesInACall {
-            meeting.be_called()?;
+        })
+    }
+
+    /// The host is called, or calls.
+    fn begin(&mut self) -> Result<(), anyhow::Error> {
+        if self.manner == Manner::ClosesInACall {
+            self.be_called()
         } else {
-            meeting.call()?;
+            self.call()
         }
-        Ok(meeting)
     }
 
     /// The host calls the peer, by more words than the peer has room for.
     fn call(&mut self) -> Result<(), anyhow::Error> {
         let number = self.host.connect(0, 0, 1_024, PEER)?;
-        self.host.call(0, number, 7, 2, 1, &[7; 5_000])?;
+        self.host.call(0, number, 7, &[7; 5_000])?;
         Ok(())
     }
 
@@ -190,6 +194,7 @@ impl Meeting {
 
     /// Runs it to its end, and puts what came of it.
     pub fn run_and_tell(&mut self, text: &mut String) -> Result<(), anyhow::Error> {
+        self.begin()?;
         self.run()?;
         Ok(self.tell(text)?)
     }

@@ -32,33 +32,34 @@ pub struct Play {
 }
 
 impl Play {
-    pub fn new(alloc: Global, scene: Scene) -> Result<Play, anyhow::Error> {
-        let mut play = Play {
+    pub fn new(alloc: Global, scene: Scene) -> Play {
+        Play {
             alloc,
             scene,
             players: Vec::new(alloc),
             network: Network::new(alloc, scene),
             now: 0,
             strangers: 0,
-        };
-        play.enter_server()?;
-        for number in 0..scene.clients {
-            play.enter_client(number.saturating_add(1))?;
         }
-        Ok(play)
     }
 
-    fn enter_server(&mut self) -> Result<(), anyhow::Error> {
-        let mut player = Player::new(self.alloc, self.scene, 0)?;
-        player.host.serve(SERVER.socket, &LISTED)?;
+    /// The player with this number enters: player 0 serves its program, the others connect to it.
+    fn enter(&mut self, number: usize) -> Result<(), anyhow::Error> {
+        let player = Player::new(self.alloc, self.scene, number)?;
         self.players.push(player)?;
+        match self.players.last_mut() {
+            Some(player) if number > 0 => player.begin(0)?,
+            Some(server) => server.host.serve(SERVER.socket, &LISTED)?,
+            None => {}
+        }
         Ok(())
     }
 
-    fn enter_client(&mut self, number: usize) -> Result<(), anyhow::Error> {
-        let mut player = Player::new(self.alloc, self.scene, number)?;
-        player.begin(0)?;
-        self.players.push(player)?;
+    /// All players enter.
+    fn enter_all(&mut self) -> Result<(), anyhow::Error> {
+        for number in 0..self.scene.clients.saturating_add(1) {
+            self.enter(number)?;
+        }
         Ok(())
     }
 
@@ -192,6 +193,7 @@ impl Play {
 
     /// Runs it to its end, and puts what came of it.
     pub fn run_and_tell(&mut self, text: &mut String) -> Result<(), anyhow::Error> {
+        self.enter_all()?;
         self.run()?;
         Ok(self.tell(text)?)
     }

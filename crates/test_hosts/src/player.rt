@@ -2,10 +2,12 @@ use crate::late::Late;
 use crate::outcome::Outcome;
 use crate::restart::Restart;
 use crate::scene::Scene;
+use crate::station::Station;
 use crate::words::{answer_to, words_of};
 use courier_sessions::Answer;
 use std::alloc::{AllocError, Global};
-use xns_host::{Event, Host, HostFault, Settings};
+use std::mem::replace;
+use xns_host::{Event, HostFault, Settings};
 use xns_idp::Address;
 
 /// Where the server is called.
@@ -27,7 +29,7 @@ pub struct Player {
     alloc: Global,
     scene: Scene,
     number: usize,
-    pub host: Host,
+    pub host: Station,
     /// The connection of a client.
     connection: usize,
     /// How many answers came.
@@ -38,13 +40,18 @@ pub struct Player {
 }
 
 /// A host that plays in a scene. With another secret its identifiers are others.
-fn host_of(alloc: Global, scene: &Scene, number: usize, secret: usize) -> Result<Host, HostFault> {
+fn host_of(
+    alloc: Global,
+    scene: &Scene,
+    number: usize,
+    secret: usize,
+) -> Result<Station, HostFault> {
     let settings = Settings {
         window: scene.window,
         ..Settings::default()
     };
     let secret = [(secret % 256) as u8; 32];
-    Host::new(alloc, 1, address_of(1, number), settings, secret)
+    Station::new(alloc, 1, address_of(1, number), settings, secret)
 }
 
 impl Player {
@@ -81,8 +88,7 @@ impl Player {
         let Ok(words) = words_of(self.alloc, self.number, self.done, self.scene.most_words) else {
             return Err(HostFault::NoMemory);
         };
-        self.host
-            .call(now, self.connection, 7, 2, 1, words.as_slice())
+        self.host.call(now, self.connection, 7, words.as_slice())
     }
 
     /// The client goes on, by a new host where it is started anew.
@@ -95,7 +101,8 @@ impl Player {
             Restart::Never | Restart::OtherIdentifier => self.number.wrapping_add(100),
         };
         self.restart = Restart::Never;
-        self.host = host_of(self.alloc, &self.scene, self.number, secret)?;
+        let host = host_of(self.alloc, &self.scene, self.number, secret)?;
+        replace(&mut self.host, host).end();
         self.begin(now)
     }
 

@@ -1,6 +1,6 @@
 use crate::player::{SERVER, address_of};
+use crate::station::Station;
 use std::alloc::{AllocError, Global};
-use xns_host::Host;
 use xns_idp::Address;
 use xns_spp::Endpoint;
 
@@ -8,7 +8,12 @@ use xns_spp::Endpoint;
 const NOWHERE: u32 = 1_000_000;
 
 /// The packet with which a stranger opens a connection comes to the server.
-pub fn come(alloc: Global, now: u64, number: usize, server: &mut Host) -> Result<(), AllocError> {
+pub fn come(
+    alloc: Global,
+    now: u64,
+    number: usize,
+    server: &mut Station,
+) -> Result<(), AllocError> {
     let own = Address {
         network: 1,
         host: address_of(2, number),

@@ -1,8 +1,9 @@
 use crate::player::SERVER;
+use crate::station::{Station, both};
 use courier_messages::{PiecedMessage, Words};
 use courier_sessions::{Answer, Program};
 use std::alloc::{AllocError, Global};
-use xns_host::{Event, Host, HostFault, Settings, Why};
+use xns_host::{Event, HostFault, Settings, Why};
 
 /// The program that the server has.
 const LISTED: [Program; 1] = [Program {
@@ -24,8 +25,8 @@ const TURNS: usize = 200;
 #[derive(Drop)]
 pub struct Stubborn {
     alloc: Global,
-    client: Host,
-    server: Host,
+    client: Station,
+    server: Station,
     now: u64,
     number: usize,
     /// How many calls were made.
@@ -40,15 +41,15 @@ pub struct Stubborn {
 }
 
 /// A host, which is asked for once more where memory is refused.
-fn host_at(alloc: Global, host: [u8; 6]) -> Result<Host, HostFault> {
-    match Host::new(alloc, 1, host, Settings::default(), [5; 32]) {
-        Err(HostFault::NoMemory) => Host::new(alloc, 1, host, Settings::default(), [5; 32]),
+fn host_at(alloc: Global, host: [u8; 6]) -> Result<Station, HostFault> {
+    match Station::new(alloc, 1, host, Settings::default(), [5; 32]) {
+        Err(HostFault::NoMemory) => Station::new(alloc, 1, host, Settings::default(), [5; 32]),
         made => made,
     }
 }
 
 /// Serves the program, once more where memory is refused.
-fn serve(host: &mut Host) -> Result<(), HostFault> {
+fn serve(host: &mut Station) -> Result<(), HostFault> {
     match host.serve(SERVER.socket, &LISTED) {
         Err(HostFault::NoMemory) => host.serve(SERVER.socket, &LISTED),
         served => served,
@@ -56,7 +57,7 @@ fn serve(host: &mut Host) -> Result<(), HostFault> {
 }
 
 /// Connects to the server, once more where memory is refused.
-fn connect(host: &mut Host) -> Result<usize, HostFault> {
+fn connect(host: &mut Station) -> Result<usize, HostFault> {
     match host.connect(0, 0, 1_024, SERVER) {
         Err(HostFault::NoMemory) => host.connect(0, 0, 1_024, SERVER),
         number => number,
@@ -64,15 +65,15 @@ fn connect(host: &mut Host) -> Result<usize, HostFault> {
 }
 
 /// Calls a program, once more where memory is refused.
-fn call(host: &mut Host, now: u64, number: usize, program: u32) -> Result<(), HostFault> {
-    match host.call(now, number, program, 2, 1, &LONG) {
-        Err(HostFault::NoMemory) => host.call(now, number, program, 2, 1, &LONG),
+fn call(host: &mut Station, now: u64, number: usize, program: u32) -> Result<(), HostFault> {
+    match host.call(now, number, program, &LONG) {
+        Err(HostFault::NoMemory) => host.call(now, number, program, &LONG),
         made => made,
     }
 }
 
 /// Answers a call, once more where memory is refused.
-fn answer(host: &mut Host, now: u64, number: usize, words: &[u16]) -> Result<(), HostFault> {
+fn answer(host: &mut Station, now: u64, number: usize, words: &[u16]) -> Result<(), HostFault> {
     match host.answer(now, number, Answer::Return, words) {
         Err(HostFault::NoMemory) => host.answer(now, number, Answer::Return, words),
         given => given,
@@ -88,7 +89,7 @@ fn words_of(alloc: Global, message: &PiecedMessage) -> Result<Words, AllocError>
 }
 
 /// Carries the packets of one host to the other. A packet that is refused memory is asked for once more.
-fn carry(now: u64, from: &mut Host, to: &mut Host) {
+fn carry(now: u64, from: &mut Station, to: &mut Station) {
     for _ in 0..100 {
         match from.next_packet(now) {
             Ok(Some(out)) => {
@@ -102,10 +103,12 @@ fn carry(now: u64, from: &mut Host, to: &mut Host) {
 
 impl Stubborn {
     pub fn new(alloc: Global) -> Result<Stubborn, HostFault> {
+        let client = host_at(alloc, [0, 0, 170, 0, 5, 0])?;
+        let (client, server) = both(client, host_at(alloc, SERVER.host))?;
         Ok(Stubborn {
             alloc,
-            client: host_at(alloc, [0, 0, 170, 0, 5, 0])?,
-            server: host_at(alloc, SERVER.host)?,
+            client,
+            server,
             now: 0,
             number: 0,
             made: 0,

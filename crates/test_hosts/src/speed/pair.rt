@@ -1,7 +1,8 @@
 use crate::speed::WORDS;
+use crate::station::{Station, both};
 use courier_sessions::{Answer, Program};
 use std::alloc::Global;
-use xns_host::{Event, Host, HostFault, Settings};
+use xns_host::{Event, HostFault, Settings};
 use xns_idp::Address;
 
 /// Where the service is.
@@ -29,14 +30,14 @@ pub const LISTED: Program = Program {
 #[derive(Drop)]
 pub struct Pair {
     alloc: Global,
-    client: Host,
-    service: Host,
+    client: Station,
+    service: Station,
     now: u64,
     answered: u32,
 }
 
 /// Carries the packets of one host to the other.
-fn carry(now: u64, from: &mut Host, to: &mut Host) -> Result<(), HostFault> {
+fn carry(now: u64, from: &mut Station, to: &mut Station) -> Result<(), HostFault> {
     for _ in 0..40 {
         let Some(out) = from.next_packet(now)? else {
             break;
@@ -47,22 +48,24 @@ fn carry(now: u64, from: &mut Host, to: &mut Host) -> Result<(), HostFault> {
 }
 
 /// A host at this address.
-fn host_at(alloc: Global, address: Address, connections: usize) -> Result<Host, HostFault> {
+fn host_at(alloc: Global, address: Address, connections: usize) -> Result<Station, HostFault> {
     let settings = Settings {
         connections,
         idle: 0,
         ..Settings::default()
     };
-    Host::new(alloc, address.network, address.host, settings, [1; 32])
+    Station::new(alloc, address.network, address.host, settings, [1; 32])
 }
 
 impl Pair {
     /// Two hosts with room for so many connections.
     pub fn new(alloc: Global, connections: usize) -> Result<Pair, HostFault> {
+        let client = host_at(alloc, CLIENT, connections)?;
+        let (client, service) = both(client, host_at(alloc, SERVICE, connections))?;
         Ok(Pair {
             alloc,
-            client: host_at(alloc, CLIENT, connections)?,
-            service: host_at(alloc, SERVICE, connections)?,
+            client,
+            service,
             now: 0,
             answered: 0,
         })
@@ -108,7 +111,7 @@ impl Pair {
     /// Makes a call, which is answered.
     fn call(&mut self, number: usize) -> Result<(), anyhow::Error> {
         self.now = self.now.saturating_add(1);
-        self.client.call(self.now, number, 7, 2, 1, &WORDS)?;
+        self.client.call(self.now, number, 7, &WORDS)?;
         self.talk()
     }
 

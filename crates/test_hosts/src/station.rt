@@ -1,0 +1,100 @@
+use courier_sessions::{Answer, Program};
+use std::alloc::Global;
+use xns_host::{Event, Host, HostFault, Outgoing, Settings};
+use xns_idp::Address;
+
+/// A host that is played. Its calls are those of the host, and promise nothing: a play tells what came of them. So no proof of a play reads
+/// what the host promises.
+#[derive(Drop)]
+pub struct Station {
+    host: Host,
+}
+
+impl Station {
+    pub fn new(
+        alloc: Global,
+        network: u32,
+        host: [u8; 6],
+        settings: Settings,
+        secret: [u8; 32],
+    ) -> Result<Station, HostFault> {
+        let host = Host::new(alloc, network, host, settings, secret)?;
+        Ok(Station { host })
+    }
+
+    pub fn serve(&mut self, socket: u16, programs: &[Program]) -> Result<(), HostFault> {
+        self.host.serve(socket, programs)
+    }
+
+    pub fn connect(
+        &mut self,
+        now: u64,
+        via: u32,
+        socket: u16,
+        peer: Address,
+    ) -> Result<usize, HostFault> {
+        self.host.connect(now, via, socket, peer)
+    }
+
+    /// Calls procedure 1 of version 2 of the program.
+    pub fn call(
+        &mut self,
+        now: u64,
+        number: usize,
+        program: u32,
+        words: &[u16],
+    ) -> Result<(), HostFault> {
+        self.host.call(now, number, program, 2, 1, words)
+    }
+
+    pub fn answer(
+        &mut self,
+        now: u64,
+        number: usize,
+        answer: Answer,
+        words: &[u16],
+    ) -> Result<(), HostFault> {
+        self.host.answer(now, number, answer, words)
+    }
+
+    pub fn close(&mut self, now: u64, number: usize) -> Result<(), HostFault> {
+        self.host.close(now, number)
+    }
+
+    pub fn receive(&mut self, now: u64, via: u32, bytes: &[u8]) -> bool {
+        self.host.receive(now, via, bytes)
+    }
+
+    pub fn next_event(&mut self) -> Option<Event> {
+        self.host.next_event()
+    }
+
+    pub fn next_packet(&mut self, now: u64) -> Result<Option<Outgoing>, HostFault> {
+        self.host.next_packet(now)
+    }
+
+    pub fn wake(&self) -> Option<u64> {
+        self.host.wake()
+    }
+
+    pub fn connections(&self) -> usize {
+        self.host.connections()
+    }
+
+    /// It goes, and all that it has.
+    pub fn end(self) {}
+}
+
+/// Two hosts, unless the other was refused.
+pub fn both(
+    one: Station,
+    other: Result<Station, HostFault>,
+) -> Result<(Station, Station), HostFault> {
+    match other {
+        Ok(other) => Ok((one, other)),
+        Err(fault) => {
+            one.end();
+            Err(fault)
+        }
+    }
+}
