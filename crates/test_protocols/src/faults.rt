@@ -58,9 +58,15 @@ fn tell(text: &mut String) -> Result<(), AllocError> {
     lines(text, &DROPPED)
 }
 
+/// A fault, and behind these words what it says.
+pub fn put<E: Error>(text: &mut String, fault: &E, words: &str) -> Result<(), AllocError> {
+    write!(text, "{fault:?}{words}{fault}")
+}
+
 /// A fault, and what it says.
 fn line<E: Error>(text: &mut String, fault: &E) -> Result<(), AllocError> {
-    writeln!(text, "{fault:?} says: {fault}")
+    put(text, fault, " says: ")?;
+    text.push_str("\n")
 }
 
 /// Each fault, and what it says.

@@ -52,22 +52,24 @@ fn show_all(rt: &HostRuntime, ends: &mut Ends) -> Result<(), anyhow::Error> {
     Ok(())
 }
 
-/// Does what a line says, and prints the answer: nothing of a comment and of steps without a name.
+/// Does what a line says: nothing of a comment.
 fn show(rt: &HostRuntime, ends: &mut Ends, line: &str) -> Result<(), anyhow::Error> {
-    match line.as_bytes() {
-        [] | [b'#', ..] => return Ok(()),
-        b"faults" => return faults::show(rt),
-        b"plays" => return plays::show(rt),
-        b"timeouts" => return timeouts::show(rt),
-        b"long play" => return long_play::show(rt),
-        _ => {}
+    match line {
+        "" => Ok(()),
+        "faults" => faults::show(rt),
+        "plays" => plays::show(rt),
+        "timeouts" => timeouts::show(rt),
+        "long play" => long_play::show(rt),
+        _ if line.starts_with("#") => Ok(()),
+        _ => show_answer(rt, ends, line),
     }
-    let (name, steps) = match line.split_once(" = ") {
-        Some((name, steps)) => (Some(name), steps),
-        None => (None, line),
-    };
+}
+
+/// Takes the steps of a line, and prints the answer: nothing of steps without a name.
+fn show_answer(rt: &HostRuntime, ends: &mut Ends, line: &str) -> Result<(), anyhow::Error> {
+    let (name, steps) = line.split_once(" = ").unwrap_or(("", line));
     let answer = answer(rt.alloc(), ends, steps)?;
-    if let Some(name) = name {
+    if !name.is_empty() {
         println!(rt; "{name} {}", answer.as_str())?;
     }
     Ok(())

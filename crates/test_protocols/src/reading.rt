@@ -1,8 +1,7 @@
 //! What functions make of bytes.
-use crate::small;
 use crate::text::{first_word, put, put_hexed};
+use crate::{faults, small};
 use std::alloc::{AllocError, Global};
-use std::fmt::Write;
 use xns_idp::{cycle_sum, decode};
 use xns_small::{read_echo, read_error, read_exchange};
 use xns_spp::{nearest, opening, read_header};
@@ -36,7 +35,7 @@ fn put_read(text: &mut String, name: &str, bytes: &[u8]) -> Result<(), AllocErro
 fn put_fault(text: &mut String, bytes: &[u8]) -> Result<(), AllocError> {
     match decode(bytes) {
         Ok(_) => text.push_str("none"),
-        Err(fault) => write!(text, "{fault:?} in words: {fault}"),
+        Err(fault) => faults::put(text, &fault, " in words: "),
     }
 }
 

@@ -15,12 +15,17 @@ pub struct Counts {
     pub repeats: u32,
 }
 
+/// A count, and what was counted.
+fn put<W: fmt::Write>(f: &mut fmt::Formatter<W>, count: u32, what: &str) -> fmt::Result {
+    write!(f, "{count} {what}")
+}
+
 impl fmt::Display for Counts {
     fn fmt<W: fmt::Write>(&self, f: &mut fmt::Formatter<W>) -> fmt::Result {
-        write!(
-            f,
-            "{} handed up, {} timeouts, {} packets there and {} back, {} repeats",
-            self.handed, self.timeouts, self.there, self.back, self.repeats
-        )
+        put(f, self.handed, "handed up, ")?;
+        put(f, self.timeouts, "timeouts, ")?;
+        put(f, self.there, "packets there and ")?;
+        put(f, self.back, "back, ")?;
+        put(f, self.repeats, "repeats")
     }
 }

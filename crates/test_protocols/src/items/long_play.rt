@@ -1,6 +1,7 @@
 //! Plays 140,000 items each way through a network that loses, repeats and reorders packets, and delivers old ones again.
 use item_world::{Event, ItemTrace, Items, Side, play_items};
 use std::alloc::{AllocError, Global};
+use std::fmt::Write;
 use test_setting::{WIDE_SETUP, numbered};
 
 /// So many items go out each way in a round.
@@ -26,30 +27,35 @@ pub fn show(rt: &HostRuntime) -> Result<(), anyhow::Error> {
 }
 
 fn show_trace(rt: &HostRuntime, trace: &ItemTrace) -> Result<(), anyhow::Error> {
-    println!(rt;
-        "sent {} and {}",
-        trace.a_sent.as_slice().len(),
-        trace.b_sent.as_slice().len()
-    )?;
-    println!(rt;
-        "handed up in order {} and {}",
-        in_order(&trace.b_handed),
-        in_order(&trace.a_handed)
-    )?;
-    println!(rt; "packets {}", trace.bag.as_slice().len())?;
+    let mut text = String::new(rt.alloc());
+    tell(&mut text, trace)?;
+    print!(rt; "{}", text.as_str())?;
     Ok(())
 }
 
+fn tell(text: &mut String, trace: &ItemTrace) -> Result<(), AllocError> {
+    let sent = (trace.a_sent.as_slice().len(), trace.b_sent.as_slice().len());
+    tell_both(text, "sent", sent)?;
+    let handed = (in_order(&trace.b_handed), in_order(&trace.a_handed));
+    tell_both(text, "handed up in order", handed)?;
+    writeln!(text, "packets {}", trace.bag.as_slice().len())
+}
+
+/// A line of two counts.
+fn tell_both(text: &mut String, what: &str, counts: (usize, usize)) -> Result<(), AllocError> {
+    writeln!(text, "{what} {} and {}", counts.0, counts.1)
+}
+
 /// How many of the items, from the first on, have their place as their body.
-fn in_order(items: &Items) -> u32 {
+fn in_order(items: &Items) -> usize {
     let mut number = 0_u32;
     for item in items.as_slice() {
         if item.body.as_slice() != number.to_be_bytes().as_slice() {
-            return number;
+            break;
         }
         number = number.saturating_add(1);
     }
-    number
+    number as usize
 }
 
 /// The number of the first packet of a round: two packets open the connection; in each round 16 items go out and get 16 replies,

@@ -189,17 +189,19 @@ fn tell_nothing(alloc: Global, text: &mut String) -> Result<(), AllocError> {
     Ok(())
 }
 
+/// How many items there are at both ends, and what became of them.
+fn put_both(text: &mut String, a: &Items, b: &Items, what: &str) -> Result<(), AllocError> {
+    let (a, b) = (a.as_slice().len(), b.as_slice().len());
+    write!(text, "{a} and {b} {what}, ")
+}
+
 /// How much came of a play.
 fn put_counts(text: &mut String, name: &str, trace: &ItemTrace) -> Result<(), AllocError> {
-    writeln!(
-        text,
-        "{name}: {} and {} sent, {} and {} handed up, {} packets",
-        trace.a_sent.as_slice().len(),
-        trace.b_sent.as_slice().len(),
-        trace.a_handed.as_slice().len(),
-        trace.b_handed.as_slice().len(),
-        trace.bag.as_slice().len()
-    )
+    text.push_str(name)?;
+    text.push_str(": ")?;
+    put_both(text, &trace.a_sent, &trace.b_sent, "sent")?;
+    put_both(text, &trace.a_handed, &trace.b_handed, "handed up")?;
+    writeln!(text, "{} packets", trace.bag.as_slice().len())
 }
 
 fn tell_play(
