@@ -1,14 +1,14 @@
 -- The packets that a connection gives are those that waited and those that were made on the way.
-use Rattle.std.proofs.Common.{◌≡◌, ◌∙◌, ap, sym, refl, subst, ℕ, List, [], ◌∷◌, ◌++◌, Bool, false, append-nil, append_assoc, Option, Some, None, Result, Ok, Err, OnOk, OnErr, IfOk}
+use Rattle.std.proofs.Common.{◌≡◌, ◌∙◌, ap, sym, refl, subst, ℕ, List, [], ◌++◌, Bool, false, append-nil, append_assoc, Option, None, Result, Ok, Err, OnOk, OnErr, IfOk}
 use Rattle.std.specs.Option.{option_to_list}
 use Rattle.xns_spp.specs.Held.{Held, StandsFor}
 use Rattle.xns_spp.specs.Laws.{OtherStepsAcceptAndHandUpNothing, OtherStepsHearNothing}
 use Rattle.xns_spp.specs.Sending.{flush_answer, after_flush}
 use Rattle.xns_spp.specs.State.{State}
 use Rattle.xns_spp.specs.Telling.{resend_answer, after_resend, told_answer}
-use Rattle.xns_host.specs.Story.{Story, Runs, start, sends, takes, flushes, resends, tells, made_on, GoesOn}
+use Rattle.xns_host.specs.Story.{Story, Runs, start, sends, takes, flushes, resends, tells, made_on}
 use Rattle.xns_host.specs.Closing.{drains, closing_items}
-use Rattle.xns_host.specs.Telling.{Tells, Goes, Gives, MovesAndGives}
+use Rattle.xns_host.specs.Telling.{Goes, Gives, MovesAndGives}
 use Rattle.xns_host.specs.declared.closing.Closing.{Closing}
 use Rattle.xns_host.specs.declared.conversation.Conversation.{Conversation}
 use Rattle.xns_host.specs.declared.side.Side.{Side}

@@ -1,4 +1,4 @@
-use Rattle.std.proofs.Common.{◌≡◌, ap, refl}
+use Rattle.std.proofs.Common.{ap, refl}
 use Rattle.xns_spp.specs.Held.{Held}
 use Rattle.xns_host.proofs.Tellings.{flushed, flushes_all, same_end}
 use Rattle.xns_host.proofs.Giving.{gives_none, gives_flushed}
