@@ -69,8 +69,9 @@ pub fn a_connection_always_has_a_story()
         → IsLived programs start c l }
 {}
 
-/// A story of a connection goes on with each step, from where the program had something done, or a packet had come: what the step leads to
-/// is a story of the connection then. So one story can be followed from the new connection on.
+/// One story of a connection can be followed from the new connection on. Where a connection has a story, in which the program did all that
+/// it did, it still has after a step: the story that the step's clause names, which goes on from where the program had done something
+/// more, or a packet had come.
 pub fn one_story_goes_on()
     ensures opens { (programs : Option (List Program)) (start : State) (c : Conversation) → Tells c (new_story programs start)
         → IsTold programs start c no_deeds (new_story programs start) }
