@@ -1,5 +1,6 @@
 mod Agendas
 mod Apart
+mod Beside
 mod Dues
 mod Fetching
 mod Giving

@@ -20,7 +20,7 @@ use Rattle.xns_host.specs.declared.why.Why.{Why}
 
 -- ---- places
 
-same_or_other : (a b : ℕ) → (a ≡ b) ⊎ (a ≢ b)
+pub same_or_other : (a b : ℕ) → (a ≡ b) ⊎ (a ≢ b)
 same_or_other a b = grind arith
 
 pub place_set : {X : Type 0} (xs : List X) (n : ℕ) (v : X) → n < length xs → slice_get (slice_set xs n v) n ≡ Some v
@@ -33,7 +33,7 @@ place_other (x ∷ xs) zero (suc k) v other = refl
 place_other (x ∷ xs) (suc n) zero v other = refl
 place_other (x ∷ xs) (suc n) (suc k) v other = place_other xs n k v (λ e. other (ap suc e))
 
-one_place : {X : Type 0} (a b : X) (o : Option X) → o ≡ Some a → o ≡ Some b → a ≡ b
+pub one_place : {X : Type 0} (a b : X) (o : Option X) → o ≡ Some a → o ≡ Some b → a ≡ b
 one_place a b o left right = cc
 
 -- ---- turns

@@ -126,7 +126,7 @@ stopped_above tree times at v b two within is here =
 pub whole : (tree times : List Time) (at : ℕ) → at ≡ 1 → IsTreeBut tree times at → IsTree tree times
 whole tree times at e b = record { same = b.same; rule = λ i some less. b.rule i some less (λ f. absurd (omega (arith, e, f, some))) (λ f. absurd (omega (arith, e, f, some))) }
 
-no_times : (n i : ℕ) → get_or (replicate n never) i None ≡ None
+pub no_times : (n i : ℕ) → get_or (replicate n never) i None ≡ None
 no_times zero i = refl
 no_times (suc n) zero = refl
 no_times (suc n) (suc i) = no_times n i

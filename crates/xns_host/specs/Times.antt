@@ -20,6 +20,11 @@ pub record IsEarliest (times : List (Option ℕ)) (number time : ℕ) : Type 0 w
 pub record HasNoneBy (times : List (Option ℕ)) (now : ℕ) : Type 0 where
   pub after : (k t : ℕ) → slice_get times k ≡ Some (Some t) → now < t
 
+-- a number's time, if it has one, may stand beside the others', among which it has none
+pub record IsBeside (others : List (Option ℕ)) (number : ℕ) (time : Option ℕ) : Type 0 where
+  pub none : slice_index_or others number None ≡ None
+  pub within : (t : ℕ) → time ≡ Some t → number < length others
+
 -- ---- the tree
 
 abbrev pub sooner : Option ℕ → Option ℕ → Option ℕ

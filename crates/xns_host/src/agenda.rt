@@ -135,6 +135,7 @@ impl Agenda {
     }
 
     /// The connection with this number is such.
+    #[inline(always)]
     pub fn note(&mut self, number: usize, facts: Facts)
         requires { number < length self.old.dues }
         ensures noted { self.new ≡ noted self.old number facts }
@@ -194,6 +195,7 @@ impl Agenda {
     }
 
     /// The connection with this number has had its turn to give a packet.
+    #[inline(always)]
     pub fn pass_packet(&mut self, number: usize)
         requires { number < length self.old.dues }
         ensures passed { self.new ≡ record self.old { packets = with_turn self.old.packets number false } }
@@ -212,6 +214,7 @@ impl Agenda {
     }
 
     /// The connection with this number has had its turn to tell something.
+    #[inline(always)]
     pub fn pass_event(&mut self, number: usize)
         requires { number < length self.old.dues }
         ensures passed { self.new ≡ record self.old { events = with_turn self.old.events number false } }

@@ -113,6 +113,7 @@ impl Guest {
     }
 
     /// Since when it lingers, if it is closed and the program was told.
+    #[inline(always)]
     fn lingers_since(&self) -> Option<u64>
         ensures { result ≡ lingers_since self.now.connection }
     {
@@ -124,6 +125,7 @@ impl Guest {
     }
 
     /// Since when its peer is silent, which opened it and said no more.
+    #[inline(always)]
     fn stranger_since(&self) -> Option<u64>
         ensures { result ≡ stranger_since self.now }
     {
@@ -140,6 +142,7 @@ impl Guest {
     }
 
     /// What a host has to know of it.
+    #[inline(always)]
     pub fn facts(&self) -> Facts
         ensures { result ≡ facts_of self.now }
     {

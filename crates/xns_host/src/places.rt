@@ -29,6 +29,7 @@ impl Places {
     }
 
     /// The connection with this number lingers since this time, or it does not linger.
+    #[inline(always)]
     pub fn set_closed(&mut self, number: usize, since: Option<u64>)
         requires { number < length self.old.closed }
         ensures { self.new ≡ record self.old { closed = slice_set self.old.closed number since } }
@@ -37,6 +38,7 @@ impl Places {
     }
 
     /// The peer of the connection with this number opened it, never confirmed it, and is silent since this time; or not.
+    #[inline(always)]
     pub fn set_stranger(&mut self, number: usize, since: Option<u64>)
         requires { number < length self.old.strangers }
         ensures { self.new ≡ record self.old { strangers = slice_set self.old.strangers number since } }

@@ -39,6 +39,7 @@ pub fn no_guests(alloc: Global, most: usize) -> Result<Vec<Option<Guest>>, Alloc
 }
 
 /// What a host has to know of the connection of a place.
+#[inline(always)]
 pub fn facts_in(place: &Option<Guest>) -> Facts
     ensures { result ≡ facts_in place.now }
 {

@@ -42,6 +42,7 @@ impl Turns {
     }
 
     /// The connection with this number has the last turn.
+    #[inline(always)]
     pub fn put_last(&mut self, number: usize)
         requires { number < length self.old.tickets }
         ensures { self.new ≡ with_last self.old number }
@@ -51,6 +52,7 @@ impl Turns {
     }
 
     /// The connection with this number has a turn, behind the others if it had none; or it has none.
+    #[inline(always)]
     pub fn set(&mut self, number: usize, has: bool)
         requires { number < length self.old.tickets }
         ensures { self.new ≡ with_turn self.old number has }

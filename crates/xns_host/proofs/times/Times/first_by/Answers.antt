@@ -1,15 +1,22 @@
-use Rattle.std.proofs.Common.{◌≡◌, rules, subst, ℕ, ◌≤◌}
-use Rattle.xns_host.specs.Times.{IsEarliest}
-use Rattle.xns_host.proofs.Tree.{none_soon}
+use Rattle.std.proofs.Common.{◌≡◌, subst, ℕ, ◌<◌, List, Option, Some}
+use Rattle.xns_host.specs.Times.{IsEarliest, HasNoneBy}
+use Rattle.xns_host.proofs.Beside.{first_of_others, later_than, later_too, none_by, nothing_after}
 use Rattle.xns_host.proofs.times.Times.first_by.Goals as goal
+use Rattle.xns_host.proofs.times.Times.first_by.Goals.{in_default-via-in-Some+else-time-now, in_default-via-in_default}
 
-pub returns-then-time-now-clause-some : goal.returns-then-time-now-clause-some
-returns-then-time-now-clause-some c = λ k t is.
-    let here : IsEarliest c.args.self.now c.in_ok-number.number c.in_ok-number.time = first_of (search (rules, c.in_ok-number.ensures.some), search (rules, c.first.ensures.some), search (rules, c.first.ensures.some, c.in_ok-number.was)) in
-    let both : ◌≡◌ {A = ℕ × ℕ} (c.in_ok-number.number, c.in_ok-number.time) (k, t) = cc in
-    subst (λ (z : ℕ × ℕ). IsEarliest c.args.self.now z.0 z.1 × (z.1 ≤ c.args.now)) both (here, c.if-time-now.true)
+beside_later : (c : goal.After-first_by) → (u : ℕ) → c.self.inside.time ≡ Some u → c.args.now < u
+beside_later c = elim c.in_default.branch [
+  | in_default-via-in-Some+else-time-now w ↦ later_than c.args.now w.in-Some.time c.self.inside.time w.in-Some.is w.if-time-now.false
+  | in_default-via-in_default w ↦ nothing_after c.args.now c.self.inside.time w.in_default.is
+]
 
-pub returns-else-time-now-clause-none : goal.returns-else-time-now-clause-none
-returns-else-time-now-clause-none c = λ _.
-    let here : IsEarliest c.args.self.now c.in_ok-number.number c.in_ok-number.time = first_of (search (rules, c.in_ok-number.ensures.some), search (rules, c.first.ensures.some), search (rules, c.first.ensures.some, c.in_ok-number.was)) in
-    none_soon c.args.self.now c.args.now c.in_ok-number.time here.least c.if-time-now.false
+pub returns-in_default-clause-some : goal.returns-in_default-clause-some
+returns-in_default-clause-some c = λ k t is. (
+  subst (λ (xs : List (Option ℕ)). IsEarliest xs k t) c.self.view_is
+      (first_of_others c.self.inside.others c.self.inside.last k t c.self.inside.time c.self.invariant.none (c.first_by.ensures.some k t is) (later_too t c.args.now c.self.inside.time (c.first_by.ensures.by k t is) (beside_later c))),
+  c.first_by.ensures.by k t is,
+)
+
+pub returns-in_default-clause-none : goal.returns-in_default-clause-none
+returns-in_default-clause-none c = λ is. subst (λ (xs : List (Option ℕ)). HasNoneBy xs c.args.now) c.self.view_is
+    (none_by c.self.inside.others c.self.inside.last c.args.now c.self.inside.time (c.first_by.ensures.none is) (beside_later c))

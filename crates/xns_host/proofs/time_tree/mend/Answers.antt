@@ -1,7 +1,7 @@
 use Rattle.std.proofs.Common.{◌/◌, ◌≤◌, arith}
 use Rattle.std.proofs.lemmas.List.{length-set}
 use Rattle.xns_host.proofs.Tree.{mended_above, stopped_above}
-use Rattle.xns_host.proofs.times.mend.Goals as goal
+use Rattle.xns_host.proofs.time_tree.mend.Goals as goal
 
 pub loop-at-preserved : goal.loop-at-preserved
 loop-at-preserved c =

@@ -1,7 +1,7 @@
 use Rattle.std.proofs.Common.{◌≡◌, rules, sym, subst, ℕ, List, replicate, Option, None}
 use Rattle.xns_host.specs.Times.{IsTree}
 use Rattle.xns_host.proofs.Tree.{empty}
-use Rattle.xns_host.proofs.times.Times.new.Goals as goal
+use Rattle.xns_host.proofs.time_tree.TimeTree.new.Goals as goal
 
 pub invariant_of-result : goal.invariant_of-result
 invariant_of-result c =

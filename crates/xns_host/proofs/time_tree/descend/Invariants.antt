@@ -1,6 +1,6 @@
 use Rattle.std.proofs.Common.{◌≡◌, ◌+◌, ◌-◌, ◌<◌, ◌≤◌, length, Some}
 use Rattle.xns_host.specs.Times.{node}
-use Rattle.xns_host.proofs.times.descend.Given as goal
+use Rattle.xns_host.proofs.time_tree.descend.Given as goal
 
 abbrev pub invariant-loop-at : goal.invariant-loop-at
 invariant-loop-at l = record { time : node l.tree l.times l.at ≡ Some l.time; some : 1 ≤ l.at; within : l.at < length l.tree + length l.times }
