@@ -1,18 +1,19 @@
 -- What a host tells next.
 use Rattle.std.proofs.Common.{◌≡◌, ◌∙◌, ap, refl, subst, sym, ℕ, ◌+◌, ◌<◌, true, false, Bool, List, length, Option, Some, None, slice_get, get_or, arith}
-use Rattle.std.specs.Prelude.{slice_set, count_by, cond, ◌||◌, if◌then◌else◌}
+use Rattle.std.specs.Prelude.{slice_set, count_by, cond, IfSome, ◌||◌, if◌then◌else◌}
 use Rattle.std.specs.Option.{is_some}
 use Rattle.std.proofs.lemmas.List.{length-set}
 use Rattle.std.proofs.lemmas.List.Sums.{sum_by-set}
 use Rattle.std.proofs.lemmas.Option.{slice_get-get_or}
 use Rattle.xns_host.specs.Agenda.{Plan}
 use Rattle.xns_host.specs.Events.{event_in}
-use Rattle.xns_host.specs.Hosting.{HasNoEvent, HasNoPacket, IsAllNoted, IsApart, IsNextEvent}
+use Rattle.xns_host.specs.Hosting.{GoesOutBy, SomeGuest, HasNoEvent, HasNoPacket, IsAllNoted, IsApart, IsNextEvent, TellsIn}
 use Rattle.xns_host.specs.Times.{HasEarliest}
 use Rattle.xns_host.specs.Turns.{Line, has_turn, with_turn}
 use Rattle.xns_host.specs.declared.connection.Connection.{Connection}
 use Rattle.xns_host.specs.declared.event.Event.{Event}
 use Rattle.xns_host.specs.declared.guest.Guest.{Guest}
+use Rattle.xns_host.specs.declared.outgoing.Outgoing.{Outgoing}
 use Rattle.xns_host.specs.declared.why.Why.{Why}
 use Rattle.xns_host.proofs.Agendas.{nobody, within}
 
@@ -39,16 +40,17 @@ pub no_event : (a : Plan) (old gs : Places) → IsAllNoted a gs → ((k : ℕ) �
 no_event a old gs all same none = λ k place there.
     (all.each k place (same k ∙ there)).event (no_turn (has_turn a.events k) a.events k none refl)
 
-told_in : (old new : Places) (n : ℕ) (e : Event) (place : Option Guest) → slice_get old n ≡ Some place → Some e ≡ event_in n place → IsApart old new n
-    → IsNextEvent old new e
-told_in old new n e None there told apart = absurd (cc)
-told_in old new n e (Some g) there told apart = record { number = n; guest = g; there = there; told = sym told; others = apart }
+told_in : (old new : Places) (n : ℕ) (e : Event) (place : Option Guest) → slice_get old n ≡ Some place → Some e ≡ event_in n place
+    → ((g : Guest) → place ≡ Some g → TellsIn g.connection (slice_get new n)) → IsApart old new n → IsNextEvent old new e
+told_in old new n e None there told once apart = absurd (cc)
+told_in old new n e (Some g) there told once apart = record { number = n; guest = g; there = there; told = sym told; once = once g refl; others = apart }
 
 pub next_told : (old mid new : Places) (n : ℕ) (e : Event) → ((k : ℕ) → slice_get mid k ≡ slice_get old k) → n < length mid
-    → ((place : Option Guest) → slice_get mid n ≡ Some place → Some e ≡ event_in n place) → IsApart mid new n → IsNextEvent old new e
-next_told old mid new n e same less told apart =
+    → ((place : Option Guest) → slice_get mid n ≡ Some place → Some e ≡ event_in n place)
+    → ((g : Guest) → slice_get mid n ≡ Some (Some g) → TellsIn g.connection (slice_get new n)) → IsApart mid new n → IsNextEvent old new e
+next_told old mid new n e same less told once apart =
     let there : slice_get mid n ≡ Some (get_or mid n None) = slice_get-get_or mid n None less in
-    told_in old new n e (get_or mid n None) (sym (same n) ∙ there) (told (get_or mid n None) there)
+    told_in old new n e (get_or mid n None) (sym (same n) ∙ there) (told (get_or mid n None) there) (λ g is. once g (there ∙ ap Some is))
     (record { others = λ k other. apart.others k other ∙ same k })
 
 -- ---- packets
@@ -66,6 +68,12 @@ packet_less line next n has is =
 pub no_packet : (a : Plan) (gs : Places) → IsAllNoted a gs → HasEarliest a.packets.tickets None → HasNoPacket gs
 no_packet a gs all none = λ k g there. sym (all.each k (Some g) there).facts.packet ∙ no_turn (has_turn a.packets k) a.packets k none refl
 
+-- what goes out goes by the way of the connection in this place
+pub goes_out : (gs : Places) (n : ℕ) (place : Option Guest) (made : Option Outgoing) → slice_get gs n ≡ Some place
+    → IfSome made (λ o. GoesOutBy place o) → IfSome made (λ o. SomeGuest (λ p. GoesOutBy p o) gs)
+goes_out gs n place None there via = tt
+goes_out gs n place (Some o) there via = record { number = n; place = place; there = there; is = via }
+
 -- ---- why it is closed
 
 told_by : (b : Bool) (o : Option Why) → None ≡ (if b then None else o) → (b || is_some o) ≡ b
@@ -77,3 +85,13 @@ told_by false (Some w) none = absurd (cc)
 pub untold : (old new : Connection) → new ≡ record old { told = new.told } → new.told ≡ (old.told || is_some old.closed)
     → None ≡ (if old.told then None else old.closed) → new ≡ old
 untold old new is told none = is ∙ ap (λ (b : Bool). record old { told = b }) (told ∙ told_by old.told old.closed none)
+
+told_true : (b : Bool) (o : Option Why) (w : Why) → Some w ≡ (if b then None else o) → (b || is_some o) ≡ true
+told_true true o w some = refl
+told_true false None w some = absurd (cc)
+told_true false (Some v) w some = refl
+
+-- where there is one, the program is told from now on
+pub told_now : (old new : Connection) (w : Why) → new ≡ record old { told = new.told } → new.told ≡ (old.told || is_some old.closed)
+    → Some w ≡ (if old.told then None else old.closed) → new ≡ record old { told = true }
+told_now old new w is told some = is ∙ ap (λ (b : Bool). record old { told = b }) (told ∙ told_true old.told old.closed w some)

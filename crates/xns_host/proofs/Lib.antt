@@ -4,7 +4,9 @@ mod Beside
 mod Dues
 mod Fetching
 mod Giving
+mod Going
 mod Handing
+mod Hearing
 mod Leading
 mod Listing
 mod Lives

@@ -2,14 +2,24 @@
 use Rattle.std.specs.Prelude.{◌≡◌, ◌≢◌, ℕ, Bool, true, false, not, ◌&&◌, ◌||◌, List, [], if◌then◌else◌, Option, Some, None, position}
 use Rattle.std.specs.Prelude.{slice_get}
 use Rattle.std.specs.Option.{is_some, is_none}
+use Rattle.std.specs.BTreeMap.{BTreeMap}
+use Rattle.std.specs.Global.{Global}
+use Rattle.std.specs.declared.vec.Vec.{Vec}
+use Rattle.courier_sessions.specs.declared.program.Program.{Program}
+use Rattle.xns_idp.specs.Packet.{PacketModel}
 use Rattle.xns_idp.specs.declared.address.Address.{Address}
-use Rattle.xns_spp.specs.State.{initiator_state}
+use Rattle.xns_spp.specs.Held.{StandsFor}
+use Rattle.xns_spp.specs.State.{State, initiator_state, responder_state}
 use Rattle.xns_host.specs.Agenda.{Plan, IsNoted}
 use Rattle.xns_host.specs.Events.{event_in}
 use Rattle.xns_host.specs.Identifiers.{Ids, is_free}
+use Rattle.courier_messages.specs.declared.message.Message.{Message}
 use Rattle.xns_host.specs.Living.{GoesFrom}
-use Rattle.xns_host.specs.Story.{Story, has_message, new_story}
-use Rattle.xns_host.specs.Telling.{Tells}
+use Rattle.xns_host.specs.Quotes.{is_opened_by, quoted_opening}
+use Rattle.xns_host.specs.Register.{owner_in}
+use Rattle.xns_host.specs.Services.{programs_at}
+use Rattle.xns_host.specs.Story.{Story, has_message, new_story, waiting_message, with_handed}
+use Rattle.xns_host.specs.Telling.{Tells, Goes, Hears}
 use Rattle.xns_host.specs.Times.{IsBy}
 use Rattle.xns_host.specs.Turns.{has_turn}
 use Rattle.xns_host.specs.Waiting.{due_time}
@@ -18,8 +28,10 @@ use Rattle.xns_host.specs.declared.event.Event.{Event}
 use Rattle.xns_host.specs.declared.facts.Facts.{Facts}
 use Rattle.xns_host.specs.declared.facts.TheConstants.Facts.{NONE}
 use Rattle.xns_host.specs.declared.guest.Guest.{Guest}
+use Rattle.xns_host.specs.declared.opening_quote.OpeningQuote.{OpeningQuote}
 use Rattle.xns_host.specs.declared.outgoing.Outgoing.{Outgoing}
 use Rattle.xns_host.specs.declared.settings.Settings.{Settings}
+use Rattle.xns_host.specs.declared.why.Why.TheVariants.{NotServed}
 
 -- ---- what a host has to know of a connection
 
@@ -49,6 +61,11 @@ facts_of g = record {
 abbrev pub may_go : Connection → Bool
 may_go c = is_some c.closed && (c.told && is_none (due_time c.wait.due))
 
+-- the one in this place may
+abbrev pub is_done : Option Guest → Bool
+is_done None = false
+is_done (Some g) = may_go g.connection
+
 -- ---- one connection of them
 
 -- there is a connection with this number
@@ -66,12 +83,51 @@ abbrev pub WentOn : Connection → (Story → Story) → Option Guest → Type 0
 WentOn c deed None = ⊥
 WentOn c deed (Some g) = GoesFrom c.conversation g.connection.conversation deed
 
--- the event is what one of the connections had to tell, and the others are as they were
+-- it went on by itself
+abbrev pub WentBy : Connection → Option Guest → Type 0
+WentBy c None = ⊥
+WentBy c (Some g) = Goes c.conversation g.connection.conversation
+
+-- the connection is in this place; or it was forgotten: it is closed, the program was told, and it lingers no more
+pub data StaysIn (c : Connection) : Option (Option Guest) → Type 0 where
+  stays : (g : Guest) → g.connection ≡ c → StaysIn c (Some (Some g))
+  forgotten : may_go c ≡ true → StaysIn c (Some None)
+
+-- it went on by itself, and is in this place or forgotten
+pub record GoesIn (c : Connection) (place : Option (Option Guest)) : Type 0 where
+  pub next : Connection
+  pub goes : Goes c.conversation next.conversation
+  pub stays : StaysIn next place
+
+-- each connection went on by itself, and none came
+pub record EachGoes (old new : List (Option Guest)) : Type 0 where
+  pub goes : (k : ℕ) (g : Guest) → slice_get old k ≡ Some (Some g) → GoesIn g.connection (slice_get new k)
+  pub none : (k : ℕ) → slice_get old k ≡ Some None → slice_get new k ≡ Some None
+
+-- the program was handed the message that waits, and the connection goes on from there; where none waits, it was told that it is closed
+pub data HasTold (c next : Connection) : Type 0 where
+  handed : (m : Message) → waiting_message c.conversation.side ≡ Some m
+      → GoesFrom c.conversation next.conversation (λ h. with_handed c.conversation.side h m) → HasTold c next
+  closed : waiting_message c.conversation.side ≡ None → next ≡ record c { told = true } → HasTold c next
+
+-- this was the step that led to the connection in this place
+abbrev pub HasToldIn : Connection → Option Guest → Type 0
+HasToldIn c None = ⊥
+HasToldIn c (Some g) = HasTold c g.connection
+
+-- and it is in this place or forgotten
+pub record TellsIn (c : Connection) (place : Option (Option Guest)) : Type 0 where
+  pub next : Connection
+  pub told : HasTold c next
+  pub stays : StaysIn next place
+
+-- the event is what one of the connections had to tell, once, and the others are as they were
 pub record IsNextEvent (old new : List (Option Guest)) (event : Event) : Type 0 where
   pub number : ℕ
   pub guest : Guest
   pub there : slice_get old number ≡ Some (Some guest)
   pub told : event_in number (Some guest) ≡ Some event
+  pub once : TellsIn guest.connection (slice_get new number)
   pub others : IsApart old new number
 
 -- no connection has anything to tell
@@ -181,3 +237,63 @@ IsAllInUse ids = position (is_free ids.owners) ids.ahead ≡ None
 pub record ChangesOne (old new : List (Option Guest)) : Type 0 where
   pub number : ℕ
   pub others : IsApart old new number
+
+-- ---- an Error packet
+
+-- it quotes the packet that was to open this connection of ours, which has this number and is not closed
+pub record IsRefusedBy (host : List ℕ) (ids : Ids) (p : PacketModel) (number : ℕ) (guest : Guest) : Type 0 where
+  pub kind : p.kind ≡ 3
+  pub here : p.target.host ≡ host
+  pub quote : OpeningQuote
+  pub quoted : quoted_opening p.body ≡ Some quote
+  pub owner : owner_in ids quote.id ≡ Some number
+  pub state : State
+  pub stands : StandsFor guest.connection.conversation.endpoint state
+  pub opened : is_opened_by guest state quote ≡ true
+  pub unclosed : guest.connection.closed ≡ None
+
+-- the connection in this place is closed, for nobody hears its opening packet
+abbrev pub IsNotServed : Connection → Option Guest → Type 0
+IsNotServed c None = ⊥
+IsNotServed c (Some g) = Goes c.conversation g.connection.conversation × (g.connection.closed ≡ Some NotServed)
+
+-- ---- a packet that came
+
+-- what these bytes came to in a place: nothing; or the connection in it goes on from where it is after they came
+pub data HearsIn (bytes : List ℕ) : (old new : Option (Option Guest)) → Type 0 where
+  nothing : {place : Option (Option Guest)} → HearsIn bytes place place
+  heard : {g h : Guest} → Hears g.connection.conversation h.connection.conversation bytes → HearsIn bytes (Some (Some g)) (Some (Some h))
+
+abbrev pub EachHears : List ℕ → (old new : List (Option Guest)) → Type 0
+EachHears bytes old new = (k : ℕ) → HearsIn bytes (slice_get old k) (slice_get new k)
+
+-- a peer, with this identifier, opened this connection at an address of ours, and nothing was said in it; its packets go out by this way
+pub record IsAnswering (settings : Settings) (own opener : Address) (id way : ℕ) (programs : List Program) (guest : Guest) : Type 0 where
+  pub tells : Tells guest.connection.conversation
+      (new_story (Some programs) (responder_state own guest.id opener id settings.window settings.backlog))
+  pub unclosed : guest.connection.closed ≡ None
+  pub via : guest.via ≡ way
+  pub peer : guest.peer ≡ opener
+
+-- it did at a socket that is served, and the programs are those that are served there
+pub record IsOpened (services : BTreeMap ℕ (Vec Program Global)) (settings : Settings) (network : ℕ) (host : List ℕ) (way : ℕ)
+    (guest : Guest) : Type 0 where
+  pub socket : ℕ
+  pub programs : List Program
+  pub opener : Address
+  pub id : ℕ
+  pub served : programs_at services socket ≡ Some programs
+  pub answering : IsAnswering settings (address_in network host socket) opener id way programs guest
+
+-- the connection in this place is such
+pub record IsThere (P : Guest → Type 0) (place : Option (Option Guest)) : Type 0 where
+  pub guest : Guest
+  pub there : place ≡ Some (Some guest)
+  pub is : P guest
+
+-- what became of the connections by these bytes: each went on by itself, or heard them, or a new one was opened first and heard them
+pub data Receives (opened : Guest → Type 0) (bytes : List ℕ) (old new : List (Option Guest)) : Type 0 where
+  goes : EachGoes old new → Receives opened bytes old new
+  hears : EachHears bytes old new → Receives opened bytes old new
+  opens : (mid : List (Option Guest)) (n : ℕ) → IsPlace old n → IsApart old mid n → IsThere opened (slice_get mid n)
+      → EachHears bytes mid new → Receives opened bytes old new

@@ -1,7 +1,7 @@
 //! A conversation with its waits.
 
-ghost use Rattle.std.specs.Prelude.{◌≡◌, ◌≢◌, ◌<◌, ◌&&◌, ◌||◌, ◌∷◌, ◌++◌, [], ℕ, List, not, nat_lt, if◌then◌else◌, true, false, OnOk, OnErr};
-ghost use Rattle.std.specs.Prelude.{IfOk, Some, None, Ok};
+ghost use Rattle.std.specs.Prelude.{◌≡◌, ◌≢◌, ◌<◌, ◌&&◌, ◌||◌, ◌∷◌, ◌++◌, [], ℕ, List, not, nat_lt, if◌then◌else◌, true, false};
+ghost use Rattle.std.specs.Prelude.{IfOk, OnOk, OnErr, Some, None, Ok};
 ghost use Rattle.std.specs.Option.{is_some};
 ghost use Rattle.courier_messages.specs.declared.message.Message.{Message};
 ghost use Rattle.courier_messages.specs.RawCalls.{words_call};

@@ -1,8 +1,9 @@
 //! A connection in its place at a host.
 
-ghost use Rattle.std.specs.Prelude.{◌≡◌, ℕ, List, [], ◌∷◌, ◌++◌, OnErr, OnOk, Ok, Some};
+ghost use Rattle.std.specs.Prelude.{◌≡◌, ℕ, List, [], ◌∷◌, ◌++◌, OnErr, OnOk, Ok, None, Some, false};
 ghost use Rattle.xns_host.specs.Hosting.{facts_of, lingers_since, may_go, stranger_since};
 ghost use Rattle.courier_messages.specs.RawCalls.{words_call};
+ghost use Rattle.xns_spp.specs.Ends.{is_open};
 ghost use Rattle.xns_spp.specs.Held.{StandsFor};
 ghost use Rattle.xns_spp.specs.Packet.{IsSppPacket, spp_packet_of};
 ghost use Rattle.xns_spp.specs.State.{State};
@@ -12,7 +13,8 @@ ghost use Rattle.xns_host.specs.Refusing.{Answers};
 ghost use Rattle.courier_sessions.specs.Answering.{answer_message};
 ghost use Rattle.xns_host.specs.Living.{GoesFrom};
 ghost use Rattle.xns_host.specs.Story.{asked_of};
-ghost use Rattle.xns_host.specs.Telling.{Hears};
+ghost use Rattle.xns_host.specs.Telling.{Goes, Hears};
+ghost use Rattle.xns_host.specs.declared.why.Why.TheVariants.{NotServed};
 
 use crate::connection::Connection;
 use crate::facts::Facts;
@@ -99,6 +101,22 @@ impl Guest {
     {
         self.connection.answer(alloc, now, answer, words)?;
         Ok(())
+    }
+
+    /// Closes the connection once all that it has to say is said.
+    pub fn close(&mut self, alloc: Global, now: u64)
+        ensures goes { Goes self.old.connection.conversation self.new.connection.conversation }
+    {
+        self.connection.close(alloc, now);
+    }
+
+    /// Nobody hears the packet that was to open the connection: it is closed, unless it is open or closed.
+    pub fn not_served(&mut self, now: u64)
+        ensures goes { Goes self.old.connection.conversation self.new.connection.conversation }
+        ensures not_served { (s : State) → StandsFor self.old.connection.conversation.endpoint s → is_open s.ends ≡ false
+            → self.old.connection.closed ≡ None → self.new.connection.closed ≡ Some NotServed }
+    {
+        self.connection.not_served(now);
     }
 
     /// Whether a quoted packet was to open the connection, which is not open yet.

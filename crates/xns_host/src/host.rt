@@ -1,16 +1,21 @@
 //! Many connections behind one address.
 
-ghost use Rattle.std.specs.Prelude.{◌≡◌, ◌<◌, ◌≤◌, ◌∷◌, ◌++◌, ◌⊎◌, ℕ, List, [], Option, length, true, false, IfOk, IfSome, OnErr, Some};
-ghost use Rattle.std.specs.Prelude.{None, Ok, Err, slice_get};
+ghost use Rattle.std.specs.Prelude.{◌≡◌, ◌≢◌, ◌<◌, ◌≤◌, ◌∷◌, ◌++◌, ◌⊎◌, ℕ, List, [], Option, length, true, false, IfOk, IfSome, OnErr};
+ghost use Rattle.std.specs.Prelude.{Some, None, Ok, Err, count_by, slice_get};
+ghost use Rattle.std.specs.Option.{is_some};
 ghost use Rattle.courier_messages.specs.RawCalls.{words_call};
 ghost use Rattle.xns_idp.specs.Packet.{IsPacket, PacketModel, most_data, packet_model};
 ghost use Rattle.xns_idp.specs.Reading.{packet_of};
-ghost use Rattle.xns_spp.specs.Packet.{IsSppPacket};
+ghost use Rattle.xns_spp.specs.Packet.{IsSppPacket, spp_packet_of};
 ghost use Rattle.xns_small.specs.Echo.{IsAnswered, echo_reply};
+ghost use Rattle.xns_spp.specs.Held.{StandsFor};
+ghost use Rattle.xns_spp.specs.State.{State};
 ghost use Rattle.xns_host.specs.Strays.{MayHaveStray, echo_socket, stray_of};
 ghost use Rattle.xns_host.specs.Events.{event_in};
-ghost use Rattle.xns_host.specs.Hosting.{ChangesOne, GoesOutBy, HasNoEvent, HasNoPacket, HasNoRoom, IsAllInUse, IsAllNoted, IsApart};
-ghost use Rattle.xns_host.specs.Hosting.{IsConnected, IsFirstWant, IsNextEvent, IsPlace, SomeGuest, WentOn, address_in, has_guest};
+ghost use Rattle.xns_host.specs.Hosting.{ChangesOne, EachGoes, EachHears, GoesOutBy, HasNoEvent, HasNoPacket, HasNoRoom, IsAllInUse};
+ghost use Rattle.xns_host.specs.Hosting.{IsAllNoted, IsAnswering, IsApart, IsConnected, IsFirstWant, IsNextEvent, IsNotServed, IsOpened};
+ghost use Rattle.xns_host.specs.Hosting.{IsPlace, IsRefusedBy, IsThere, Receives, SomeGuest, TellsIn, WentBy, WentOn, address_in, has_guest};
+ghost use Rattle.xns_host.specs.Quotes.{is_opened_by};
 ghost use Rattle.xns_host.specs.Story.{asked_of};
 ghost use Rattle.courier_sessions.specs.Answering.{answer_message};
 ghost use Rattle.xns_host.specs.Reasons.{call_fault_of, answer_fault_of};
@@ -35,7 +40,7 @@ use crate::register::Register;
 use crate::services::Services;
 use crate::settings::Settings;
 use crate::slots::{
-    act_in, answer_in, call_in, close_in, event_in, fill, hear_in, is_done_in, no_guests,
+    act_in, answer_in, call_in, close_in, count, event_in, fill, hear_in, is_done_in, no_guests,
     not_served_in, note, packet_in, vacate,
 };
 use crate::strays::Strays;
@@ -145,9 +150,11 @@ impl Host {
     }
 
     /// Forgets the connection with this number.
+    #[tactic(auto, using(crate::proofs::Apart::set_there))]
     fn forget(&mut self, number: usize)
         requires { number < length self.old.guests.items }
         ensures apart { IsApart self.old.guests.items self.new.guests.items number }
+        ensures gone { slice_get self.new.guests.items number ≡ Some None }
         ensures sized { length self.new.guests.items ≡ length self.old.guests.items }
         ensures strays { self.new.strays ≡ self.old.strays }
     {
@@ -164,6 +171,8 @@ impl Host {
     fn settle(&mut self, number: usize, done: bool)
         requires { number < length self.old.guests.items }
         ensures apart { IsApart self.old.guests.items self.new.guests.items number }
+        ensures gone { done ≡ true → slice_get self.new.guests.items number ≡ Some None }
+        ensures kept { done ≡ false → self.new.guests.items ≡ self.old.guests.items }
         ensures strays { self.new.strays ≡ self.old.strays }
     {
         if done {
@@ -325,6 +334,8 @@ impl Host {
         ensures apart { IsApart self.old.guests.items self.new.guests.items number }
         ensures none { has_guest (slice_get self.old.guests.items number) ≡ false → result ≡ Err (NoConnection number) }
         ensures some { (g : Guest) → slice_get self.old.guests.items number ≡ Some (Some g) → result ≡ Ok tt }
+        ensures closed { (g : Guest) (place : Option Guest) → slice_get self.old.guests.items number ≡ Some (Some g)
+            → slice_get self.new.guests.items number ≡ Some place → WentBy g.connection place }
         ensures unchanged { OnErr result ((k : ℕ) → slice_get self.new.guests.items k ≡ slice_get self.old.guests.items k) }
         ensures agenda { OnErr result (self.new.agenda ≡ self.old.agenda) }
     {
@@ -339,14 +350,19 @@ impl Host {
 
     /// Takes a packet in that came by this `via`, and says whether it was for the host. One that was not changes nothing: it is the
     /// program's to use.
-    #[tactic(auto, using(crate::proofs::Apart::one_changed, crate::proofs::Apart::none_changed))]
+    #[tactic(auto, using(crate::proofs::Apart::one_changed, crate::proofs::Apart::none_changed, crate::proofs::Hearing::went_on))]
     pub fn receive(&mut self, now: u64, via: u32, bytes: &[u8]) -> bool
         ensures one { ChangesOne self.old.guests.items self.new.guests.items }
+        ensures became { Receives (IsOpened self.old.services.programs self.old.settings self.old.network self.old.host via) bytes.now
+            self.old.guests.items self.new.guests.items }
         ensures unchanged { result ≡ false → (k : ℕ) → slice_get self.new.guests.items k ≡ slice_get self.old.guests.items k }
         ensures echo { (p : PacketModel) (taken : ℕ) → packet_of bytes.now ≡ Ok (p, taken)
             → IsAnswered (address_in self.old.network self.old.host echo_socket) p → (result ≡ true)
             × (self.new.guests ≡ self.old.guests) × MayHaveStray self.old.strays self.new.strays (stray_of via
             (echo_reply (address_in self.old.network self.old.host echo_socket) p)) }
+        ensures refused { (p : PacketModel) (taken n : ℕ) (g : Guest) (place : Option Guest) → packet_of bytes.now ≡ Ok (p, taken)
+            → IsRefusedBy self.old.host self.old.register.identifiers p n g → slice_get self.old.guests.items n ≡ Some (Some g)
+            → slice_get self.new.guests.items n ≡ Some place → (result ≡ true) × IsNotServed g.connection place }
     {
         let now = self.clock.tell(now);
         let Ok((packet, _)) = decode(bytes) else {
@@ -377,8 +393,13 @@ impl Host {
     }
 
     /// Closes the connection whose opening packet an Error packet quotes; whether there is one that is not open yet.
-    #[tactic(auto, using(crate::proofs::Apart::one_changed, crate::proofs::Apart::none_changed))]
+    #[tactic(auto, using(crate::proofs::Apart::one_changed, crate::proofs::Apart::none_changed, crate::proofs::Going::each_stays))]
     fn refused(&mut self, now: u64, packet: &Packet<'_>) -> bool
+        ensures closed { (n : ℕ) (g : Guest) (place : Option Guest)
+            → IsRefusedBy self.old.host self.old.register.identifiers (packet_model packet.now) n g
+            → slice_get self.old.guests.items n ≡ Some (Some g) → slice_get self.new.guests.items n ≡ Some place
+            → (result ≡ true) × IsNotServed g.connection place }
+        ensures goes { EachGoes self.old.guests.items self.new.guests.items }
         ensures one { ChangesOne self.old.guests.items self.new.guests.items }
         ensures unchanged { result ≡ false → (k : ℕ) → slice_get self.new.guests.items k ≡ slice_get self.old.guests.items k }
     {
@@ -395,7 +416,12 @@ impl Host {
     }
 
     /// Closes the connection with this number, if it is the one that a quoted packet was to open.
+    #[tactic(auto, using(crate::proofs::Going::each_stays))]
     fn not_served(&mut self, now: u64, number: usize, quote: &OpeningQuote) -> bool
+        ensures closed { (g : Guest) (s : State) (place : Option Guest) → slice_get self.old.guests.items number ≡ Some (Some g)
+            → StandsFor g.connection.conversation.endpoint s → is_opened_by g s quote.now ≡ true → g.connection.closed ≡ None
+            → slice_get self.new.guests.items number ≡ Some place → (result ≡ true) × IsNotServed g.connection place }
+        ensures goes { EachGoes self.old.guests.items self.new.guests.items }
         ensures apart { IsApart self.old.guests.items self.new.guests.items number }
         ensures unchanged { result ≡ false → (k : ℕ) → slice_get self.new.guests.items k ≡ slice_get self.old.guests.items k }
     {
@@ -412,6 +438,9 @@ impl Host {
     fn sequenced(&mut self, now: u64, via: u32, carrier: &Packet<'_>) -> bool
         requires fits { IsPacket (packet_model carrier.now) }
         requires size { length carrier.now.body.now ≤ most_data }
+        ensures became { (b : List ℕ) (taken : ℕ) → packet_of b ≡ Ok (packet_model carrier.now, taken)
+            → Receives (IsOpened self.old.services.programs self.old.settings self.old.network self.old.host via) b
+            self.old.guests.items self.new.guests.items }
         ensures one { ChangesOne self.old.guests.items self.new.guests.items }
         ensures unchanged { result ≡ false → (k : ℕ) → slice_get self.new.guests.items k ≡ slice_get self.old.guests.items k }
     {
@@ -434,8 +463,10 @@ impl Host {
     }
 
     /// Takes a packet in that names the connection with this number; whether it is one of it.
+    #[tactic(auto, using(crate::proofs::Hearing::hears_not))]
     fn hear(&mut self, now: u64, number: usize, confirms: bool, packet: &SppPacket) -> bool
         requires { IsSppPacket packet.now }
+        ensures hears { (b : List ℕ) → spp_packet_of b ≡ Ok packet.now → EachHears b self.old.guests.items self.new.guests.items }
         ensures apart { IsApart self.old.guests.items self.new.guests.items number }
         ensures unchanged { result ≡ false → (k : ℕ) → slice_get self.new.guests.items k ≡ slice_get self.old.guests.items k }
     {
@@ -452,6 +483,9 @@ impl Host {
     #[tactic(auto, using(crate::proofs::Apart::one_changed, crate::proofs::Apart::none_changed, crate::proofs::Apart::apart_then))]
     fn opening(&mut self, now: u64, via: u32, opener: Peer, packet: &SppPacket) -> bool
         requires { IsSppPacket packet.now }
+        ensures became { (b : List ℕ) → spp_packet_of b ≡ Ok packet.now
+            → Receives (IsOpened self.old.services.programs self.old.settings self.old.network self.old.host via) b
+            self.old.guests.items self.new.guests.items }
         ensures one { ChangesOne self.old.guests.items self.new.guests.items }
         ensures unchanged { result ≡ false → (k : ℕ) → slice_get self.new.guests.items k ≡ slice_get self.old.guests.items k }
     {
@@ -484,6 +518,8 @@ impl Host {
     ) -> Option<usize>
         ensures apart { IfSome result (IsApart self.old.guests.items self.new.guests.items) }
         ensures place { IfSome result (IsPlace self.old.guests.items) }
+        ensures opened { IfSome result (λ n. IsThere (IsAnswering self.old.settings (address_in self.old.network self.old.host socket)
+            peer peer_id via programs.items) (slice_get self.new.guests.items n)) }
         ensures unchanged { result ≡ None → (k : ℕ) → slice_get self.new.guests.items k ≡ slice_get self.old.guests.items k }
     {
         if peer_id == 0 {
@@ -502,7 +538,9 @@ impl Host {
             programs,
             now,
         );
-        let connection = made.ok()?;
+        let Ok(connection) = made else {
+            return None;
+        };
         self.register.enter(opener, number as u16).ok()?;
         let _ = self.register.take(number as u16);
         let guest = Guest {
@@ -524,6 +562,8 @@ impl Host {
         requires { number < length self.old.guests.items }
         ensures apart { IsApart self.old.guests.items self.new.guests.items number }
         ensures event { (place : Option Guest) → slice_get self.old.guests.items number ≡ Some place → result ≡ event_in number place }
+        ensures told { (g : Guest) → slice_get self.old.guests.items number ≡ Some (Some g) → result ≢ None
+            → TellsIn g.connection (slice_get self.new.guests.items number) }
         ensures none { result ≡ None → (k : ℕ) → slice_get self.new.guests.items k ≡ slice_get self.old.guests.items k }
         ensures passed { result ≡ None → self.new.agenda
             ≡ record self.old.agenda { events = with_turn self.old.agenda.events number false } }
@@ -553,8 +593,9 @@ impl Host {
     }
 
     /// Does what is due of the connection with this number.
+    #[tactic(auto, using(crate::proofs::Going::each_stays))]
     fn act(&mut self, now: u64, number: usize)
-        ensures apart { IsApart self.old.guests.items self.new.guests.items number }
+        ensures goes { EachGoes self.old.guests.items self.new.guests.items }
         ensures strays { self.new.strays ≡ self.old.strays }
     {
         if number >= self.guests.len() {
@@ -567,6 +608,7 @@ impl Host {
 
     /// Does what is due, of each connection.
     fn act_all(&mut self, now: u64)
+        ensures goes { EachGoes self.old.guests.items self.new.guests.items }
         ensures strays { self.new.strays ≡ self.old.strays }
     {
         for _ in 0..self.guests.len() {
@@ -580,7 +622,7 @@ impl Host {
     /// The next packet of the connection with this number, which has had its turn.
     fn packet(&mut self, now: u64, number: usize) -> Result<Option<Outgoing>, HostFault>
         requires { number < length self.old.guests.items }
-        ensures apart { IsApart self.old.guests.items self.new.guests.items number }
+        ensures goes { EachGoes self.old.guests.items self.new.guests.items }
         ensures via { IfOk result (λ made. IfSome made (λ o. SomeGuest (λ place. GoesOutBy place o) self.new.guests.items)) }
         ensures rested { result ≡ Ok None → self.new.agenda.packets
             ≡ with_turn (with_turn self.old.agenda.packets number false) number false }
@@ -605,6 +647,7 @@ impl Host {
             × (self.new.strays.waiting ≡ os) }
         ensures via { self.old.strays.waiting ≡ [] → IfOk result (λ made. IfSome made (λ o. SomeGuest (λ place. GoesOutBy place o)
             self.new.guests.items)) }
+        ensures goes { EachGoes self.old.guests.items self.new.guests.items }
         ensures none { result ≡ Ok None → HasNoPacket self.new.guests.items }
         ensures fault { OnErr result (result ≡ Err NoMemory) }
     {
@@ -634,9 +677,10 @@ impl Host {
 
     /// How many connections there are: at most as many as the settings say.
     pub fn connections(&self) -> usize
+        ensures count { result ≡ count_by is_some self.now.guests.items }
         ensures bound { result ≤ self.now.settings.connections }
     {
-        self.guests.iter().filter(|guest| guest.is_some()).count()
+        count(self.guests.as_slice())
     }
 
     /// Whom the connection with this number was opened to, or who opened it. `None`: there is no such connection.

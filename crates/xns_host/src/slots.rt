@@ -1,12 +1,16 @@
 //! What is done of one of a host's connections, in its place.
 
-ghost use Rattle.std.specs.Prelude.{◌≡◌, ◌≢◌, ◌<◌, ◌∷◌, ◌++◌, ℕ, [], Option, length, false, IfOk, IfSome, OnErr, Some, None, Ok, Err};
-ghost use Rattle.std.specs.Prelude.{replicate, slice_get, slice_set};
-ghost use Rattle.std.specs.Option.{is_none};
+ghost use Rattle.std.specs.Prelude.{◌≡◌, ◌≢◌, ◌<◌, ◌∷◌, ◌++◌, ℕ, List, [], Option, length, false, IfOk, IfSome, OnErr, Some, None, Ok, Err};
+ghost use Rattle.std.specs.Prelude.{count_by, replicate, slice_get, slice_set, true};
+ghost use Rattle.std.specs.Option.{is_none, is_some};
 ghost use Rattle.courier_messages.specs.RawCalls.{words_call};
-ghost use Rattle.xns_spp.specs.Packet.{IsSppPacket};
+ghost use Rattle.xns_spp.specs.Packet.{IsSppPacket, spp_packet_of};
 ghost use Rattle.xns_host.specs.Events.{event_in, event_of};
-ghost use Rattle.xns_host.specs.Hosting.{GoesOutBy, IsAllNoted, IsNotedBut, WentOn, facts_in};
+ghost use Rattle.xns_host.specs.Hosting.{GoesOutBy, HasToldIn, HearsIn, IsAllNoted, IsNotServed, IsNotedBut, WentBy, WentOn};
+ghost use Rattle.xns_host.specs.Hosting.{facts_in, is_done};
+ghost use Rattle.xns_spp.specs.Held.{StandsFor};
+ghost use Rattle.xns_spp.specs.State.{State};
+ghost use Rattle.xns_host.specs.Quotes.{is_opened_by};
 ghost use Rattle.xns_host.specs.Story.{asked_of};
 ghost use Rattle.courier_sessions.specs.Answering.{answer_message};
 ghost use Rattle.xns_host.specs.Reasons.{call_fault_of, answer_fault_of};
@@ -47,6 +51,20 @@ pub fn facts_in(place: &Option<Guest>) -> Facts
         Some(guest) => guest.facts(),
         None => Facts::NONE,
     }
+}
+
+/// Whether there is something in a place.
+fn is_taken<T>(place: &Option<T>) -> bool
+    ensures { result ≡ is_some place.now }
+{
+    place.is_some()
+}
+
+/// In how many places there is something.
+pub fn count<T>(places: &[Option<T>]) -> usize
+    ensures { result ≡ count_by is_some places.now }
+{
+    places.iter().filter(|place| is_taken(place)).count()
 }
 
 /// Notes what is to be done of the connection with this number.
@@ -145,6 +163,8 @@ pub fn answer_in(
 
 /// Does what is due of the connection of a place; whether it may be forgotten then.
 pub fn act_in(slot: &mut Option<Guest>, now: u64) -> bool
+    ensures done { result ≡ is_done slot.new }
+    ensures goes { (g : Guest) → slot.old ≡ Some g → WentBy g.connection slot.new }
     ensures kept { is_none slot.new ≡ is_none slot.old }
 {
     let Some(guest) = slot else {
@@ -156,6 +176,9 @@ pub fn act_in(slot: &mut Option<Guest>, now: u64) -> bool
 
 /// Closes the connection of a place, if it is the one that a quoted packet was to open; whether it is.
 pub fn not_served_in(slot: &mut Option<Guest>, now: u64, quote: &OpeningQuote) -> bool
+    ensures closed { (g : Guest) (s : State) → slot.old ≡ Some g → StandsFor g.connection.conversation.endpoint s
+        → is_opened_by g s quote.now ≡ true → g.connection.closed ≡ None → (result ≡ true) × IsNotServed g.connection slot.new }
+    ensures goes { (g : Guest) → slot.old ≡ Some g → WentBy g.connection slot.new }
     ensures unchanged { result ≡ false → slot.new ≡ slot.old }
     ensures kept { is_none slot.new ≡ is_none slot.old }
 {
@@ -165,7 +188,7 @@ pub fn not_served_in(slot: &mut Option<Guest>, now: u64, quote: &OpeningQuote) -
     if !guest.is_opened_by(quote) {
         return false;
     }
-    guest.connection.not_served(now);
+    guest.not_served(now);
     true
 }
 
@@ -178,6 +201,7 @@ pub fn hear_in(
     packet: &SppPacket,
 ) -> bool
     requires { IsSppPacket packet.now }
+    ensures hears { (b : List ℕ) → spp_packet_of b ≡ Ok packet.now → HearsIn b (Some slot.old) (Some slot.new) }
     ensures unchanged { result ≡ false → slot.new ≡ slot.old }
     ensures kept { is_none slot.new ≡ is_none slot.old }
 {
@@ -194,6 +218,7 @@ pub fn hear_in(
 /// What the connection of a place, with this number, has to tell, once. `None`: nothing.
 pub fn event_in(slot: &mut Option<Guest>, alloc: Global, now: u64, number: usize) -> Option<Event>
     ensures event { result ≡ event_in number slot.old }
+    ensures told { (g : Guest) → slot.old ≡ Some g → result ≢ None → HasToldIn g.connection slot.new }
     ensures none { result ≡ None → slot.new ≡ slot.old }
     ensures kept { is_none slot.new ≡ is_none slot.old }
 {
@@ -209,7 +234,9 @@ pub fn event_in(slot: &mut Option<Guest>, alloc: Global, now: u64, number: usize
 }
 
 /// Whether the connection of a place may be forgotten.
-pub fn is_done_in(slot: &Option<Guest>) -> bool {
+pub fn is_done_in(slot: &Option<Guest>) -> bool
+    ensures { result ≡ is_done slot.now }
+{
     match slot {
         Some(guest) => guest.is_done(),
         None => false,
@@ -225,6 +252,7 @@ pub fn packet_in(
 ) -> Result<Option<Outgoing>, AllocError>
     ensures rested { result ≡ Ok None → (facts_in slot.new).has_packet ≡ false }
     ensures via { IfOk result (λ made. IfSome made (λ o. GoesOutBy slot.new o)) }
+    ensures goes { (g : Guest) → slot.old ≡ Some g → WentBy g.connection slot.new }
     ensures kept { is_none slot.new ≡ is_none slot.old }
 {
     let Some(guest) = slot else {
@@ -248,13 +276,14 @@ pub fn close_in(
 ) -> Result<(), HostFault>
     ensures none { slot.old ≡ None → result ≡ Err (NoConnection number) }
     ensures some { slot.old ≢ None → result ≡ Ok tt }
+    ensures closed { (g : Guest) → slot.old ≡ Some g → WentBy g.connection slot.new }
     ensures unchanged { OnErr result (slot.new ≡ slot.old) }
     ensures kept { is_none slot.new ≡ is_none slot.old }
 {
     let Some(guest) = slot else {
         return Err(HostFault::NoConnection { number });
     };
-    guest.connection.close(alloc, now);
+    guest.close(alloc, now);
     Ok(())
 }
 

@@ -1,4 +1,7 @@
-use Rattle.std.proofs.Common.{rules, arith}
+use Rattle.std.proofs.Common.{◌≡◌, ◌<◌, Some, length, rules, slice_get, arith}
+use Rattle.std.specs.Prelude.{slice_set}
+use Rattle.xns_host.proofs.Apart.{set_there}
+use Rattle.xns_host.proofs.Going.{each_set, each_settled, each_then}
 use Rattle.xns_host.proofs.Noting.{kept_but}
 use Rattle.xns_host.proofs.host.Host.act.Goals as goal
 
@@ -6,3 +9,15 @@ pub note-requires-clause-others : goal.note-requires-clause-others
 note-requires-clause-others c =
     kept_but c.args.self.now.agenda c.args.self.now.guests.items c.as_slice.result.now c.args.number c.index_mut.result.now c.act_in-done.new.slot
     c.args.self.now.noted (omega arith) (search rules) (search rules) (search rules)
+
+pub returns-clause-goes : goal.returns-clause-goes
+returns-clause-goes c =
+    let less : c.args.number < length c.args.self.now.guests.items = omega arith in
+    let items : c.as_slice.result.now ≡ slice_set c.args.self.now.guests.items c.args.number c.act_in-done.new.slot = search rules in
+    let there : slice_get c.as_slice.result.now c.args.number ≡ Some c.act_in-done.new.slot
+    = set_there c.args.self.now.guests.items c.as_slice.result.now c.args.number c.act_in-done.new.slot less items in
+    each_then c.args.self.now.guests.items c.as_slice.result.now c.settle.new.self.guests.items
+    (each_set c.args.self.now.guests.items c.as_slice.result.now c.args.number c.index_mut.result.now c.act_in-done.new.slot less (search rules) items
+    c.act_in-done.ensures.kept (search rules))
+    (each_settled c.as_slice.result.now c.settle.new.self.guests.items c.args.number c.act_in-done.new.slot c.act_in-done.result there
+    c.act_in-done.ensures.done (search rules) (search rules) (search rules))

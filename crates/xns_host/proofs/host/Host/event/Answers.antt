@@ -1,10 +1,11 @@
-use Rattle.std.proofs.Common.{◌≡◌, ◌∙◌, ◌<◌, ap, sym, rules, length, get_or, Option, None, arith}
+use Rattle.std.proofs.Common.{◌≡◌, ◌∙◌, ◌<◌, ap, sym, rules, length, get_or, slice_get, Option, None, Some, arith}
 use Rattle.std.specs.Prelude.{slice_set}
 use Rattle.std.proofs.lemmas.List.{length-set}
 use Rattle.xns_host.specs.Agenda.{Plan}
 use Rattle.xns_host.specs.Events.{event_in}
 use Rattle.xns_host.specs.declared.guest.Guest.{Guest}
-use Rattle.xns_host.proofs.Apart.{apart_then, set_apart}
+use Rattle.xns_host.proofs.Apart.{apart_then, set_apart, set_there}
+use Rattle.xns_host.proofs.Going.{told_settled}
 use Rattle.xns_host.proofs.Noting.{kept_but, passed_but, same_place, told_nothing}
 use Rattle.xns_host.proofs.host.Host.event.Goals as goal
 
@@ -40,3 +41,13 @@ returns-clause-event c = λ place there.
     let old : c.index_mut.result.now ≡ get_or c.args.self.now.guests.items c.args.number c.index_mut.result.now = search rules in
     let same : c.index_mut.result.now ≡ place = same_place c.args.self.now.guests.items c.args.number c.index_mut.result.now place c.requires old there in
     sym c.in_ok-event.was ∙ c.event_in-event.ensures.event ∙ ap (λ (p : Option Guest). event_in c.args.number p) same
+
+pub returns-clause-told : goal.returns-clause-told
+returns-clause-told c = λ g there some.
+    let old : c.index_mut.result.now ≡ get_or c.args.self.now.guests.items c.args.number c.index_mut.result.now = search rules in
+    let same : c.index_mut.result.now ≡ Some g = same_place c.args.self.now.guests.items c.args.number c.index_mut.result.now (Some g) c.requires old there in
+    let items : c.as_slice.result.now ≡ slice_set c.args.self.now.guests.items c.args.number c.event_in-event.new.slot = search rules in
+    let here : slice_get c.as_slice.result.now c.args.number ≡ Some c.event_in-event.new.slot
+    = set_there c.args.self.now.guests.items c.as_slice.result.now c.args.number c.event_in-event.new.slot c.requires items in
+    told_settled c.as_slice.result.now c.settle.new.self.guests.items c.args.number g.connection c.event_in-event.new.slot c.is_done_in-done.result here
+    (c.event_in-event.ensures.told g same (search rules)) (search rules) (search rules) (search rules)

@@ -1,13 +1,14 @@
 use Rattle.std.proofs.Common.{◌≡◌, [], rules, None, Ok}
 use Rattle.xns_host.specs.Times.{HasEarliest}
 use Rattle.xns_host.proofs.Fetching.{no_packet, packet_less}
+use Rattle.xns_host.proofs.Going.{each_then}
 use Rattle.xns_host.proofs.host.Host.next_packet.Goals as goal
 
 pub returns-in_err-packet-clause-stray : goal.returns-in_err-packet-clause-stray
-returns-in_err-packet-clause-stray c = λ o os is. let none : c.args.self.now.strays.waiting ≡ [] = c.loop-number.invariant in absurd (cc)
+returns-in_err-packet-clause-stray c = λ o os is. let none : c.args.self.now.strays.waiting ≡ [] = c.loop-number.invariant.0 in absurd (cc)
 
 pub returns-in-Some-2-clause-stray : goal.returns-in-Some-2-clause-stray
-returns-in-Some-2-clause-stray c = λ o os is. let none : c.args.self.now.strays.waiting ≡ [] = c.loop-number.invariant in absurd (cc)
+returns-in-Some-2-clause-stray c = λ o os is. let none : c.args.self.now.strays.waiting ≡ [] = c.loop-number.invariant.0 in absurd (cc)
 
 pub loop-number-smaller : goal.loop-number-smaller
 loop-number-smaller c =
@@ -16,9 +17,23 @@ loop-number-smaller c =
     c.in-Some-first_packet.ensures.some.has (c.packet.ensures.rested none)
 
 pub returns-clause-stray : goal.returns-clause-stray
-returns-clause-stray c = λ o os is. let none : c.args.self.now.strays.waiting ≡ [] = c.loop-number.invariant in absurd (cc)
+returns-clause-stray c = λ o os is. let none : c.args.self.now.strays.waiting ≡ [] = c.loop-number.invariant.0 in absurd (cc)
 
 pub returns-clause-none : goal.returns-clause-none
 returns-clause-none c = λ z.
     let none : HasEarliest c.loop-number.self.agenda.packets.tickets None = search rules in
     no_packet c.loop-number.self.agenda c.loop-number.self.guests.items c.loop-number.self.noted none
+
+pub returns-in_err-packet-clause-goes : goal.returns-in_err-packet-clause-goes
+returns-in_err-packet-clause-goes c =
+    each_then c.args.self.now.guests.items c.loop-number.self.guests.items c.packet.new.self.guests.items c.loop-number.invariant.1 c.packet.ensures.goes
+
+pub returns-in-Some-2-clause-goes : goal.returns-in-Some-2-clause-goes
+returns-in-Some-2-clause-goes c =
+    each_then c.args.self.now.guests.items c.loop-number.self.guests.items c.packet.new.self.guests.items c.loop-number.invariant.1 c.packet.ensures.goes
+
+pub loop-number-preserved : goal.loop-number-preserved
+loop-number-preserved c = (
+  c.loop-number.invariant.0,
+  each_then c.args.self.now.guests.items c.loop-number.self.guests.items c.packet.new.self.guests.items c.loop-number.invariant.1 c.packet.ensures.goes,
+)

@@ -1,4 +1,11 @@
-use Rattle.std.proofs.Common.{rules}
+use Rattle.std.proofs.Common.{◌≡◌, ◌∙◌, ap, refl, rules, slice_get, false, Bool, None, Ok, Some}
+use Rattle.std.specs.Prelude.{slice_set}
+use Rattle.xns_host.specs.Agenda.{Plan}
+use Rattle.xns_host.specs.Hosting.{facts_in}
+use Rattle.xns_host.specs.Turns.{with_turn}
+use Rattle.xns_host.proofs.Apart.{set_there}
+use Rattle.xns_host.proofs.Fetching.{goes_out}
+use Rattle.xns_host.proofs.Going.{each_set}
 use Rattle.xns_host.proofs.Noting.{kept_but, rested_but}
 use Rattle.xns_host.proofs.host.Host.packet.Goals as goal
 
@@ -7,3 +14,31 @@ note-requires-clause-others c =
     rw c.pass_packet.ensures.passed (rested_but c.args.self.now.agenda c.as_slice.result.now c.args.number
     (kept_but c.args.self.now.agenda c.args.self.now.guests.items c.as_slice.result.now c.args.number c.index_mut.result.now c.packet_in-made.new.slot
     c.args.self.now.noted c.requires (search rules) (search rules) (search rules)))
+
+pub returns-in-Ok-clause-goes : goal.returns-in-Ok-clause-goes
+returns-in-Ok-clause-goes c =
+    each_set c.args.self.now.guests.items (slice_set c.args.self.now.guests.items c.args.number c.packet_in-made.new.slot) c.args.number
+    c.index_mut.result.now c.packet_in-made.new.slot c.requires (search rules) refl c.packet_in-made.ensures.kept c.packet_in-made.ensures.goes
+
+pub returns-in-Ok-clause-via : goal.returns-in-Ok-clause-via
+returns-in-Ok-clause-via c =
+    let there : slice_get (slice_set c.args.self.now.guests.items c.args.number c.packet_in-made.new.slot) c.args.number ≡ Some c.packet_in-made.new.slot
+    = set_there c.args.self.now.guests.items (slice_set c.args.self.now.guests.items c.args.number c.packet_in-made.new.slot) c.args.number
+    c.packet_in-made.new.slot c.requires refl in
+    goes_out (slice_set c.args.self.now.guests.items c.args.number c.packet_in-made.new.slot) c.args.number c.packet_in-made.new.slot c.in-Ok.packet there
+    c.in-Ok.ensures.via
+
+pub returns-in-Ok-clause-rested : goal.returns-in-Ok-clause-rested
+returns-in-Ok-clause-rested c = λ none.
+    let items : c.as_slice.result.now ≡ slice_set c.args.self.now.guests.items c.args.number c.packet_in-made.new.slot = search rules in
+    let there : slice_get c.as_slice.result.now c.args.number ≡ Some c.packet_in-made.new.slot
+    = set_there c.args.self.now.guests.items c.as_slice.result.now c.args.number c.packet_in-made.new.slot c.requires items in
+    let packet : c.in-Ok.packet ≡ None = cc in
+    let quiet : (facts_in c.packet_in-made.new.slot).has_packet ≡ false = c.packet_in-made.ensures.rested (c.in-Ok.is ∙ ap Ok packet) in
+    c.note.ensures.packets c.packet_in-made.new.slot there ∙ ap (λ (b : Bool). with_turn c.pass_packet.new.self.packets c.args.number b) quiet
+    ∙ ap (λ (a : Plan). with_turn a.packets c.args.number false) c.pass_packet.ensures.passed
+
+pub returns-in-Err-clause-goes : goal.returns-in-Err-clause-goes
+returns-in-Err-clause-goes c =
+    each_set c.args.self.now.guests.items (slice_set c.args.self.now.guests.items c.args.number c.packet_in-made.new.slot) c.args.number
+    c.index_mut.result.now c.packet_in-made.new.slot c.requires (search rules) refl c.packet_in-made.ensures.kept c.packet_in-made.ensures.goes

@@ -1,0 +1,74 @@
+-- What became of connections by a packet.
+use Rattle.std.proofs.Common.{◌≡◌, ◌≢◌, ◌∙◌, ◌⊎◌, inl, inr, ap, refl, subst, sym, ℕ, ◌<◌, List, length, Option, Some, Result, Ok, Err, slice_get, get_or}
+use Rattle.std.specs.Prelude.{OnErr, OnOk, option_map, slice_set}
+use Rattle.std.specs.declared.alloc.AllocError.{AllocError}
+use Rattle.std.proofs.lemmas.Option.{slice_get_read}
+use Rattle.courier_sessions.specs.declared.program.Program.{Program}
+use Rattle.xns_idp.specs.Packet.{PacketModel}
+use Rattle.xns_idp.specs.Reading.{packet_of}
+use Rattle.xns_spp.specs.Packet.{SppPacketModel, carried_by, carried_in, spp_packet_of}
+use Rattle.xns_spp.specs.declared.dropped.Dropped.{Dropped}
+use Rattle.xns_host.specs.Hosting.{EachGoes, EachHears, HearsIn, Receives, nothing, heard, goes, hears}
+use Rattle.xns_host.specs.Telling.{Hears}
+use Rattle.xns_host.specs.declared.guest.Guest.{Guest}
+use Rattle.xns_host.proofs.Apart.{set_there}
+use Rattle.xns_host.proofs.Noting.{place_other, same_or_other}
+
+abbrev Places : Type 0
+Places = List (Option Guest)
+
+same_in : (bytes : List ℕ) (p q : Option (Option Guest)) → q ≡ p → HearsIn bytes p q
+same_in bytes p q is = subst (λ (r : Option (Option Guest)). HearsIn bytes p r) (sym is) nothing
+
+pub hears_not : (bytes : List ℕ) (a b : Places) → b ≡ a → EachHears bytes a b
+hears_not bytes a b is = λ k. same_in bytes (slice_get a k) (slice_get b k) (ap (λ (xs : Places). slice_get xs k) is)
+
+-- where memory was refused they came to nothing
+pub heard_or_not : (bytes : List ℕ) (m : SppPacketModel) (place : Option Guest) (g h : Guest) (r : Result (Unit {0}) AllocError)
+    → spp_packet_of bytes ≡ Ok m → place ≡ Some g
+    → OnOk r ((b : List ℕ) → spp_packet_of b ≡ Ok m → Hears g.connection.conversation h.connection.conversation b) → OnErr r (h ≡ g)
+    → HearsIn bytes (Some place) (Some (Some h))
+heard_or_not bytes m place g h (Ok u) read is ok err = subst (λ (p : Option Guest). HearsIn bytes (Some p) (Some (Some h))) (sym is)
+    (heard (ok bytes read))
+heard_or_not bytes m place g h (Err e) read is ok err = subst (λ (p : Option Guest). HearsIn bytes (Some p) (Some (Some h))) (sym is)
+    (subst (λ (x : Guest). HearsIn bytes (Some (Some g)) (Some (Some x))) (sym err) nothing)
+
+-- the connection in one place heard them
+pub hears_set : (bytes : List ℕ) (a b : Places) (n : ℕ) (old p : Option Guest) → n < length a → old ≡ get_or a n old → b ≡ slice_set a n p
+    → HearsIn bytes (Some old) (Some p) → EachHears bytes a b
+hears_set bytes a b n old p less read is step = λ k. by k (same_or_other k n) where
+  at : HearsIn bytes (slice_get a n) (slice_get b n)
+  at = subst (λ (q : Option (Option Guest)). HearsIn bytes q (slice_get b n)) (sym (slice_get_read a (length a) n old refl less read))
+      (subst (λ (q : Option (Option Guest)). HearsIn bytes (Some old) q) (sym (set_there a b n p less is)) step)
+
+  by : (k : ℕ) → (k ≡ n) ⊎ (k ≢ n) → HearsIn bytes (slice_get a k) (slice_get b k)
+  by k (inl e) = subst (λ (m : ℕ). HearsIn bytes (slice_get a m) (slice_get b m)) (sym e) at
+  by k (inr other) = same_in bytes (slice_get a k) (slice_get b k) (ap (λ (xs : Places). slice_get xs k) is ∙ place_other a n k p other)
+
+-- ---- all of them
+
+pub went_on : (opened : Guest → Type 0) (bytes : List ℕ) (a b : Places) → EachGoes a b → Receives opened bytes a b
+went_on opened bytes a b each = goes each
+
+pub hears_on : (opened : Guest → Type 0) (bytes : List ℕ) (a b : Places) → EachHears bytes a b → Receives opened bytes a b
+hears_on opened bytes a b each = hears each
+
+-- ---- what was read
+
+-- a list that was copied is the one that was found
+pub served_by : {V : Type 0} (f : V → List Program) {o : Option V} {v : V} {x : Option (List Program)} {items : List Program} → option_map f o ≡ x
+    → o ≡ Some v → items ≡ f v → x ≡ Some items
+served_by f at is same = sym at ∙ ap (option_map f) is ∙ ap Some (sym same)
+
+abbrev packet_in : {F : Type 0} → PacketModel → Result (PacketModel × ℕ) F → PacketModel
+packet_in other (Ok r) = r.0
+packet_in other (Err e) = other
+
+pub one_packet : {F : Type 0} {r : Result (PacketModel × ℕ) F} (a p : PacketModel) (x y : ℕ) → Ok (a, x) ≡ r → r ≡ Ok (p, y) → p ≡ a
+one_packet a p x y left right = sym (ap (packet_in a) (left ∙ right))
+
+-- the sequenced packet of the bytes is the one that their packet carries
+pub spelled : {r : Result SppPacketModel Dropped} (bytes : List ℕ) (carrier : PacketModel) (taken : ℕ) (m : SppPacketModel)
+    → packet_of bytes ≡ Ok (carrier, taken) → r ≡ carried_by carrier → r ≡ Ok m → spp_packet_of bytes ≡ Ok m
+unfolding spp_packet_of
+spelled bytes carrier taken m read carried is = ap carried_in read ∙ (sym carried ∙ is)

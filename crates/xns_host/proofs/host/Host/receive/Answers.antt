@@ -1,0 +1,25 @@
+use Rattle.std.proofs.Common.{◌≡◌, ap, refl, subst, sym}
+use Rattle.xns_idp.specs.Packet.{PacketModel, packet_model}
+use Rattle.xns_host.specs.Hosting.{IsRefusedBy, goes}
+use Rattle.xns_host.proofs.Going.{each_stays}
+use Rattle.xns_host.proofs.Hearing.{one_packet}
+use Rattle.xns_host.proofs.host.Host.receive.Goals as goal
+
+pub returns-in_default-clause-became : goal.returns-in_default-clause-became
+returns-in_default-clause-became c = goes (each_stays c.args.self.now.guests.items c.args.self.now.guests.items refl)
+
+pub returns-in_default-kind-clause-became : goal.returns-in_default-kind-clause-became
+returns-in_default-kind-clause-became c = goes (each_stays c.args.self.now.guests.items c.args.self.now.guests.items refl)
+
+pub returns-in-2-clause-became : goal.returns-in-2-clause-became
+returns-in-2-clause-became c =
+    goes (each_stays c.args.self.now.guests.items c.echo.new.self.guests.items (ap (λ gs. gs.items) c.echo.ensures.guests))
+
+pub returns-in-3-clause-refused : goal.returns-in-3-clause-refused
+returns-in-3-clause-refused c = λ p taken n g place at by there here.
+    let same : p ≡ packet_model c.in-Ok.packet = one_packet (packet_model c.in-Ok.packet) p c.in-Ok.field-0-1 taken c.in-Ok.ensures.exact at in
+    c.refused.ensures.closed n g place (subst (λ (q : PacketModel). IsRefusedBy c.args.self.now.host c.args.self.now.register.identifiers q n g) same by)
+    there here
+
+pub returns-in-5-clause-became : goal.returns-in-5-clause-became
+returns-in-5-clause-became c = c.sequenced.ensures.became c.args.bytes.now c.in-Ok.field-0-1 (sym c.in-Ok.ensures.exact)

@@ -1,0 +1,17 @@
+use Rattle.std.proofs.Common.{Option, Some, subst}
+use Rattle.xns_host.specs.Hosting.{HearsIn, nothing}
+use Rattle.xns_host.specs.declared.guest.Guest.{Guest}
+use Rattle.xns_host.proofs.Hearing.{heard_or_not}
+use Rattle.xns_host.proofs.slots.hear_in.Goals as goal
+
+pub returns-in_default-clause-hears : goal.returns-in_default-clause-hears
+returns-in_default-clause-hears c = λ b read. nothing
+
+pub returns-then-not-is_ours-clause-hears : goal.returns-then-not-is_ours-clause-hears
+returns-then-not-is_ours-clause-hears c = λ b read.
+    subst (λ (p : Option Guest). HearsIn b (Some c.args.slot.now) (Some p)) c.in-Some.is nothing
+
+pub returns-clause-hears : goal.returns-clause-hears
+returns-clause-hears c = λ b read.
+    heard_or_not b c.args.packet.now c.args.slot.now c.in-Some.guest c.receive.new.self c.receive.result read c.in-Some.is c.receive.ensures.hears
+    c.receive.ensures.unchanged

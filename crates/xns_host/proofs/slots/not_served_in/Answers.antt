@@ -1,0 +1,29 @@
+use Rattle.std.proofs.Common.{◌≡◌, refl, subst, None, true}
+use Rattle.xns_spp.specs.Held.{StandsFor}
+use Rattle.xns_host.specs.Quotes.{is_opened_by}
+use Rattle.xns_host.specs.declared.guest.Guest.{Guest}
+use Rattle.xns_host.proofs.Going.{goes_by, not_open}
+use Rattle.xns_host.proofs.Leading.{goes_not}
+use Rattle.xns_host.proofs.slots.not_served_in.Goals as goal
+
+pub returns-then-not-is_opened_by-clause-goes : goal.returns-then-not-is_opened_by-clause-goes
+returns-then-not-is_opened_by-clause-goes c = λ g is.
+    goes_by c.args.slot.now g c.in-Some.guest c.in-Some.is is (goes_not c.in-Some.guest.connection.conversation)
+
+pub returns-clause-closed : goal.returns-clause-closed
+returns-clause-closed c = λ g s is stands opened unclosed.
+    let there = c.in-Some.is in
+    let same : g ≡ c.in-Some.guest = cc in
+    let here : StandsFor c.in-Some.guest.connection.conversation.endpoint s
+    = subst (λ (x : Guest). StandsFor x.connection.conversation.endpoint s) same stands in
+    let by : is_opened_by c.in-Some.guest s c.args.quote.now ≡ true = subst (λ (x : Guest). is_opened_by x s c.args.quote.now ≡ true) same opened in
+    let still : c.in-Some.guest.connection.closed ≡ None = subst (λ (x : Guest). x.connection.closed ≡ None) same unclosed in (
+      refl,
+      (
+        goes_by c.args.slot.now g c.in-Some.guest c.in-Some.is is c.not_served.ensures.goes,
+        c.not_served.ensures.not_served s here (not_open c.in-Some.guest s c.args.quote.now by) still,
+      ),
+    )
+
+pub returns-clause-goes : goal.returns-clause-goes
+returns-clause-goes c = λ g is. goes_by c.args.slot.now g c.in-Some.guest c.in-Some.is is c.not_served.ensures.goes
