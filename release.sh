@@ -38,7 +38,7 @@ The program:               DIR/bin/xns --help          man DIR/share/man/man1/xn
 Calls of a capture:        DIR/bin/xns calls < DIR/share/doc/xns/examples/six-calls.hex
 A program in C:            gcc program.c -IDIR/include DIR/lib/libxns.a
 The same by pkg-config:    PKG_CONFIG_PATH=DIR/lib/pkgconfig pkg-config --cflags --libs xns
-A program in Python:       XNS_LIBRARY=DIR/lib/libxns.so PYTHONPATH=DIR/share/xns/python python3 program.py
+A program in Python:       PYTHONPATH=DIR/share/xns/python python3 program.py
 The pages:                 DIR/share/doc/xns
 
 The program needs the C library (glibc), and a processor of x86-64-v2 (since about 2009). The

@@ -1,8 +1,8 @@
 """The XNS stack from Python: internet packets, hosts with many Courier conversations, and single ends of connections.
 
-It calls the shared library `libxns.so`, which `install.sh` installs: the one that the environment's XNS_LIBRARY names, else the one that the
-system finds. What the library does is proved; this file is not. It needs Python 3.8 or later and nothing else. docs/C.md says more on each call,
-and when a program makes it.
+It calls the shared library `libxns.so`: the one that the environment's XNS_LIBRARY names, else the one that `install.sh` installed with this
+file, else the one that the system finds. What the library does is proved; this file is not. It needs Python 3.8 or later and nothing else.
+docs/C.md says more on each call, and when a program makes it.
 
 Bytes go in and come out as `bytes`, words as lists of numbers below 65,536. Where the library answers another result than that it was done, the
 exception of its name is raised: `NoMemory`, `TooLong`, `Full`, .. Each is an `XnsError`. That there is nothing of what was asked for is no error: such
@@ -527,9 +527,16 @@ _ANSWERS = {
 }
 
 
+def _installed() -> Optional[str]:
+    """The library that was installed with this file. None: this file was not installed, or the library is gone."""
+    prefix, below, rest = os.path.dirname(os.path.abspath(__file__)).rpartition("/share/xns/python")
+    library = prefix + "/lib/libxns.so"
+    return library if below and not rest and os.path.exists(library) else None
+
+
 def _load() -> dict:
     """The calls of the library by their names, without the xns_ in front."""
-    library = ctypes.CDLL(os.environ.get("XNS_LIBRARY") or ctypes.util.find_library("xns") or "libxns.so")
+    library = ctypes.CDLL(os.environ.get("XNS_LIBRARY") or _installed() or ctypes.util.find_library("xns") or "libxns.so")
     functions = {}
     for call, arguments in _CALLS.items():
         functions[call] = function = getattr(library, f"xns_{call}")
