@@ -27,6 +27,16 @@ use courier_sessions::Program;
 use std::alloc::Global;
 use xns_host::{HostFault, Settings};
 
+/// The host in a box. Where memory is refused it is freed.
+fn boxed(alloc: Global, host: KeptHost) -> Result<Box<KeptHost>, HostFault>
+    ensures { IfOk result (λ b. b.value ≡ host) }
+{
+    match Box::new(alloc, host) {
+        Ok(host) => Ok(host),
+        Err(_) => Err(HostFault::NoMemory),
+    }
+}
+
 /// A host in a box.
 fn make_host(
     alloc: Global,
@@ -39,10 +49,7 @@ fn make_host(
     ensures settings { (s : Setting) → wrong_setting settings ≡ Some s → result ≡ Err (OutOfRange s) }
 {
     let host = KeptHost::new(alloc, own, settings, secret)?;
-    match Box::new(alloc, host) {
-        Ok(host) => Ok(host),
-        Err(_) => Err(HostFault::NoMemory),
-    }
+    boxed(alloc, host)
 }
 
 /// Makes a host at this address in the place of the one that the handle had, which is freed in any case. The socket of `own` is not looked
