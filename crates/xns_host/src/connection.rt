@@ -143,81 +143,81 @@ fn wait_on(conversation: &Conversation, wait: &mut Wait, now: u64)
     wait.step(conversation.waits(), now);
 }
 
-/// Why a connection is closed after its items moved, if it is, and what is waited for then.
+/// Notes why a connection is closed after its items moved, if it is, and what is waited for then.
 fn after_moving(
     conversation: &mut Conversation,
     moved: Result<(), FeedRefusal>,
-    closed: Option<Why>,
+    closed: &mut Option<Why>,
     wait: &mut Wait,
     now: u64,
-) -> Option<Why>
-    requires deaf { closed ≢ None → drains conversation.old.side conversation.old.closing ≡ true }
-    requires open_due { closed ≡ None → is_open_due wait.old.due ≡ true }
-    requires closed_due { closed ≢ None → is_closed_due wait.old.due ≡ true }
+)
+    requires deaf { closed.old ≢ None → drains conversation.old.side conversation.old.closing ≡ true }
+    requires open_due { closed.old ≡ None → is_open_due wait.old.due ≡ true }
+    requires closed_due { closed.old ≢ None → is_closed_due wait.old.due ≡ true }
     ensures goes { Goes conversation.old conversation.new }
     ensures packets { conversation.new.packets ≡ conversation.old.packets }
-    ensures closed { closed ≢ None → result ≡ closed }
-    ensures why { closed ≡ None → (s : State) → StandsFor conversation.old.endpoint s
-        → result ≡ why_after conversation.old.closing (is_over conversation.old.closing s) moved }
-    ensures timed { result ≡ None → (s : State) → StandsFor conversation.new.endpoint s → tick_answer s ≢ []
+    ensures closed { closed.old ≢ None → closed.new ≡ closed.old }
+    ensures why { closed.old ≡ None → (s : State) → StandsFor conversation.old.endpoint s
+        → closed.new ≡ why_after conversation.old.closing (is_over conversation.old.closing s) moved }
+    ensures timed { closed.new ≡ None → (s : State) → StandsFor conversation.new.endpoint s → tick_answer s ≢ []
         → is_again wait.new.due ≡ true }
-    ensures open_due { result ≡ None → is_open_due wait.new.due ≡ true }
-    ensures closed_due { result ≢ None → is_closed_due wait.new.due ≡ true }
-    ensures deaf { result ≢ None → drains conversation.new.side conversation.new.closing ≡ true }
-    ensures kept { closed ≢ None → wait.new ≡ wait.old }
-    ensures waits { result ≡ None → (s : State) → StandsFor conversation.new.endpoint s → wait.new ≡ after_step wait.old (waits s) now }
-    ensures lingers { closed ≡ None → result ≢ None → wait.new ≡ lingering wait.old now }
+    ensures open_due { closed.new ≡ None → is_open_due wait.new.due ≡ true }
+    ensures closed_due { closed.new ≢ None → is_closed_due wait.new.due ≡ true }
+    ensures deaf { closed.new ≢ None → drains conversation.new.side conversation.new.closing ≡ true }
+    ensures kept { closed.old ≢ None → wait.new ≡ wait.old }
+    ensures waits { closed.new ≡ None → (s : State) → StandsFor conversation.new.endpoint s → wait.new ≡ after_step wait.old (waits s) now }
+    ensures lingers { closed.old ≡ None → closed.new ≢ None → wait.new ≡ lingering wait.old now }
     ensures idle { drains conversation.new.side conversation.new.closing ≡ false → conversation.new ≡ conversation.old }
-    ensures stays { result ≡ closed → conversation.new ≡ conversation.old }
+    ensures stays { closed.new ≡ closed.old → conversation.new ≡ conversation.old }
 {
     if closed.is_some() {
-        return closed;
+        return;
     }
     let why = why_after(conversation, moved);
     if why.is_some() {
+        *closed = why;
         conversation.give_up();
         wait.linger(now);
-        return why;
+        return;
     }
     wait_on(conversation, wait, now);
-    None
 }
 
-/// Moves what can move; why the connection is closed then, if it is, and what is waited for.
+/// Moves what can move; notes why the connection is closed then, if it is, and what is waited for.
 fn settled(
     conversation: &mut Conversation,
     alloc: Global,
     owed: &mut Owed,
-    closed: Option<Why>,
+    closed: &mut Option<Why>,
     wait: &mut Wait,
     now: u64,
-) -> Option<Why>
-    requires deaf { closed ≢ None → drains conversation.old.side conversation.old.closing ≡ true }
-    requires open_due { closed ≡ None → is_open_due wait.old.due ≡ true }
-    requires closed_due { closed ≢ None → is_closed_due wait.old.due ≡ true }
+)
+    requires deaf { closed.old ≢ None → drains conversation.old.side conversation.old.closing ≡ true }
+    requires open_due { closed.old ≡ None → is_open_due wait.old.due ≡ true }
+    requires closed_due { closed.old ≢ None → is_closed_due wait.old.due ≡ true }
     ensures goes { Goes conversation.old conversation.new }
     ensures packets { conversation.new.packets ≡ conversation.old.packets }
-    ensures closed { closed ≢ None → result ≡ closed }
-    ensures timed { result ≡ None → (s : State) → StandsFor conversation.new.endpoint s → tick_answer s ≢ []
+    ensures closed { closed.old ≢ None → closed.new ≡ closed.old }
+    ensures timed { closed.new ≡ None → (s : State) → StandsFor conversation.new.endpoint s → tick_answer s ≢ []
         → is_again wait.new.due ≡ true }
-    ensures open_due { result ≡ None → is_open_due wait.new.due ≡ true }
-    ensures closed_due { result ≢ None → is_closed_due wait.new.due ≡ true }
-    ensures deaf { result ≢ None → drains conversation.new.side conversation.new.closing ≡ true }
-    ensures kept { closed ≢ None → wait.new ≡ wait.old }
-    ensures waits { result ≡ None → (s : State) → StandsFor conversation.new.endpoint s → wait.new ≡ after_step wait.old (waits s) now }
-    ensures lingers { closed ≡ None → result ≢ None → wait.new ≡ lingering wait.old now }
+    ensures open_due { closed.new ≡ None → is_open_due wait.new.due ≡ true }
+    ensures closed_due { closed.new ≢ None → is_closed_due wait.new.due ≡ true }
+    ensures deaf { closed.new ≢ None → drains conversation.new.side conversation.new.closing ≡ true }
+    ensures kept { closed.old ≢ None → wait.new ≡ wait.old }
+    ensures waits { closed.new ≡ None → (s : State) → StandsFor conversation.new.endpoint s → wait.new ≡ after_step wait.old (waits s) now }
+    ensures lingers { closed.old ≡ None → closed.new ≢ None → wait.new ≡ lingering wait.old now }
     ensures owed { (owed.new.again ≡ owed.old.again) × (owed.new.asks ≡ owed.old.asks) × (owed.new.fresh ≡ true) }
     ensures word { owed.old.word ≡ true → owed.new.word ≡ true }
     ensures calm { owed.new.moving ≡ false → drains conversation.new.side conversation.new.closing ≡ false
         → Calm conversation.old conversation.new }
-    ensures read { owed.new.moving ≡ false → result ≡ closed → ReadsAll conversation.old conversation.new }
+    ensures read { owed.new.moving ≡ false → closed.new ≡ closed.old → ReadsAll conversation.old conversation.new }
 {
     let waiting = conversation.endpoint.waiting();
     let moved = conversation.settle(alloc);
     owed.moving = matches!(moved, Err(FeedRefusal::NoMemory));
     owed.word = owed.word || conversation.endpoint.waiting() < waiting;
     owed.fresh = true;
-    after_moving(conversation, moved, closed, wait, now)
+    after_moving(conversation, moved, closed, wait, now);
 }
 
 /// Whether a packet of the peer has more acknowledged, or opens the connection.
@@ -420,11 +420,11 @@ impl Connection {
             × (self.new.owed.fresh ≡ true) }
         ensures word { self.old.owed.word ≡ true → self.new.owed.word ≡ true }
     {
-        self.closed = settled(
+        settled(
             &mut self.conversation,
             alloc,
             &mut self.owed,
-            self.closed,
+            &mut self.closed,
             &mut self.wait,
             now,
         );
@@ -453,11 +453,11 @@ impl Connection {
         let more = is_progress(&self.conversation, before, was_open);
         let left = self.conversation.endpoint.unacknowledged() > 0;
         note(input, more, left, &mut self.owed, &mut self.wait, now);
-        self.closed = settled(
+        settled(
             &mut self.conversation,
             alloc,
             &mut self.owed,
-            self.closed,
+            &mut self.closed,
             &mut self.wait,
             now,
         );
@@ -568,11 +568,11 @@ impl Connection {
     {
         self.conversation
             .call(alloc, program, version, procedure, words)?;
-        self.closed = settled(
+        settled(
             &mut self.conversation,
             alloc,
             &mut self.owed,
-            self.closed,
+            &mut self.closed,
             &mut self.wait,
             now,
         );
@@ -605,11 +605,11 @@ impl Connection {
         ensures unchanged { OnErr result (self.new ≡ self.old) }
     {
         self.conversation.answer(alloc, kind, words)?;
-        self.closed = settled(
+        settled(
             &mut self.conversation,
             alloc,
             &mut self.owed,
-            self.closed,
+            &mut self.closed,
             &mut self.wait,
             now,
         );
@@ -629,11 +629,11 @@ impl Connection {
         ensures fresh { self.new.owed.fresh ≡ true }
     {
         self.conversation.close();
-        self.closed = settled(
+        settled(
             &mut self.conversation,
             alloc,
             &mut self.owed,
-            self.closed,
+            &mut self.closed,
             &mut self.wait,
             now,
         );
@@ -655,11 +655,11 @@ impl Connection {
         ensures none { result ≡ None → self.new ≡ self.old }
     {
         let message = self.conversation.take_message()?;
-        self.closed = settled(
+        settled(
             &mut self.conversation,
             alloc,
             &mut self.owed,
-            self.closed,
+            &mut self.closed,
             &mut self.wait,
             now,
         );

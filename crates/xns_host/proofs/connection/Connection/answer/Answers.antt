@@ -6,7 +6,7 @@ use Rattle.xns_host.proofs.connection.Connection.answer.Goals as goal
 
 pub returns-clause-answered : goal.returns-clause-answered
 returns-clause-answered c = λ h k tells asked done.
-    c.settled-self.ensures.goes.on (record h { answers = h.answers ++ answer_message c.args.kind k c.args.words.now ∷ [] }) (c.in_ok-answer.ensures.answered h k tells asked refl)
+    c.settled.ensures.goes.on (record h { answers = h.answers ++ answer_message c.args.kind k c.args.words.now ∷ [] }) (c.in_ok-answer.ensures.answered h k tells asked refl)
 
 pub invariant_of-self : goal.invariant_of-self
 invariant_of-self c = record {
@@ -17,8 +17,8 @@ invariant_of-self c = record {
 }
 
 pub returns-clause-calm : goal.returns-clause-calm
-returns-clause-calm c = λ k asked good still free. calm_from (λ h tells. c.in_ok-answer.ensures.answered h k tells asked refl) (c.settled-self.ensures.calm still free)
+returns-clause-calm c = λ k asked good still free. calm_from (λ h tells. c.in_ok-answer.ensures.answered h k tells asked refl) (c.settled.ensures.calm still free)
 
 pub returns-clause-read : goal.returns-clause-read
 returns-clause-read c = λ k asked good still same h tells yes.
-    c.settled-self.ensures.read still same (record h { answers = h.answers ++ answer_message c.args.kind k c.args.words.now ∷ [] }) (c.in_ok-answer.ensures.answered h k tells asked refl) yes
+    c.settled.ensures.read still same (record h { answers = h.answers ++ answer_message c.args.kind k c.args.words.now ∷ [] }) (c.in_ok-answer.ensures.answered h k tells asked refl) yes

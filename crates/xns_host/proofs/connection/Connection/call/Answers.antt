@@ -5,10 +5,10 @@ use Rattle.xns_host.proofs.connection.Connection.call.Goals as goal
 
 pub returns-clause-called : goal.returns-clause-called
 returns-clause-called c = λ h tells done.
-    c.settled-self.ensures.goes.on (record h { made = h.made ++ words_call c.args.program c.args.version c.args.procedure c.args.words.now ∷ [] }) (c.in_ok-call.ensures.called h tells refl)
+    c.settled.ensures.goes.on (record h { made = h.made ++ words_call c.args.program c.args.version c.args.procedure c.args.words.now ∷ [] }) (c.in_ok-call.ensures.called h tells refl)
 
 pub returns-clause-calm : goal.returns-clause-calm
-returns-clause-calm c = λ good still free. calm_from (λ h tells. c.in_ok-call.ensures.called h tells refl) (c.settled-self.ensures.calm still free)
+returns-clause-calm c = λ good still free. calm_from (λ h tells. c.in_ok-call.ensures.called h tells refl) (c.settled.ensures.calm still free)
 
 pub returns-clause-read : goal.returns-clause-read
-returns-clause-read c = λ good still same h tells yes. c.settled-self.ensures.read still same (record h { made = h.made ++ words_call c.args.program c.args.version c.args.procedure c.args.words.now ∷ [] }) (c.in_ok-call.ensures.called h tells refl) yes
+returns-clause-read c = λ good still same h tells yes. c.settled.ensures.read still same (record h { made = h.made ++ words_call c.args.program c.args.version c.args.procedure c.args.words.now ∷ [] }) (c.in_ok-call.ensures.called h tells refl) yes

@@ -3,13 +3,13 @@ use Rattle.xns_host.proofs.Tellings.{drains_still}
 use Rattle.xns_host.proofs.connection.Connection.close.Goals as goal
 
 pub returns-clause-goes : goal.returns-clause-goes
-returns-clause-goes c = goes_then c.close.ensures.goes c.settled-self.ensures.goes
+returns-clause-goes c = goes_then c.close.ensures.goes c.settled.ensures.goes
 
-pub settled-self-requires-clause-deaf : goal.settled-self-requires-clause-deaf
-settled-self-requires-clause-deaf c = λ some. drains_still _ _ c.close.ensures.goes (c.args.self.now.deaf some)
+pub settled-requires-clause-deaf : goal.settled-requires-clause-deaf
+settled-requires-clause-deaf c = λ some. drains_still _ _ c.close.ensures.goes (c.args.self.now.deaf some)
 
 pub returns-clause-calm : goal.returns-clause-calm
-returns-clause-calm c = λ still free. calm_then c.close.ensures.goes (c.settled-self.ensures.calm still free)
+returns-clause-calm c = λ still free. calm_then c.close.ensures.goes (c.settled.ensures.calm still free)
 
 pub returns-clause-read : goal.returns-clause-read
-returns-clause-read c = λ still same h tells yes. let x = c.close.ensures.goes.on h tells in c.settled-self.ensures.read still same x.0 x.1 yes
+returns-clause-read c = λ still same h tells yes. let x = c.close.ensures.goes.on h tells in c.settled.ensures.read still same x.0 x.1 yes

@@ -3,10 +3,10 @@ use Rattle.xns_spp.specs.Receiving.{after_receive}
 use Rattle.xns_host.proofs.connection.Connection.receive.Goals as goal
 
 pub returns-clause-tells : goal.returns-clause-tells
-returns-clause-tells c = λ b read. record { on = λ h tells. c.settled-self.ensures.goes.on (record h { state = after_receive h.state b }) (c.in_ok-input.ensures.tells h b tells read) }
+returns-clause-tells c = λ b read. record { on = λ h tells. c.settled.ensures.goes.on (record h { state = after_receive h.state b }) (c.in_ok-input.ensures.tells h b tells read) }
 
 pub returns-clause-calm : goal.returns-clause-calm
-returns-clause-calm c = λ b read still free. calm_from (λ h tells. c.in_ok-input.ensures.tells h b tells read) (c.settled-self.ensures.calm still free)
+returns-clause-calm c = λ b read still free. calm_from (λ h tells. c.in_ok-input.ensures.tells h b tells read) (c.settled.ensures.calm still free)
 
 pub returns-clause-read : goal.returns-clause-read
-returns-clause-read c = λ b read still same h tells yes. c.settled-self.ensures.read still same (record h { state = after_receive h.state b }) (c.in_ok-input.ensures.tells h b tells read) yes
+returns-clause-read c = λ b read still same h tells yes. c.settled.ensures.read still same (record h { state = after_receive h.state b }) (c.in_ok-input.ensures.tells h b tells read) yes
