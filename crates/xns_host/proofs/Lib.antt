@@ -17,6 +17,7 @@ mod Readable
 mod Rejecting
 mod Serving
 mod Silent
+mod Still
 mod Tellings
 mod Tree
 mod Turning

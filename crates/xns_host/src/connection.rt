@@ -655,6 +655,9 @@ impl Connection {
         ensures none { result ≡ None → self.new ≡ self.old }
     {
         let message = self.conversation.take_message()?;
+        if self.conversation.is_calm() {
+            return Some(message);
+        }
         settled(
             &mut self.conversation,
             alloc,

@@ -263,6 +263,22 @@ impl Conversation {
         moved
     }
 
+    /// Whether nothing can move, and nothing is to be said or read of closing.
+    pub fn is_calm(&self) -> bool
+        ensures calm { result ≡ true → Calm self.now self.now }
+        ensures open { result ≡ true → drains self.now.side self.now.closing ≡ false }
+        ensures closing { result ≡ true → (owes_end self.now ≡ false) × (owes_reply self.now ≡ false) }
+    {
+        xns_spp::laws::the_next_item_is_handed_up();
+        if self.drains() || self.closing.wanted {
+            return false;
+        }
+        if self.side.has_out() || self.side.has_message() {
+            return false;
+        }
+        self.endpoint.waiting() == 0
+    }
+
     /// The program wants an end.
     pub fn close(&mut self)
         ensures goes { Goes self.old self.new }

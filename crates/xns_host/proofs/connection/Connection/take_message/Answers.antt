@@ -1,6 +1,15 @@
-use Rattle.xns_host.proofs.Leading.{calm_from}
+use Rattle.xns_host.proofs.Leading.{calm_from, stays}
 use Rattle.xns_host.specs.Story.{with_handed}
 use Rattle.xns_host.proofs.connection.Connection.take_message.Goals as goal
+
+pub returns-then-is_calm-clause-handed : goal.returns-then-is_calm-clause-handed
+returns-then-is_calm-clause-handed c = λ h m tells is.
+    let next = with_handed c.args.self.now.conversation.side h m in
+    (next, c.in_ok-message.ensures.handed h m tells is, stays next)
+
+pub returns-then-is_calm-clause-calm : goal.returns-then-is_calm-clause-calm
+returns-then-is_calm-clause-calm c = λ m is still free.
+    calm_from (λ h tells. c.in_ok-message.ensures.handed h m tells is) (c.is_calm.ensures.calm c.if-is_calm.true)
 
 pub returns-clause-handed : goal.returns-clause-handed
 returns-clause-handed c = λ h m tells is. c.settled.ensures.goes.on (with_handed c.args.self.now.conversation.side h m) (c.in_ok-message.ensures.handed h m tells is)
