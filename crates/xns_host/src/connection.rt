@@ -282,18 +282,6 @@ fn wait_unless(conversation: &Conversation, closed: Option<Why>, wait: &mut Wait
     wait_on(conversation, wait, now);
 }
 
-/// What is owed after a packet was asked for: where there is none, nothing is until something is done again.
-fn owed_behind(owed: Owed, packet: &Result<Option<Bytes>, AllocError>) -> Owed
-    ensures none { packet.now ≡ Ok None → result ≡ record owed { fresh = owed.moving } }
-    ensures some { packet.now ≢ Ok None → result ≡ owed }
-{
-    let mut after = owed;
-    if let Ok(None) = packet {
-        after.fresh = owed.moving;
-    }
-    after
-}
-
 impl Connection {
     ghost use Rattle.xns_host.specs.declared.closing.TheConstants.Closing.{NONE};
 
@@ -470,6 +458,7 @@ impl Connection {
         ensures packets { self.new.conversation.packets ≡ self.old.conversation.packets }
         ensures closed { self.old.closed ≢ None → self.new.closed ≡ self.old.closed }
         ensures told { self.new.told ≡ self.old.told }
+        ensures fresh { self.old.owed.fresh ≡ true → self.new.owed.fresh ≡ true }
     {
         if !self.owed.moving {
             return;
@@ -530,13 +519,17 @@ impl Connection {
         ensures rested { result ≡ Ok None → Rested self.old.conversation self.new.conversation }
         ensures none { result ≡ Ok None → (self.new.owed.again ≡ false) × (self.new.owed.asks ≡ false) × (self.new.owed.word ≡ false)
             × (self.new.owed.fresh ≡ self.new.owed.moving) }
+        ensures rests { self.old.owed.fresh ≡ true → self.new.owed.fresh ≡ false
+            → Rested self.old.conversation self.new.conversation }
+        ensures left { self.old.owed.fresh ≡ true → self.new.owed.fresh ≡ false → (self.new.conversation.packets.items ≡ [])
+            × (self.new.owed.again ≡ false) × (self.new.owed.asks ≡ false) × (self.new.owed.word ≡ false)
+            × (self.new.owed.moving ≡ false) }
         ensures closed { self.old.closed ≢ None → self.new.closed ≡ self.old.closed }
         ensures told { self.new.told ≡ self.old.told }
     {
         self.move_owed(alloc, now);
         let packet = self.conversation.next_packet(alloc, &mut self.owed);
         wait_unless(&self.conversation, self.closed, &mut self.wait, now);
-        self.owed = owed_behind(self.owed, &packet);
         packet
     }
 

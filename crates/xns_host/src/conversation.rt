@@ -439,20 +439,29 @@ impl Conversation {
 
     /// The packet without an item that is owed.
     fn system_packet(&self, alloc: Global, owed: &mut Owed) -> Result<Option<Bytes>, AllocError>
-        ensures none { result ≡ Ok None → (owed.new.asks ≡ false) × (owed.new.word ≡ false) }
+        ensures done { OnOk result ((owed.new.asks ≡ false) × (owed.new.word ≡ false) × (owed.new.fresh ≡ owed.new.moving)) }
         ensures answer { (s : State) (b : List ℕ) → StandsFor self.now.endpoint s → result ≡ Ok (Some b)
             → told_answer s owed.old.asks ≡ Some b }
         ensures gives { self.now.packets.items ≡ [] → IfOk result (λ o. Gives self.now self.now o) }
-        ensures beside { (owed.new.again ≡ owed.old.again) × (owed.new.moving ≡ owed.old.moving) × (owed.new.fresh ≡ owed.old.fresh) }
+        ensures beside { (owed.new.again ≡ owed.old.again) × (owed.new.moving ≡ owed.old.moving) }
         ensures refused { OnErr result (owed.new ≡ owed.old) }
     {
         if !owed.asks && !owed.word {
+            owed.fresh = owed.moving;
             return Ok(None);
         }
         let packet = self.endpoint.system_packet(alloc, owed.asks)?;
         owed.asks = false;
         owed.word = false;
+        owed.fresh = owed.moving;
         Ok(packet)
+    }
+
+    /// Whether another packet is to go out after one that went out for the first time.
+    fn has_more(&self, owed: &Owed) -> bool
+        ensures { result ≡ false → (self.now.packets.items ≡ []) × (owed.now.asks ≡ false) × (owed.now.moving ≡ false) }
+    {
+        owed.moving || owed.asks || !self.packets.is_empty()
     }
 
     /// The next packet that goes out for the first time, or a packet without an item that is owed.
@@ -462,13 +471,17 @@ impl Conversation {
         ensures gives { IfOk result (λ o. Gives self.old self.new o) }
         ensures given_none { OnErr result (Gives self.old self.new None) }
         ensures rested { result ≡ Ok None → Rested self.old self.new }
-        ensures none { result ≡ Ok None → (owed.new.asks ≡ false) × (owed.new.word ≡ false) }
-        ensures beside { (owed.new.again ≡ owed.old.again) × (owed.new.moving ≡ owed.old.moving) × (owed.new.fresh ≡ owed.old.fresh) }
+        ensures none { result ≡ Ok None → (owed.new.asks ≡ false) × (owed.new.word ≡ false) × (owed.new.fresh ≡ owed.new.moving) }
+        ensures rests { owed.old.fresh ≡ true → owed.new.fresh ≡ false → Rested self.old self.new }
+        ensures left { owed.old.fresh ≡ true → owed.new.fresh ≡ false → (self.new.packets.items ≡ []) × (owed.new.asks ≡ false)
+            × (owed.new.word ≡ false) × (owed.new.moving ≡ false) }
+        ensures beside { (owed.new.again ≡ owed.old.again) × (owed.new.moving ≡ owed.old.moving) }
         ensures refused { OnErr result (owed.new ≡ owed.old) }
     {
         self.flush(alloc)?;
         if let Some(packet) = self.fetch() {
             owed.word = false;
+            owed.fresh = self.has_more(owed);
             return Ok(Some(packet));
         }
         self.system_packet(alloc, owed)
@@ -484,8 +497,12 @@ impl Conversation {
         ensures gives { IfOk result (λ o. Gives self.old self.new o) }
         ensures given_none { OnErr result (Gives self.old self.new None) }
         ensures rested { result ≡ Ok None → Rested self.old self.new }
-        ensures none { result ≡ Ok None → (owed.new.again ≡ false) × (owed.new.asks ≡ false) × (owed.new.word ≡ false) }
-        ensures beside { (owed.new.moving ≡ owed.old.moving) × (owed.new.fresh ≡ owed.old.fresh) }
+        ensures none { result ≡ Ok None → (owed.new.again ≡ false) × (owed.new.asks ≡ false) × (owed.new.word ≡ false)
+            × (owed.new.fresh ≡ owed.new.moving) }
+        ensures rests { owed.old.fresh ≡ true → owed.new.fresh ≡ false → Rested self.old self.new }
+        ensures left { owed.old.fresh ≡ true → owed.new.fresh ≡ false → (self.new.packets.items ≡ []) × (owed.new.again ≡ false)
+            × (owed.new.asks ≡ false) × (owed.new.word ≡ false) × (owed.new.moving ≡ false) }
+        ensures moving { owed.new.moving ≡ owed.old.moving }
     {
         if let Some(packet) = self.older_packet(alloc, owed)? {
             return Ok(Some(packet));

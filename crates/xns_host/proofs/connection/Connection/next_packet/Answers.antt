@@ -14,3 +14,9 @@ returns-clause-gives c = moves_and_gives _ c.next_packet-packet.result c.move_ow
 
 pub returns-clause-given_none : goal.returns-clause-given_none
 returns-clause-given_none c = moves_and_none _ c.next_packet-packet.result c.move_owed.ensures.goes c.move_owed.ensures.packets c.next_packet-packet.ensures.given_none
+
+pub returns-clause-rests : goal.returns-clause-rests
+returns-clause-rests c = λ was is. rested_then c.move_owed.ensures.goes (c.next_packet-packet.ensures.rests (c.move_owed.ensures.fresh was) is)
+
+pub returns-clause-left : goal.returns-clause-left
+returns-clause-left c = λ was is. c.next_packet-packet.ensures.left (c.move_owed.ensures.fresh was) is

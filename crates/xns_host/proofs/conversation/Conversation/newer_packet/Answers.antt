@@ -5,6 +5,12 @@ use Rattle.xns_host.proofs.Leading.{goes_then}
 use Rattle.xns_host.proofs.Giving.{gives_then, then_gives, none_given}
 use Rattle.xns_host.proofs.conversation.Conversation.newer_packet.Goals as goal
 
+pub returns-in-Some-clause-rests : goal.returns-in-Some-clause-rests
+returns-in-Some-clause-rests c = λ was is. rested_same c.in_ok-flush.ensures.rested (ap (λ (t : Conversation). t.side) c.fetch.ensures.rest) (ap (λ (t : Conversation). t.closing) c.fetch.ensures.rest) (ap (λ (t : Conversation). t.endpoint) c.fetch.ensures.rest)
+
+pub returns-clause-rests : goal.returns-clause-rests
+returns-clause-rests c = λ was is. rested_same c.in_ok-flush.ensures.rested (ap (λ (t : Conversation). t.side) c.fetch.ensures.rest) (ap (λ (t : Conversation). t.closing) c.fetch.ensures.rest) (ap (λ (t : Conversation). t.endpoint) c.fetch.ensures.rest)
+
 pub returns-clause-rested : goal.returns-clause-rested
 returns-clause-rested c = λ is. rested_same c.in_ok-flush.ensures.rested (ap (λ (t : Conversation). t.side) c.fetch.ensures.rest) (ap (λ (t : Conversation). t.closing) c.fetch.ensures.rest) (ap (λ (t : Conversation). t.endpoint) c.fetch.ensures.rest)
 

@@ -1,6 +1,6 @@
 use Rattle.xns_host.proofs.Leading.{goes_then}
 use Rattle.xns_host.proofs.Tellings.{rested_then}
-use Rattle.std.proofs.Common.{subst, ℕ, List, Option}
+use Rattle.std.proofs.Common.{◌∙◌, subst, ℕ, List, Option}
 use Rattle.xns_host.specs.Telling.{Gives}
 use Rattle.xns_host.proofs.Giving.{then_gives, then_none}
 use Rattle.xns_host.proofs.conversation.Conversation.next_packet.Goals as goal
@@ -16,3 +16,6 @@ returns-clause-gives c = then_gives _ c.newer_packet.result (subst (λ (o : Opti
 
 pub returns-clause-given_none : goal.returns-clause-given_none
 returns-clause-given_none c = then_none _ c.newer_packet.result (subst (λ (o : Option (List ℕ)). Gives c.args.self.now c.older_packet.new.self o) c.in_default.is c.in_ok-packet.ensures.gives) c.newer_packet.ensures.given_none
+
+pub returns-clause-rests : goal.returns-clause-rests
+returns-clause-rests c = λ was is. rested_then c.older_packet.ensures.goes (c.newer_packet.ensures.rests (c.older_packet.ensures.beside.2 ∙ was) is)
