@@ -1,3 +1,4 @@
+mod Again
 mod Agendas
 mod Apart
 mod Beside

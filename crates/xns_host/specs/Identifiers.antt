@@ -1,5 +1,5 @@
 -- The identifiers of new connections (XSIS 028112, Sequenced Packet Protocol, Connection Identifiers).
-use Rattle.std.specs.Prelude.{◌≡◌, ℕ, suc, zero, ◌+◌, ◌≤◌, Bool, List, [], ◌∷◌, ◌++◌, length, take, drop, AllPairs, Contains, All, ◌≢◌}
+use Rattle.std.specs.Prelude.{◌≡◌, ℕ, suc, zero, ◌+◌, ◌≤◌, Bool, List, [], ◌∷◌, ◌++◌, length, take, drop, AllPairs, Contains, All, ◌≢◌, ◌⊎◌, false, position}
 use Rattle.std.specs.Prelude.{Option, Some, None, slice_get, slice_set, slice_index_or}
 use Rattle.std.specs.Option.{is_none}
 use Rattle.rand_core.specs.Steps.{stream_of, steps_u32}
@@ -42,3 +42,22 @@ pub record Gives (old new : Ids) (place number id : ℕ) : Type 0 where
   pub there : slice_get old.ahead place ≡ Some id
   pub turned : new.ahead ≡ drop (place + 1) old.ahead ++ take (place + 1) old.ahead
   pub owned : new.owners ≡ slice_set old.owners id (Some number)
+
+-- ---- one after another
+
+-- an identifier was given, and who had which one then
+pub record Turn : Type 0 where
+  pub given : ℕ
+  pub owners : List (Option ℕ)
+
+-- from one moment to another identifiers are given at these turns, in order, and any are released in between
+pub data Given : Ids → List Turn → Ids → Type 0 where
+  none : {a : Ids} → Given a [] a
+  gives : {a b c : Ids} {turns : List Turn} (place number id : ℕ) → position (is_free a.owners) a.ahead ≡ Some place
+      → Gives a b place number id → Given b turns c → Given a (record { given = id; owners = a.owners } ∷ turns) c
+  releases : {a b : Ids} {turns : List Turn} (id : ℕ) → Given (record a { owners = slice_set a.owners id None }) turns b
+      → Given a turns b
+
+-- this one was given then, or was in use
+abbrev pub HadTurn : ℕ → Turn → Type 0
+HadTurn id turn = (turn.given ≡ id) ⊎ (is_free turn.owners id ≡ false)

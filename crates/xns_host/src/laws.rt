@@ -1,6 +1,6 @@
 //! What the definitions imply, each as the contract of a function that does nothing.
 
-ghost use Rattle.std.specs.Prelude.{◌≡◌, ◌⊎◌, ◌≤◌, ◌+◌, ◌∷◌, ◌++◌, [], ℕ, List, Option, Some, None, Ok, true, false};
+ghost use Rattle.std.specs.Prelude.{◌≡◌, ◌≢◌, ◌⊎◌, ◌≤◌, ◌+◌, ◌∷◌, ◌++◌, [], ℕ, Any, List, Option, Some, None, Ok, true, false};
 ghost use Rattle.courier_sessions.specs.Answering.{Answering, is_busy, fed as call_fed};
 ghost use Rattle.courier_sessions.specs.Talk.{Talk, fed as answer_fed};
 ghost use Rattle.courier_sessions.specs.declared.program.Program.{Program};
@@ -11,6 +11,7 @@ ghost use Rattle.xns_spp.specs.declared.item.Item.{Item};
 ghost use Rattle.xns_host.specs.Acting.{Acts, IsTold};
 ghost use Rattle.xns_host.specs.Agreeing.{handed_up, HasCalled, HasServed, ArePeers, IsClosing, Agree};
 ghost use Rattle.xns_host.specs.Closing.{drains};
+ghost use Rattle.xns_host.specs.Identifiers.{IsOrder, Ids, Turn, Given, HadTurn, most_id};
 ghost use Rattle.xns_host.specs.Living.{Deeds, no_deeds, Lives, IsLived, ProgramsAgree};
 ghost use Rattle.xns_host.specs.Story.{Story, GoesOn, new_story};
 ghost use Rattle.xns_host.specs.Telling.{Tells};
@@ -32,6 +33,13 @@ pub fn a_silent_peer_is_given_up()
 pub fn each_wait_is_twice_the_last()
     ensures due { (w : Waiting) (now : ℕ) → act_at w now ≡ Again → (after_act w now).due ≡ AgainAt (later now w.length) }
     ensures next { (w : Waiting) (now : ℕ) → act_at w now ≡ Again → (after_act w now).length ≡ next_length w.pace w.length }
+{}
+
+/// Before an identifier is given again, each other one is given, or is in use when one is given, whatever is released in between.
+pub fn an_identifier_comes_again_behind_all_others()
+    ensures { (start now : Ids) (before since later : List Turn) (once again : Turn) (id : ℕ) → IsOrder start.ahead
+        → Given start (before ++ once ∷ since ++ again ∷ later) now → again.given ≡ once.given → 1 ≤ id → id ≤ most_id
+        → id ≢ once.given → Any (HadTurn id) (since ++ again ∷ []) }
 {}
 
 /// A connection that calls has put out the versions and its calls, in order; the answers that the program was handed are the messages
