@@ -1,6 +1,6 @@
 //! What a packet does to the flows of its connection.
 ghost use Rattle.std.specs.Option.{is_some};
-ghost use Rattle.std.specs.Prelude.{◌≡◌, ◌<◌, IfOk, IfSome, None, OnErr, OnOk, true};
+ghost use Rattle.std.specs.Prelude.{◌≡◌, ◌<◌, IfOk, IfSome, None, OnErr, OnOk, Some, true};
 ghost use Rattle.xns_idp.specs.Packet.{packet_model};
 ghost use Rattle.xns_calls.specs.Exchange.{acknowledged as acknowledged_of, advanced, after_acknowledge, after_data, after_new};
 ghost use Rattle.xns_calls.specs.Exchange.{after_packet, behind_last as behind_last_of, begun as begun_of, brings_new, ended, first_track};
@@ -9,6 +9,7 @@ ghost use Rattle.xns_calls.specs.Numbers.{most_numbers};
 
 use crate::bringing::{bring, read_or_keep};
 use crate::heading::Heading;
+use crate::kept_track::KeptTrack;
 use crate::near::near;
 use crate::queue::Queue;
 use crate::scratch::Scratch;
@@ -44,7 +45,7 @@ fn advance(
         own: own.call,
         asked: other.call,
     };
-    bring(scratch, page, heading, track, &mut calls, number)?;
+    bring(scratch, page, heading, track.get_mut(), &mut calls, number)?;
     own.call = calls.own;
     other.call = calls.asked;
     Ok(())
@@ -54,7 +55,7 @@ fn advance(
 fn acknowledged(side: &Side, field: u16) -> Option<u64>
     ensures value { result ≡ acknowledged_of side.now field }
 {
-    let track = side.track.as_ref()?;
+    let track = side.track.as_ref()?.get();
     let last = track.early.last_number()?;
     let number = near(track.next, field)?;
     Some(number.min(last + 1))
@@ -96,9 +97,21 @@ fn begin(
 {
     if own.track.is_none() {
         append_flow_line(&mut page.text, heading, packet, header)?;
-        own.track = Some(begun(alloc, header.sequence));
+        own.track = Some(KeptTrack::new(alloc, begun(alloc, header.sequence))?);
     }
     Ok(())
+}
+
+/// The number of an item of a flow that has begun, where it is no repeat.
+fn new_number_in(track: &Track, field: u16) -> Option<u64>
+    ensures value { result ≡ new_number_of (Some track.now) field }
+    ensures bound { IfSome result (λ number. number < most_numbers) }
+{
+    let number = near(track.next, field)?;
+    if number < track.next || track.early.has(number) {
+        return None;
+    }
+    Some(number)
 }
 
 /// The number of an item, where it is no repeat.
@@ -107,11 +120,7 @@ fn new_number(side: &Side, field: u16) -> Option<u64>
     ensures bound { IfSome result (λ number. number < most_numbers) }
 {
     let track = side.track.as_ref()?;
-    let number = near(track.next, field)?;
-    if number < track.next || track.early.has(number) {
-        return None;
-    }
-    Some(number)
+    new_number_in(track.get(), field)
 }
 
 /// Takes an item of a number that is no repeat, if its flow has begun.
@@ -136,7 +145,15 @@ fn take_new(
         own: own.call,
         asked: other.call,
     };
-    read_or_keep(scratch, page, heading, track, &mut calls, number, item)?;
+    read_or_keep(
+        scratch,
+        page,
+        heading,
+        track.get_mut(),
+        &mut calls,
+        number,
+        item,
+    )?;
     own.call = calls.own;
     other.call = calls.asked;
     Ok(())
@@ -216,7 +233,7 @@ pub fn take_packet(
 fn behind_last(side: &Side) -> Option<u64>
     ensures { result ≡ behind_last_of side.now.track }
 {
-    let track = side.track.as_ref()?;
+    let track = side.track.as_ref()?.get();
     let last = track.early.last_number()?;
     Some(last + 1)
 }

@@ -13,6 +13,7 @@ mod flow_place;
 mod heading;
 mod heard;
 mod item_number;
+mod kept_track;
 pub mod laws;
 mod near;
 mod packet_lines;
