@@ -68,6 +68,7 @@ pub fn count<T>(places: &[Option<T>]) -> usize
 }
 
 /// Notes what is to be done of the connection with this number.
+#[inline(always)]
 #[tactic(auto, using(crate::proofs::Noting::noted_all))]
 pub fn note(guests: &[Option<Guest>], agenda: &mut Agenda, number: usize)
     requires within { number < length guests.now }

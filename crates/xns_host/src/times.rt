@@ -111,6 +111,7 @@ impl Times {
     }
 
     /// A number that has the earliest time, and that time. A `None`: no number has one.
+    #[inline(always)]
     pub fn first(&self) -> Option<(usize, u64)>
         ensures some { (k t : ℕ) → result ≡ Some (k, t) → IsEarliest self.now k t }
         ensures none { result ≡ None → HasEarliest self.now None }
