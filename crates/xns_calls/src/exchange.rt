@@ -8,10 +8,10 @@ ghost use Rattle.xns_calls.specs.Exchange.{new_number as new_number_of, scene, w
 ghost use Rattle.xns_calls.specs.Numbers.{most_numbers};
 
 use crate::bringing::{bring, read_or_keep};
+use crate::early_items::EarlyItems;
 use crate::heading::Heading;
 use crate::kept_track::KeptTrack;
 use crate::near::near;
-use crate::queue::Queue;
 use crate::scratch::Scratch;
 use crate::side::Side;
 use crate::speech::Speech;
@@ -68,13 +68,13 @@ fn begun(alloc: Global, field: u16) -> Track
     if usize::from(field) < MOST_PENDING {
         Track {
             next: 0,
-            early: Queue::new(alloc),
+            early: EarlyItems::new(),
             speech: Speech::Hearing(Incoming::new(alloc)),
         }
     } else {
         Track {
             next: u64::from(field),
-            early: Queue::new(alloc),
+            early: EarlyItems::new(),
             speech: Speech::Waiting,
         }
     }

@@ -6,6 +6,7 @@ mod calling;
 mod capture;
 mod connection;
 mod early;
+mod early_items;
 mod end_key;
 mod exchange;
 mod flow_key;
