@@ -106,7 +106,7 @@ each_set a b n old p less read is same goes =
     (λ none. here ∙ ap Some (still_none old p (one_there (slice_get a n) old None there none) same))
 
 -- and is forgotten, if it is done
-settled : (a b : Places) (n : ℕ) (g : Guest) (done : Bool) → slice_get a n ≡ Some (Some g) → done ≡ may_go g.connection
+pub settled : (a b : Places) (n : ℕ) (g : Guest) (done : Bool) → slice_get a n ≡ Some (Some g) → done ≡ may_go g.connection
     → (done ≡ true → slice_get b n ≡ Some None) → (done ≡ false → b ≡ a) → StaysIn g.connection (slice_get b n)
 settled a b n g true there is gone kept = subst (λ (q : Option (Option Guest)). StaysIn g.connection q) (sym (gone refl)) (forgotten (sym is))
 settled a b n g false there is gone kept =

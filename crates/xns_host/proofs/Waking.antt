@@ -28,10 +28,10 @@ has_place : (gs : Places) (k : ℕ) → k < length gs → HasPlace gs k
 has_place gs k less = record { place = get_or gs k None; there = slice_get-get_or gs k None less }
 
 -- a connection that has such a time
-record HasTime (gs : Places) (k t : ℕ) (since : Guest → Option ℕ) : Type 0 where
-  guest : Guest
-  there : slice_get gs k ≡ Some (Some guest)
-  is : since guest ≡ Some t
+pub record HasTime (gs : Places) (k t : ℕ) (since : Guest → Option ℕ) : Type 0 where
+  pub guest : Guest
+  pub there : slice_get gs k ≡ Some (Some guest)
+  pub is : since guest ≡ Some t
 
 time_in : (gs : Places) (k t : ℕ) (times : List (Option ℕ)) (p : Option Guest) (fact : Facts → Option ℕ) → fact (facts_in None) ≡ None
     → slice_get gs k ≡ Some p → slice_get times k ≡ Some (fact (facts_in p)) → slice_get times k ≡ Some (Some t) → HasTime gs k t (λ g. fact (facts_in (Some g)))
@@ -41,7 +41,7 @@ time_in gs k t times (Some g) fact nothing there noted is = record { guest = g; 
 abbrev Sized : Plan → Places → Type 0
 Sized a gs = length gs ≡ length a.dues
 
-has_time : (a : Plan) (gs : Places) (k t : ℕ) (times : List (Option ℕ)) (fact : Facts → Option ℕ) → length times ≡ length gs → fact (facts_in None) ≡ None
+pub has_time : (a : Plan) (gs : Places) (k t : ℕ) (times : List (Option ℕ)) (fact : Facts → Option ℕ) → length times ≡ length gs → fact (facts_in None) ≡ None
     → ((p : Option Guest) → slice_get gs k ≡ Some p → slice_get times k ≡ Some (fact (facts_in p))) → slice_get times k ≡ Some (Some t)
     → HasTime gs k t (λ g. fact (facts_in (Some g)))
 has_time a gs k t times fact sized nothing noted is =

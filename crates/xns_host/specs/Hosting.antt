@@ -22,7 +22,7 @@ use Rattle.xns_host.specs.Story.{Story, has_message, new_story, waiting_message,
 use Rattle.xns_host.specs.Telling.{Tells, Goes, Hears}
 use Rattle.xns_host.specs.Times.{IsBy}
 use Rattle.xns_host.specs.Turns.{has_turn}
-use Rattle.xns_host.specs.Waiting.{due_time}
+use Rattle.xns_host.specs.Waiting.{IsDueAfter, after_act, due_time}
 use Rattle.xns_host.specs.declared.connection.Connection.{Connection}
 use Rattle.xns_host.specs.declared.event.Event.{Event}
 use Rattle.xns_host.specs.declared.facts.Facts.{Facts}
@@ -103,6 +103,26 @@ pub record GoesIn (c : Connection) (place : Option (Option Guest)) : Type 0 wher
 pub record EachGoes (old new : List (Option Guest)) : Type 0 where
   pub goes : (k : ℕ) (g : Guest) → slice_get old k ≡ Some (Some g) → GoesIn g.connection (slice_get new k)
   pub none : (k : ℕ) → slice_get old k ≡ Some None → slice_get new k ≡ Some None
+
+-- what was due of the connection at this time was done, and nothing of it is due then
+pub record HasActed (now : ℕ) (c next : Connection) : Type 0 where
+  pub wait : next.wait ≡ after_act c.wait now
+  pub later : IsDueAfter now next.wait.due
+
+-- it is the one in this place
+abbrev pub HasActedIn : ℕ → Connection → Option Guest → Type 0
+HasActedIn now c None = ⊥
+HasActedIn now c (Some g) = HasActed now c g.connection
+
+-- and it is in this place or forgotten
+pub record ActsIn (now : ℕ) (c : Connection) (place : Option (Option Guest)) : Type 0 where
+  pub next : Connection
+  pub acts : HasActed now c next
+  pub stays : StaysIn next place
+
+-- so it was of each connection
+abbrev pub EachActs : ℕ → (old new : List (Option Guest)) → Type 0
+EachActs now old new = (k : ℕ) (g : Guest) → slice_get old k ≡ Some (Some g) → ActsIn now g.connection (slice_get new k)
 
 -- the program was handed the message that waits, and the connection goes on from there; where none waits, it was told that it is closed
 pub data HasTold (c next : Connection) : Type 0 where

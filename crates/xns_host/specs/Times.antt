@@ -20,6 +20,12 @@ pub record IsEarliest (times : List (Option ℕ)) (number time : ℕ) : Type 0 w
 pub record HasNoneBy (times : List (Option ℕ)) (now : ℕ) : Type 0 where
   pub after : (k t : ℕ) → slice_get times k ≡ Some (Some t) → now < t
 
+-- a number whose time is at or before now, and no time is earlier
+pub record IsFirstBy (times : List (Option ℕ)) (now number : ℕ) : Type 0 where
+  pub time : ℕ
+  pub first : IsEarliest times number time
+  pub by : time ≤ now
+
 -- a number's time, if it has one, may stand beside the others', among which it has none
 pub record IsBeside (others : List (Option ℕ)) (number : ℕ) (time : Option ℕ) : Type 0 where
   pub none : slice_index_or others number None ≡ None

@@ -1,5 +1,5 @@
 -- When a connection says something again, asks its peer for a word, and is given up. Times are in milliseconds.
-use Rattle.std.specs.Prelude.{◌≡◌, ℕ, ◌+◌, ◌-◌, ◌*◌, ◌^◌, ◌≤◌, Bool, true, false, ◌==◌, nat_le, min, if◌then◌else◌, Option, Some, None}
+use Rattle.std.specs.Prelude.{◌≡◌, ℕ, ◌+◌, ◌-◌, ◌*◌, ◌^◌, ◌<◌, ◌≤◌, Bool, true, false, ◌==◌, nat_le, min, if◌then◌else◌, Option, Some, None}
 use Rattle.xns_host.specs.declared.act.Act.{Act}
 use Rattle.xns_host.specs.declared.act.Act.TheVariants.{Nothing, Again, Ask, GiveUp, Forget}
 use Rattle.xns_host.specs.declared.due.Due.{Due}
@@ -118,6 +118,10 @@ after_by w Forget now = record w { due = Never }
 
 abbrev pub after_act : Waiting → ℕ → Waiting
 after_act w now = after_by w (act_at w now) now
+
+-- it is due after this time, or never
+abbrev pub IsDueAfter : ℕ → Due → Type 0
+IsDueAfter now due = (t : ℕ) → due_time due ≡ Some t → now < t
 
 -- ---- a silent peer
 

@@ -2,7 +2,7 @@
 
 ghost use Rattle.std.specs.Prelude.{◌≡◌, ◌<◌, ℕ, length, true, false, IfOk, IfSome, Some, None, slice_get};
 ghost use Rattle.xns_host.specs.Agenda.{GetsNumber, GivesWay, HasNobody, HasNoNumber, IsFor, IsWake, noted, released};
-ghost use Rattle.xns_host.specs.Times.{HasEarliest, HasNoneBy};
+ghost use Rattle.xns_host.specs.Times.{HasEarliest, HasNoneBy, IsFirstBy};
 ghost use Rattle.xns_host.specs.Turns.{IsFirst, has_turn, with_turn};
 
 use crate::facts::Facts;
@@ -91,7 +91,8 @@ fn place_of(free: &Turns, places: &Places) -> Option<usize>
 
 /// A number whose time is at or before this one.
 fn first_by(dues: &Times, now: u64) -> Option<usize>
-    ensures some { IfSome result (λ k. k < length dues.now) }
+    ensures some { IfSome result (λ k. IsFirstBy dues.now now k) }
+    ensures within { IfSome result (λ k. k < length dues.now) }
     ensures none { result ≡ None → HasNoneBy dues.now now }
 {
     let (number, _) = dues.first_by(now)?;
@@ -177,9 +178,10 @@ impl Agenda {
         place_of(&self.free, &self.places)
     }
 
-    /// A connection of which something is due at this time. `None`: nothing is due.
+    /// A connection of which something is due at this time: none is due earlier. `None`: nothing is due.
     pub fn first_due(&self, now: u64) -> Option<usize>
-        ensures some { IfSome result (λ k. k < length self.now.dues) }
+        ensures some { IfSome result (λ k. IsFirstBy self.now.dues now k) }
+        ensures within { IfSome result (λ k. k < length self.now.dues) }
         ensures none { result ≡ None → HasNoneBy self.now.dues now }
     {
         first_by(&self.dues, now)

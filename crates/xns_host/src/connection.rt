@@ -21,7 +21,7 @@ ghost use Rattle.xns_host.specs.Refusing.{Answers};
 ghost use Rattle.xns_host.specs.Settings.{IsFit};
 ghost use Rattle.xns_host.specs.Story.{Story, GoesOn, new_story, asked_of, waiting_message, with_handed, has_message};
 ghost use Rattle.xns_host.specs.Telling.{Tells, Goes, MovesAndGives, Rested, Calm, CalmFrom, Hears, ReadsAll, waits, is_over};
-ghost use Rattle.xns_host.specs.Waiting.{act_at, after_act, after_step, after_word, lingering, new_waiting};
+ghost use Rattle.xns_host.specs.Waiting.{IsDueAfter, act_at, after_act, after_step, after_word, last_time, lingering, new_waiting};
 ghost use Rattle.xns_host.specs.declared.act.Act.TheVariants.{GiveUp};
 ghost use Rattle.xns_host.specs.declared.why.Why.TheVariants.{NotServed};
 
@@ -471,6 +471,7 @@ impl Connection {
     pub fn act(&mut self, now: u64) -> Act
         ensures act { result ≡ act_at self.old.wait now }
         ensures wait { self.new.wait ≡ after_act self.old.wait now }
+        ensures later { now < last_time → IsDueAfter now self.new.wait.due }
         ensures owed { self.new.owed ≡ owed_after self.old.owed result }
         ensures goes { Goes self.old.conversation self.new.conversation }
         ensures packets { self.new.conversation.packets ≡ self.old.conversation.packets }

@@ -22,6 +22,8 @@ ghost use Rattle.xns_host.specs.Reasons.{call_fault_of, answer_fault_of};
 ghost use Rattle.xns_host.specs.Refusing.{Answers};
 ghost use Rattle.xns_host.specs.Settings.{IsFit, most_connections, wrong_setting};
 ghost use Rattle.xns_host.specs.Turns.{with_turn};
+ghost use Rattle.xns_host.specs.Hosting.{ActsIn, EachActs};
+ghost use Rattle.xns_host.specs.Waiting.{last_time};
 ghost use Rattle.xns_host.specs.declared.guest.Guest.{Guest};
 ghost use Rattle.xns_host.specs.declared.outgoing.Outgoing.{Outgoing};
 ghost use Rattle.xns_host.specs.declared.host_fault.HostFault.TheVariants.{NoConnection, NoMemory, NoRoom, OutOfRange};
@@ -597,6 +599,9 @@ impl Host {
     fn act(&mut self, now: u64, number: usize)
         ensures goes { EachGoes self.old.guests.items self.new.guests.items }
         ensures strays { self.new.strays ≡ self.old.strays }
+        ensures acts { now < last_time → (g : Guest) → slice_get self.old.guests.items number ≡ Some (Some g)
+            → ActsIn now g.connection (slice_get self.new.guests.items number) }
+        ensures apart { IsApart self.old.guests.items self.new.guests.items number }
     {
         if number >= self.guests.len() {
             return;
@@ -610,6 +615,7 @@ impl Host {
     fn act_all(&mut self, now: u64)
         ensures goes { EachGoes self.old.guests.items self.new.guests.items }
         ensures strays { self.new.strays ≡ self.old.strays }
+        ensures acts { now < last_time → EachActs now self.old.guests.items self.new.guests.items }
     {
         for _ in 0..self.guests.len() {
             let Some(number) = self.agenda.first_due(now) else {

@@ -16,6 +16,8 @@ ghost use Rattle.courier_sessions.specs.Answering.{answer_message};
 ghost use Rattle.xns_host.specs.Reasons.{call_fault_of, answer_fault_of};
 ghost use Rattle.xns_host.specs.Refusing.{Answers};
 ghost use Rattle.xns_host.specs.Turns.{with_turn};
+ghost use Rattle.xns_host.specs.Hosting.{HasActedIn};
+ghost use Rattle.xns_host.specs.Waiting.{last_time};
 ghost use Rattle.xns_host.specs.declared.guest.Guest.{Guest};
 ghost use Rattle.xns_host.specs.declared.host_fault.HostFault.TheVariants.{NoConnection};
 
@@ -167,6 +169,7 @@ pub fn act_in(slot: &mut Option<Guest>, now: u64) -> bool
     ensures done { result ≡ is_done slot.new }
     ensures goes { (g : Guest) → slot.old ≡ Some g → WentBy g.connection slot.new }
     ensures kept { is_none slot.new ≡ is_none slot.old }
+    ensures acts { now < last_time → (g : Guest) → slot.old ≡ Some g → HasActedIn now g.connection slot.new }
 {
     let Some(guest) = slot else {
         return false;

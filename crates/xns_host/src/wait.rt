@@ -72,7 +72,7 @@ fn idle_due(pace: &Pace, heard_at: u64) -> Due
 
 impl Wait {
     ghost use Rattle.xns_host.specs.Waiting.{new_waiting, act_at, after_act, after_step, after_word, begun, missed, rested, lingering};
-    ghost use Rattle.xns_host.specs.Waiting.{waiting_on, idling};
+    ghost use Rattle.xns_host.specs.Waiting.{IsDueAfter, last_time, waiting_on, idling};
 
     /// The waits of a connection that is made at this time.
     pub fn new(pace: Pace, now: u64) -> Wait
@@ -229,9 +229,12 @@ impl Wait {
     }
 
     /// What is to be done at this time: it counts as done. Before its time nothing is.
+    #[tactic(auto, using(crate::proofs::Done::due_later))]
     pub fn act(&mut self, now: u64) -> Act
         ensures act { result ≡ act_at self.old now }
         ensures after { self.new ≡ after_act self.old now }
+        // Nothing is due then, but at the end of time.
+        ensures later { now < last_time → IsDueAfter now self.new.due }
     {
         let act = self.next_act(now);
         match act {

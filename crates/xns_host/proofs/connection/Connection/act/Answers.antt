@@ -6,6 +6,7 @@ pub returns : goal.returns
 returns c = record {
   act = c.act-act.ensures.act;
   wait = c.act-act.ensures.after;
+  later = c.act-act.ensures.later;
   owed = c.owed_after-self.ensures;
   goes = goes_not c.args.self.now.conversation;
   packets = refl;

@@ -1,14 +1,32 @@
 use Rattle.std.proofs.Common.{◌≡◌, ◌<◌, Some, length, rules, slice_get, arith}
 use Rattle.std.specs.Prelude.{slice_set}
-use Rattle.xns_host.proofs.Apart.{set_there}
+use Rattle.xns_host.proofs.Apart.{apart_then, set_apart, set_there}
+use Rattle.xns_host.proofs.Done.{act_settled}
 use Rattle.xns_host.proofs.Going.{each_set, each_settled, each_then}
-use Rattle.xns_host.proofs.Noting.{kept_but}
+use Rattle.xns_host.proofs.Noting.{kept_but, same_place}
 use Rattle.xns_host.proofs.host.Host.act.Goals as goal
 
 pub note-requires-clause-others : goal.note-requires-clause-others
 note-requires-clause-others c =
     kept_but c.args.self.now.agenda c.args.self.now.guests.items c.as_slice.result.now c.args.number c.index_mut.result.now c.act_in-done.new.slot
     c.args.self.now.noted (omega arith) (search rules) (search rules) (search rules)
+
+pub returns-clause-acts : goal.returns-clause-acts
+returns-clause-acts c = λ more g at.
+    let less : c.args.number < length c.args.self.now.guests.items = omega arith in
+    let items : c.as_slice.result.now ≡ slice_set c.args.self.now.guests.items c.args.number c.act_in-done.new.slot = search rules in
+    let there : slice_get c.as_slice.result.now c.args.number ≡ Some c.act_in-done.new.slot
+    = set_there c.args.self.now.guests.items c.as_slice.result.now c.args.number c.act_in-done.new.slot less items in
+    let was : c.index_mut.result.now ≡ Some g
+    = same_place c.args.self.now.guests.items c.args.number c.index_mut.result.now (Some g) less (search rules) at in
+    act_settled c.as_slice.result.now c.settle.new.self.guests.items c.args.number c.args.now g.connection c.act_in-done.new.slot c.act_in-done.result
+    there (c.act_in-done.ensures.acts more g was) c.act_in-done.ensures.done (search rules) (search rules)
+
+pub returns-clause-apart : goal.returns-clause-apart
+returns-clause-apart c =
+    let items : c.as_slice.result.now ≡ slice_set c.args.self.now.guests.items c.args.number c.act_in-done.new.slot = search rules in
+    apart_then c.args.self.now.guests.items c.as_slice.result.now c.settle.new.self.guests.items c.args.number
+    (set_apart c.args.self.now.guests.items c.as_slice.result.now c.args.number c.act_in-done.new.slot items) (search rules)
 
 pub returns-clause-goes : goal.returns-clause-goes
 returns-clause-goes c =

@@ -1,12 +1,30 @@
-use Rattle.std.proofs.Common.{◌∙◌, refl}
+use Rattle.std.proofs.Common.{◌∙◌, refl, rules, arith}
+use Rattle.xns_host.specs.Times.{HasNoneBy}
+use Rattle.xns_host.proofs.Done.{at_first, done_early, done_last, one_more}
 use Rattle.xns_host.proofs.Going.{each_stays, each_then}
 use Rattle.xns_host.proofs.host.Host.act_all.Goals as goal
 
 pub loop-init : goal.loop-init
-loop-init c = (refl, each_stays c.args.self.now.guests.items c.args.self.now.guests.items refl)
+loop-init c = (
+  refl,
+  each_stays c.args.self.now.guests.items c.args.self.now.guests.items refl,
+  λ more. at_first c.args.now c.args.self.now.guests.items,
+)
 
 pub loop-preserved : goal.loop-preserved
 loop-preserved c = (
   c.act.ensures.strays ∙ c.loop.invariant.0,
   each_then c.args.self.now.guests.items c.loop.self.guests.items c.act.new.self.guests.items c.loop.invariant.1 c.act.ensures.goes,
+  λ more. one_more c.args.now c.args.self.now.guests.items c.loop.self.guests.items c.act.new.self.guests.items c.loop.self.agenda c.in-Some.number
+      c.loop.counter (c.loop.invariant.2 more) c.loop.self.noted c.loop.self.sized c.in-Some.ensures.some (c.act.ensures.acts more) c.act.ensures.apart,
 )
+
+pub returns-in_default-clause-acts : goal.returns-in_default-clause-acts
+returns-in_default-clause-acts c = λ more.
+    let none : HasNoneBy c.loop.self.agenda.dues c.args.now = search rules in
+    done_early c.args.now c.args.self.now.guests.items c.loop.self.guests.items c.loop.self.agenda c.loop.counter (c.loop.invariant.2 more)
+    c.loop.self.noted none
+
+pub returns-clause-acts : goal.returns-clause-acts
+returns-clause-acts c = λ more.
+    done_last c.args.now c.args.self.now.guests.items c.loop.self.guests.items c.loop.counter (c.loop.invariant.2 more) (omega arith)

@@ -1,0 +1,327 @@
+-- What is due is done, once: it is then due later.
+use Rattle.std.proofs.Common.{◌≡◌, ◌≢◌, ◌∙◌, ◌⊎◌, inl, inr, ap, refl, subst, sym, ℕ, zero, suc, ◌+◌, ◌<◌, ◌≤◌, Bool, true, false, List, [], ◌∷◌, length, Option, Some, None, slice_get, arith}
+use Rattle.std.specs.Prelude.{◌&&◌, min, nat_le, if◌then◌else◌}
+use Rattle.std.specs.Option.{is_none, is_some}
+use Rattle.std.proofs.lemmas.Bool.{le-leb, leb-false, lt-leb}
+use Rattle.std.proofs.Math.Nat.{le-min}
+use Rattle.xns_host.specs.Agenda.{Plan}
+use Rattle.xns_host.specs.Hosting.{ActsIn, EachActs, HasActed, HasActedIn, IsAllNoted, IsApart, StaysIn, facts_in, forgotten, is_done, may_go, stays}
+use Rattle.xns_host.specs.Times.{HasNoneBy, IsFirstBy}
+use Rattle.xns_host.specs.Waiting.{Waiting, IsWaiting, IsDueAfter, act_by, after_act, after_by, due_time, last_time, later, unless_silent}
+use Rattle.xns_host.specs.declared.act.Act.{Act}
+use Rattle.xns_host.specs.declared.act.Act.TheVariants.{Nothing, Again, Ask, GiveUp, Forget}
+use Rattle.xns_host.specs.declared.connection.Connection.{Connection}
+use Rattle.xns_host.specs.declared.due.Due.{Due}
+use Rattle.xns_host.specs.declared.due.Due.TheVariants.{Never, AgainAt, AskAt, ForgetAt}
+use Rattle.xns_host.specs.declared.guest.Guest.{Guest}
+use Rattle.xns_host.proofs.Going.{settled}
+use Rattle.xns_host.proofs.Noting.{same_or_other}
+use Rattle.xns_host.proofs.Waking.{HasTime, has_time}
+
+-- ---- one connection
+
+-- a wait has some length, and ends later
+ends_later : (now span : ℕ) → 1 ≤ span → now < last_time → now < later now span
+ends_later now span some more =
+    let sum : now + 1 ≤ now + span = omega (arith, some) in
+    let last : now + 1 ≤ last_time = omega (arith, more) in
+    let least : now + 1 ≤ min (now + span) last_time = le-min sum last in
+    omega (arith, least)
+
+at_end : (now a : ℕ) (at : ℕ → Due) → ((t : ℕ) → due_time (at t) ≡ Some t) → now < a → IsDueAfter now (at a)
+at_end now a at is more t due = let here = is a in let same : a ≡ t = cc in subst (λ (n : ℕ). now < n) same more
+
+-- the waits of a connection have some length
+record HasLength (w : Waiting) : Type 0 where
+  pub next : 1 ≤ w.length
+  pub longest : 1 ≤ w.pace.longest
+
+has_length : (w : Waiting) → IsWaiting w.pace w.length w.misses → HasLength w
+has_length w is =
+    let some = w.pace.some in
+    let ordered = w.pace.ordered in
+    let first = is.first in
+    record { next = omega (arith, some, first); longest = omega (arith, some, ordered) }
+
+not_yet : (w : Waiting) (t now : ℕ) → due_time w.due ≡ Some t → nat_le t now ≡ false → IsDueAfter now w.due
+not_yet w t now is late u due =
+    let same : t ≡ u = cc in
+    subst (λ (n : ℕ). now < n) same (leb-false t now late)
+
+after_again : (b : Bool) (w : Waiting) (now : ℕ) → HasLength w → now < last_time → IsDueAfter now (after_by w (if b then GiveUp else Again) now).due
+after_again true w now some more = at_end now (later now w.pace.longest) ForgetAt (λ t. refl) (ends_later now w.pace.longest some.longest more)
+after_again false w now some more = at_end now (later now w.length) AgainAt (λ t. refl) (ends_later now w.length some.next more)
+
+after_ask : (b : Bool) (w : Waiting) (now : ℕ) → HasLength w → now < last_time → IsDueAfter now (after_by w (if b then GiveUp else Ask) now).due
+after_ask true w now some more = at_end now (later now w.pace.longest) ForgetAt (λ t. refl) (ends_later now w.pace.longest some.longest more)
+after_ask false w now some more = at_end now (later now w.length) AskAt (λ t. refl) (ends_later now w.length some.next more)
+
+by_again : (b : Bool) (w : Waiting) (t now : ℕ) → nat_le t now ≡ b → due_time w.due ≡ Some t → HasLength w → now < last_time
+    → IsDueAfter now (after_by w (if b then unless_silent w Again else Nothing) now).due
+by_again true w t now test is some more = after_again (nat_le w.pace.tries w.misses) w now some more
+by_again false w t now test is some more = not_yet w t now is test
+
+by_ask : (b : Bool) (w : Waiting) (t now : ℕ) → nat_le t now ≡ b → due_time w.due ≡ Some t → HasLength w → now < last_time
+    → IsDueAfter now (after_by w (if b then unless_silent w Ask else Nothing) now).due
+by_ask true w t now test is some more = after_ask (nat_le w.pace.tries w.misses) w now some more
+by_ask false w t now test is some more = not_yet w t now is test
+
+by_forget : (b : Bool) (w : Waiting) (t now : ℕ) → nat_le t now ≡ b → due_time w.due ≡ Some t
+    → IsDueAfter now (after_by w (if b then Forget else Nothing) now).due
+by_forget true w t now test is u due = absurd (cc)
+by_forget false w t now test is u due = not_yet w t now is test u due
+
+by_due : (w : Waiting) (d : Due) (now : ℕ) → w.due ≡ d → HasLength w → now < last_time → IsDueAfter now (after_by w (act_by w d now) now).due
+by_due w Never now is some more t due = let none : due_time w.due ≡ None = ap due_time is in absurd (cc)
+by_due w (AgainAt t) now is some more u due = by_again (nat_le t now) w t now refl (ap due_time is) some more u due
+by_due w (AskAt t) now is some more u due = by_ask (nat_le t now) w t now refl (ap due_time is) some more u due
+by_due w (ForgetAt t) now is some more u due = by_forget (nat_le t now) w t now refl (ap due_time is) u due
+
+pub due_later : (w v : Waiting) (now : ℕ) → IsWaiting w.pace w.length w.misses → v ≡ after_act w now → now < last_time → IsDueAfter now v.due
+due_later w v now is same more = subst (λ (u : Waiting). IsDueAfter now u.due) (sym same) (by_due w w.due now refl (has_length w is) more)
+
+-- ---- one place
+
+abbrev Places : Type 0
+Places = List (Option Guest)
+
+-- the connection in a place acted, and is forgotten, if it is done
+pub act_settled : (a b : Places) (n now : ℕ) (c : Connection) (p : Option Guest) (done : Bool) → slice_get a n ≡ Some p → HasActedIn now c p
+    → done ≡ is_done p → (done ≡ true → slice_get b n ≡ Some None) → (done ≡ false → b ≡ a) → ActsIn now c (slice_get b n)
+act_settled a b n now c None done there acted is gone kept = absurd acted
+act_settled a b n now c (Some g) done there acted is gone kept = record {
+  next = g.connection;
+  acts = acted;
+  stays = settled a b n g done there is gone kept;
+}
+
+-- ---- doing what is due again does nothing
+
+third : (a b c : Bool) → (a && (b && c)) ≡ true → c ≡ true
+third true true c is = is
+third true false c is = absurd (cc)
+third false b c is = absurd (cc)
+
+no_time : (o : Option ℕ) → is_none o ≡ true → o ≡ None
+no_time None is = refl
+no_time (Some t) is = absurd (cc)
+
+gone_due : (now : ℕ) (c : Connection) → may_go c ≡ true → IsDueAfter now c.wait.due
+gone_due now c gone t is =
+    let none : due_time c.wait.due ≡ None = no_time (due_time c.wait.due) (third (is_some c.closed) c.told (is_none (due_time c.wait.due)) gone) in
+    absurd (cc)
+
+still_by : (b : Bool) (w : Waiting) (a : Act) (now : ℕ) → b ≡ false → after_by w (if b then a else Nothing) now ≡ w
+still_by true w a now is = absurd (cc)
+still_by false w a now is = refl
+
+idle_by : (w : Waiting) (d : Due) (now : ℕ) → IsDueAfter now d → after_by w (act_by w d now) now ≡ w
+idle_by w Never now after = refl
+idle_by w (AgainAt t) now after = still_by (nat_le t now) w (unless_silent w Again) now (lt-leb t now (after t refl))
+idle_by w (AskAt t) now after = still_by (nat_le t now) w (unless_silent w Ask) now (lt-leb t now (after t refl))
+idle_by w (ForgetAt t) now after = still_by (nat_le t now) w Forget now (lt-leb t now (after t refl))
+
+nothing_acts : (w : Waiting) (now : ℕ) → IsDueAfter now w.due → after_act w now ≡ w
+nothing_acts w now after = idle_by w w.due now after
+
+-- ---- in how many places something is due
+
+abbrev pub is_by : ℕ → Option ℕ → Bool
+is_by now None = false
+is_by now (Some t) = nat_le t now
+
+abbrev pub is_due_in : ℕ → Option Guest → Bool
+is_due_in now None = false
+is_due_in now (Some g) = is_by now (due_time g.connection.wait.due)
+
+due_by : (now t : ℕ) (o : Option ℕ) → o ≡ Some t → t ≤ now → is_by now o ≡ true
+due_by now t None is by = absurd (cc)
+due_by now t (Some u) is by = let same : t ≡ u = cc in le-leb u now (subst (λ (n : ℕ). n ≤ now) same by)
+
+due_not : (now : ℕ) (o : Option ℕ) → ((t : ℕ) → o ≡ Some t → now < t) → is_by now o ≡ false
+due_not now None after = refl
+due_not now (Some t) after = lt-leb t now (after t refl)
+
+not_due : (now : ℕ) (o : Option ℕ) → is_by now o ≡ false → (t : ℕ) → o ≡ Some t → now < t
+not_due now None late t is = absurd (cc)
+not_due now (Some u) late t is = let same : u ≡ t = cc in subst (λ (n : ℕ). now < n) same (leb-false u now late)
+
+abbrev pub one : Bool → ℕ
+one true = 1
+one false = 0
+
+abbrev pub dues_in : ℕ → Places → ℕ
+dues_in now [] = 0
+dues_in now (p ∷ ps) = one (is_due_in now p) + dues_in now ps
+
+pub dues_few : (now : ℕ) (gs : Places) → dues_in now gs ≤ length gs
+dues_few now [] = omega arith
+dues_few now (p ∷ ps) = let rest = dues_few now ps in let most = at_most (is_due_in now p) in omega (arith, rest, most) where
+  at_most : (b : Bool) → one b ≤ 1
+  at_most true = omega arith
+  at_most false = omega arith
+
+same_dues : (now : ℕ) (gs hs : Places) → ((k : ℕ) → slice_get hs k ≡ slice_get gs k) → dues_in now hs ≡ dues_in now gs
+same_dues now [] [] same = refl
+same_dues now [] (h ∷ hs) same = let none : Some h ≡ None = same 0 in absurd (cc)
+same_dues now (g ∷ gs) [] same = let none : None ≡ Some g = same 0 in absurd (cc)
+same_dues now (g ∷ gs) (h ∷ hs) same =
+    let first : Some h ≡ Some g = same 0 in
+    let here : h ≡ g = cc in
+    ap (λ (p : Option Guest). one (is_due_in now p) + dues_in now hs) here
+    ∙ ap (λ (n : ℕ). one (is_due_in now g) + n) (same_dues now gs hs (λ k. same (suc k)))
+
+suc_same : (a b : ℕ) → suc a ≡ suc b → a ≡ b
+suc_same a b e = cc
+
+sums : (a b m n : ℕ) → a ≡ 1 → b ≡ 0 → n ≡ m → b + n + 1 ≡ a + m
+sums a b m n some none rest = omega (arith, some, none, rest)
+
+more : (a b m n : ℕ) → b ≡ a → n + 1 ≡ m → b + n + 1 ≡ a + m
+more a b m n same rest = omega (arith, same, rest)
+
+one_fewer : (now : ℕ) (gs hs : Places) (n : ℕ) (p q : Option Guest) → ((k : ℕ) → k ≢ n → slice_get hs k ≡ slice_get gs k)
+    → slice_get gs n ≡ Some p → slice_get hs n ≡ Some q → is_due_in now p ≡ true → is_due_in now q ≡ false → dues_in now hs + 1 ≡ dues_in now gs
+one_fewer now [] hs n p q others was is due late = absurd (cc)
+one_fewer now (g ∷ gs) [] zero p q others was is due late = absurd (cc)
+one_fewer now (g ∷ gs) [] (suc n) p q others was is due late = let none : None ≡ Some g = others 0 (λ e. cc) in absurd (cc)
+one_fewer now (g ∷ gs) (h ∷ hs) zero p q others was is due late =
+    let before : g ≡ p = cc in
+    let after : h ≡ q = cc in
+    let counted : one (is_due_in now g) ≡ 1 = ap (λ (x : Option Guest). one (is_due_in now x)) before ∙ ap one due in
+    let none : one (is_due_in now h) ≡ 0 = ap (λ (x : Option Guest). one (is_due_in now x)) after ∙ ap one late in
+    let rest : dues_in now hs ≡ dues_in now gs = same_dues now gs hs (λ k. others (suc k) (λ e. cc)) in
+    sums (one (is_due_in now g)) (one (is_due_in now h)) (dues_in now gs) (dues_in now hs) counted none rest
+one_fewer now (g ∷ gs) (h ∷ hs) (suc n) p q others was is due late =
+    let first : Some h ≡ Some g = others 0 (λ e. cc) in
+    let here : h ≡ g = cc in
+    let flag : one (is_due_in now h) ≡ one (is_due_in now g) = ap (λ (x : Option Guest). one (is_due_in now x)) here in
+    let rest : dues_in now hs + 1 ≡ dues_in now gs
+    = one_fewer now gs hs n p q (λ k other. others (suc k) (λ e. other (suc_same k n e))) was is due late in
+    more (one (is_due_in now g)) (one (is_due_in now h)) (dues_in now gs) (dues_in now hs) flag rest
+
+no_one : (b : Bool) (n : ℕ) → one b + n ≡ 0 → b ≡ false
+no_one true n none = let some : 1 + n ≡ 0 = none in absurd (omega (arith, some))
+no_one false n none = refl
+
+none_due : (now : ℕ) (gs : Places) → dues_in now gs ≡ 0 → (k : ℕ) (p : Option Guest) → slice_get gs k ≡ Some p → is_due_in now p ≡ false
+none_due now [] none k p there = absurd (cc)
+none_due now (g ∷ gs) none zero p there =
+    let here : g ≡ p = cc in
+    ap (is_due_in now) (sym here) ∙ no_one (is_due_in now g) (dues_in now gs) none
+none_due now (g ∷ gs) none (suc k) p there = none_due now gs (omega (arith, none)) k p there
+
+-- ---- round after round
+
+-- what is due of the connection in this place now leads to what it led to at first
+record WillAct (now : ℕ) (c : Connection) (place : Option (Option Guest)) : Type 0 where
+  next : Connection
+  will : after_act next.wait now ≡ after_act c.wait now
+  stays : StaysIn next place
+
+-- and each round leaves one place fewer in which something is due
+pub record SoFar (now : ℕ) (first gs : Places) (rounds : ℕ) : Type 0 where
+  will : (k : ℕ) (g : Guest) → slice_get first k ≡ Some (Some g) → WillAct now g.connection (slice_get gs k)
+  few : dues_in now gs + rounds ≤ length first
+
+pub at_first : (now : ℕ) (first : Places) → SoFar now first first 0
+at_first now first = record {
+  will = λ k g there. record { next = g.connection; will = refl; stays = subst (λ (q : Option (Option Guest)). StaysIn g.connection q) (sym there) (stays g refl) };
+  few = let most = dues_few now first in omega (arith, most);
+}
+
+stays_due : (now : ℕ) (c : Connection) (p : Option Guest) → StaysIn c (Some p) → IsDueAfter now c.wait.due → is_due_in now p ≡ false
+stays_due now c (Some g) (stays h same) after =
+    due_not now (due_time g.connection.wait.due) (subst (λ (d : Connection). IsDueAfter now d.wait.due) (sym same) after)
+stays_due now c None (forgotten gone) after = refl
+
+-- the place of who stays
+record HasStayed (now : ℕ) (c : Connection) (place : Option (Option Guest)) : Type 0 where
+  at : Option Guest
+  there : place ≡ Some at
+  late : is_due_in now at ≡ false
+
+has_stayed : {place : Option (Option Guest)} (now : ℕ) (c : Connection) → StaysIn c place → IsDueAfter now c.wait.due → HasStayed now c place
+has_stayed now c (stays g same) after = record { at = Some g; there = refl; late = stays_due now c (Some g) (stays g same) after }
+has_stayed now c (forgotten gone) after = record { at = None; there = refl; late = refl }
+
+one_at : {X : Type 0} (o : Option (Option X)) (a b : X) → o ≡ Some (Some a) → o ≡ Some (Some b) → a ≡ b
+one_at o a b left right = cc
+
+not_both : {X : Type 0} (o : Option (Option X)) (a : X) → o ≡ Some (Some a) → o ≡ Some None → ⊥
+not_both o a left right = cc
+
+then_will : (now : ℕ) (c : Connection) (g : Guest) (place next_place : Option (Option Guest)) → WillAct now c place → place ≡ Some (Some g)
+    → ActsIn now g.connection next_place → WillAct now c next_place
+then_will now c g place next_place will there acted = by will.next place will.will refl will.stays where
+  after : (d : Connection) → g.connection ≡ d → after_act d.wait now ≡ after_act c.wait now → WillAct now c next_place
+  after d here leads = record {
+    next = acted.next;
+    will = nothing_acts acted.next.wait now acted.acts.later ∙ acted.acts.wait ∙ ap (λ (x : Connection). after_act x.wait now) here ∙ leads;
+    stays = acted.stays;
+  }
+
+  by : (d : Connection) (q : Option (Option Guest)) → after_act d.wait now ≡ after_act c.wait now → place ≡ q → StaysIn d q → WillAct now c next_place
+  by d (Some (Some _)) leads is (stays h same) = after d (ap (λ (x : Guest). x.connection) (one_at place g h there is) ∙ same) leads
+  by d (Some None) leads is (forgotten gone) = absurd (not_both place g there is)
+  by d None leads is at = elim at [ ]
+
+pub one_more : (now : ℕ) (first gs hs : Places) (a : Plan) (n rounds : ℕ) → SoFar now first gs rounds → IsAllNoted a gs → length gs ≡ length a.dues
+    → IsFirstBy a.dues now n → ((g : Guest) → slice_get gs n ≡ Some (Some g) → ActsIn now g.connection (slice_get hs n)) → IsApart gs hs n
+    → SoFar now first hs (rounds + 1)
+one_more now first gs hs a n rounds before all sized due acts apart =
+    let here : HasTime gs n due.time (λ g. due_time g.connection.wait.due)
+    = has_time a gs n due.time a.dues (λ f. f.due) (sym sized) refl (λ p there. (all.each n p there).facts.due) due.first.there in
+    let acted = acts here.guest here.there in
+    let place = has_stayed now acted.next acted.stays acted.acts.later in
+    let less = one_fewer now gs hs n (Some here.guest) place.at apart.others here.there place.there
+    (due_by now due.time (due_time here.guest.connection.wait.due) here.is due.by) place.late in
+    let few = before.few in
+    record {
+      will = λ k g there. by here.guest here.there acted k g there (same_or_other k n);
+      few = omega (arith, less, few);
+    } where
+      by : (h : Guest) → slice_get gs n ≡ Some (Some h) → ActsIn now h.connection (slice_get hs n) → (k : ℕ) (g : Guest)
+          → slice_get first k ≡ Some (Some g) → (k ≡ n) ⊎ (k ≢ n) → WillAct now g.connection (slice_get hs k)
+      by h at acted k g there (inl e) =
+          subst (λ (m : ℕ). WillAct now g.connection (slice_get hs m)) (sym e)
+          (then_will now g.connection h (slice_get gs n) (slice_get hs n)
+          (before.will n g (subst (λ (m : ℕ). slice_get first m ≡ Some (Some g)) e there)) at acted)
+      by h at acted k g there (inr other) =
+          subst (λ (q : Option (Option Guest)). WillAct now g.connection q) (sym (apart.others k other)) (before.will k g there)
+
+at_last : (now : ℕ) (first gs : Places) (rounds : ℕ) → SoFar now first gs rounds
+    → ((k : ℕ) (p : Option Guest) → slice_get gs k ≡ Some p → is_due_in now p ≡ false) → EachActs now first gs
+at_last now first gs rounds before none = λ k g there. let w = before.will k g there in by k g w.next w.will _ refl w.stays where
+  acted : (c d : Connection) → after_act d.wait now ≡ after_act c.wait now → IsDueAfter now d.wait.due → HasActed now c d
+  acted c d leads after = record { wait = sym (nothing_acts d.wait now after) ∙ leads; later = after }
+
+  by : (k : ℕ) (g : Guest) (d : Connection) → after_act d.wait now ≡ after_act g.connection.wait now → (q : Option (Option Guest))
+      → slice_get gs k ≡ q → StaysIn d q → ActsIn now g.connection (slice_get gs k)
+  by k g d leads (Some (Some _)) is (stays h same) =
+      let after : IsDueAfter now h.connection.wait.due = not_due now (due_time h.connection.wait.due) (none k (Some h) is) in
+      record {
+        next = d;
+        acts = acted g.connection d leads (subst (λ (x : Connection). IsDueAfter now x.wait.due) same after);
+        stays = subst (λ (r : Option (Option Guest)). StaysIn d r) (sym is) (stays h same);
+      }
+  by k g d leads (Some None) is (forgotten gone) = record {
+    next = d;
+    acts = acted g.connection d leads (gone_due now d gone);
+    stays = subst (λ (r : Option (Option Guest)). StaysIn d r) (sym is) (forgotten gone);
+  }
+  by k g d leads None is at = elim at [ ]
+
+-- nothing is due any longer
+pub done_early : (now : ℕ) (first gs : Places) (a : Plan) (rounds : ℕ) → SoFar now first gs rounds → IsAllNoted a gs → HasNoneBy a.dues now
+    → EachActs now first gs
+done_early now first gs a rounds before all none = at_last now first gs rounds before (λ k p there. by k p (all.each k p there).facts.due) where
+  by : (k : ℕ) (p : Option Guest) → slice_get a.dues k ≡ Some (facts_in p).due → is_due_in now p ≡ false
+  by k None noted = refl
+  by k (Some g) noted = due_not now (due_time g.connection.wait.due) (λ t is. none.after k t (noted ∙ ap Some is))
+
+-- or as many rounds were made as there are places
+pub done_last : (now : ℕ) (first gs : Places) (rounds : ℕ) → SoFar now first gs rounds → length first ≤ rounds → EachActs now first gs
+done_last now first gs rounds before most =
+    let few = before.few in
+    at_last now first gs rounds before (none_due now gs (omega (arith, few, most)))
