@@ -2,6 +2,7 @@ mod Again
 mod Agendas
 mod Apart
 mod Beside
+mod Coming
 mod Done
 mod Dues
 mod Fetching

@@ -1,10 +1,12 @@
 //! A side of a conversation: the one that calls or the one that is called.
 
-ghost use Rattle.std.specs.Prelude.{◌≡◌, ℕ, [], ◌∷◌, ◌++◌, false, OnOk, OnErr, Some, None, Ok};
+ghost use Rattle.std.specs.Prelude.{◌≡◌, ◌≤◌, ℕ, [], ◌∷◌, ◌++◌, true, false, OnOk, OnErr, Some, None, Ok};
 ghost use Rattle.courier_messages.specs.declared.message.Message.{Message};
 ghost use Rattle.courier_messages.specs.RawCalls.{words_call};
 ghost use Rattle.courier_sessions.specs.Answering.{answer_message, has_items};
-ghost use Rattle.xns_spp.specs.Held.{Held};
+ghost use Rattle.xns_spp.specs.Held.{Held, StandsFor};
+ghost use Rattle.xns_spp.specs.Sending.{waiting_count};
+ghost use Rattle.xns_spp.specs.State.{State};
 ghost use Rattle.xns_host.specs.Story.{Story, SideHas, Moves, MovesAll, Calms, IsListed, is_stopped, out_of, asked_of, has_call};
 ghost use Rattle.xns_host.specs.Story.{has_message, waiting_message, with_handed};
 ghost use Rattle.xns_host.specs.Refusing.{Answers, side_call_fault, side_answer_fault, call_result, answer_result};
@@ -152,6 +154,9 @@ impl Side {
         requires { is_stopped self.old ≡ false }
         ensures moves { Moves self.old endpoint.old self.new endpoint.new }
         ensures all { OnOk result (MovesAll self.old endpoint.old self.new endpoint.new) }
+        // A call comes only with an item: where as many wait as before, none came.
+        ensures calls { has_message self.old ≡ false → OnOk result ((s v : State) → StandsFor endpoint.old s → StandsFor endpoint.new v
+            → waiting_count s ≤ waiting_count v → IsListed self.new) }
     {
         xns_spp::laws::the_next_item_is_handed_up();
         courier_sessions::laws::a_session_is_its_conversation();
@@ -166,6 +171,7 @@ impl Side {
     fn reject_unlisted(&mut self, alloc: Global) -> Result<bool, AllocError>
         ensures moves { (e : Held) → Moves self.old e self.new e }
         ensures listed { result ≡ Ok false → (self.new ≡ self.old) × IsListed self.old }
+        ensures gone { result ≡ Ok true → has_message self.new ≡ false }
         ensures stopped { is_stopped self.new ≡ is_stopped self.old }
     {
         courier_sessions::laws::a_server_session_is_its_conversation();
@@ -183,8 +189,8 @@ impl Side {
         ensures calms { result ≡ Ok tt → is_stopped self.new ≡ false → Calms self.old endpoint.old self.new endpoint.new }
     {
         self.pump(alloc, endpoint)?;
-        // Each round but the first takes an item that waits: there are no more rounds.
-        for _ in 0..endpoint.waiting().saturating_add(2) {
+        let mut waiting = endpoint.waiting();
+        loop {
             if self.is_stopped() {
                 return Ok(());
             }
@@ -192,7 +198,12 @@ impl Side {
                 return Ok(());
             }
             self.pump(alloc, endpoint)?;
+            let left = endpoint.waiting();
+            // Where no item was taken in, no call came.
+            if left >= waiting {
+                return Ok(());
+            }
+            waiting = left;
         }
-        Err(FeedRefusal::NoMemory)
     }
 }

@@ -1,7 +1,8 @@
 use Rattle.std.proofs.Common.{◌∙◌, ap, sym, subst, OnOk}
-use Rattle.xns_host.specs.Story.{Flows, is_stopped, MovesAll}
+use Rattle.xns_host.specs.Story.{Flows, is_stopped, has_message, MovesAll}
 use Rattle.xns_host.specs.declared.side.Side.{Side}
 use Rattle.xns_host.specs.declared.side.Side.TheVariants.{Calls, Answers}
+use Rattle.xns_host.proofs.Coming.{no_call_comes}
 use Rattle.xns_host.proofs.Leading.{caller_pumped, server_pumped, caller_all, server_all}
 use Rattle.xns_host.proofs.side.Side.pump.Goals as goal
 
@@ -28,3 +29,8 @@ pub returns-in-Answers-clause-all : goal.returns-in-Answers-clause-all
 returns-in-Answers-clause-all c = subst (λ (x : Side). OnOk c.pump-in-Answers.result (MovesAll x c.args.endpoint.now (Answers c.pump-in-Answers.new.side) c.pump-in-Answers.new.endpoint)) (sym c.in-Answers.is)
     (server_all c.the_next_item_is_handed_up.ensures c.a_server_session_is_its_conversation.ensures.give c.a_server_session_is_its_conversation.ensures.feed c.in-Answers.server c.pump-in-Answers.new.side c.args.endpoint.now c.pump-in-Answers.new.endpoint c.pump-in-Answers.result
     (ap is_stopped (sym c.in-Answers.is) ∙ c.requires) c.pump-in-Answers.ensures)
+
+pub returns-in-Answers-clause-calls : goal.returns-in-Answers-clause-calls
+returns-in-Answers-clause-calls c = λ free.
+    no_call_comes c.the_next_item_is_handed_up.ensures c.in-Answers.server c.pump-in-Answers.new.side c.args.endpoint.now c.pump-in-Answers.new.endpoint c.pump-in-Answers.result c.pump-in-Answers.ensures
+    (ap has_message (sym c.in-Answers.is) ∙ free)

@@ -2,6 +2,7 @@ use Rattle.std.proofs.Common.{◌≡◌, ◌∙◌, ap, sym, subst, refl}
 use Rattle.xns_host.specs.Story.{Moves, is_stopped, IsListed}
 use Rattle.xns_host.specs.declared.side.Side.{Side}
 use Rattle.xns_host.specs.declared.side.Side.TheVariants.{Answers}
+use Rattle.xns_host.proofs.Coming.{gone}
 use Rattle.xns_host.proofs.Handing.{rejected, reject_moves, nothing_moves}
 use Rattle.xns_host.proofs.Leading.{moves_not}
 use Rattle.xns_host.proofs.side.Side.reject_unlisted.Goals as goal
@@ -31,3 +32,8 @@ pub returns-in-Answers-clause-listed : goal.returns-in-Answers-clause-listed
 returns-in-Answers-clause-listed c = λ is.
     let r = c.reject_unlisted.ensures in
     (ap Answers (r.stays (λ z. cc)) ∙ sym c.in-Answers.is, subst (λ (x : Side). IsListed x) (sym c.in-Answers.is) (λ m call. r.unlisted m call is))
+
+pub returns-in-Answers-clause-gone : goal.returns-in-Answers-clause-gone
+returns-in-Answers-clause-gone c =
+    let r = c.reject_unlisted.ensures in
+    gone c.in-Answers.server c.reject_unlisted.new.self c.reject_unlisted.result r.rejected r.listed r.none
