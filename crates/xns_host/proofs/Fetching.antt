@@ -1,19 +1,18 @@
 -- What a host tells next.
 use Rattle.std.proofs.Common.{◌≡◌, ◌∙◌, ap, refl, subst, sym, ℕ, ◌+◌, ◌<◌, true, false, Bool, List, length, Option, Some, None, slice_get, get_or, arith}
-use Rattle.std.specs.Prelude.{slice_set, count_by, cond, IfSome, ◌||◌, if◌then◌else◌}
+use Rattle.std.specs.Prelude.{slice_set, count_by, cond, ◌||◌, if◌then◌else◌}
 use Rattle.std.specs.Option.{is_some}
 use Rattle.std.proofs.lemmas.List.{length-set}
 use Rattle.std.proofs.lemmas.List.Sums.{sum_by-set}
 use Rattle.std.proofs.lemmas.Option.{slice_get-get_or}
 use Rattle.xns_host.specs.Agenda.{Plan}
 use Rattle.xns_host.specs.Events.{event_in}
-use Rattle.xns_host.specs.Hosting.{GoesOutBy, SomeGuest, HasNoEvent, HasNoPacket, IsAllNoted, IsApart, IsNextEvent, TellsIn}
+use Rattle.xns_host.specs.Hosting.{HasNoEvent, HasNoPacket, IsAllNoted, IsApart, IsNextEvent, TellsIn}
 use Rattle.xns_host.specs.Times.{HasEarliest}
 use Rattle.xns_host.specs.Turns.{Line, has_turn, with_turn}
 use Rattle.xns_host.specs.declared.connection.Connection.{Connection}
 use Rattle.xns_host.specs.declared.event.Event.{Event}
 use Rattle.xns_host.specs.declared.guest.Guest.{Guest}
-use Rattle.xns_host.specs.declared.outgoing.Outgoing.{Outgoing}
 use Rattle.xns_host.specs.declared.why.Why.{Why}
 use Rattle.xns_host.proofs.Agendas.{nobody, within}
 
@@ -67,12 +66,6 @@ packet_less line next n has is =
 
 pub no_packet : (a : Plan) (gs : Places) → IsAllNoted a gs → HasEarliest a.packets.tickets None → HasNoPacket gs
 no_packet a gs all none = λ k g there. sym (all.each k (Some g) there).facts.packet ∙ no_turn (has_turn a.packets k) a.packets k none refl
-
--- what goes out goes by the way of the connection in this place
-pub goes_out : (gs : Places) (n : ℕ) (place : Option Guest) (made : Option Outgoing) → slice_get gs n ≡ Some place
-    → IfSome made (λ o. GoesOutBy place o) → IfSome made (λ o. SomeGuest (λ p. GoesOutBy p o) gs)
-goes_out gs n place None there via = tt
-goes_out gs n place (Some o) there via = record { number = n; place = place; there = there; is = via }
 
 -- ---- why it is closed
 

@@ -1,16 +1,27 @@
 -- What became of connections by a packet.
-use Rattle.std.proofs.Common.{◌≡◌, ◌≢◌, ◌∙◌, ◌⊎◌, inl, inr, ap, refl, subst, sym, ℕ, ◌<◌, List, length, Option, Some, Result, Ok, Err, slice_get, get_or}
-use Rattle.std.specs.Prelude.{OnErr, OnOk, option_map, slice_set}
+use Rattle.std.proofs.Common.{◌≡◌, ◌≢◌, ◌∙◌, ◌⊎◌, inl, inr, ap, refl, subst, sym, ℕ, ◌<◌, Bool, true, false, List, length, Option, Some, Result, Ok, Err, slice_get, get_or}
+use Rattle.std.specs.Prelude.{OnErr, OnOk, option_map, slice_set, ◌==◌, if◌then◌else◌}
 use Rattle.std.specs.declared.alloc.AllocError.{AllocError}
+use Rattle.std.proofs.lemmas.Bool.{eqb-true}
 use Rattle.std.proofs.lemmas.Option.{slice_get_read}
 use Rattle.courier_sessions.specs.declared.program.Program.{Program}
 use Rattle.xns_idp.specs.Packet.{PacketModel}
-use Rattle.xns_idp.specs.Reading.{packet_of}
-use Rattle.xns_spp.specs.Packet.{SppPacketModel, carried_by, carried_in, spp_packet_of}
+use Rattle.xns_idp.specs.Reading.{decode_model, packet_of}
+use Rattle.xns_spp.specs.Held.{StandsFor}
+use Rattle.xns_spp.specs.Packet.{SppPacketModel, carried_by, carried_in, spp_packet_of, with_header}
+use Rattle.xns_spp.specs.Receiving.{StoresBytes}
+use Rattle.xns_spp.specs.State.{State}
+use Rattle.xns_idp.specs.declared.fault.IdpFault.{IdpFault}
+use Rattle.xns_idp.specs.declared.packet.Packet.{Packet}
+use Rattle.xns_spp.specs.Header.{header_of}
 use Rattle.xns_spp.specs.declared.dropped.Dropped.{Dropped}
-use Rattle.xns_host.specs.Hosting.{EachGoes, EachHears, HearsIn, Receives, nothing, heard, goes, hears}
+use Rattle.xns_spp.specs.declared.dropped.Dropped.TheVariants.{NotSpp}
+use Rattle.xns_host.specs.Hosting.{EachGoes, EachHears, HasHeard, HearsIn, IsNamed, Receives, nothing, heard, goes, hears, listens, loses}
+use Rattle.xns_host.specs.Register.{number_by, peer_at}
 use Rattle.xns_host.specs.Telling.{Hears}
 use Rattle.xns_host.specs.declared.guest.Guest.{Guest}
+use Rattle.xns_host.specs.declared.peer.Peer.{Peer}
+use Rattle.xns_host.specs.declared.register.Register.{Register}
 use Rattle.xns_host.proofs.Apart.{set_there}
 use Rattle.xns_host.proofs.Noting.{place_other, same_or_other}
 
@@ -32,6 +43,14 @@ heard_or_not bytes m place g h (Ok u) read is ok err = subst (λ (p : Option Gue
     (heard (ok bytes read))
 heard_or_not bytes m place g h (Err e) read is ok err = subst (λ (p : Option Guest). HearsIn bytes (Some p) (Some (Some h))) (sym is)
     (subst (λ (x : Guest). HearsIn bytes (Some (Some g)) (Some (Some x))) (sym err) nothing)
+
+pub has_heard : (bytes : List ℕ) (m : SppPacketModel) (g h : Guest) (r : Result (Unit {0}) AllocError) → spp_packet_of bytes ≡ Ok m
+    → OnOk r ((b : List ℕ) → spp_packet_of b ≡ Ok m → Hears g.connection.conversation h.connection.conversation b) → OnErr r (h ≡ g)
+    → OnErr r ((s : State) (b : List ℕ) → StandsFor g.connection.conversation.endpoint s → spp_packet_of b ≡ Ok m → StoresBytes s b)
+    → HasHeard bytes g (Some h)
+has_heard bytes m g h (Ok u) read ok err memory = listens h (ok bytes read)
+has_heard bytes m g h (Err e) read ok err memory =
+    subst (λ (x : Guest). HasHeard bytes g (Some x)) (sym err) (loses (λ s stands. memory s bytes stands read))
 
 -- the connection in one place heard them
 pub hears_set : (bytes : List ℕ) (a b : Places) (n : ℕ) (old p : Option Guest) → n < length a → old ≡ get_or a n old → b ≡ slice_set a n p
@@ -72,3 +91,42 @@ pub spelled : {r : Result SppPacketModel Dropped} (bytes : List ℕ) (carrier : 
     → packet_of bytes ≡ Ok (carrier, taken) → r ≡ carried_by carrier → r ≡ Ok m → spp_packet_of bytes ≡ Ok m
 unfolding spp_packet_of
 spelled bytes carrier taken m read carried is = ap carried_in read ∙ (sym carried ∙ is)
+
+-- and the other way
+pub carries : (bytes : List ℕ) (carrier : PacketModel) (taken : ℕ) (p : SppPacketModel) → packet_of bytes ≡ Ok (carrier, taken)
+    → spp_packet_of bytes ≡ Ok p → carried_by carrier ≡ Ok p
+unfolding spp_packet_of
+carries bytes carrier taken p read is = sym (ap carried_in read) ∙ is
+
+pub the_packet : (bytes : List ℕ) (carrier : PacketModel) (taken : ℕ) (p : SppPacketModel) (r : Result SppPacketModel Dropped)
+    → packet_of bytes ≡ Ok (carrier, taken) → spp_packet_of bytes ≡ Ok p → r ≡ carried_by carrier → r ≡ Ok p
+the_packet bytes carrier taken p r read is value = value ∙ carries bytes carrier taken p read is
+
+-- the connection that it names is found
+pub finds : (host : List ℕ) (register : Register) (p q : SppPacketModel) (n : ℕ) (g : Guest) (peer : Peer) → p ≡ q
+    → peer ≡ peer_at q.source q.header.source_id q.target.socket → IsNamed host register p n g
+    → number_by register.identifiers register.peers q.header.target_id peer ≡ Some n
+finds host register p q n g peer same is named =
+    let by : IsNamed host register q n g = subst (λ (x : SppPacketModel). IsNamed host register x n g) same named in
+    ap (λ (x : Peer). number_by register.identifiers register.peers q.header.target_id x) is ∙ by.named
+
+-- it has type 5
+carrier_kind : (carrier : PacketModel) (p : SppPacketModel) → carried_by carrier ≡ Ok p → (carrier.kind == 5) ≡ true
+carrier_kind carrier p is = by (carrier.kind == 5) is where
+  by : (b : Bool) → (if b then with_header carrier (header_of carrier.body) else Err NotSpp) ≡ Ok p → b ≡ true
+  by true e = refl
+  by false e = absurd (cc)
+
+pub sequenced_kind : (bytes : List ℕ) (carrier : PacketModel) (taken : ℕ) (p : SppPacketModel) → packet_of bytes ≡ Ok (carrier, taken)
+    → spp_packet_of bytes ≡ Ok p → carrier.kind ≡ 5
+sequenced_kind bytes carrier taken p read is = eqb-true carrier.kind 5 (carrier_kind carrier p (carries bytes carrier taken p read is))
+
+-- bytes that are no internet packet are no sequenced one
+unread : (bytes : List ℕ) (fault : IdpFault) (p : SppPacketModel) → packet_of bytes ≡ Err fault → spp_packet_of bytes ≡ Ok p → ⊥
+unfolding spp_packet_of
+unread bytes fault p read is = let e = sym (ap carried_in read) ∙ is in cc
+
+pub not_read : (bytes : List ℕ) (r : Result (Packet × ℕ) IdpFault) (p : SppPacketModel) → decode_model r ≡ packet_of bytes
+    → ((x : Packet × ℕ) → r ≢ Ok x) → spp_packet_of bytes ≡ Ok p → ⊥
+not_read bytes (Ok x) p read none is = none x refl
+not_read bytes (Err f) p read none is = unread bytes f p (sym read) is

@@ -337,10 +337,10 @@ pub moves_on : {s t u : Side} {e f g : Held} → Moves s e t f → Moves t f u g
 moves_on p q = record { on = λ h f. let x = p.on h f in let y = q.on x.0 x.1 in (y.0, y.1, goes_on h x.0 y.0 x.2 y.2) }
 
 pub goes_not : (t : Conversation) → Goes t t
-goes_not t = record { still = λ z. z; on = λ h f. (h, f, stays h) }
+goes_not t = record { still = λ z. z; wanted = λ z. z; on = λ h f. (h, f, stays h) }
 
 pub goes_then : {s t u : Conversation} → Goes s t → Goes t u → Goes s u
-goes_then p q = record { still = λ z. p.still (q.still z); on = λ h f. let x = p.on h f in let y = q.on x.0 x.1 in (y.0, y.1, goes_on h x.0 y.0 x.2 y.2) }
+goes_then p q = record { still = λ z. p.still (q.still z); wanted = λ z. q.wanted (p.wanted z); on = λ h f. let x = p.on h f in let y = q.on x.0 x.1 in (y.0, y.1, goes_on h x.0 y.0 x.2 y.2) }
 
 -- ---- up to where nothing moves
 

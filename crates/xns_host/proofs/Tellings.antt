@@ -50,9 +50,15 @@ carried t u h v same drain c tells = record {
   given = c.given h.given tells.given;
 }
 
-pub goes_by : (t u : Conversation) → u.side ≡ t.side → (drains u.side u.closing ≡ false → drains t.side t.closing ≡ false) → ((s : State) → StandsFor t.endpoint s → (v : State) × Carries t u s v × Runs s v) → Goes t u
-goes_by t u same drain step = record {
+-- what was wanted is wanted, where the closing stays but for what was put out
+pub still_wanted : {f g : Closing} → f ≡ g → g.wanted ≡ true → f.wanted ≡ true
+still_wanted same z = ap (λ (x : Closing). x.wanted) same ∙ z
+
+pub goes_by : (t u : Conversation) → u.side ≡ t.side → (drains u.side u.closing ≡ false → drains t.side t.closing ≡ false) → (t.closing.wanted ≡ true → u.closing.wanted ≡ true)
+    → ((s : State) → StandsFor t.endpoint s → (v : State) × Carries t u s v × Runs s v) → Goes t u
+goes_by t u same drain wanted step = record {
   still = drain;
+  wanted = wanted;
   on = λ h tells. let k = step h.state tells.stands in
       (record h { state = k.0 }, carried t u h k.0 same drain k.1 tells, same_messages h (record h { state = k.0 }) k.2 refl refl refl refl refl);
 }
@@ -64,9 +70,9 @@ after_taken next s None is = let e = next.none s is in (ap (λ (v : State). v.ac
 after_taken next s (Some x) is = let e = next.some s x is in
     (ap (λ (v : State). v.accepted) e, subst (λ (v : State). Begins (take s.handed s.taken) (take v.handed v.taken)) (sym e) (x ∷ [], sym (next.more s x is)))
 
-pub hands_up : TheNextItemIsHandedUp → (t u : Conversation) → u.side ≡ t.side → closing_items u.closing ≡ closing_items t.closing → drains u.side u.closing ≡ true
+pub hands_up : TheNextItemIsHandedUp → (t u : Conversation) → u.side ≡ t.side → closing_items u.closing ≡ closing_items t.closing → u.closing.wanted ≡ t.closing.wanted → drains u.side u.closing ≡ true
     → ((s : State) → StandsFor t.endpoint s → StandsFor u.endpoint (after_take s)) → Goes t u
-hands_up next t u same closing drain step = goes_by t u same (λ z. absurd (cc)) (λ s stands.
+hands_up next t u same closing wanted drain step = goes_by t u same (λ z. absurd (cc)) (λ z. wanted ∙ z) (λ s stands.
     let k = after_taken next s (take_answer s) refl in
     (after_take s, record { stands = step s stands; fed = k.1; all = λ z. absurd (cc); given = λ g e. ap (λ (xs : List Item). g ++ xs) closing ∙ e ∙ sym k.0 }, takes start))
 
@@ -118,6 +124,7 @@ tells_of t h closing f =
 pub conversed : (t u : Conversation) → drains t.side t.closing ≡ false → u.closing ≡ t.closing → Moves t.side t.endpoint u.side u.endpoint → Goes t u
 conversed t u d closing moves = record {
   still = λ z. d;
+  wanted = still_wanted closing;
   on = λ h tells.
       let k = moves.on h (flows_of t h d tells) in
       (k.0, tells_of u k.0 (ap closing_items closing ∙ (nothing_said t.side t.closing d).1) k.1, k.2);
@@ -140,11 +147,12 @@ pub record Beside (e f : Closing) : Type 0 where
   pub end : f.end_sent ≡ e.end_sent
   pub reply : f.reply_sent ≡ e.reply_sent
   pub deaf : f.deaf ≡ e.deaf
+  pub wanted : f.wanted ≡ e.wanted
 
 beside_by : (e : Closing) (a b : Bool) → Beside e (if a then record e { reply_wanted = true } else if b then record e { reply_wanted = true; reply_heard = true } else e)
-beside_by e true b = record { end = refl; reply = refl; deaf = refl }
-beside_by e false true = record { end = refl; reply = refl; deaf = refl }
-beside_by e false false = record { end = refl; reply = refl; deaf = refl }
+beside_by e true b = record { end = refl; reply = refl; deaf = refl; wanted = refl }
+beside_by e false true = record { end = refl; reply = refl; deaf = refl; wanted = refl }
+beside_by e false false = record { end = refl; reply = refl; deaf = refl; wanted = refl }
 
 pub beside : (e f : Closing) (stream : ℕ) → f ≡ noted e stream → Beside e f
 beside e f stream is = subst (λ (g : Closing). Beside e g) (sym is) (beside_by e _ _)
@@ -154,7 +162,7 @@ beside e f stream is = subst (λ (g : Closing). Beside e g) (sym is) (beside_by 
 -- one was refused
 pub not_put : ItemsAreAcceptedOrChangeNothing → (t u : Conversation) (x : Item) → u.side ≡ t.side → u.closing ≡ t.closing
     → ((s : State) → StandsFor t.endpoint s → is_ok (send_answer s x) ≡ false) → ((s : State) → StandsFor t.endpoint s → StandsFor u.endpoint (after_send s x)) → Goes t u
-not_put law t u x same closing refused step = goes_by t u same (λ z. ap (λ (e : Closing). drains t.side e) (sym closing) ∙ ap (λ (y : Side). drains y u.closing) (sym same) ∙ z) (λ s stands.
+not_put law t u x same closing refused step = goes_by t u same (λ z. ap (λ (e : Closing). drains t.side e) (sym closing) ∙ ap (λ (y : Side). drains y u.closing) (sym same) ∙ z) (still_wanted closing) (λ s stands.
     let e : after_send s x ≡ s = law.refused s x (refused s stands) in
     (s, same_items t u s s (ap closing_items closing) refl refl refl (subst (λ (v : State). StandsFor u.endpoint v) e (step s stands)), start))
 
@@ -174,7 +182,7 @@ accepts law t u x s ok stands more =
 pub put_reply : ItemsAreAcceptedOrChangeNothing → (t u : Conversation) → u.side ≡ t.side → u.closing ≡ record t.closing { reply_sent = true } → t.closing.reply_sent ≡ false
     → ((s : State) → StandsFor t.endpoint s → is_ok (send_answer s (closing_item end_reply_stream)) ≡ true)
     → ((s : State) → StandsFor t.endpoint s → StandsFor u.endpoint (after_send s (closing_item end_reply_stream))) → Goes t u
-put_reply law t u same closing unsent ok step = goes_by t u same (λ z. absurd (never (is_stopped u.side) t.closing.end_sent t.closing.deaf (sym (ap (λ (e : Closing). drains u.side e) closing) ∙ z))) (λ s stands. (
+put_reply law t u same closing unsent ok step = goes_by t u same (λ z. absurd (never (is_stopped u.side) t.closing.end_sent t.closing.deaf (sym (ap (λ (e : Closing). drains u.side e) closing) ∙ z))) (still_wanted closing) (λ s stands. (
   after_send s x,
   accepts law t u x s (ok s stands) (step s stands) (λ g.
       ap (λ (f : Closing). g ++ closing_items f) closing ∙ sym (append_assoc g (end_of t.closing) (x ∷ []))
@@ -196,7 +204,7 @@ put_reply law t u same closing unsent ok step = goes_by t u same (λ z. absurd (
 pub put_end : ItemsAreAcceptedOrChangeNothing → (t u : Conversation) → u.side ≡ t.side → u.closing ≡ record t.closing { end_sent = true } → drains t.side t.closing ≡ false
     → ((s : State) → StandsFor t.endpoint s → is_ok (send_answer s (closing_item end_stream)) ≡ true)
     → ((s : State) → StandsFor t.endpoint s → StandsFor u.endpoint (after_send s (closing_item end_stream))) → Goes t u
-put_end law t u same closing free ok step = goes_by t u same (λ z. free) (λ s stands.
+put_end law t u same closing free ok step = goes_by t u same (λ z. free) (still_wanted closing) (λ s stands.
     let none = (nothing_said t.side t.closing free).1 in (
       after_send s x,
       accepts law t u x s (ok s stands) (step s stands) (λ g.
@@ -229,7 +237,7 @@ acts t side h m state fed given stop has tells =
 -- ---- packets out
 
 pub packs : (t u : Conversation) → u.side ≡ t.side → u.closing ≡ t.closing → ((s : State) → StandsFor t.endpoint s → (v : State) × Carries t u s v × Runs s v) → Goes t u
-packs t u same closing step = goes_by t u same (λ z. ap (λ (e : Closing). drains t.side e) (sym closing) ∙ ap (λ (y : Side). drains y u.closing) (sym same) ∙ z) step
+packs t u same closing step = goes_by t u same (λ z. ap (λ (e : Closing). drains t.side e) (sym closing) ∙ ap (λ (y : Side). drains y u.closing) (sym same) ∙ z) (still_wanted closing) step
 
 pub resends_first : OtherStepsAcceptAndHandUpNothing → OtherStepsHearNothing → (t u : Conversation) → u.side ≡ t.side → u.closing ≡ t.closing → ((s : State) → StandsFor t.endpoint s → StandsFor u.endpoint (after_resend s)) → Goes t u
 resends_first stay hear t u same closing step = packs t u same closing (λ s stands.
@@ -245,8 +253,8 @@ same_end t u same closing stay = packs t u same closing (λ s stands.
     (s, same_items t u s s (ap closing_items closing) refl refl refl (subst (λ (e : Held). StandsFor e s) (sym stay) stands), start))
 
 -- so do the end, the side and what was put out
-pub marks : (t u : Conversation) → u.side ≡ t.side → closing_items u.closing ≡ closing_items t.closing → (drains u.side u.closing ≡ false → drains t.side t.closing ≡ false) → u.endpoint ≡ t.endpoint → Goes t u
-marks t u same closing still stay = goes_by t u same still (λ s stands.
+pub marks : (t u : Conversation) → u.side ≡ t.side → closing_items u.closing ≡ closing_items t.closing → (drains u.side u.closing ≡ false → drains t.side t.closing ≡ false) → (t.closing.wanted ≡ true → u.closing.wanted ≡ true) → u.endpoint ≡ t.endpoint → Goes t u
+marks t u same closing still wanted stay = goes_by t u same still wanted (λ s stands.
     (s, same_items t u s s closing refl refl refl (subst (λ (e : Held). StandsFor e s) (sym stay) stands), start))
 
 pub on_ok : {X Y : Type 0} (P Q : Type 0) (r : Result X Y) → (P → Q) → OnOk r P → OnOk r Q

@@ -8,7 +8,10 @@ use Rattle.std.specs.declared.vec.Vec.{Vec}
 use Rattle.courier_sessions.specs.declared.program.Program.{Program}
 use Rattle.xns_idp.specs.Packet.{PacketModel}
 use Rattle.xns_idp.specs.declared.address.Address.{Address}
+use Rattle.xns_spp.specs.Ends.{is_ours_at}
 use Rattle.xns_spp.specs.Held.{StandsFor}
+use Rattle.xns_spp.specs.Packet.{SppPacketModel}
+use Rattle.xns_spp.specs.Receiving.{StoresBytes}
 use Rattle.xns_spp.specs.State.{State, initiator_state, responder_state}
 use Rattle.xns_host.specs.Agenda.{Plan, IsNoted}
 use Rattle.xns_host.specs.Events.{event_in}
@@ -16,20 +19,22 @@ use Rattle.xns_host.specs.Identifiers.{Ids, is_free}
 use Rattle.courier_messages.specs.declared.message.Message.{Message}
 use Rattle.xns_host.specs.Living.{GoesFrom}
 use Rattle.xns_host.specs.Quotes.{is_opened_by, quoted_opening}
-use Rattle.xns_host.specs.Register.{owner_in}
+use Rattle.xns_host.specs.Register.{number_by, owner_in, peer_at}
 use Rattle.xns_host.specs.Services.{programs_at}
 use Rattle.xns_host.specs.Story.{Story, has_message, new_story, waiting_message, with_handed}
-use Rattle.xns_host.specs.Telling.{Tells, Goes, Hears}
+use Rattle.xns_host.specs.Telling.{Tells, Goes, HasSaidEnd, Hears, Keeps, MovesAndGives}
 use Rattle.xns_host.specs.Times.{IsBy}
 use Rattle.xns_host.specs.Turns.{has_turn}
 use Rattle.xns_host.specs.Waiting.{IsDueAfter, after_act, due_time}
 use Rattle.xns_host.specs.declared.connection.Connection.{Connection}
+use Rattle.xns_host.specs.declared.conversation.Conversation.{Conversation}
 use Rattle.xns_host.specs.declared.event.Event.{Event}
 use Rattle.xns_host.specs.declared.facts.Facts.{Facts}
 use Rattle.xns_host.specs.declared.facts.TheConstants.Facts.{NONE}
 use Rattle.xns_host.specs.declared.guest.Guest.{Guest}
 use Rattle.xns_host.specs.declared.opening_quote.OpeningQuote.{OpeningQuote}
 use Rattle.xns_host.specs.declared.outgoing.Outgoing.{Outgoing}
+use Rattle.xns_host.specs.declared.register.Register.{Register}
 use Rattle.xns_host.specs.declared.settings.Settings.{Settings}
 use Rattle.xns_host.specs.declared.why.Why.TheVariants.{NotServed}
 
@@ -83,26 +88,40 @@ abbrev pub WentOn : Connection → (Story → Story) → Option Guest → Type 0
 WentOn c deed None = ⊥
 WentOn c deed (Some g) = GoesFrom c.conversation g.connection.conversation deed
 
--- it went on by itself
-abbrev pub WentBy : Connection → Option Guest → Type 0
-WentBy c None = ⊥
-WentBy c (Some g) = Goes c.conversation g.connection.conversation
+-- such steps led to the one in this place
+abbrev pub LedTo : (Conversation → Conversation → Type 0) → Connection → Option Guest → Type 0
+LedTo Steps c None = ⊥
+LedTo Steps c (Some g) = Steps c.conversation g.connection.conversation
+
+-- the one in this place went on by itself and is asked to close: no End is owed any longer, unless memory was refused while items moved
+abbrev pub IsAsked : Connection → Option Guest → Type 0
+IsAsked c None = ⊥
+IsAsked c (Some g) = Goes c.conversation g.connection.conversation × (g.connection.conversation.closing.wanted ≡ true)
+    × (g.connection.owed.moving ≡ false → HasSaidEnd g.connection.conversation)
 
 -- the connection is in this place; or it was forgotten: it is closed, the program was told, and it lingers no more
 pub data StaysIn (c : Connection) : Option (Option Guest) → Type 0 where
   stays : (g : Guest) → g.connection ≡ c → StaysIn c (Some (Some g))
   forgotten : may_go c ≡ true → StaysIn c (Some None)
 
--- it went on by itself, and is in this place or forgotten
-pub record GoesIn (c : Connection) (place : Option (Option Guest)) : Type 0 where
+-- such steps led to one that is in this place or forgotten
+pub record LedIn (Steps : Conversation → Conversation → Type 0) (c : Connection) (place : Option (Option Guest)) : Type 0 where
   pub next : Connection
-  pub goes : Goes c.conversation next.conversation
+  pub goes : Steps c.conversation next.conversation
   pub stays : StaysIn next place
 
--- each connection went on by itself, and none came
-pub record EachGoes (old new : List (Option Guest)) : Type 0 where
-  pub goes : (k : ℕ) (g : Guest) → slice_get old k ≡ Some (Some g) → GoesIn g.connection (slice_get new k)
+-- they led each connection, and none came
+pub record Each (Steps : Conversation → Conversation → Type 0) (old new : List (Option Guest)) : Type 0 where
+  pub goes : (k : ℕ) (g : Guest) → slice_get old k ≡ Some (Some g) → LedIn Steps g.connection (slice_get new k)
   pub none : (k : ℕ) → slice_get old k ≡ Some None → slice_get new k ≡ Some None
+
+-- each connection went on by itself, and none came
+abbrev pub EachGoes : (old new : List (Option Guest)) → Type 0
+EachGoes old new = Each Goes old new
+
+-- the same, and none gave a packet
+abbrev pub EachKeeps : (old new : List (Option Guest)) → Type 0
+EachKeeps old new = Each Keeps old new
 
 -- what was due of the connection at this time was done, and nothing of it is due then
 pub record HasActed (now : ℕ) (c next : Connection) : Type 0 where
@@ -191,18 +210,22 @@ pub record IsFirstWant (strays : List Outgoing) (guests : List (Option Guest)) (
 
 -- ---- what goes out
 
--- the packet goes out by the way of the connection in this place
-pub record GoesOutBy (place : Option Guest) (o : Outgoing) : Type 0 where
+-- the connection in a place gave this packet, which goes out by its way
+pub record IsGiven (old new : Option (Option Guest)) (o : Outgoing) : Type 0 where
   pub guest : Guest
-  pub there : place ≡ Some guest
-  pub via : o.via ≡ guest.via
+  pub next : Guest
+  pub was : old ≡ Some (Some guest)
+  pub is : new ≡ Some (Some next)
+  pub gave : MovesAndGives guest.connection.conversation next.connection.conversation (Some o.packet)
+  pub via : o.via ≡ next.via
 
--- one of the places is such
-pub record SomeGuest (P : Option Guest → Type 0) (guests : List (Option Guest)) : Type 0 where
+-- each connection went on by itself and gave none, and then one of them gave this packet
+pub record IsNextPacket (old new : List (Option Guest)) (o : Outgoing) : Type 0 where
+  pub before : List (Option Guest)
+  pub kept : EachKeeps old before
   pub number : ℕ
-  pub place : Option Guest
-  pub there : slice_get guests number ≡ Some place
-  pub is : P place
+  pub given : IsGiven (slice_get before number) (slice_get new number) o
+  pub others : IsApart before new number
 
 -- of no connection a packet may be to go out
 abbrev pub HasNoPacket : List (Option Guest) → Type 0
@@ -286,6 +309,20 @@ pub data HearsIn (bytes : List ℕ) : (old new : Option (Option Guest)) → Type
 
 abbrev pub EachHears : List ℕ → (old new : List (Option Guest)) → Type 0
 EachHears bytes old new = (k : ℕ) → HearsIn bytes (slice_get old k) (slice_get new k)
+
+-- the packet is to this host and names this connection of it, which has this number; and it is one of the connection
+pub record IsNamed (host : List ℕ) (register : Register) (p : SppPacketModel) (number : ℕ) (guest : Guest) : Type 0 where
+  pub here : p.target.host ≡ host
+  pub named : number_by register.identifiers register.peers p.header.target_id (peer_at p.source p.header.source_id p.target.socket)
+      ≡ Some number
+  pub state : State
+  pub stands : StandsFor guest.connection.conversation.endpoint state
+  pub ours : is_ours_at state.ends p ≡ true
+
+-- the connection in this place has heard these bytes; or they bring bytes of an item that memory was refused for, and are as if lost
+pub data HasHeard (bytes : List ℕ) (g : Guest) : Option Guest → Type 0 where
+  listens : (h : Guest) → Hears g.connection.conversation h.connection.conversation bytes → HasHeard bytes g (Some h)
+  loses : ((s : State) → StandsFor g.connection.conversation.endpoint s → StoresBytes s bytes) → HasHeard bytes g (Some g)
 
 -- a peer, with this identifier, opened this connection at an address of ours, and nothing was said in it; its packets go out by this way
 pub record IsAnswering (settings : Settings) (own opener : Address) (id way : ℕ) (programs : List Program) (guest : Guest) : Type 0 where

@@ -1,15 +1,15 @@
 -- What a connection has done, with the closing exchange (XSIS 028112, Sequenced Packet Protocol, Termination).
-use Rattle.std.specs.Prelude.{◌≡◌, ℕ, List, [], ◌++◌, Bool, true, false, not, ◌&&◌, ◌||◌, ◌==◌, nat_lt, take, Option}
+use Rattle.std.specs.Prelude.{◌≡◌, ℕ, List, [], ◌++◌, Bool, true, false, not, ◌&&◌, ◌||◌, ◌==◌, nat_lt, take, Option, None, is_ok}
 use Rattle.std.specs.Option.{option_to_list}
 use Rattle.courier_sessions.specs.Answering.{has_items}
 use Rattle.xns_spp.specs.Ends.{is_open}
 use Rattle.xns_spp.specs.Growth.{Begins}
 use Rattle.xns_spp.specs.Held.{Held, StandsFor}
 use Rattle.xns_spp.specs.Receiving.{after_receive}
-use Rattle.xns_spp.specs.Sending.{flush_answer, waiting_count}
+use Rattle.xns_spp.specs.Sending.{flush_answer, send_answer, waiting_count}
 use Rattle.xns_spp.specs.State.{State}
 use Rattle.xns_spp.specs.Telling.{unacknowledged_count}
-use Rattle.xns_host.specs.Closing.{closing_items, drains}
+use Rattle.xns_host.specs.Closing.{closing_item, closing_items, drains, end_stream}
 use Rattle.xns_host.specs.Story.{Story, SideHas, GoesOn, made_on, out_of, has_call, IsMoved, IsListed}
 use Rattle.xns_host.specs.declared.closing.Closing.{Closing}
 use Rattle.xns_host.specs.declared.conversation.Conversation.{Conversation}
@@ -17,6 +17,10 @@ use Rattle.xns_host.specs.declared.conversation.Conversation.{Conversation}
 -- End is to be put out: behind all that is out, and after the answer to a call that waits
 abbrev pub owes_end : Conversation → Bool
 owes_end t = t.closing.wanted && (not (drains t.side t.closing) && (not (has_call t.side) && not (has_items (out_of t.side))))
+
+-- it is put out, unless there is no room for it
+abbrev pub HasSaidEnd : Conversation → Type 0
+HasSaidEnd t = owes_end t ≡ true → (s : State) → StandsFor t.endpoint s → is_ok (send_answer s (closing_item end_stream)) ≡ false
 
 -- EndReply is to be put out
 abbrev pub owes_reply : Conversation → Bool
@@ -38,9 +42,11 @@ pub record Tells (conversation : Conversation) (h : Story) : Type 0 where
   pub all : drains conversation.side conversation.closing ≡ false → h.fed ≡ take h.state.handed h.state.taken
   pub given : h.given ++ closing_items conversation.closing ≡ h.state.accepted
 
--- whatever it had done goes on so: the program makes no call and is handed nothing; once it drains it does so for good
+-- whatever it had done goes on so: the program makes no call and is handed nothing; once it drains it does so for good, and once it was
+-- asked to close it stays asked
 pub record Goes (old new : Conversation) : Type 0 where
   pub still : drains new.side new.closing ≡ false → drains old.side old.closing ≡ false
+  pub wanted : old.closing.wanted ≡ true → new.closing.wanted ≡ true
   pub on : (h : Story) → Tells old h → (m : Story) × Tells new m × GoesOn h m
 
 -- the same, and it gives this packet, or none: the first of those that waited and of those that were made on the way, behind; the others
@@ -59,7 +65,14 @@ pub record Rested (old new : Conversation) : Type 0 where
 
 -- the same, from where it is after these bytes came
 pub record Hears (old new : Conversation) (bytes : List ℕ) : Type 0 where
+  pub wanted : old.closing.wanted ≡ true → new.closing.wanted ≡ true
   pub on : (h : Story) → Tells old h → (m : Story) × Tells new m × GoesOn (record h { state = after_receive h.state bytes }) m
+
+-- step after step it went on by itself, and gave no packet
+pub data Keeps (old : Conversation) : Conversation → Type 0 where
+  rests : Keeps old old
+  moves : {mid new : Conversation} → Keeps old mid → Goes mid new → new.packets ≡ mid.packets → Keeps old new
+  makes : {mid new : Conversation} → Keeps old mid → Gives mid new None → Keeps old new
 
 -- no item waits at the end to be read
 abbrev pub NoneWaits : Held → Type 0

@@ -20,7 +20,7 @@ ghost use Rattle.xns_host.specs.Reasons.{call_fault_of, answer_fault_of};
 ghost use Rattle.xns_host.specs.Refusing.{Answers};
 ghost use Rattle.xns_host.specs.Settings.{IsFit};
 ghost use Rattle.xns_host.specs.Story.{Story, GoesOn, new_story, asked_of, waiting_message, with_handed, has_message};
-ghost use Rattle.xns_host.specs.Telling.{Tells, Goes, MovesAndGives, Rested, Calm, CalmFrom, Hears, ReadsAll, waits, is_over};
+ghost use Rattle.xns_host.specs.Telling.{Tells, Goes, MovesAndGives, Rested, Calm, CalmFrom, HasSaidEnd, Hears, ReadsAll, waits, is_over};
 ghost use Rattle.xns_host.specs.Waiting.{IsDueAfter, act_at, after_act, after_step, after_word, last_time, lingering, new_waiting};
 ghost use Rattle.xns_host.specs.declared.act.Act.TheVariants.{GiveUp};
 ghost use Rattle.xns_host.specs.declared.why.Why.TheVariants.{NotServed};
@@ -211,6 +211,7 @@ fn settled(
     ensures calm { owed.new.moving ≡ false → drains conversation.new.side conversation.new.closing ≡ false
         → Calm conversation.old conversation.new }
     ensures read { owed.new.moving ≡ false → closed.new ≡ closed.old → ReadsAll conversation.old conversation.new }
+    ensures said { owed.new.moving ≡ false → HasSaidEnd conversation.new }
 {
     let waiting = conversation.endpoint.waiting();
     let moved = conversation.settle(alloc);
@@ -427,6 +428,7 @@ impl Connection {
             → CalmFrom self.old.conversation self.new.conversation (λ h. record h { state = after_receive h.state b })) }
         ensures read { OnOk result ((b : List ℕ) → spp_packet_of b ≡ Ok packet.now → self.new.owed.moving ≡ false
             → self.new.closed ≡ self.old.closed → ReadsAll self.old.conversation self.new.conversation) }
+        ensures said { OnOk result (self.new.owed.moving ≡ false → HasSaidEnd self.new.conversation) }
         ensures closed { self.old.closed ≢ None → self.new.closed ≡ self.old.closed }
         ensures packets { self.new.conversation.packets ≡ self.old.conversation.packets }
         ensures told { self.new.told ≡ self.old.told }
@@ -554,6 +556,7 @@ impl Connection {
             (λ h. record h { made = h.made ++ words_call program version procedure words.now ∷ [] }) }
         ensures read { result ≡ Ok tt → self.new.owed.moving ≡ false → self.new.closed ≡ self.old.closed
             → ReadsAll self.old.conversation self.new.conversation }
+        ensures said { result ≡ Ok tt → self.new.owed.moving ≡ false → HasSaidEnd self.new.conversation }
         ensures closed { self.old.closed ≢ None → self.new.closed ≡ self.old.closed }
         ensures packets { self.new.conversation.packets ≡ self.old.conversation.packets }
         ensures told { self.new.told ≡ self.old.told }
@@ -592,6 +595,7 @@ impl Connection {
             (λ h. record h { answers = h.answers ++ answer_message kind k words.now ∷ [] }) }
         ensures read { (k : ℕ) → asked_of self.old.conversation.side ≡ Some k → result ≡ Ok tt → self.new.owed.moving ≡ false
             → self.new.closed ≡ self.old.closed → ReadsAll self.old.conversation self.new.conversation }
+        ensures said { result ≡ Ok tt → self.new.owed.moving ≡ false → HasSaidEnd self.new.conversation }
         ensures closed { self.old.closed ≢ None → self.new.closed ≡ self.old.closed }
         ensures packets { self.new.conversation.packets ≡ self.old.conversation.packets }
         ensures told { self.new.told ≡ self.old.told }
@@ -613,11 +617,13 @@ impl Connection {
     /// Closes once all that it has to say is said.
     pub fn close(&mut self, alloc: Global, now: u64)
         ensures goes { Goes self.old.conversation self.new.conversation }
+        ensures asked { self.new.conversation.closing.wanted ≡ true }
         ensures packets { self.new.conversation.packets ≡ self.old.conversation.packets }
         ensures calm { self.new.owed.moving ≡ false → drains self.new.conversation.side self.new.conversation.closing ≡ false
             → Calm self.old.conversation self.new.conversation }
         ensures read { self.new.owed.moving ≡ false → self.new.closed ≡ self.old.closed
             → ReadsAll self.old.conversation self.new.conversation }
+        ensures said { self.new.owed.moving ≡ false → HasSaidEnd self.new.conversation }
         ensures closed { self.old.closed ≢ None → self.new.closed ≡ self.old.closed }
         ensures told { self.new.told ≡ self.old.told }
         ensures fresh { self.new.owed.fresh ≡ true }
@@ -643,6 +649,7 @@ impl Connection {
             → CalmFrom self.old.conversation self.new.conversation (λ h. with_handed self.old.conversation.side h m) }
         ensures read { (m : Message) → result ≡ Some m → self.new.owed.moving ≡ false → self.new.closed ≡ self.old.closed
             → ReadsAll self.old.conversation self.new.conversation }
+        ensures said { result ≢ None → self.new.owed.moving ≡ false → HasSaidEnd self.new.conversation }
         ensures closed { self.old.closed ≢ None → self.new.closed ≡ self.old.closed }
         ensures packets { self.new.conversation.packets ≡ self.old.conversation.packets }
         ensures told { self.new.told ≡ self.old.told }

@@ -71,7 +71,8 @@ fn noted(closing: Closing, stream: u8) -> Closing
 
 impl Conversation {
     ghost use Rattle.xns_host.specs.Reasons.{call_fault_of, answer_fault_of};
-    ghost use Rattle.xns_host.specs.Telling.{Tells, Goes, Gives, Rested, Calm, NoneWaits, ReadsAll, owes_end, owes_reply, waits, is_over};
+    ghost use Rattle.xns_host.specs.Telling.{Tells, Goes, Gives, Rested, Calm, HasSaidEnd, NoneWaits, ReadsAll, owes_end, owes_reply};
+    ghost use Rattle.xns_host.specs.Telling.{waits, is_over};
 
     /// One in which nothing was said.
     pub fn new(alloc: Global, endpoint: Endpoint, side: Side) -> Conversation
@@ -189,6 +190,7 @@ impl Conversation {
         ensures goes { Goes self.old self.new }
         ensures packets { self.new.packets ≡ self.old.packets }
         ensures idle { drains self.new.side self.new.closing ≡ false → self.new ≡ self.old }
+        ensures said { HasSaidEnd self.new }
     {
         xns_spp::laws::items_are_accepted_or_change_nothing();
         if !self.owes_end() {
@@ -217,6 +219,7 @@ impl Conversation {
         ensures packets { self.new.packets ≡ self.old.packets }
         ensures idle { drains self.new.side self.new.closing ≡ false → self.new ≡ self.old }
         ensures read { ReadsAll self.old self.new }
+        ensures said { HasSaidEnd self.new }
     {
         self.say_end(alloc);
         self.drain_out();
@@ -253,6 +256,7 @@ impl Conversation {
         ensures packets { self.new.packets ≡ self.old.packets }
         ensures calm { result ≢ Err NoMemory → drains self.new.side self.new.closing ≡ false → Calm self.old self.new }
         ensures read { result ≢ Err NoMemory → ReadsAll self.old self.new }
+        ensures said { result ≢ Err NoMemory → HasSaidEnd self.new }
     {
         let moved = self.converse(alloc);
         self.mark(moved);
@@ -284,6 +288,7 @@ impl Conversation {
         ensures goes { Goes self.old self.new }
         ensures packets { self.new.packets ≡ self.old.packets }
         ensures endpoint { self.new.endpoint ≡ self.old.endpoint }
+        ensures asked { self.new.closing.wanted ≡ true }
     {
         self.closing.wanted = true;
     }

@@ -1,11 +1,12 @@
 //! A connection in its place at a host.
 
-ghost use Rattle.std.specs.Prelude.{◌≡◌, ℕ, List, [], ◌∷◌, ◌++◌, OnErr, OnOk, Ok, None, Some, false};
+ghost use Rattle.std.specs.Prelude.{◌≡◌, ℕ, List, [], ◌∷◌, ◌++◌, OnErr, OnOk, Ok, None, Some, true, false};
 ghost use Rattle.xns_host.specs.Hosting.{facts_of, lingers_since, may_go, stranger_since};
 ghost use Rattle.courier_messages.specs.RawCalls.{words_call};
 ghost use Rattle.xns_spp.specs.Ends.{is_open};
 ghost use Rattle.xns_spp.specs.Held.{StandsFor};
 ghost use Rattle.xns_spp.specs.Packet.{IsSppPacket, spp_packet_of};
+ghost use Rattle.xns_spp.specs.Receiving.{StoresBytes};
 ghost use Rattle.xns_spp.specs.State.{State};
 ghost use Rattle.xns_host.specs.Quotes.{is_opened_by};
 ghost use Rattle.xns_host.specs.Reasons.{call_fault_of, answer_fault_of};
@@ -13,7 +14,7 @@ ghost use Rattle.xns_host.specs.Refusing.{Answers};
 ghost use Rattle.courier_sessions.specs.Answering.{answer_message};
 ghost use Rattle.xns_host.specs.Living.{GoesFrom};
 ghost use Rattle.xns_host.specs.Story.{asked_of};
-ghost use Rattle.xns_host.specs.Telling.{Goes, Hears};
+ghost use Rattle.xns_host.specs.Telling.{Goes, HasSaidEnd, Hears};
 ghost use Rattle.xns_host.specs.declared.why.Why.TheVariants.{NotServed};
 
 use crate::connection::Connection;
@@ -57,6 +58,8 @@ impl Guest {
         ensures hears { OnOk result ((b : List ℕ) → spp_packet_of b ≡ Ok packet.now
             → Hears self.old.connection.conversation self.new.connection.conversation b) }
         ensures unchanged { OnErr result (self.new ≡ self.old) }
+        ensures memory { OnErr result ((s : State) (b : List ℕ) → StandsFor self.old.connection.conversation.endpoint s
+            → spp_packet_of b ≡ Ok packet.now → StoresBytes s b) }
     {
         self.connection.receive(alloc, now, packet)?;
         if confirms {
@@ -106,6 +109,8 @@ impl Guest {
     /// Closes the connection once all that it has to say is said.
     pub fn close(&mut self, alloc: Global, now: u64)
         ensures goes { Goes self.old.connection.conversation self.new.connection.conversation }
+        ensures asked { self.new.connection.conversation.closing.wanted ≡ true }
+        ensures said { self.new.connection.owed.moving ≡ false → HasSaidEnd self.new.connection.conversation }
     {
         self.connection.close(alloc, now);
     }

@@ -6,15 +6,17 @@ ghost use Rattle.std.specs.Option.{is_some};
 ghost use Rattle.courier_messages.specs.RawCalls.{words_call};
 ghost use Rattle.xns_idp.specs.Packet.{IsPacket, PacketModel, most_data, packet_model};
 ghost use Rattle.xns_idp.specs.Reading.{packet_of};
-ghost use Rattle.xns_spp.specs.Packet.{IsSppPacket, spp_packet_of};
+ghost use Rattle.xns_spp.specs.Ends.{is_ours_at};
+ghost use Rattle.xns_spp.specs.Packet.{IsSppPacket, SppPacketModel, spp_packet_of};
 ghost use Rattle.xns_small.specs.Echo.{IsAnswered, echo_reply};
 ghost use Rattle.xns_spp.specs.Held.{StandsFor};
 ghost use Rattle.xns_spp.specs.State.{State};
 ghost use Rattle.xns_host.specs.Strays.{MayHaveStray, echo_socket, stray_of};
 ghost use Rattle.xns_host.specs.Events.{event_in};
-ghost use Rattle.xns_host.specs.Hosting.{ChangesOne, EachGoes, EachHears, GoesOutBy, HasNoEvent, HasNoPacket, HasNoRoom, IsAllInUse};
-ghost use Rattle.xns_host.specs.Hosting.{IsAllNoted, IsAnswering, IsApart, IsConnected, IsFirstWant, IsNextEvent, IsNotServed, IsOpened};
-ghost use Rattle.xns_host.specs.Hosting.{IsPlace, IsRefusedBy, IsThere, Receives, SomeGuest, TellsIn, WentBy, WentOn, address_in, has_guest};
+ghost use Rattle.xns_host.specs.Hosting.{ChangesOne, EachGoes, EachHears, EachKeeps, HasHeard, HasNoEvent, HasNoPacket, HasNoRoom};
+ghost use Rattle.xns_host.specs.Hosting.{IsAllInUse, IsAllNoted, IsAnswering, IsApart, IsAsked, IsConnected, IsFirstWant, IsNamed};
+ghost use Rattle.xns_host.specs.Hosting.{IsNextEvent, IsNextPacket, IsNotServed, IsOpened, IsPlace, IsRefusedBy, IsThere, Receives};
+ghost use Rattle.xns_host.specs.Hosting.{TellsIn, WentOn, address_in, has_guest};
 ghost use Rattle.xns_host.specs.Quotes.{is_opened_by};
 ghost use Rattle.xns_host.specs.Story.{asked_of};
 ghost use Rattle.courier_sessions.specs.Answering.{answer_message};
@@ -337,7 +339,7 @@ impl Host {
         ensures none { has_guest (slice_get self.old.guests.items number) ≡ false → result ≡ Err (NoConnection number) }
         ensures some { (g : Guest) → slice_get self.old.guests.items number ≡ Some (Some g) → result ≡ Ok tt }
         ensures closed { (g : Guest) (place : Option Guest) → slice_get self.old.guests.items number ≡ Some (Some g)
-            → slice_get self.new.guests.items number ≡ Some place → WentBy g.connection place }
+            → slice_get self.new.guests.items number ≡ Some place → IsAsked g.connection place }
         ensures unchanged { OnErr result ((k : ℕ) → slice_get self.new.guests.items k ≡ slice_get self.old.guests.items k) }
         ensures agenda { OnErr result (self.new.agenda ≡ self.old.agenda) }
     {
@@ -365,6 +367,9 @@ impl Host {
         ensures refused { (p : PacketModel) (taken n : ℕ) (g : Guest) (place : Option Guest) → packet_of bytes.now ≡ Ok (p, taken)
             → IsRefusedBy self.old.host self.old.register.identifiers p n g → slice_get self.old.guests.items n ≡ Some (Some g)
             → slice_get self.new.guests.items n ≡ Some place → (result ≡ true) × IsNotServed g.connection place }
+        ensures heard { (p : SppPacketModel) (n : ℕ) (g : Guest) (place : Option Guest) → spp_packet_of bytes.now ≡ Ok p
+            → IsNamed self.old.host self.old.register p n g → slice_get self.old.guests.items n ≡ Some (Some g)
+            → slice_get self.new.guests.items n ≡ Some place → (result ≡ true) × HasHeard bytes.now g place }
     {
         let now = self.clock.tell(now);
         let Ok((packet, _)) = decode(bytes) else {
@@ -443,6 +448,10 @@ impl Host {
         ensures became { (b : List ℕ) (taken : ℕ) → packet_of b ≡ Ok (packet_model carrier.now, taken)
             → Receives (IsOpened self.old.services.programs self.old.settings self.old.network self.old.host via) b
             self.old.guests.items self.new.guests.items }
+        ensures heard { (b : List ℕ) (taken n : ℕ) (p : SppPacketModel) (g : Guest) (place : Option Guest)
+            → packet_of b ≡ Ok (packet_model carrier.now, taken) → spp_packet_of b ≡ Ok p
+            → IsNamed self.old.host self.old.register p n g → slice_get self.old.guests.items n ≡ Some (Some g)
+            → slice_get self.new.guests.items n ≡ Some place → (result ≡ true) × HasHeard b g place }
         ensures one { ChangesOne self.old.guests.items self.new.guests.items }
         ensures unchanged { result ≡ false → (k : ℕ) → slice_get self.new.guests.items k ≡ slice_get self.old.guests.items k }
     {
@@ -469,6 +478,10 @@ impl Host {
     fn hear(&mut self, now: u64, number: usize, confirms: bool, packet: &SppPacket) -> bool
         requires { IsSppPacket packet.now }
         ensures hears { (b : List ℕ) → spp_packet_of b ≡ Ok packet.now → EachHears b self.old.guests.items self.new.guests.items }
+        ensures heard { (b : List ℕ) (g : Guest) (s : State) (place : Option Guest) → spp_packet_of b ≡ Ok packet.now
+            → slice_get self.old.guests.items number ≡ Some (Some g) → StandsFor g.connection.conversation.endpoint s
+            → is_ours_at s.ends packet.now ≡ true → slice_get self.new.guests.items number ≡ Some place
+            → (result ≡ true) × HasHeard b g place }
         ensures apart { IsApart self.old.guests.items self.new.guests.items number }
         ensures unchanged { result ≡ false → (k : ℕ) → slice_get self.new.guests.items k ≡ slice_get self.old.guests.items k }
     {
@@ -595,9 +608,10 @@ impl Host {
     }
 
     /// Does what is due of the connection with this number.
-    #[tactic(auto, using(crate::proofs::Going::each_stays))]
+    #[tactic(auto, using(crate::proofs::Going::each_stays, crate::proofs::Going::each_kept))]
     fn act(&mut self, now: u64, number: usize)
         ensures goes { EachGoes self.old.guests.items self.new.guests.items }
+        ensures keeps { EachKeeps self.old.guests.items self.new.guests.items }
         ensures strays { self.new.strays ≡ self.old.strays }
         ensures acts { now < last_time → (g : Guest) → slice_get self.old.guests.items number ≡ Some (Some g)
             → ActsIn now g.connection (slice_get self.new.guests.items number) }
@@ -614,6 +628,7 @@ impl Host {
     /// Does what is due, of each connection.
     fn act_all(&mut self, now: u64)
         ensures goes { EachGoes self.old.guests.items self.new.guests.items }
+        ensures keeps { EachKeeps self.old.guests.items self.new.guests.items }
         ensures strays { self.new.strays ≡ self.old.strays }
         ensures acts { now < last_time → EachActs now self.old.guests.items self.new.guests.items }
     {
@@ -629,7 +644,8 @@ impl Host {
     fn packet(&mut self, now: u64, number: usize) -> Result<Option<Outgoing>, HostFault>
         requires { number < length self.old.guests.items }
         ensures goes { EachGoes self.old.guests.items self.new.guests.items }
-        ensures via { IfOk result (λ made. IfSome made (λ o. SomeGuest (λ place. GoesOutBy place o) self.new.guests.items)) }
+        ensures given { IfOk result (λ made. IfSome made (IsNextPacket self.old.guests.items self.new.guests.items)) }
+        ensures keeps { ((o : Outgoing) → result ≢ Ok (Some o)) → EachKeeps self.old.guests.items self.new.guests.items }
         ensures rested { result ≡ Ok None → self.new.agenda.packets
             ≡ with_turn (with_turn self.old.agenda.packets number false) number false }
         ensures strays { self.new.strays ≡ self.old.strays }
@@ -651,8 +667,10 @@ impl Host {
     pub fn next_packet(&mut self, now: u64) -> Result<Option<Outgoing>, HostFault>
         ensures stray { (o : Outgoing) (os : List Outgoing) → self.old.strays.waiting ≡ o ∷ os → (result ≡ Ok (Some o))
             × (self.new.strays.waiting ≡ os) }
-        ensures via { self.old.strays.waiting ≡ [] → IfOk result (λ made. IfSome made (λ o. SomeGuest (λ place. GoesOutBy place o)
-            self.new.guests.items)) }
+        ensures given { self.old.strays.waiting ≡ [] → IfOk result (λ made. IfSome made
+            (IsNextPacket self.old.guests.items self.new.guests.items)) }
+        ensures keeps { (self.old.strays.waiting ≢ []) ⊎ ((o : Outgoing) → result ≢ Ok (Some o))
+            → EachKeeps self.old.guests.items self.new.guests.items }
         ensures goes { EachGoes self.old.guests.items self.new.guests.items }
         ensures none { result ≡ Ok None → HasNoPacket self.new.guests.items }
         ensures fault { OnErr result (result ≡ Err NoMemory) }

@@ -4,14 +4,16 @@ ghost use Rattle.std.specs.Prelude.{◌≡◌, ◌≢◌, ◌<◌, ◌∷◌, �
 ghost use Rattle.std.specs.Prelude.{count_by, replicate, slice_get, slice_set, true};
 ghost use Rattle.std.specs.Option.{is_none, is_some};
 ghost use Rattle.courier_messages.specs.RawCalls.{words_call};
+ghost use Rattle.xns_spp.specs.Ends.{is_ours_at};
 ghost use Rattle.xns_spp.specs.Packet.{IsSppPacket, spp_packet_of};
 ghost use Rattle.xns_host.specs.Events.{event_in, event_of};
-ghost use Rattle.xns_host.specs.Hosting.{GoesOutBy, HasToldIn, HearsIn, IsAllNoted, IsNotServed, IsNotedBut, WentBy, WentOn};
-ghost use Rattle.xns_host.specs.Hosting.{facts_in, is_done};
+ghost use Rattle.xns_host.specs.Hosting.{HasHeard, HasToldIn, HearsIn, IsAllNoted, IsAsked, IsGiven, IsNotServed, IsNotedBut, LedTo};
+ghost use Rattle.xns_host.specs.Hosting.{WentOn, facts_in, is_done};
 ghost use Rattle.xns_spp.specs.Held.{StandsFor};
 ghost use Rattle.xns_spp.specs.State.{State};
 ghost use Rattle.xns_host.specs.Quotes.{is_opened_by};
 ghost use Rattle.xns_host.specs.Story.{asked_of};
+ghost use Rattle.xns_host.specs.Telling.{Goes, Keeps};
 ghost use Rattle.courier_sessions.specs.Answering.{answer_message};
 ghost use Rattle.xns_host.specs.Reasons.{call_fault_of, answer_fault_of};
 ghost use Rattle.xns_host.specs.Refusing.{Answers};
@@ -19,6 +21,7 @@ ghost use Rattle.xns_host.specs.Turns.{with_turn};
 ghost use Rattle.xns_host.specs.Hosting.{HasActedIn};
 ghost use Rattle.xns_host.specs.Waiting.{last_time};
 ghost use Rattle.xns_host.specs.declared.guest.Guest.{Guest};
+ghost use Rattle.xns_host.specs.declared.outgoing.Outgoing.{Outgoing};
 ghost use Rattle.xns_host.specs.declared.host_fault.HostFault.TheVariants.{NoConnection};
 
 use crate::agenda::Agenda;
@@ -167,7 +170,8 @@ pub fn answer_in(
 /// Does what is due of the connection of a place; whether it may be forgotten then.
 pub fn act_in(slot: &mut Option<Guest>, now: u64) -> bool
     ensures done { result ≡ is_done slot.new }
-    ensures goes { (g : Guest) → slot.old ≡ Some g → WentBy g.connection slot.new }
+    ensures goes { (g : Guest) → slot.old ≡ Some g → LedTo Goes g.connection slot.new }
+    ensures keeps { (g : Guest) → slot.old ≡ Some g → LedTo Keeps g.connection slot.new }
     ensures kept { is_none slot.new ≡ is_none slot.old }
     ensures acts { now < last_time → (g : Guest) → slot.old ≡ Some g → HasActedIn now g.connection slot.new }
 {
@@ -182,7 +186,7 @@ pub fn act_in(slot: &mut Option<Guest>, now: u64) -> bool
 pub fn not_served_in(slot: &mut Option<Guest>, now: u64, quote: &OpeningQuote) -> bool
     ensures closed { (g : Guest) (s : State) → slot.old ≡ Some g → StandsFor g.connection.conversation.endpoint s
         → is_opened_by g s quote.now ≡ true → g.connection.closed ≡ None → (result ≡ true) × IsNotServed g.connection slot.new }
-    ensures goes { (g : Guest) → slot.old ≡ Some g → WentBy g.connection slot.new }
+    ensures goes { (g : Guest) → slot.old ≡ Some g → LedTo Goes g.connection slot.new }
     ensures unchanged { result ≡ false → slot.new ≡ slot.old }
     ensures kept { is_none slot.new ≡ is_none slot.old }
 {
@@ -206,6 +210,9 @@ pub fn hear_in(
 ) -> bool
     requires { IsSppPacket packet.now }
     ensures hears { (b : List ℕ) → spp_packet_of b ≡ Ok packet.now → HearsIn b (Some slot.old) (Some slot.new) }
+    ensures heard { (b : List ℕ) (g : Guest) (s : State) → spp_packet_of b ≡ Ok packet.now → slot.old ≡ Some g
+        → StandsFor g.connection.conversation.endpoint s → is_ours_at s.ends packet.now ≡ true
+        → (result ≡ true) × HasHeard b g slot.new }
     ensures unchanged { result ≡ false → slot.new ≡ slot.old }
     ensures kept { is_none slot.new ≡ is_none slot.old }
 {
@@ -255,8 +262,9 @@ pub fn packet_in(
     now: u64,
 ) -> Result<Option<Outgoing>, AllocError>
     ensures rested { result ≡ Ok None → (facts_in slot.new).has_packet ≡ false }
-    ensures via { IfOk result (λ made. IfSome made (λ o. GoesOutBy slot.new o)) }
-    ensures goes { (g : Guest) → slot.old ≡ Some g → WentBy g.connection slot.new }
+    ensures given { IfOk result (λ made. IfSome made (λ o. IsGiven (Some slot.old) (Some slot.new) o)) }
+    ensures goes { (g : Guest) → slot.old ≡ Some g → LedTo Goes g.connection slot.new }
+    ensures keeps { ((o : Outgoing) → result ≢ Ok (Some o)) → (g : Guest) → slot.old ≡ Some g → LedTo Keeps g.connection slot.new }
     ensures kept { is_none slot.new ≡ is_none slot.old }
 {
     let Some(guest) = slot else {
@@ -280,7 +288,7 @@ pub fn close_in(
 ) -> Result<(), HostFault>
     ensures none { slot.old ≡ None → result ≡ Err (NoConnection number) }
     ensures some { slot.old ≢ None → result ≡ Ok tt }
-    ensures closed { (g : Guest) → slot.old ≡ Some g → WentBy g.connection slot.new }
+    ensures closed { (g : Guest) → slot.old ≡ Some g → IsAsked g.connection slot.new }
     ensures unchanged { OnErr result (slot.new ≡ slot.old) }
     ensures kept { is_none slot.new ≡ is_none slot.old }
 {

@@ -1,9 +1,9 @@
 use Rattle.std.proofs.Common.{◌≡◌, true, false, sym, subst, rules}
 use Rattle.xns_host.specs.Closing.{drains}
-use Rattle.xns_host.specs.Telling.{Calm, NoneWaits}
+use Rattle.xns_host.specs.Telling.{Calm, HasSaidEnd, NoneWaits}
 use Rattle.xns_host.specs.declared.conversation.Conversation.{Conversation}
 use Rattle.xns_host.proofs.Leading.{goes_then}
-use Rattle.xns_host.proofs.Tellings.{drains_still}
+use Rattle.xns_host.proofs.Tellings.{drains_still, undrained}
 use Rattle.xns_host.proofs.connection.settled.Goals as goal
 
 pub after_moving-requires-clause-deaf : goal.after_moving-requires-clause-deaf
@@ -23,3 +23,8 @@ returns-clause-read c = λ still kept h tells yes.
     let same = c.after_moving.ensures.stays kept in
     subst (λ (t : Conversation). NoneWaits t.endpoint) (sym same)
     (c.settle-moved.ensures.read (λ refused. absurd (search rules)) h tells (subst (λ (t : Conversation). drains t.side t.closing ≡ true) same yes))
+
+pub returns-clause-said : goal.returns-clause-said
+returns-clause-said c = λ still owes.
+    let same = c.after_moving.ensures.idle (undrained c.after_moving.new.conversation owes) in
+    subst HasSaidEnd (sym same) (c.settle-moved.ensures.said (λ refused. absurd (search rules))) owes

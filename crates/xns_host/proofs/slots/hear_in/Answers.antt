@@ -1,7 +1,7 @@
-use Rattle.std.proofs.Common.{Option, Some, subst}
-use Rattle.xns_host.specs.Hosting.{HearsIn, nothing}
+use Rattle.std.proofs.Common.{◌≡◌, Option, Some, refl, subst}
+use Rattle.xns_host.specs.Hosting.{HasHeard, HearsIn, nothing}
 use Rattle.xns_host.specs.declared.guest.Guest.{Guest}
-use Rattle.xns_host.proofs.Hearing.{heard_or_not}
+use Rattle.xns_host.proofs.Hearing.{has_heard, heard_or_not}
 use Rattle.xns_host.proofs.slots.hear_in.Goals as goal
 
 pub returns-in_default-clause-hears : goal.returns-in_default-clause-hears
@@ -15,3 +15,13 @@ pub returns-clause-hears : goal.returns-clause-hears
 returns-clause-hears c = λ b read.
     heard_or_not b c.args.packet.now c.args.slot.now c.in-Some.guest c.receive.new.self c.receive.result read c.in-Some.is c.receive.ensures.hears
     c.receive.ensures.unchanged
+
+pub returns-clause-heard : goal.returns-clause-heard
+returns-clause-heard c = λ b g s read is stands ours.
+    let there = c.in-Some.is in
+    let same : c.in-Some.guest ≡ g = cc in (
+      refl,
+      subst (λ (x : Guest). HasHeard b x (Some c.receive.new.self)) same
+          (has_heard b c.args.packet.now c.in-Some.guest c.receive.new.self c.receive.result read c.receive.ensures.hears c.receive.ensures.unchanged
+          c.receive.ensures.memory),
+    )

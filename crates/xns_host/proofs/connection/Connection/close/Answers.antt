@@ -13,3 +13,6 @@ returns-clause-calm c = λ still free. calm_then c.close.ensures.goes (c.settled
 
 pub returns-clause-read : goal.returns-clause-read
 returns-clause-read c = λ still same h tells yes. let x = c.close.ensures.goes.on h tells in c.settled.ensures.read still same x.0 x.1 yes
+
+pub returns-clause-asked : goal.returns-clause-asked
+returns-clause-asked c = c.settled.ensures.goes.wanted c.close.ensures.asked

@@ -1,5 +1,7 @@
-use Rattle.std.proofs.Common.{◌∙◌, sym}
+use Rattle.std.proofs.Common.{◌∙◌, subst, sym}
+use Rattle.xns_host.specs.Telling.{HasSaidEnd}
 use Rattle.xns_host.proofs.Leading.{goes_then}
+use Rattle.xns_host.proofs.Tellings.{undrained}
 use Rattle.xns_host.proofs.conversation.Conversation.close_up.Goals as goal
 
 pub returns-clause-goes : goal.returns-clause-goes
@@ -17,3 +19,9 @@ returns-clause-read c = λ h tells yes s stands.
     let none = c.drain_out.ensures.read x.0 x.1 (sym c.say_reply.ensures.drains ∙ yes) in
     let y = c.drain_out.ensures.goes.on x.0 x.1 in
     c.say_reply.ensures.waiting y.0.state s y.1.stands stands ∙ none y.0.state y.1.stands
+
+pub returns-clause-said : goal.returns-clause-said
+returns-clause-said c = λ owes.
+    let z = undrained c.say_reply.new.self owes in
+    let same = c.say_reply.ensures.idle z ∙ c.drain_out.ensures.idle (c.say_reply.ensures.goes.still z) in
+    subst HasSaidEnd (sym same) c.say_end.ensures.said owes

@@ -9,7 +9,7 @@ returns-clause-goes c =
     let t = c.args.self.now in
     let u : Conversation = record t { endpoint = c.take.new.self; closing = c.noted-self.result } in
     let b = beside t.closing c.noted-self.result c.in-Some.item.stream c.noted-self.ensures in
-    hands_up c.the_next_item_is_handed_up.ensures t u refl (same_closing t.closing u.closing b.end b.reply) (same_drains t.side t.closing u.closing b.end b.reply b.deaf ∙ c.requires) c.take.ensures.stands
+    hands_up c.the_next_item_is_handed_up.ensures t u refl (same_closing t.closing u.closing b.end b.reply) b.wanted (same_drains t.side t.closing u.closing b.end b.reply b.deaf ∙ c.requires) c.take.ensures.stands
 
 pub returns-clause-drains : goal.returns-clause-drains
 returns-clause-drains c =
@@ -18,7 +18,7 @@ returns-clause-drains c =
     same_drains t.side t.closing c.noted-self.result b.end b.reply b.deaf ∙ c.requires
 
 pub returns-in_default-clause-goes : goal.returns-in_default-clause-goes
-returns-in_default-clause-goes c = hands_up c.the_next_item_is_handed_up.ensures c.args.self.now _ refl refl c.requires c.take.ensures.stands
+returns-in_default-clause-goes c = hands_up c.the_next_item_is_handed_up.ensures c.args.self.now _ refl refl refl c.requires c.take.ensures.stands
 
 pub returns-clause-fewer : goal.returns-clause-fewer
 returns-clause-fewer c = λ s v old new. takes_one c.the_next_item_is_handed_up.ensures s v (c.take.ensures.stands s old) new

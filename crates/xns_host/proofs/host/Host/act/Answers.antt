@@ -2,7 +2,7 @@ use Rattle.std.proofs.Common.{◌≡◌, ◌<◌, Some, length, rules, slice_get
 use Rattle.std.specs.Prelude.{slice_set}
 use Rattle.xns_host.proofs.Apart.{apart_then, set_apart, set_there}
 use Rattle.xns_host.proofs.Done.{act_settled}
-use Rattle.xns_host.proofs.Going.{each_set, each_settled, each_then}
+use Rattle.xns_host.proofs.Going.{all_set, all_settled, all_then, each_set, each_settled, each_then, keeping}
 use Rattle.xns_host.proofs.Noting.{kept_but, same_place}
 use Rattle.xns_host.proofs.host.Host.act.Goals as goal
 
@@ -38,4 +38,16 @@ returns-clause-goes c =
     (each_set c.args.self.now.guests.items c.as_slice.result.now c.args.number c.index_mut.result.now c.act_in-done.new.slot less (search rules) items
     c.act_in-done.ensures.kept (search rules))
     (each_settled c.as_slice.result.now c.settle.new.self.guests.items c.args.number c.act_in-done.new.slot c.act_in-done.result there
+    c.act_in-done.ensures.done (search rules) (search rules) (search rules))
+
+pub returns-clause-keeps : goal.returns-clause-keeps
+returns-clause-keeps c =
+    let less : c.args.number < length c.args.self.now.guests.items = omega arith in
+    let items : c.as_slice.result.now ≡ slice_set c.args.self.now.guests.items c.args.number c.act_in-done.new.slot = search rules in
+    let there : slice_get c.as_slice.result.now c.args.number ≡ Some c.act_in-done.new.slot
+    = set_there c.args.self.now.guests.items c.as_slice.result.now c.args.number c.act_in-done.new.slot less items in
+    all_then keeping c.args.self.now.guests.items c.as_slice.result.now c.settle.new.self.guests.items
+    (all_set keeping c.args.self.now.guests.items c.as_slice.result.now c.args.number c.index_mut.result.now c.act_in-done.new.slot less (search rules) items
+    c.act_in-done.ensures.kept c.act_in-done.ensures.keeps)
+    (all_settled keeping c.as_slice.result.now c.settle.new.self.guests.items c.args.number c.act_in-done.new.slot c.act_in-done.result there
     c.act_in-done.ensures.done (search rules) (search rules) (search rules))

@@ -1,7 +1,7 @@
 use Rattle.std.proofs.Common.{◌∙◌, refl, rules, arith}
 use Rattle.xns_host.specs.Times.{HasNoneBy}
 use Rattle.xns_host.proofs.Done.{at_first, done_early, done_last, one_more}
-use Rattle.xns_host.proofs.Going.{each_stays, each_then}
+use Rattle.xns_host.proofs.Going.{all_then, each_kept, each_stays, each_then, keeping}
 use Rattle.xns_host.proofs.host.Host.act_all.Goals as goal
 
 pub loop-init : goal.loop-init
@@ -9,6 +9,7 @@ loop-init c = (
   refl,
   each_stays c.args.self.now.guests.items c.args.self.now.guests.items refl,
   λ more. at_first c.args.now c.args.self.now.guests.items,
+  each_kept c.args.self.now.guests.items c.args.self.now.guests.items refl,
 )
 
 pub loop-preserved : goal.loop-preserved
@@ -17,6 +18,7 @@ loop-preserved c = (
   each_then c.args.self.now.guests.items c.loop.self.guests.items c.act.new.self.guests.items c.loop.invariant.1 c.act.ensures.goes,
   λ more. one_more c.args.now c.args.self.now.guests.items c.loop.self.guests.items c.act.new.self.guests.items c.loop.self.agenda c.in-Some.number
       c.loop.counter (c.loop.invariant.2 more) c.loop.self.noted c.loop.self.sized c.in-Some.ensures.some (c.act.ensures.acts more) c.act.ensures.apart,
+  all_then keeping c.args.self.now.guests.items c.loop.self.guests.items c.act.new.self.guests.items c.loop.invariant.3 c.act.ensures.keeps,
 )
 
 pub returns-in_default-clause-acts : goal.returns-in_default-clause-acts

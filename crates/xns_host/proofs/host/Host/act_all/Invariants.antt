@@ -1,5 +1,5 @@
 use Rattle.std.proofs.Common.{◌≡◌, ◌<◌}
-use Rattle.xns_host.specs.Hosting.{EachGoes}
+use Rattle.xns_host.specs.Hosting.{EachGoes, EachKeeps}
 use Rattle.xns_host.specs.Waiting.{last_time}
 use Rattle.xns_host.proofs.Done.{SoFar}
 use Rattle.xns_host.proofs.host.Host.act_all.Given as goal
@@ -7,3 +7,4 @@ use Rattle.xns_host.proofs.host.Host.act_all.Given as goal
 abbrev pub invariant-loop : goal.invariant-loop
 invariant-loop l = (l.self.strays ≡ l.fn.self.strays) × EachGoes l.fn.self.guests.items l.self.guests.items
     × (l.now < last_time → SoFar l.now l.fn.self.guests.items l.self.guests.items l.counter)
+    × EachKeeps l.fn.self.guests.items l.self.guests.items

@@ -1,7 +1,10 @@
-use Rattle.std.proofs.Common.{◌≡◌, [], rules, None, Ok}
+use Rattle.std.proofs.Common.{◌≡◌, [], inl, inr, refl, rules, subst, None, Option, Some, Ok}
+use Rattle.std.specs.Prelude.{IfSome}
+use Rattle.xns_host.specs.Hosting.{IsNextPacket}
 use Rattle.xns_host.specs.Times.{HasEarliest}
+use Rattle.xns_host.specs.declared.outgoing.Outgoing.{Outgoing}
 use Rattle.xns_host.proofs.Fetching.{no_packet, packet_less}
-use Rattle.xns_host.proofs.Going.{each_then}
+use Rattle.xns_host.proofs.Going.{all_then, each_then, given_then, keeping}
 use Rattle.xns_host.proofs.host.Host.next_packet.Goals as goal
 
 pub returns-in_err-packet-clause-stray : goal.returns-in_err-packet-clause-stray
@@ -32,8 +35,34 @@ pub returns-in-Some-2-clause-goes : goal.returns-in-Some-2-clause-goes
 returns-in-Some-2-clause-goes c =
     each_then c.args.self.now.guests.items c.loop-number.self.guests.items c.packet.new.self.guests.items c.loop-number.invariant.1 c.packet.ensures.goes
 
+pub returns-in_err-packet-clause-keeps : goal.returns-in_err-packet-clause-keeps
+returns-in_err-packet-clause-keeps c = λ z.
+    all_then keeping c.args.self.now.guests.items c.loop-number.self.guests.items c.packet.new.self.guests.items c.loop-number.invariant.2
+    (c.packet.ensures.keeps (λ o made. absurd (search rules)))
+
+pub returns-in-Some-2-clause-given : goal.returns-in-Some-2-clause-given
+returns-in-Some-2-clause-given c = λ none.
+    given_then c.args.self.now.guests.items c.loop-number.self.guests.items c.packet.new.self.guests.items (Some c.in-Some-2.packet)
+    c.loop-number.invariant.2
+    (subst (λ (o : Option Outgoing). IfSome o (IsNextPacket c.loop-number.self.guests.items c.packet.new.self.guests.items)) c.in-Some-2.is
+    c.in_ok-packet.ensures.given)
+
+pub returns-in-Some-2-clause-keeps : goal.returns-in-Some-2-clause-keeps
+returns-in-Some-2-clause-keeps c = λ z.
+    let none : c.args.self.now.strays.waiting ≡ [] = c.loop-number.invariant.0 in
+    elim z [
+      | inl some ↦ absurd (some none)
+      | inr other ↦ absurd (other c.in-Some-2.packet refl)
+    ]
+
+pub returns-clause-keeps : goal.returns-clause-keeps
+returns-clause-keeps c = λ z. c.loop-number.invariant.2
+
 pub loop-number-preserved : goal.loop-number-preserved
-loop-number-preserved c = (
-  c.loop-number.invariant.0,
-  each_then c.args.self.now.guests.items c.loop-number.self.guests.items c.packet.new.self.guests.items c.loop-number.invariant.1 c.packet.ensures.goes,
-)
+loop-number-preserved c =
+    let none : c.packet.result ≡ Ok None = search rules in (
+      c.loop-number.invariant.0,
+      each_then c.args.self.now.guests.items c.loop-number.self.guests.items c.packet.new.self.guests.items c.loop-number.invariant.1 c.packet.ensures.goes,
+      all_then keeping c.args.self.now.guests.items c.loop-number.self.guests.items c.packet.new.self.guests.items c.loop-number.invariant.2
+          (c.packet.ensures.keeps (λ o made. cc)),
+    )

@@ -1,11 +1,10 @@
-use Rattle.std.proofs.Common.{◌≡◌, ◌∙◌, ap, refl, rules, slice_get, false, Bool, None, Ok, Some}
+use Rattle.std.proofs.Common.{◌≡◌, ◌∙◌, ap, refl, sym, rules, slice_get, false, Bool, None, Ok, Some}
 use Rattle.std.specs.Prelude.{slice_set}
 use Rattle.xns_host.specs.Agenda.{Plan}
 use Rattle.xns_host.specs.Hosting.{facts_in}
 use Rattle.xns_host.specs.Turns.{with_turn}
 use Rattle.xns_host.proofs.Apart.{set_there}
-use Rattle.xns_host.proofs.Fetching.{goes_out}
-use Rattle.xns_host.proofs.Going.{each_set}
+use Rattle.xns_host.proofs.Going.{all_set, each_set, given_there, keeping}
 use Rattle.xns_host.proofs.Noting.{kept_but, rested_but}
 use Rattle.xns_host.proofs.host.Host.packet.Goals as goal
 
@@ -20,13 +19,22 @@ returns-in-Ok-clause-goes c =
     each_set c.args.self.now.guests.items (slice_set c.args.self.now.guests.items c.args.number c.packet_in-made.new.slot) c.args.number
     c.index_mut.result.now c.packet_in-made.new.slot c.requires (search rules) refl c.packet_in-made.ensures.kept c.packet_in-made.ensures.goes
 
-pub returns-in-Ok-clause-via : goal.returns-in-Ok-clause-via
-returns-in-Ok-clause-via c =
-    let there : slice_get (slice_set c.args.self.now.guests.items c.args.number c.packet_in-made.new.slot) c.args.number ≡ Some c.packet_in-made.new.slot
-    = set_there c.args.self.now.guests.items (slice_set c.args.self.now.guests.items c.args.number c.packet_in-made.new.slot) c.args.number
-    c.packet_in-made.new.slot c.requires refl in
-    goes_out (slice_set c.args.self.now.guests.items c.args.number c.packet_in-made.new.slot) c.args.number c.packet_in-made.new.slot c.in-Ok.packet there
-    c.in-Ok.ensures.via
+pub returns-in-Ok-clause-given : goal.returns-in-Ok-clause-given
+returns-in-Ok-clause-given c =
+    given_there c.args.self.now.guests.items (slice_set c.args.self.now.guests.items c.args.number c.packet_in-made.new.slot) c.args.number
+    c.index_mut.result.now c.packet_in-made.new.slot c.in-Ok.packet c.requires (search rules) refl c.in-Ok.ensures.given
+
+pub returns-in-Ok-clause-keeps : goal.returns-in-Ok-clause-keeps
+returns-in-Ok-clause-keeps c = λ none.
+    all_set keeping c.args.self.now.guests.items (slice_set c.args.self.now.guests.items c.args.number c.packet_in-made.new.slot) c.args.number
+    c.index_mut.result.now c.packet_in-made.new.slot c.requires (search rules) refl c.packet_in-made.ensures.kept
+    (c.packet_in-made.ensures.keeps (λ o made. let some : c.in-Ok.packet ≡ Some o = (let e = sym c.in-Ok.is ∙ made in cc) in none o (ap Ok some)))
+
+pub returns-in-Err-clause-keeps : goal.returns-in-Err-clause-keeps
+returns-in-Err-clause-keeps c = λ none.
+    all_set keeping c.args.self.now.guests.items (slice_set c.args.self.now.guests.items c.args.number c.packet_in-made.new.slot) c.args.number
+    c.index_mut.result.now c.packet_in-made.new.slot c.requires (search rules) refl c.packet_in-made.ensures.kept
+    (c.packet_in-made.ensures.keeps (λ o made. absurd (search rules)))
 
 pub returns-in-Ok-clause-rested : goal.returns-in-Ok-clause-rested
 returns-in-Ok-clause-rested c = λ none.

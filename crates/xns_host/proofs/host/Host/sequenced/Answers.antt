@@ -1,8 +1,11 @@
-use Rattle.std.proofs.Common.{refl}
+use Rattle.std.proofs.Common.{◌≡◌, ◌∙◌, ap, refl, rules, subst, sym, ℕ, Ok, Some, slice_get, true}
 use Rattle.xns_idp.specs.Packet.{packet_model}
+use Rattle.xns_spp.specs.Ends.{is_ours_at}
+use Rattle.xns_spp.specs.Packet.{SppPacketModel}
 use Rattle.xns_host.specs.Hosting.{goes, hears}
+use Rattle.xns_host.specs.Register.{number_by, peer_at}
 use Rattle.xns_host.proofs.Going.{each_stays}
-use Rattle.xns_host.proofs.Hearing.{spelled}
+use Rattle.xns_host.proofs.Hearing.{finds, spelled, the_packet}
 use Rattle.xns_host.proofs.host.Host.sequenced.Goals as goal
 
 pub returns-in_default-clause-became : goal.returns-in_default-clause-became
@@ -18,3 +21,41 @@ returns-in-Some-clause-became c = λ b taken read.
 pub returns-in-None-clause-became : goal.returns-in-None-clause-became
 returns-in-None-clause-became c = λ b taken read.
     c.opening.ensures.became b (spelled b (packet_model c.args.carrier.now) taken c.in-Ok.packet read c.carried_packet.ensures.value c.in-Ok.is)
+
+pub returns-in_default-clause-heard : goal.returns-in_default-clause-heard
+returns-in_default-clause-heard c = λ b taken n p g place read is by there here.
+    let one = the_packet b (packet_model c.args.carrier.now) taken p c.carried_packet.result read is c.carried_packet.ensures.value in
+    absurd (search rules)
+
+pub returns-then-ne-clause-heard : goal.returns-then-ne-clause-heard
+returns-then-ne-clause-heard c = λ b taken n p g place read is by there here.
+    let one = sym c.in-Ok.is
+    ∙ the_packet b (packet_model c.args.carrier.now) taken p c.carried_packet.result read is c.carried_packet.ensures.value in
+    let same : p ≡ c.in-Ok.packet = cc in
+    let ours : c.in-Ok.packet.target.host ≡ c.args.self.now.host = ap (λ (q : SppPacketModel). q.target.host) (sym same) ∙ by.here in
+    absurd (search rules)
+
+pub returns-in-Some-clause-heard : goal.returns-in-Some-clause-heard
+returns-in-Some-clause-heard c = λ b taken n p g place read is by there here.
+    let one = sym c.in-Ok.is
+    ∙ the_packet b (packet_model c.args.carrier.now) taken p c.carried_packet.result read is c.carried_packet.ensures.value in
+    let same : p ≡ c.in-Ok.packet = cc in
+    let peer : c.at-peer.result ≡ peer_at c.in-Ok.packet.source c.in-Ok.packet.header.source_id c.in-Ok.packet.target.socket = search rules in
+    let find : c.find.result
+    ≡ number_by c.args.self.now.register.identifiers c.args.self.now.register.peers c.in-Ok.packet.header.target_id c.at-peer.result = search rules in
+    let found = sym c.in-Some.is ∙ find ∙ finds c.args.self.now.host c.args.self.now.register p c.in-Ok.packet n g c.at-peer.result same peer by in
+    let number : n ≡ c.from.result = let e : n ≡ c.in-Some.number = cc in e ∙ sym c.from.ensures in
+    c.hear.ensures.heard b g by.state place (is ∙ ap Ok same) (subst (λ (m : ℕ). slice_get c.args.self.now.guests.items m ≡ Some (Some g)) number there)
+    by.stands (subst (λ (q : SppPacketModel). is_ours_at by.state.ends q ≡ true) same by.ours)
+    (subst (λ (m : ℕ). slice_get c.hear.new.self.guests.items m ≡ Some place) number here)
+
+pub returns-in-None-clause-heard : goal.returns-in-None-clause-heard
+returns-in-None-clause-heard c = λ b taken n p g place read is by there here.
+    let one = sym c.in-Ok.is
+    ∙ the_packet b (packet_model c.args.carrier.now) taken p c.carried_packet.result read is c.carried_packet.ensures.value in
+    let same : p ≡ c.in-Ok.packet = cc in
+    let peer : c.at-peer.result ≡ peer_at c.in-Ok.packet.source c.in-Ok.packet.header.source_id c.in-Ok.packet.target.socket = search rules in
+    let find : c.find.result
+    ≡ number_by c.args.self.now.register.identifiers c.args.self.now.register.peers c.in-Ok.packet.header.target_id c.at-peer.result = search rules in
+    let found = sym c.in-None.is ∙ find ∙ finds c.args.self.now.host c.args.self.now.register p c.in-Ok.packet n g c.at-peer.result same peer by in
+    absurd (cc)
