@@ -25,7 +25,7 @@ use Rattle.xns_host.specs.Story.{Story, has_message, new_story, waiting_message,
 use Rattle.xns_host.specs.Telling.{Tells, Goes, HasSaidEnd, Hears, Keeps, MovesAndGives}
 use Rattle.xns_host.specs.Times.{IsBy}
 use Rattle.xns_host.specs.Turns.{has_turn}
-use Rattle.xns_host.specs.Waiting.{IsDueAfter, after_act, due_time}
+use Rattle.xns_host.specs.Waiting.{IsDueAfter, StepsAt, after_act, due_time}
 use Rattle.xns_host.specs.declared.connection.Connection.{Connection}
 use Rattle.xns_host.specs.declared.conversation.Conversation.{Conversation}
 use Rattle.xns_host.specs.declared.event.Event.{Event}
@@ -142,6 +142,22 @@ pub record ActsIn (now : ℕ) (c : Connection) (place : Option (Option Guest)) :
 -- so it was of each connection
 abbrev pub EachActs : ℕ → (old new : List (Option Guest)) → Type 0
 EachActs now old new = (k : ℕ) (g : Guest) → slice_get old k ≡ Some (Some g) → ActsIn now g.connection (slice_get new k)
+
+-- the connection in this place came from that one by steps of this moment
+abbrev pub StepsIn : ℕ → Connection → Option (Option Guest) → Type 0
+StepsIn now c None = ⊥
+StepsIn now c (Some None) = ⊥
+StepsIn now c (Some (Some g)) = StepsAt now c.wait g.connection.wait
+
+-- so did each
+abbrev pub EachSteps : ℕ → (old new : List (Option Guest)) → Type 0
+EachSteps now old new = (k : ℕ) (g : Guest) → slice_get old k ≡ Some (Some g) → StepsIn now g.connection (slice_get new k)
+
+-- what was due of each connection at this time was done, and then each came on by steps of this moment
+pub record DoesDue (now : ℕ) (old new : List (Option Guest)) : Type 0 where
+  pub between : List (Option Guest)
+  pub acts : EachActs now old between
+  pub steps : EachSteps now between new
 
 -- the program was handed the message that waits, and the connection goes on from there; where none waits, it was told that it is closed
 pub data HasTold (c next : Connection) : Type 0 where

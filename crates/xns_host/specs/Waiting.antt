@@ -123,6 +123,14 @@ after_act w now = after_by w (act_at w now) now
 abbrev pub IsDueAfter : ℕ → Due → Type 0
 IsDueAfter now due = (t : ℕ) → due_time due ≡ Some t → now < t
 
+-- ---- at one moment
+
+-- the one leads to the other by steps of this moment, or the connection was closed at it
+pub data StepsAt (now : ℕ) (w : Waiting) : Waiting → Type 0 where
+  still : StepsAt now w w
+  step : {v : Waiting} → StepsAt now w v → (waits : Bool) → StepsAt now w (after_step v waits now)
+  close : {v : Waiting} → StepsAt now w v → StepsAt now w (lingering v now)
+
 -- ---- a silent peer
 
 -- a packet goes out by the time alone

@@ -21,7 +21,7 @@ ghost use Rattle.xns_host.specs.Refusing.{Answers};
 ghost use Rattle.xns_host.specs.Settings.{IsFit};
 ghost use Rattle.xns_host.specs.Story.{Story, GoesOn, new_story, asked_of, waiting_message, with_handed, has_message};
 ghost use Rattle.xns_host.specs.Telling.{Tells, Goes, MovesAndGives, Rested, Calm, CalmFrom, HasSaidEnd, Hears, ReadsAll, waits, is_over};
-ghost use Rattle.xns_host.specs.Waiting.{IsDueAfter, act_at, after_act, after_step, after_word, last_time, lingering, new_waiting};
+ghost use Rattle.xns_host.specs.Waiting.{IsDueAfter, StepsAt, act_at, after_act, after_step, after_word, last_time, lingering, new_waiting};
 ghost use Rattle.xns_host.specs.declared.act.Act.TheVariants.{GiveUp};
 ghost use Rattle.xns_host.specs.declared.why.Why.TheVariants.{NotServed};
 
@@ -134,9 +134,11 @@ fn why_after(conversation: &Conversation, moved: Result<(), FeedRefusal>) -> Opt
 }
 
 /// What a connection that is not closed waits for after a step.
+#[tactic(auto, using(crate::proofs::Done::one_step))]
 fn wait_on(conversation: &Conversation, wait: &mut Wait, now: u64)
     requires { is_open_due wait.old.due ≡ true }
     ensures waits { (s : State) → StandsFor conversation.now.endpoint s → wait.new ≡ after_step wait.old (waits s) now }
+    ensures steps { StepsAt now wait.old wait.new }
     ensures timed { (s : State) → StandsFor conversation.now.endpoint s → tick_answer s ≢ [] → is_again wait.new.due ≡ true }
     ensures open_due { is_open_due wait.new.due ≡ true }
 {
@@ -144,6 +146,7 @@ fn wait_on(conversation: &Conversation, wait: &mut Wait, now: u64)
 }
 
 /// Notes why a connection is closed after its items moved, if it is, and what is waited for then.
+#[tactic(auto, using(crate::proofs::Done::no_step, crate::proofs::Done::one_close))]
 fn after_moving(
     conversation: &mut Conversation,
     moved: Result<(), FeedRefusal>,
@@ -155,6 +158,7 @@ fn after_moving(
     requires open_due { closed.old ≡ None → is_open_due wait.old.due ≡ true }
     requires closed_due { closed.old ≢ None → is_closed_due wait.old.due ≡ true }
     ensures goes { Goes conversation.old conversation.new }
+    ensures steps { StepsAt now wait.old wait.new }
     ensures packets { conversation.new.packets ≡ conversation.old.packets }
     ensures closed { closed.old ≢ None → closed.new ≡ closed.old }
     ensures why { closed.old ≡ None → (s : State) → StandsFor conversation.old.endpoint s
@@ -196,6 +200,7 @@ fn settled(
     requires open_due { closed.old ≡ None → is_open_due wait.old.due ≡ true }
     requires closed_due { closed.old ≢ None → is_closed_due wait.old.due ≡ true }
     ensures goes { Goes conversation.old conversation.new }
+    ensures steps { StepsAt now wait.old wait.new }
     ensures packets { conversation.new.packets ≡ conversation.old.packets }
     ensures closed { closed.old ≢ None → closed.new ≡ closed.old }
     ensures timed { closed.new ≡ None → (s : State) → StandsFor conversation.new.endpoint s → tick_answer s ≢ []
@@ -269,6 +274,7 @@ fn owed_after(owed: Owed, act: Act) -> Owed
 }
 
 /// What a connection waits for after a step that closes none.
+#[tactic(auto, using(crate::proofs::Done::no_step))]
 fn wait_unless(conversation: &Conversation, closed: Option<Why>, wait: &mut Wait, now: u64)
     requires open_due { closed ≡ None → is_open_due wait.old.due ≡ true }
     ensures kept { closed ≢ None → wait.new ≡ wait.old }
@@ -276,6 +282,7 @@ fn wait_unless(conversation: &Conversation, closed: Option<Why>, wait: &mut Wait
     ensures timed { closed ≡ None → (s : State) → StandsFor conversation.now.endpoint s → tick_answer s ≢ []
         → is_again wait.new.due ≡ true }
     ensures open_due { closed ≡ None → is_open_due wait.new.due ≡ true }
+    ensures steps { StepsAt now wait.old wait.new }
 {
     if closed.is_some() {
         return;
@@ -408,6 +415,7 @@ impl Connection {
         ensures owed { (self.new.owed.again ≡ self.old.owed.again) × (self.new.owed.asks ≡ self.old.owed.asks)
             × (self.new.owed.fresh ≡ true) }
         ensures word { self.old.owed.word ≡ true → self.new.owed.word ≡ true }
+        ensures steps { StepsAt now self.old.wait self.new.wait }
     {
         settled(
             &mut self.conversation,
@@ -455,12 +463,14 @@ impl Connection {
     }
 
     /// Moves what memory was refused for.
+    #[tactic(auto, using(crate::proofs::Done::no_step))]
     fn move_owed(&mut self, alloc: Global, now: u64)
         ensures goes { Goes self.old.conversation self.new.conversation }
         ensures packets { self.new.conversation.packets ≡ self.old.conversation.packets }
         ensures closed { self.old.closed ≢ None → self.new.closed ≡ self.old.closed }
         ensures told { self.new.told ≡ self.old.told }
         ensures fresh { self.old.owed.fresh ≡ true → self.new.owed.fresh ≡ true }
+        ensures steps { StepsAt now self.old.wait self.new.wait }
     {
         if !self.owed.moving {
             return;
@@ -529,6 +539,7 @@ impl Connection {
             × (self.new.owed.moving ≡ false) }
         ensures closed { self.old.closed ≢ None → self.new.closed ≡ self.old.closed }
         ensures told { self.new.told ≡ self.old.told }
+        ensures steps { StepsAt now self.old.wait self.new.wait }
     {
         self.move_owed(alloc, now);
         let packet = self.conversation.next_packet(alloc, &mut self.owed);

@@ -1,6 +1,6 @@
 //! Many connections behind one address.
 
-ghost use Rattle.std.specs.Prelude.{◌≡◌, ◌≢◌, ◌<◌, ◌≤◌, ◌∷◌, ◌++◌, ◌⊎◌, ℕ, List, [], Option, length, true, false, IfOk, IfSome, OnErr};
+ghost use Rattle.std.specs.Prelude.{◌≡◌, ◌≢◌, ◌<◌, ◌≤◌, ◌∷◌, ◌++◌, ◌⊎◌, ℕ, List, [], Option, length, max, true, false, IfOk, IfSome, OnErr};
 ghost use Rattle.std.specs.Prelude.{Some, None, Ok, Err, count_by, slice_get};
 ghost use Rattle.std.specs.Option.{is_some};
 ghost use Rattle.courier_messages.specs.RawCalls.{words_call};
@@ -24,7 +24,7 @@ ghost use Rattle.xns_host.specs.Reasons.{call_fault_of, answer_fault_of};
 ghost use Rattle.xns_host.specs.Refusing.{Answers};
 ghost use Rattle.xns_host.specs.Settings.{IsFit, most_connections, wrong_setting};
 ghost use Rattle.xns_host.specs.Turns.{with_turn};
-ghost use Rattle.xns_host.specs.Hosting.{ActsIn, EachActs};
+ghost use Rattle.xns_host.specs.Hosting.{ActsIn, DoesDue, EachActs, EachSteps};
 ghost use Rattle.xns_host.specs.Waiting.{last_time};
 ghost use Rattle.xns_host.specs.declared.guest.Guest.{Guest};
 ghost use Rattle.xns_host.specs.declared.outgoing.Outgoing.{Outgoing};
@@ -650,6 +650,7 @@ impl Host {
             ≡ with_turn (with_turn self.old.agenda.packets number false) number false }
         ensures strays { self.new.strays ≡ self.old.strays }
         ensures fault { OnErr result (result ≡ Err NoMemory) }
+        ensures steps { EachSteps now self.old.guests.items self.new.guests.items }
     {
         let made = packet_in(&mut self.guests[number], self.alloc, now);
         self.agenda.pass_packet(number);
@@ -674,6 +675,8 @@ impl Host {
         ensures goes { EachGoes self.old.guests.items self.new.guests.items }
         ensures none { result ≡ Ok None → HasNoPacket self.new.guests.items }
         ensures fault { OnErr result (result ≡ Err NoMemory) }
+        ensures due { let time = max self.old.clock.latest now in time < last_time
+            → DoesDue time self.old.guests.items self.new.guests.items }
     {
         let now = self.clock.tell(now);
         self.act_all(now);

@@ -18,7 +18,7 @@ ghost use Rattle.courier_sessions.specs.Answering.{answer_message};
 ghost use Rattle.xns_host.specs.Reasons.{call_fault_of, answer_fault_of};
 ghost use Rattle.xns_host.specs.Refusing.{Answers};
 ghost use Rattle.xns_host.specs.Turns.{with_turn};
-ghost use Rattle.xns_host.specs.Hosting.{HasActedIn};
+ghost use Rattle.xns_host.specs.Hosting.{HasActedIn, StepsIn};
 ghost use Rattle.xns_host.specs.Waiting.{last_time};
 ghost use Rattle.xns_host.specs.declared.guest.Guest.{Guest};
 ghost use Rattle.xns_host.specs.declared.outgoing.Outgoing.{Outgoing};
@@ -266,6 +266,7 @@ pub fn packet_in(
     ensures goes { (g : Guest) → slot.old ≡ Some g → LedTo Goes g.connection slot.new }
     ensures keeps { ((o : Outgoing) → result ≢ Ok (Some o)) → (g : Guest) → slot.old ≡ Some g → LedTo Keeps g.connection slot.new }
     ensures kept { is_none slot.new ≡ is_none slot.old }
+    ensures steps { (g : Guest) → slot.old ≡ Some g → StepsIn now g.connection (Some slot.new) }
 {
     let Some(guest) = slot else {
         return Ok(None);

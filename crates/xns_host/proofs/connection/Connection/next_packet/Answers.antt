@@ -1,7 +1,11 @@
+use Rattle.xns_host.proofs.Done.{steps_then}
 use Rattle.xns_host.proofs.Leading.{goes_then}
 use Rattle.xns_host.proofs.Giving.{moves_and_gives, moves_and_none}
 use Rattle.xns_host.proofs.Tellings.{rested_then}
 use Rattle.xns_host.proofs.connection.Connection.next_packet.Goals as goal
+
+pub returns-clause-steps : goal.returns-clause-steps
+returns-clause-steps c = steps_then _ _ _ c.move_owed.ensures.steps c.wait_unless.ensures.steps
 
 pub returns-clause-goes : goal.returns-clause-goes
 returns-clause-goes c = goes_then c.move_owed.ensures.goes c.next_packet-packet.ensures.goes

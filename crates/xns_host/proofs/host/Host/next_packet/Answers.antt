@@ -3,9 +3,39 @@ use Rattle.std.specs.Prelude.{IfSome}
 use Rattle.xns_host.specs.Hosting.{IsNextPacket}
 use Rattle.xns_host.specs.Times.{HasEarliest}
 use Rattle.xns_host.specs.declared.outgoing.Outgoing.{Outgoing}
+use Rattle.xns_host.proofs.Done.{at_time, due_first, due_then}
 use Rattle.xns_host.proofs.Fetching.{no_packet, packet_less}
 use Rattle.xns_host.proofs.Going.{all_then, each_then, given_then, keeping}
 use Rattle.xns_host.proofs.host.Host.next_packet.Goals as goal
+
+pub returns-in-Some-clause-due : goal.returns-in-Some-clause-due
+returns-in-Some-clause-due c = λ more.
+    at_time c.tell-now.result _ c.args.self.now.guests.items c.act_all.new.self.guests.items c.tell-now.ensures.result
+    (λ early. due_first c.tell-now.result c.args.self.now.guests.items c.act_all.new.self.guests.items (c.act_all.ensures.acts early)) more
+
+pub returns-in_err-packet-clause-due : goal.returns-in_err-packet-clause-due
+returns-in_err-packet-clause-due c = λ more.
+    at_time c.tell-now.result _ c.args.self.now.guests.items c.packet.new.self.guests.items c.tell-now.ensures.result
+    (λ early. due_then c.tell-now.result c.args.self.now.guests.items c.loop-number.self.guests.items c.packet.new.self.guests.items
+    (c.loop-number.invariant.3 early) c.packet.ensures.steps) more
+
+pub returns-in-Some-2-clause-due : goal.returns-in-Some-2-clause-due
+returns-in-Some-2-clause-due c = λ more.
+    at_time c.tell-now.result _ c.args.self.now.guests.items c.packet.new.self.guests.items c.tell-now.ensures.result
+    (λ early. due_then c.tell-now.result c.args.self.now.guests.items c.loop-number.self.guests.items c.packet.new.self.guests.items
+    (c.loop-number.invariant.3 early) c.packet.ensures.steps) more
+
+pub returns-clause-due : goal.returns-clause-due
+returns-clause-due c = λ more.
+    at_time c.tell-now.result _ c.args.self.now.guests.items c.loop-number.self.guests.items c.tell-now.ensures.result c.loop-number.invariant.3 more
+
+pub loop-number-init : goal.loop-number-init
+loop-number-init c = (
+  search rules,
+  search rules,
+  search rules,
+  λ early. due_first c.tell-now.result c.args.self.now.guests.items c.act_all.new.self.guests.items (c.act_all.ensures.acts early),
+)
 
 pub returns-in_err-packet-clause-stray : goal.returns-in_err-packet-clause-stray
 returns-in_err-packet-clause-stray c = λ o os is. let none : c.args.self.now.strays.waiting ≡ [] = c.loop-number.invariant.0 in absurd (cc)
@@ -65,4 +95,6 @@ loop-number-preserved c =
       each_then c.args.self.now.guests.items c.loop-number.self.guests.items c.packet.new.self.guests.items c.loop-number.invariant.1 c.packet.ensures.goes,
       all_then keeping c.args.self.now.guests.items c.loop-number.self.guests.items c.packet.new.self.guests.items c.loop-number.invariant.2
           (c.packet.ensures.keeps (λ o made. cc)),
+      λ more. due_then _ c.args.self.now.guests.items c.loop-number.self.guests.items c.packet.new.self.guests.items (c.loop-number.invariant.3 more)
+          c.packet.ensures.steps,
     )

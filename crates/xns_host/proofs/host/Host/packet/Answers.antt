@@ -4,6 +4,7 @@ use Rattle.xns_host.specs.Agenda.{Plan}
 use Rattle.xns_host.specs.Hosting.{facts_in}
 use Rattle.xns_host.specs.Turns.{with_turn}
 use Rattle.xns_host.proofs.Apart.{set_there}
+use Rattle.xns_host.proofs.Done.{each_step}
 use Rattle.xns_host.proofs.Going.{all_set, each_set, given_there, keeping}
 use Rattle.xns_host.proofs.Noting.{kept_but, rested_but}
 use Rattle.xns_host.proofs.host.Host.packet.Goals as goal
@@ -13,6 +14,16 @@ note-requires-clause-others c =
     rw c.pass_packet.ensures.passed (rested_but c.args.self.now.agenda c.as_slice.result.now c.args.number
     (kept_but c.args.self.now.agenda c.args.self.now.guests.items c.as_slice.result.now c.args.number c.index_mut.result.now c.packet_in-made.new.slot
     c.args.self.now.noted c.requires (search rules) (search rules) (search rules)))
+
+pub returns-in-Ok-clause-steps : goal.returns-in-Ok-clause-steps
+returns-in-Ok-clause-steps c =
+    each_step c.args.now c.args.self.now.guests.items (slice_set c.args.self.now.guests.items c.args.number c.packet_in-made.new.slot) c.args.number
+    c.index_mut.result.now c.packet_in-made.new.slot c.requires (search rules) refl c.packet_in-made.ensures.steps
+
+pub returns-in-Err-clause-steps : goal.returns-in-Err-clause-steps
+returns-in-Err-clause-steps c =
+    each_step c.args.now c.args.self.now.guests.items (slice_set c.args.self.now.guests.items c.args.number c.packet_in-made.new.slot) c.args.number
+    c.index_mut.result.now c.packet_in-made.new.slot c.requires (search rules) refl c.packet_in-made.ensures.steps
 
 pub returns-in-Ok-clause-goes : goal.returns-in-Ok-clause-goes
 returns-in-Ok-clause-goes c =
