@@ -33,7 +33,7 @@ const MOST_LINES: usize = 18_446_744_073_709_551_615;
 /// `NoMemory` where a growth is refused. Of the limits' faults the one that comes first in the input is
 /// answered. The text of all lines before the fault is written first, but for a write that fails.
 ///
-/// It holds what `dump` holds, the words of the longest message, and of each flow a record of some 500 bytes, at most 63
+/// It holds what `dump` holds, the words of the longest message, and of each flow a record of some 400 bytes, at most 63
 /// items that came early, and at most 131,072 bytes of a message that is not whole, with four more while a version range
 /// stands before it.
 pub fn calls<R: Read, W: Write>(
