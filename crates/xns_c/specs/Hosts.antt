@@ -108,7 +108,8 @@ pub record Wakes (k : KeptHost) (time : ℕ) : Type 0 where
 
 -- a new connection has this number, and all others are as they were; or none is made, and none is changed
 pub record Connects (k n : KeptHost) (socket : ℕ) (to : Address) (way number result : ℕ) : Type 0 where
-  pub connected : result ≡ ok → IsConnected n.host.guests.items number k.host.settings (address_in k.host.network k.host.host socket) to way
+  pub connected : result ≡ ok → IsConnected n.host.guests.items number k.host.settings k.host.register.identifiers
+      (address_in k.host.network k.host.host socket) to way
   pub apart : result ≡ ok → IsApart k.host.guests.items n.host.guests.items number
   pub full : HasNoRoom k.host.guests.items → result ≡ no_slot
   pub fault : result ≢ ok → (result ≡ no_slot) ⊎ (result ≡ no_memory)

@@ -15,7 +15,7 @@ use Rattle.xns_spp.specs.Receiving.{StoresBytes}
 use Rattle.xns_spp.specs.State.{State, initiator_state, responder_state}
 use Rattle.xns_host.specs.Agenda.{Plan, IsNoted}
 use Rattle.xns_host.specs.Events.{event_in}
-use Rattle.xns_host.specs.Identifiers.{Ids, is_free}
+use Rattle.xns_host.specs.Identifiers.{Ids, IsNext, is_free}
 use Rattle.courier_messages.specs.declared.message.Message.{Message}
 use Rattle.xns_host.specs.Living.{GoesFrom}
 use Rattle.xns_host.specs.Quotes.{is_opened_by, quoted_opening}
@@ -278,10 +278,13 @@ pub record HasNoRoom (guests : List (Option Guest)) : Type 0 where
 abbrev pub address_in : ℕ → List ℕ → ℕ → Address
 address_in network host socket = record { network = network; host = host; socket = socket }
 
--- with this number there is a connection of ours to the peer, which has done nothing yet; its packets go out by this way
-pub record IsConnected (guests : List (Option Guest)) (number : ℕ) (settings : Settings) (own to : Address) (way : ℕ) : Type 0 where
+-- with this number there is a connection of ours to the peer, which has done nothing yet: it has the identifier that came next of these,
+-- and its packets go out by this way
+pub record IsConnected (guests : List (Option Guest)) (number : ℕ) (settings : Settings) (ids : Ids) (own to : Address) (way : ℕ)
+    : Type 0 where
   pub guest : Guest
   pub there : slice_get guests number ≡ Some (Some guest)
+  pub next : IsNext ids guest.id
   pub tells : Tells guest.connection.conversation (new_story None (initiator_state own guest.id to settings.window settings.backlog))
   pub unclosed : guest.connection.closed ≡ None
   pub via : guest.via ≡ way
@@ -340,8 +343,11 @@ pub data HasHeard (bytes : List ℕ) (g : Guest) : Option Guest → Type 0 where
   listens : (h : Guest) → Hears g.connection.conversation h.connection.conversation bytes → HasHeard bytes g (Some h)
   loses : ((s : State) → StandsFor g.connection.conversation.endpoint s → StoresBytes s bytes) → HasHeard bytes g (Some g)
 
--- a peer, with this identifier, opened this connection at an address of ours, and nothing was said in it; its packets go out by this way
-pub record IsAnswering (settings : Settings) (own opener : Address) (id way : ℕ) (programs : List Program) (guest : Guest) : Type 0 where
+-- a peer, with this identifier, opened this connection at an address of ours, and nothing was said in it: it has the identifier that came
+-- next of these, and its packets go out by this way
+pub record IsAnswering (settings : Settings) (ids : Ids) (own opener : Address) (id way : ℕ) (programs : List Program) (guest : Guest)
+    : Type 0 where
+  pub next : IsNext ids guest.id
   pub tells : Tells guest.connection.conversation
       (new_story (Some programs) (responder_state own guest.id opener id settings.window settings.backlog))
   pub unclosed : guest.connection.closed ≡ None
@@ -349,14 +355,14 @@ pub record IsAnswering (settings : Settings) (own opener : Address) (id way : �
   pub peer : guest.peer ≡ opener
 
 -- it did at a socket that is served, and the programs are those that are served there
-pub record IsOpened (services : BTreeMap ℕ (Vec Program Global)) (settings : Settings) (network : ℕ) (host : List ℕ) (way : ℕ)
-    (guest : Guest) : Type 0 where
+pub record IsOpened (services : BTreeMap ℕ (Vec Program Global)) (settings : Settings) (ids : Ids) (network : ℕ) (host : List ℕ)
+    (way : ℕ) (guest : Guest) : Type 0 where
   pub socket : ℕ
   pub programs : List Program
   pub opener : Address
   pub id : ℕ
   pub served : programs_at services socket ≡ Some programs
-  pub answering : IsAnswering settings (address_in network host socket) opener id way programs guest
+  pub answering : IsAnswering settings ids (address_in network host socket) opener id way programs guest
 
 -- the connection in this place is such
 pub record IsThere (P : Guest → Type 0) (place : Option (Option Guest)) : Type 0 where

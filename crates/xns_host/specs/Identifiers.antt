@@ -37,6 +37,12 @@ pub record IsIds (ahead : List ℕ) (owners : List (Option ℕ)) : Type 0 where
 abbrev pub is_free : List (Option ℕ) → ℕ → Bool
 is_free owners id = is_none (slice_index_or owners id None)
 
+-- this one comes next: the first of those ahead that no connection has
+pub record IsNext (ids : Ids) (id : ℕ) : Type 0 where
+  pub place : ℕ
+  pub first : position (is_free ids.owners) ids.ahead ≡ Some place
+  pub there : slice_get ids.ahead place ≡ Some id
+
 -- the one at this place is given to the connection with this number, and comes again after all others
 pub record Gives (old new : Ids) (place number id : ℕ) : Type 0 where
   pub there : slice_get old.ahead place ≡ Some id

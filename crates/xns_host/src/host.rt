@@ -214,7 +214,7 @@ impl Host {
         peer: Address,
     ) -> Result<usize, HostFault>
         ensures connected { IfOk result (λ n. IsConnected self.new.guests.items n self.old.settings
-            (address_in self.old.network self.old.host socket) peer via) }
+            self.old.register.identifiers (address_in self.old.network self.old.host socket) peer via) }
         ensures apart { IfOk result (IsApart self.old.guests.items self.new.guests.items) }
         ensures place { IfOk result (IsPlace self.old.guests.items) }
         ensures full { HasNoRoom self.old.guests.items → result ≡ Err NoRoom }
@@ -357,8 +357,8 @@ impl Host {
     #[tactic(auto, using(crate::proofs::Apart::one_changed, crate::proofs::Apart::none_changed, crate::proofs::Hearing::went_on))]
     pub fn receive(&mut self, now: u64, via: u32, bytes: &[u8]) -> bool
         ensures one { ChangesOne self.old.guests.items self.new.guests.items }
-        ensures became { Receives (IsOpened self.old.services.programs self.old.settings self.old.network self.old.host via) bytes.now
-            self.old.guests.items self.new.guests.items }
+        ensures became { Receives (IsOpened self.old.services.programs self.old.settings self.old.register.identifiers self.old.network
+            self.old.host via) bytes.now self.old.guests.items self.new.guests.items }
         ensures unchanged { result ≡ false → (k : ℕ) → slice_get self.new.guests.items k ≡ slice_get self.old.guests.items k }
         ensures echo { (p : PacketModel) (taken : ℕ) → packet_of bytes.now ≡ Ok (p, taken)
             → IsAnswered (address_in self.old.network self.old.host echo_socket) p → (result ≡ true)
@@ -446,8 +446,8 @@ impl Host {
         requires fits { IsPacket (packet_model carrier.now) }
         requires size { length carrier.now.body.now ≤ most_data }
         ensures became { (b : List ℕ) (taken : ℕ) → packet_of b ≡ Ok (packet_model carrier.now, taken)
-            → Receives (IsOpened self.old.services.programs self.old.settings self.old.network self.old.host via) b
-            self.old.guests.items self.new.guests.items }
+            → Receives (IsOpened self.old.services.programs self.old.settings self.old.register.identifiers self.old.network
+            self.old.host via) b self.old.guests.items self.new.guests.items }
         ensures heard { (b : List ℕ) (taken n : ℕ) (p : SppPacketModel) (g : Guest) (place : Option Guest)
             → packet_of b ≡ Ok (packet_model carrier.now, taken) → spp_packet_of b ≡ Ok p
             → IsNamed self.old.host self.old.register p n g → slice_get self.old.guests.items n ≡ Some (Some g)
@@ -499,8 +499,8 @@ impl Host {
     fn opening(&mut self, now: u64, via: u32, opener: Peer, packet: &SppPacket) -> bool
         requires { IsSppPacket packet.now }
         ensures became { (b : List ℕ) → spp_packet_of b ≡ Ok packet.now
-            → Receives (IsOpened self.old.services.programs self.old.settings self.old.network self.old.host via) b
-            self.old.guests.items self.new.guests.items }
+            → Receives (IsOpened self.old.services.programs self.old.settings self.old.register.identifiers self.old.network
+            self.old.host via) b self.old.guests.items self.new.guests.items }
         ensures one { ChangesOne self.old.guests.items self.new.guests.items }
         ensures unchanged { result ≡ false → (k : ℕ) → slice_get self.new.guests.items k ≡ slice_get self.old.guests.items k }
     {
@@ -533,8 +533,8 @@ impl Host {
     ) -> Option<usize>
         ensures apart { IfSome result (IsApart self.old.guests.items self.new.guests.items) }
         ensures place { IfSome result (IsPlace self.old.guests.items) }
-        ensures opened { IfSome result (λ n. IsThere (IsAnswering self.old.settings (address_in self.old.network self.old.host socket)
-            peer peer_id via programs.items) (slice_get self.new.guests.items n)) }
+        ensures opened { IfSome result (λ n. IsThere (IsAnswering self.old.settings self.old.register.identifiers
+            (address_in self.old.network self.old.host socket) peer peer_id via programs.items) (slice_get self.new.guests.items n)) }
         ensures unchanged { result ≡ None → (k : ℕ) → slice_get self.new.guests.items k ≡ slice_get self.old.guests.items k }
     {
         if peer_id == 0 {

@@ -2,7 +2,7 @@
 
 ghost use Rattle.std.specs.Prelude.{◌≡◌, ◌≢◌, ◌<◌, ℕ, length, IfOk, IfSome, IsPermutation, Some, None, true, position, slice_get};
 ghost use Rattle.std.specs.Prelude.{slice_index_or, slice_set};
-ghost use Rattle.xns_host.specs.Identifiers.{IsOrder, Gives, is_free, most_id, numbers, order_of};
+ghost use Rattle.xns_host.specs.Identifiers.{IsNext, IsOrder, Gives, is_free, most_id, numbers, order_of};
 
 use rand::seq::SliceRandom;
 use rand_chacha::ChaCha20Rng;
@@ -128,6 +128,7 @@ impl Identifiers {
     pub fn next(&self) -> Option<u16>
         ensures given { (place : ℕ) → position (is_free self.now.owners) self.now.ahead ≡ Some place
             → result ≡ slice_get self.now.ahead place }
+        ensures next { IfSome result (IsNext self.now) }
         ensures none { position (is_free self.now.owners) self.now.ahead ≡ None → result ≡ None }
         ensures known { IfSome result (λ id. 0 < id) }
     {

@@ -2,7 +2,7 @@
 
 ghost use Rattle.std.specs.Prelude.{◌≡◌, ◌<◌, ℕ, true, false, IfOk, IfSome, OnOk, OnErr, Some, None, position, slice_get, slice_set};
 ghost use Rattle.std.specs.BTreeMap.{IsEmpty, IsUnchanged, Updates};
-ghost use Rattle.xns_host.specs.Identifiers.{Gives, is_free, most_id, numbers, order_of};
+ghost use Rattle.xns_host.specs.Identifiers.{Gives, IsNext, is_free, most_id, numbers, order_of};
 ghost use Rattle.xns_host.specs.Register.{number_by, owner_in, peer_cmp};
 
 use crate::identifiers::Identifiers;
@@ -47,6 +47,7 @@ impl Register {
     pub fn next(&self) -> Option<u16>
         ensures given { (place : ℕ) → position (is_free self.now.identifiers.owners) self.now.identifiers.ahead ≡ Some place
             → result ≡ slice_get self.now.identifiers.ahead place }
+        ensures next { IfSome result (IsNext self.now.identifiers) }
         ensures none { position (is_free self.now.identifiers.owners) self.now.identifiers.ahead ≡ None → result ≡ None }
         ensures known { IfSome result (λ id. 0 < id) }
     {

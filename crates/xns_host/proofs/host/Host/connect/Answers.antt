@@ -37,6 +37,7 @@ returns-clause-connected c = record {
     heard_of = false;
   };
   there = c.put.ensures.there;
+  next = c.in-Some-next.ensures.next;
   tells = subst (λ (own : Address). Tells c.in-Ok.connection.conversation
       (new_story None (initiator_state own c.in-Some-next.id c.args.peer c.args.self.now.settings.window c.args.self.now.settings.backlog)))
       c.address-own.ensures c.in-Ok.ensures.tells;
