@@ -83,10 +83,14 @@ has_guest (Some (Some g)) = true
 pub record IsApart (old new : List (Option Guest)) (number : ℕ) : Type 0 where
   pub others : (k : ℕ) → k ≢ number → slice_get new k ≡ slice_get old k
 
+-- once it was asked to close it stays asked
+abbrev pub StaysAsked : (old new : Conversation) → Type 0
+StaysAsked old new = old.closing.wanted ≡ true → new.closing.wanted ≡ true
+
 -- the connection in this place went on from where that one was when the program had done this, whatever it had done before
 abbrev pub WentOn : Connection → (Story → Story) → Option Guest → Type 0
 WentOn c deed None = ⊥
-WentOn c deed (Some g) = GoesFrom c.conversation g.connection.conversation deed
+WentOn c deed (Some g) = GoesFrom c.conversation g.connection.conversation deed × StaysAsked c.conversation g.connection.conversation
 
 -- such steps led to the one in this place
 abbrev pub LedTo : (Conversation → Conversation → Type 0) → Connection → Option Guest → Type 0
@@ -162,7 +166,8 @@ pub record DoesDue (now : ℕ) (old new : List (Option Guest)) : Type 0 where
 -- the program was handed the message that waits, and the connection goes on from there; where none waits, it was told that it is closed
 pub data HasTold (c next : Connection) : Type 0 where
   handed : (m : Message) → waiting_message c.conversation.side ≡ Some m
-      → GoesFrom c.conversation next.conversation (λ h. with_handed c.conversation.side h m) → HasTold c next
+      → GoesFrom c.conversation next.conversation (λ h. with_handed c.conversation.side h m)
+      → StaysAsked c.conversation next.conversation → HasTold c next
   closed : waiting_message c.conversation.side ≡ None → next ≡ record c { told = true } → HasTold c next
 
 -- this was the step that led to the connection in this place

@@ -561,6 +561,7 @@ impl Connection {
         ensures answer { Answers (call_fault_of self.old.conversation (words_call program version procedure words.now)) result }
         ensures called { (h : Story) → Tells self.old.conversation h → result ≡ Ok tt → (m : Story) × Tells self.new.conversation m
             × GoesOn (record h { made = h.made ++ words_call program version procedure words.now ∷ [] }) m }
+        ensures wanted { self.old.conversation.closing.wanted ≡ true → self.new.conversation.closing.wanted ≡ true }
         ensures calm { result ≡ Ok tt → self.new.owed.moving ≡ false
             → drains self.new.conversation.side self.new.conversation.closing ≡ false
             → CalmFrom self.old.conversation self.new.conversation
@@ -600,6 +601,7 @@ impl Connection {
         ensures answered { (h : Story) (k : ℕ) → Tells self.old.conversation h → asked_of self.old.conversation.side ≡ Some k
             → result ≡ Ok tt → (m : Story) × Tells self.new.conversation m
             × GoesOn (record h { answers = h.answers ++ answer_message kind k words.now ∷ [] }) m }
+        ensures wanted { self.old.conversation.closing.wanted ≡ true → self.new.conversation.closing.wanted ≡ true }
         ensures calm { (k : ℕ) → asked_of self.old.conversation.side ≡ Some k → result ≡ Ok tt → self.new.owed.moving ≡ false
             → drains self.new.conversation.side self.new.conversation.closing ≡ false
             → CalmFrom self.old.conversation self.new.conversation
@@ -655,6 +657,7 @@ impl Connection {
         ensures message { result ≡ waiting_message self.old.conversation.side }
         ensures handed { (h : Story) (m : Message) → Tells self.old.conversation h → result ≡ Some m → (n : Story)
             × Tells self.new.conversation n × GoesOn (with_handed self.old.conversation.side h m) n }
+        ensures wanted { self.old.conversation.closing.wanted ≡ true → self.new.conversation.closing.wanted ≡ true }
         ensures calm { (m : Message) → result ≡ Some m → self.new.owed.moving ≡ false
             → drains self.new.conversation.side self.new.conversation.closing ≡ false
             → CalmFrom self.old.conversation self.new.conversation (λ h. with_handed self.old.conversation.side h m) }

@@ -339,6 +339,7 @@ impl Conversation {
         ensures answer { Answers (call_fault_of self.old (words_call program version procedure words.now)) result }
         ensures called { (h : Story) → Tells self.old h → result ≡ Ok tt
             → Tells self.new (record h { made = h.made ++ words_call program version procedure words.now ∷ [] }) }
+        ensures closing { self.new.closing ≡ self.old.closing }
         ensures drains { drains self.new.side self.new.closing ≡ drains self.old.side self.old.closing }
         ensures endpoint { self.new.endpoint ≡ self.old.endpoint }
         ensures packets { self.new.packets ≡ self.old.packets }
@@ -359,6 +360,7 @@ impl Conversation {
         ensures answer { Answers (answer_fault_of self.old answer words.now) result }
         ensures answered { (h : Story) (k : ℕ) → Tells self.old h → asked_of self.old.side ≡ Some k → result ≡ Ok tt
             → Tells self.new (record h { answers = h.answers ++ answer_message answer k words.now ∷ [] }) }
+        ensures closing { self.new.closing ≡ self.old.closing }
         ensures drains { drains self.new.side self.new.closing ≡ drains self.old.side self.old.closing }
         ensures endpoint { self.new.endpoint ≡ self.old.endpoint }
         ensures packets { self.new.packets ≡ self.old.packets }
@@ -374,6 +376,7 @@ impl Conversation {
     pub fn take_message(&mut self) -> Option<PiecedMessage>
         ensures message { result ≡ waiting_message self.old.side }
         ensures handed { (h : Story) (m : Message) → Tells self.old h → result ≡ Some m → Tells self.new (with_handed self.old.side h m) }
+        ensures closing { self.new.closing ≡ self.old.closing }
         ensures drains { drains self.new.side self.new.closing ≡ drains self.old.side self.old.closing }
         ensures endpoint { self.new.endpoint ≡ self.old.endpoint }
         ensures packets { self.new.packets ≡ self.old.packets }

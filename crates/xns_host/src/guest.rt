@@ -1,7 +1,7 @@
 //! A connection in its place at a host.
 
 ghost use Rattle.std.specs.Prelude.{◌≡◌, ℕ, List, [], ◌∷◌, ◌++◌, OnErr, OnOk, Ok, None, Some, true, false};
-ghost use Rattle.xns_host.specs.Hosting.{facts_of, lingers_since, may_go, stranger_since};
+ghost use Rattle.xns_host.specs.Hosting.{StaysAsked, facts_of, lingers_since, may_go, stranger_since};
 ghost use Rattle.courier_messages.specs.RawCalls.{words_call};
 ghost use Rattle.xns_spp.specs.Ends.{is_open};
 ghost use Rattle.xns_spp.specs.Held.{StandsFor};
@@ -81,6 +81,7 @@ impl Guest {
         ensures answer { Answers (call_fault_of self.old.connection.conversation (words_call program version procedure words.now)) result }
         ensures called { result ≡ Ok tt → GoesFrom self.old.connection.conversation self.new.connection.conversation
             (λ h. record h { made = h.made ++ words_call program version procedure words.now ∷ [] }) }
+        ensures wanted { StaysAsked self.old.connection.conversation self.new.connection.conversation }
         ensures unchanged { OnErr result (self.new ≡ self.old) }
     {
         self.connection
@@ -100,6 +101,7 @@ impl Guest {
         ensures answered { (k : ℕ) → asked_of self.old.connection.conversation.side ≡ Some k → result ≡ Ok tt
             → GoesFrom self.old.connection.conversation self.new.connection.conversation
             (λ h. record h { answers = h.answers ++ answer_message answer k words.now ∷ [] }) }
+        ensures wanted { StaysAsked self.old.connection.conversation self.new.connection.conversation }
         ensures unchanged { OnErr result (self.new ≡ self.old) }
     {
         self.connection.answer(alloc, now, answer, words)?;
