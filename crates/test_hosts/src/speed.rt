@@ -38,7 +38,7 @@ pub fn run(
 /// So many calls between two hosts: how many were answered.
 fn between_hosts(alloc: Global, connections: u32, calls: u32) -> Result<u32, anyhow::Error> {
     let mut pair = Pair::new(alloc, connections as usize)?;
-    pair.call_all(connections, calls)
+    Ok(pair.call_all(connections, calls)?)
 }
 
 /// So many calls between ends that are made by hand: how many were answered.

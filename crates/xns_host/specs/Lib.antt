@@ -13,6 +13,7 @@ pub mod Refusing
 pub mod Register
 pub mod Services
 pub mod Settings
+pub mod Standing
 pub mod Story
 pub mod Strays
 pub mod Telling

@@ -1,7 +1,8 @@
 //! Many connections behind one address.
 
-ghost use Rattle.std.specs.Prelude.{◌≡◌, ◌≢◌, ◌<◌, ◌≤◌, ◌∷◌, ◌++◌, ◌⊎◌, ℕ, List, [], Option, length, max, true, false, IfOk, IfSome, OnErr};
+ghost use Rattle.std.specs.Prelude.{◌≡◌, ◌≢◌, ◌<◌, ◌≤◌, ◌∷◌, ◌++◌, ◌⊎◌, ℕ, List, [], Option, length, max, true, false, IfOk, IfSome, OnErr, OnOk};
 ghost use Rattle.std.specs.Prelude.{Some, None, Ok, Err, count_by, slice_get};
+ghost use Rattle.std.specs.BTreeMap.{btree_map_len};
 ghost use Rattle.std.specs.Option.{is_some};
 ghost use Rattle.courier_messages.specs.RawCalls.{words_call};
 ghost use Rattle.xns_idp.specs.Packet.{IsPacket, PacketModel, most_data, packet_model};
@@ -25,10 +26,11 @@ ghost use Rattle.xns_host.specs.Refusing.{Answers};
 ghost use Rattle.xns_host.specs.Settings.{IsFit, most_connections, wrong_setting};
 ghost use Rattle.xns_host.specs.Turns.{with_turn};
 ghost use Rattle.xns_host.specs.Hosting.{ActsIn, DoesDue, EachActs, EachSteps};
+ghost use Rattle.xns_host.specs.Services.{Serves, most_services, programs_at};
 ghost use Rattle.xns_host.specs.Waiting.{last_time};
 ghost use Rattle.xns_host.specs.declared.guest.Guest.{Guest};
 ghost use Rattle.xns_host.specs.declared.outgoing.Outgoing.{Outgoing};
-ghost use Rattle.xns_host.specs.declared.host_fault.HostFault.TheVariants.{NoConnection, NoMemory, NoRoom, OutOfRange};
+ghost use Rattle.xns_host.specs.declared.host_fault.HostFault.TheVariants.{NoConnection, NoMemory, NoRoom, OutOfRange, TooManyServices};
 ghost use Rattle.xns_host.specs.declared.setting.Setting.{Setting};
 
 use crate::agenda::Agenda;
@@ -83,6 +85,8 @@ pub struct Host {
 }
 
 impl Host {
+    ghost use Rattle.xns_host.specs.Standing.{IsNewHost, IsSameHost, StaysSetUp};
+
     /// A host at this address, without services and connections. The identifiers of its connections come in an order that the secret
     /// gives.
     ///
@@ -94,6 +98,7 @@ impl Host {
         settings: Settings,
         secret: [u8; 32],
     ) -> Result<Host, HostFault>
+        ensures made { IfOk result (IsNewHost network host settings secret) }
         ensures room { IfOk result (λ h. length h.guests.items ≡ settings.connections) }
         ensures settings { (s : Setting) → wrong_setting settings ≡ Some s → result ≡ Err (OutOfRange s) }
     {
@@ -112,7 +117,8 @@ impl Host {
         secret: [u8; 32],
     ) -> Result<Host, AllocError>
         requires { IsFit settings }
-        ensures { IfOk result (λ h. length h.guests.items ≡ settings.connections) }
+        ensures made { IfOk result (IsNewHost network host settings secret) }
+        ensures room { IfOk result (λ h. length h.guests.items ≡ settings.connections) }
     {
         Ok(Host {
             alloc,
@@ -142,15 +148,21 @@ impl Host {
     /// From now on connections that peers open to this socket are answered, for these programs; where there are none, each call is
     /// handed. If the socket is served already, its list is replaced for new connections.
     ///
-    /// An `Err` is [`HostFault::TooManyServices`] where 16 other sockets are served, or [`HostFault::NoMemory`].
+    /// An `Err`, which leaves all as it was, is [`HostFault::TooManyServices`] where 16 other sockets are served, or
+    /// [`HostFault::NoMemory`].
     pub fn serve(&mut self, socket: u16, programs: &[Program]) -> Result<(), HostFault>
+        ensures served { OnOk result (Serves self.old.services.programs self.new.services.programs socket programs.now) }
+        ensures full { result ≡ Err TooManyServices → (programs_at self.old.services.programs socket ≡ None)
+            × (btree_map_len self.old.services.programs ≡ most_services) }
+        ensures room { programs_at self.old.services.programs socket ≡ None → btree_map_len self.old.services.programs ≡ most_services
+            → result ≡ Err TooManyServices }
+        ensures fault { OnErr result ((result ≡ Err TooManyServices) ⊎ (result ≡ Err NoMemory)) }
+        ensures unchanged { OnErr result (self.new.services.programs.entries ≡ self.old.services.programs.entries) }
         ensures guests { self.new.guests ≡ self.old.guests }
         ensures agenda { self.new.agenda ≡ self.old.agenda }
+        ensures same { IsSameHost self.old self.new }
     {
-        match Vec::from_slice(self.alloc, programs) {
-            Ok(programs) => self.services.serve(socket, programs),
-            Err(_) => Err(HostFault::NoMemory),
-        }
+        self.services.serve(self.alloc, socket, programs)
     }
 
     /// Forgets the connection with this number.
@@ -161,6 +173,7 @@ impl Host {
         ensures gone { slice_get self.new.guests.items number ≡ Some None }
         ensures sized { length self.new.guests.items ≡ length self.old.guests.items }
         ensures strays { self.new.strays ≡ self.old.strays }
+        ensures set_up { StaysSetUp self.old self.new }
     {
         let Some(guest) = vacate(&mut self.guests, &mut self.agenda, number) else {
             return;
@@ -178,6 +191,7 @@ impl Host {
         ensures gone { done ≡ true → slice_get self.new.guests.items number ≡ Some None }
         ensures kept { done ≡ false → self.new.guests.items ≡ self.old.guests.items }
         ensures strays { self.new.strays ≡ self.old.strays }
+        ensures set_up { StaysSetUp self.old self.new }
     {
         if done {
             self.forget(number);
@@ -189,6 +203,7 @@ impl Host {
         requires { number < length self.old.guests.items }
         ensures apart { IsApart self.old.guests.items self.new.guests.items number }
         ensures there { slice_get self.new.guests.items number ≡ Some (Some guest) }
+        ensures set_up { StaysSetUp self.old self.new }
     {
         fill(&mut self.guests, &mut self.agenda, number, guest);
     }
@@ -198,6 +213,7 @@ impl Host {
         requires { number < length self.old.guests.items }
         ensures apart { IsApart self.old.guests.items self.new.guests.items number }
         ensures there { slice_get self.new.guests.items number ≡ Some (Some guest) }
+        ensures set_up { StaysSetUp self.old self.new }
     {
         self.forget(number);
         self.seat(number, guest);
@@ -223,6 +239,7 @@ impl Host {
         ensures fault { OnErr result ((result ≡ Err NoRoom) ⊎ (result ≡ Err NoMemory)) }
         ensures unchanged { OnErr result ((k : ℕ) → slice_get self.new.guests.items k ≡ slice_get self.old.guests.items k) }
         ensures agenda { OnErr result (self.new.agenda ≡ self.old.agenda) }
+        ensures set_up { StaysSetUp self.old self.new }
     {
         let now = self.clock.tell(now);
         let Some(number) = self.agenda.place() else {
@@ -274,6 +291,7 @@ impl Host {
             → WentOn g.connection (λ h. record h { made = h.made ++ words_call program version procedure words.now ∷ [] }) place }
         ensures unchanged { OnErr result ((k : ℕ) → slice_get self.new.guests.items k ≡ slice_get self.old.guests.items k) }
         ensures agenda { OnErr result (self.new.agenda ≡ self.old.agenda) }
+        ensures set_up { StaysSetUp self.old self.new }
     {
         let now = self.clock.tell(now);
         if number >= self.guests.len() {
@@ -315,6 +333,7 @@ impl Host {
             → WentOn g.connection (λ h. record h { answers = h.answers ++ answer_message answer k words.now ∷ [] }) place }
         ensures unchanged { OnErr result ((k : ℕ) → slice_get self.new.guests.items k ≡ slice_get self.old.guests.items k) }
         ensures agenda { OnErr result (self.new.agenda ≡ self.old.agenda) }
+        ensures set_up { StaysSetUp self.old self.new }
     {
         let now = self.clock.tell(now);
         if number >= self.guests.len() {
@@ -342,6 +361,7 @@ impl Host {
             → slice_get self.new.guests.items number ≡ Some place → IsAsked g.connection place }
         ensures unchanged { OnErr result ((k : ℕ) → slice_get self.new.guests.items k ≡ slice_get self.old.guests.items k) }
         ensures agenda { OnErr result (self.new.agenda ≡ self.old.agenda) }
+        ensures set_up { StaysSetUp self.old self.new }
     {
         let now = self.clock.tell(now);
         if number >= self.guests.len() {
@@ -370,6 +390,7 @@ impl Host {
         ensures heard { (p : SppPacketModel) (n : ℕ) (g : Guest) (place : Option Guest) → spp_packet_of bytes.now ≡ Ok p
             → IsNamed self.old.host self.old.register p n g → slice_get self.old.guests.items n ≡ Some (Some g)
             → slice_get self.new.guests.items n ≡ Some place → (result ≡ true) × HasHeard bytes.now g place }
+        ensures set_up { StaysSetUp self.old self.new }
     {
         let now = self.clock.tell(now);
         let Ok((packet, _)) = decode(bytes) else {
@@ -391,6 +412,7 @@ impl Host {
             (echo_reply (address_in self.old.network self.old.host echo_socket) (packet_model packet.now))) }
         ensures guests { self.new.guests ≡ self.old.guests }
         ensures agenda { self.new.agenda ≡ self.old.agenda }
+        ensures set_up { StaysSetUp self.old self.new }
     {
         let own = self.address(ECHO_SOCKET);
         match self.strays.echo(self.alloc, own, via, packet) {
@@ -409,6 +431,7 @@ impl Host {
         ensures goes { EachGoes self.old.guests.items self.new.guests.items }
         ensures one { ChangesOne self.old.guests.items self.new.guests.items }
         ensures unchanged { result ≡ false → (k : ℕ) → slice_get self.new.guests.items k ≡ slice_get self.old.guests.items k }
+        ensures set_up { StaysSetUp self.old self.new }
     {
         if packet.target.host != self.host {
             return false;
@@ -431,6 +454,7 @@ impl Host {
         ensures goes { EachGoes self.old.guests.items self.new.guests.items }
         ensures apart { IsApart self.old.guests.items self.new.guests.items number }
         ensures unchanged { result ≡ false → (k : ℕ) → slice_get self.new.guests.items k ≡ slice_get self.old.guests.items k }
+        ensures set_up { StaysSetUp self.old self.new }
     {
         if number >= self.guests.len() {
             return false;
@@ -454,6 +478,7 @@ impl Host {
             → slice_get self.new.guests.items n ≡ Some place → (result ≡ true) × HasHeard b g place }
         ensures one { ChangesOne self.old.guests.items self.new.guests.items }
         ensures unchanged { result ≡ false → (k : ℕ) → slice_get self.new.guests.items k ≡ slice_get self.old.guests.items k }
+        ensures set_up { StaysSetUp self.old self.new }
     {
         let Ok(packet) = carried_packet(carrier) else {
             return false;
@@ -484,6 +509,7 @@ impl Host {
             → (result ≡ true) × HasHeard b g place }
         ensures apart { IsApart self.old.guests.items self.new.guests.items number }
         ensures unchanged { result ≡ false → (k : ℕ) → slice_get self.new.guests.items k ≡ slice_get self.old.guests.items k }
+        ensures set_up { StaysSetUp self.old self.new }
     {
         if number >= self.guests.len() {
             return false;
@@ -503,6 +529,7 @@ impl Host {
             self.old.host via) b self.old.guests.items self.new.guests.items }
         ensures one { ChangesOne self.old.guests.items self.new.guests.items }
         ensures unchanged { result ≡ false → (k : ℕ) → slice_get self.new.guests.items k ≡ slice_get self.old.guests.items k }
+        ensures set_up { StaysSetUp self.old self.new }
     {
         let Some((peer, peer_id)) = packet.opener() else {
             return false;
@@ -536,6 +563,7 @@ impl Host {
         ensures opened { IfSome result (λ n. IsThere (IsAnswering self.old.settings self.old.register.identifiers
             (address_in self.old.network self.old.host socket) peer peer_id via programs.items) (slice_get self.new.guests.items n)) }
         ensures unchanged { result ≡ None → (k : ℕ) → slice_get self.new.guests.items k ≡ slice_get self.old.guests.items k }
+        ensures set_up { StaysSetUp self.old self.new }
     {
         if peer_id == 0 {
             return None;
@@ -582,6 +610,7 @@ impl Host {
         ensures none { result ≡ None → (k : ℕ) → slice_get self.new.guests.items k ≡ slice_get self.old.guests.items k }
         ensures passed { result ≡ None → self.new.agenda
             ≡ record self.old.agenda { events = with_turn self.old.agenda.events number false } }
+        ensures set_up { StaysSetUp self.old self.new }
     {
         let now = self.clock.latest();
         let event = event_in(&mut self.guests[number], self.alloc, now, number);
@@ -598,6 +627,7 @@ impl Host {
         ensures told { IfSome result (λ e. IsNextEvent self.old.guests.items self.new.guests.items e) }
         ensures none { result ≡ None → HasNoEvent self.old.guests.items }
         ensures unchanged { result ≡ None → (k : ℕ) → slice_get self.new.guests.items k ≡ slice_get self.old.guests.items k }
+        ensures set_up { StaysSetUp self.old self.new }
     {
         while let Some(number) = self.agenda.first_event() {
             if let Some(event) = self.event(number) {
@@ -616,6 +646,7 @@ impl Host {
         ensures acts { now < last_time → (g : Guest) → slice_get self.old.guests.items number ≡ Some (Some g)
             → ActsIn now g.connection (slice_get self.new.guests.items number) }
         ensures apart { IsApart self.old.guests.items self.new.guests.items number }
+        ensures set_up { StaysSetUp self.old self.new }
     {
         if number >= self.guests.len() {
             return;
@@ -631,6 +662,7 @@ impl Host {
         ensures keeps { EachKeeps self.old.guests.items self.new.guests.items }
         ensures strays { self.new.strays ≡ self.old.strays }
         ensures acts { now < last_time → EachActs now self.old.guests.items self.new.guests.items }
+        ensures set_up { StaysSetUp self.old self.new }
     {
         for _ in 0..self.guests.len() {
             let Some(number) = self.agenda.first_due(now) else {
@@ -651,6 +683,7 @@ impl Host {
         ensures strays { self.new.strays ≡ self.old.strays }
         ensures fault { OnErr result (result ≡ Err NoMemory) }
         ensures steps { EachSteps now self.old.guests.items self.new.guests.items }
+        ensures set_up { StaysSetUp self.old self.new }
     {
         let made = packet_in(&mut self.guests[number], self.alloc, now);
         self.agenda.pass_packet(number);
@@ -677,6 +710,7 @@ impl Host {
         ensures fault { OnErr result (result ≡ Err NoMemory) }
         ensures due { let time = max self.old.clock.latest now in time < last_time
             → DoesDue time self.old.guests.items self.new.guests.items }
+        ensures set_up { StaysSetUp self.old self.new }
     {
         let now = self.clock.tell(now);
         self.act_all(now);

@@ -1,9 +1,9 @@
 //! The sockets at which connections are answered.
 
-ghost use Rattle.std.specs.Prelude.{◌≡◌, ◌≤◌, OnOk, OnErr, None, Err, option_map};
+ghost use Rattle.std.specs.Prelude.{◌≡◌, ◌≤◌, ◌⊎◌, OnOk, OnErr, None, Err, option_map};
 ghost use Rattle.std.specs.BTreeMap.{IsEmpty, btree_map_len};
 ghost use Rattle.xns_host.specs.Services.{Serves, most_services, programs_at};
-ghost use Rattle.xns_host.specs.declared.host_fault.HostFault.TheVariants.{TooManyServices};
+ghost use Rattle.xns_host.specs.declared.host_fault.HostFault.TheVariants.{NoMemory, TooManyServices};
 
 use crate::host_fault::HostFault;
 use courier_sessions::Program;
@@ -36,17 +36,26 @@ impl Services {
     /// An `Err`, which leaves all as it was, is [`HostFault::TooManyServices`] where 16 other sockets are served, and
     /// [`HostFault::NoMemory`] after an allocation failure.
     #[tactic(auto, using(crate::proofs::Serving::serves))]
-    pub fn serve(&mut self, socket: u16, programs: Vec<Program>) -> Result<(), HostFault>
-        ensures served { OnOk result (Serves self.old.programs self.new.programs socket programs.items) }
+    pub fn serve(
+        &mut self,
+        alloc: Global,
+        socket: u16,
+        programs: &[Program],
+    ) -> Result<(), HostFault>
+        ensures served { OnOk result (Serves self.old.programs self.new.programs socket programs.now) }
         ensures full { result ≡ Err TooManyServices → (programs_at self.old.programs socket ≡ None)
             × (btree_map_len self.old.programs ≡ most_services) }
         ensures room { programs_at self.old.programs socket ≡ None → btree_map_len self.old.programs ≡ most_services
             → result ≡ Err TooManyServices }
+        ensures fault { OnErr result ((result ≡ Err TooManyServices) ⊎ (result ≡ Err NoMemory)) }
         ensures unchanged { OnErr result (self.new.programs.entries ≡ self.old.programs.entries) }
     {
         if self.programs.len() == MOST_SERVICES && !self.programs.contains_key(&socket) {
             return Err(HostFault::TooManyServices);
         }
+        let Ok(programs) = Vec::from_slice(alloc, programs) else {
+            return Err(HostFault::NoMemory);
+        };
         match self.programs.insert(socket, programs) {
             Ok(_) => Ok(()),
             Err(_) => Err(HostFault::NoMemory),

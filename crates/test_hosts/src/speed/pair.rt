@@ -72,7 +72,7 @@ impl Pair {
     }
 
     /// Answers a call by its own words.
-    fn answer(&mut self) -> Result<(), anyhow::Error> {
+    fn answer(&mut self) -> Result<(), HostFault> {
         if let Some(
             Event::Call {
                 number,
@@ -81,7 +81,9 @@ impl Pair {
             },
         ) = self.service.next_event()
         {
-            let words = message.words(self.alloc)?;
+            let Ok(words) = message.words(self.alloc) else {
+                return Err(HostFault::NoMemory);
+            };
             self.service
                 .answer(self.now, number, Answer::Return, words.as_slice())?;
         }
@@ -89,9 +91,11 @@ impl Pair {
     }
 
     /// Picks an answer up.
-    fn hear(&mut self) -> Result<(), anyhow::Error> {
+    fn hear(&mut self) -> Result<(), HostFault> {
         if let Some(Event::Answer { message, .. }) = self.client.next_event() {
-            let words = message.words(self.alloc)?;
+            let Ok(words) = message.words(self.alloc) else {
+                return Err(HostFault::NoMemory);
+            };
             if words.as_slice() == WORDS.as_slice() {
                 self.answered = self.answered.saturating_add(1);
             }
@@ -100,7 +104,7 @@ impl Pair {
     }
 
     /// Lets both do what they can.
-    fn talk(&mut self) -> Result<(), anyhow::Error> {
+    fn talk(&mut self) -> Result<(), HostFault> {
         carry(self.now, &mut self.client, &mut self.service)?;
         self.answer()?;
         carry(self.now, &mut self.service, &mut self.client)?;
@@ -109,14 +113,14 @@ impl Pair {
     }
 
     /// Makes a call, which is answered.
-    fn call(&mut self, number: usize) -> Result<(), anyhow::Error> {
+    fn call(&mut self, number: usize) -> Result<(), HostFault> {
         self.now = self.now.saturating_add(1);
         self.client.call(self.now, number, 7, &WORDS)?;
         self.talk()
     }
 
     /// Opens a connection by a call; its number.
-    fn open(&mut self) -> Result<usize, anyhow::Error> {
+    fn open(&mut self) -> Result<usize, HostFault> {
         let number = self.client.connect(self.now, 0, CLIENT.socket, SERVICE)?;
         self.call(number)?;
         self.talk()?;
@@ -125,7 +129,7 @@ impl Pair {
     }
 
     /// Serves the program, and opens so many connections; the number of the last one.
-    fn open_all(&mut self, connections: u32) -> Result<usize, anyhow::Error> {
+    fn open_all(&mut self, connections: u32) -> Result<usize, HostFault> {
         self.service.serve(SERVICE.socket, &[LISTED])?;
         let mut last = 0;
         for _ in 0..connections {
@@ -135,7 +139,7 @@ impl Pair {
     }
 
     /// Opens so many connections, and makes so many calls on the last one; how many of these were answered.
-    pub fn call_all(&mut self, connections: u32, calls: u32) -> Result<u32, anyhow::Error> {
+    pub fn call_all(&mut self, connections: u32, calls: u32) -> Result<u32, HostFault> {
         let last = self.open_all(connections)?;
         self.answered = 0;
         for _ in 0..calls {

@@ -10,6 +10,7 @@ loop-init c = (
   each_stays c.args.self.now.guests.items c.args.self.now.guests.items refl,
   λ more. at_first c.args.now c.args.self.now.guests.items,
   each_kept c.args.self.now.guests.items c.args.self.now.guests.items refl,
+  search rules,
 )
 
 pub loop-preserved : goal.loop-preserved
@@ -19,6 +20,7 @@ loop-preserved c = (
   λ more. one_more c.args.now c.args.self.now.guests.items c.loop.self.guests.items c.act.new.self.guests.items c.loop.self.agenda c.in-Some.number
       c.loop.counter (c.loop.invariant.2 more) c.loop.self.noted c.loop.self.sized c.in-Some.ensures.some (c.act.ensures.acts more) c.act.ensures.apart,
   all_then keeping c.args.self.now.guests.items c.loop.self.guests.items c.act.new.self.guests.items c.loop.invariant.3 c.act.ensures.keeps,
+  search rules,
 )
 
 pub returns-in_default-clause-acts : goal.returns-in_default-clause-acts

@@ -7,10 +7,10 @@ pub returns-in-Some-event-clause-told : goal.returns-in-Some-event-clause-told
 returns-in-Some-event-clause-told c =
     let less : c.in-Some.number < length c.loop-number.self.guests.items = omega (arith, c.in-Some.ensures.within, c.loop-number.self.sized) in
     next_told c.args.self.now.guests.items c.loop-number.self.guests.items c.event.new.self.guests.items c.in-Some.number c.in-Some-event.event
-    c.loop-number.invariant less (λ place there. sym c.in-Some-event.is ∙ c.event.ensures.event place there)
+    c.loop-number.invariant.0 less (λ place there. sym c.in-Some-event.is ∙ c.event.ensures.event place there)
     (λ g there. c.event.ensures.told g there (λ none. cc)) c.event.ensures.apart
 
 pub returns-clause-none : goal.returns-clause-none
 returns-clause-none c = λ z.
     let none : HasEarliest c.loop-number.self.agenda.events.tickets None = search rules in
-    no_event c.loop-number.self.agenda c.args.self.now.guests.items c.loop-number.self.guests.items c.loop-number.self.noted c.loop-number.invariant none
+    no_event c.loop-number.self.agenda c.args.self.now.guests.items c.loop-number.self.guests.items c.loop-number.self.noted c.loop-number.invariant.0 none

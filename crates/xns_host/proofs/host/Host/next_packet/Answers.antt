@@ -35,6 +35,7 @@ loop-number-init c = (
   search rules,
   search rules,
   λ early. due_first c.tell-now.result c.args.self.now.guests.items c.act_all.new.self.guests.items (c.act_all.ensures.acts early),
+  search rules,
 )
 
 pub returns-in_err-packet-clause-stray : goal.returns-in_err-packet-clause-stray
@@ -97,4 +98,5 @@ loop-number-preserved c =
           (c.packet.ensures.keeps (λ o made. cc)),
       λ more. due_then _ c.args.self.now.guests.items c.loop-number.self.guests.items c.packet.new.self.guests.items (c.loop-number.invariant.3 more)
           c.packet.ensures.steps,
+      search rules,
     )

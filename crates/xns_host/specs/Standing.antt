@@ -1,0 +1,26 @@
+-- What a host begins with, and what stands in it whatever comes.
+use Rattle.std.specs.Prelude.{◌≡◌, ℕ, List, [], None, replicate, true}
+use Rattle.std.specs.BTreeMap.{IsEmpty}
+use Rattle.xns_host.specs.Identifiers.{is_free, most_id, numbers, order_of}
+use Rattle.xns_host.specs.declared.host.Host.{Host}
+use Rattle.xns_host.specs.declared.settings.Settings.{Settings}
+
+-- a host at this address that serves nothing, has no connection and nothing to say; its identifiers stand in the order that the secret
+-- gives, and none is in use
+pub record IsNewHost (network : ℕ) (host : List ℕ) (settings : Settings) (secret : List ℕ) (h : Host) : Type 0 where
+  pub at_network : h.network ≡ network
+  pub at_host : h.host ≡ host
+  pub with_settings : h.settings ≡ settings
+  pub unserved : IsEmpty h.services.programs
+  pub nobody : h.guests.items ≡ replicate settings.connections None
+  pub silent : h.strays.waiting ≡ []
+  pub order : h.register.identifiers.ahead ≡ order_of (numbers most_id) secret
+  pub unused : (id : ℕ) → is_free h.register.identifiers.owners id ≡ true
+
+-- its address and its settings are as they were
+abbrev pub IsSameHost : (old new : Host) → Type 0
+IsSameHost old new = (new.network ≡ old.network) × (new.host ≡ old.host) × (new.settings ≡ old.settings)
+
+-- and so is what it serves
+abbrev pub StaysSetUp : (old new : Host) → Type 0
+StaysSetUp old new = IsSameHost old new × (new.services ≡ old.services)
