@@ -1,15 +1,15 @@
 -- A flow of a whole input begins with its first data packet.
-use Rattle.std.proofs.Common.{◌≡◌, ◌∙◌, ap, sym, refl, subst, arith, ℕ, zero, suc, ◌+◌, ◌==◌, ◌⊎◌, inl, inr, Bool, true, false, cond, List, [], ◌∷◌, ◌++◌, length, drop, append_assoc, append-nil, Option, Some, None}
+use Rattle.std.proofs.Common.{◌≡◌, ◌∙◌, ap, sym, refl, subst, ℕ, zero, suc, ◌+◌, ◌==◌, ◌⊎◌, inl, inr, Bool, true, false, cond, List, [], ◌∷◌, ◌++◌, length, drop, append_assoc, append-nil, Option, Some, None}
 use Rattle.std.specs.Prelude.{not, slice_get, slice_set}
 use Rattle.std.proofs.lemmas.Grind.{flat_map-append}
 use Rattle.xns_idp.specs.Packet.{PacketModel}
 use Rattle.xns_spp.specs.Header.{is_system}
 use Rattle.xns_spp.specs.Item.{item_with}
 use Rattle.xns_spp.specs.declared.header.Header.{Header}
-use Rattle.xns_dump.specs.Flows.{flow_of, is_flow}
+use Rattle.xns_dump.specs.Flows.{flow_of}
 use Rattle.xns_dump.specs.declared.flows.flow.Flow.{Flow}
 use Rattle.xns_calls.specs.Calls.{after_line, known_from, line_taken, text_from}
-use Rattle.xns_calls.specs.Capture.{Known, after_at, after_in, after_new_flow, after_places, after_sequenced, flow_behind, heading_at, new_connection, next_place, place_of, scene_in, with_new, with_scene}
+use Rattle.xns_calls.specs.Capture.{Known, after_at, after_in, after_new_flow, after_places, after_sequenced, flow_behind, heading_at, new_connection, place_of, scene_in, with_new, with_scene}
 use Rattle.xns_calls.specs.Events.{Event, after_events, captured_event}
 use Rattle.xns_calls.specs.Exchange.{Scene, acknowledged_track, advance_other, after_acknowledge, after_data, after_packet, after_told, begin_track, begun, first_track, new_number, of_other, take_number, told_of}
 use Rattle.xns_calls.specs.Input.{Part, arrival, begins, events_at, events_between, events_from, field_at, field_between, first_field_from, flow_place, is_same, item_events, or_later, part_text, parts_text, place_among, said_texts, text_in, texts_in, told, track_at, track_in}
@@ -25,6 +25,7 @@ use Rattle.xns_calls.proofs.Gaps.{equal_tells}
 use Rattle.xns_calls.proofs.Inputs.{IsAt, acknowledged_is, acknowledged_said, acknowledged_text, added, after_append, behind_text, captured_new, captured_plain, drop_all, far_text, flow_append, flow_at, get_last, get_same, line_is, lines_ran, near_events, number_tells, other_text, own_text, packet_parts, packet_said, packet_text, plain, plain_one, said_text_of, scene_text, stands_own, two_of, two_texts}
 use Rattle.xns_calls.proofs.Others.{get_set}
 use Rattle.xns_calls.proofs.Packets.{acknowledge_own, number_event, packet_other}
+use Rattle.xns_calls.proofs.Places.{place_there}
 
 -- ---- a packet, for a flow that has not begun
 
@@ -224,20 +225,6 @@ at_meets n i j b q packet f content c k there none =
     by_place false e = inl (far_waits n i j b q packet f content c k e none)
 
 -- ---- where its connection stands
-
--- a connection that is found is there
-place_there : (q : Flow) (cs : List Connection) (j : ℕ) → place_of q cs ≡ Some j → (c : Connection) × (slice_get cs j ≡ Some c)
-place_there q [] j e = (cc)
-place_there q (c ∷ cs) j e = by_flow (is_flow c.flow q) (place_of q cs) refl e (λ m. place_there q cs m)
-  where
-    by_flow : (p : Bool) (o : Option ℕ) → place_of q cs ≡ o → cond p (Some 0) (next_place o) ≡ Some j → ((m : ℕ) → place_of q cs ≡ Some m → (d : Connection) × (slice_get cs m ≡ Some d))
-        → (d : Connection) × (slice_get (c ∷ cs) j ≡ Some d)
-    by_flow true o at is more = let same : 0 ≡ j = (cc) in (c, ap (slice_get (c ∷ cs)) (sym same))
-    by_flow false None at is more = (cc)
-    by_flow false (Some m) at is more =
-        let next : m + 1 ≡ j = (cc) in
-        let one : m + 1 ≡ suc m = omega arith in
-        let w = more m at in (w.0, ap (slice_get (c ∷ cs)) (sym next ∙ one) ∙ w.1)
 
 none_more : (b : Bool) (cs : List Connection) (flow : Flow) (i : ℕ) → track_at b (slice_get cs i) ≡ None → track_at b (slice_get (cs ++ new_connection flow ∷ []) i) ≡ None
 none_more true [] flow zero e = refl

@@ -3,12 +3,10 @@ use Rattle.std.proofs.Common.{◌≡◌, ◌∙◌, ap, sym, refl, ℕ, Bool, tr
 use Rattle.std.specs.Option.{is_some}
 use Rattle.std.specs.Prelude.{OnErr, not, slice_get, ◌||◌, ◌&&◌}
 use Rattle.xns_idp.specs.Packet.{PacketModel}
-use Rattle.xns_dump.specs.Flows.{flow_of}
-use Rattle.xns_dump.specs.declared.flows.flow.Flow.{Flow}
 use Rattle.xns_lines.specs.declared.page.Page.{Page}
 use Rattle.xns_spp.specs.Header.{is_system}
 use Rattle.xns_spp.specs.declared.header.Header.{Header}
-use Rattle.xns_calls.specs.Capture.{Known, begins_flow, flow_behind, place_of, scene_in, side_in, wants_at, wants_end, wants_end_in, wants_in, wants_places, wants_sequenced}
+use Rattle.xns_calls.specs.Capture.{Known, begins_flow, scene_in, side_in, wants_at, wants_end, wants_end_in, wants_in}
 use Rattle.xns_calls.specs.Exchange.{Scene, acknowledged, after_acknowledge, begin_track, begun, behind_last, brings_new, new_number, scene, wants_memory}
 use Rattle.xns_calls.specs.declared.connection.Connection.{Connection}
 use Rattle.xns_calls.specs.declared.flow_place.FlowPlace.{FlowPlace}
@@ -65,16 +63,6 @@ at_wants i is_behind f connection k at e = ap (λ o. wants_in is_behind f o k) a
 pub end_wants : (flow : FlowPlace) (connection : Connection) (connections : List Connection) → slice_get connections flow.place ≡ Some connection
     → is_some (behind_last (side_in flow.is_behind connection).track) ≡ true → wants_end (Some flow) connections ≡ true
 end_wants flow connection connections at e = ap (λ o. wants_end_in flow.is_behind o) at ∙ e
-
--- a packet of the flow behind that of a connection is one to that connection
-pub behind_wants : (packet : PacketModel) (f : Header) (k : Known) (flow other : Flow) (i : ℕ) → flow ≡ flow_of packet f → other ≡ flow_behind flow
-    → None ≡ place_of flow k.connections → Some i ≡ place_of other k.connections → wants_at i true f k ≡ true → wants_sequenced packet f k ≡ true
-unfolding wants_sequenced
-behind_wants packet f k flow other i is_flow is_behind none some wants =
-    let first : place_of (flow_of packet f) k.connections ≡ None = ap (λ q. place_of q k.connections) (sym is_flow) ∙ sym none in
-    let second : place_of (flow_behind (flow_of packet f)) k.connections ≡ Some i =
-    ap (λ q. place_of (flow_behind q) k.connections) (sym is_flow) ∙ ap (λ q. place_of q k.connections) (sym is_behind) ∙ sym some in
-    ap (λ o. wants_places f o (place_of (flow_behind (flow_of packet f)) k.connections) k) first ∙ ap (λ o. wants_places f None o k) second ∙ wants
 
 -- what is new behind that was new before
 pub data_wants : (h : Heading) (f : Header) (own other own' other' : Side) (page page' : Page) → scene own' other' page' ≡ after_acknowledge h f.acknowledge (scene own other page) → is_system f ≡ false

@@ -1,21 +1,33 @@
--- Flows as numbers, by which their connections are found.
+-- The ends of a connection as numbers, by which it is found.
+use Rattle.std.specs.Prelude.{if◌then◌else◌}
+use Rattle.std.specs.Ordering.{is_gt}
 use Rattle.std.specs.declared.cmp.Ordering.{Ordering}
 use Rattle.xns_dump.specs.Flows.Places.{IsPlace, host_and_socket}
 use Rattle.xns_dump.specs.declared.flows.flow.Flow.{Flow}
 use Rattle.xns_dump.specs.declared.flows.place.Place.{Place}
-use Rattle.xns_calls.specs.contracts.flow_key.FlowKeyOrd.TheImpl as key_ord
+use Rattle.xns_calls.specs.contracts.connection_key.ConnectionKeyOrd.TheImpl as key_ord
+use Rattle.xns_calls.specs.contracts.end_key.EndKeyOrd.TheImpl as end_ord
+use Rattle.xns_calls.specs.declared.connection_key.ConnectionKey.{ConnectionKey}
 use Rattle.xns_calls.specs.declared.end_key.EndKey.{EndKey}
-use Rattle.xns_calls.specs.declared.flow_key.FlowKey.{FlowKey}
 
 -- how the map orders keys
-abbrev pub key_cmp : FlowKey → FlowKey → Ordering
+abbrev pub key_cmp : ConnectionKey → ConnectionKey → Ordering
 key_cmp = (key_ord.ghosts).cmp
+
+-- how ends are ordered
+abbrev pub end_cmp : EndKey → EndKey → Ordering
+end_cmp = (end_ord.ghosts).cmp
 
 abbrev pub end_key : Place → EndKey
 end_key place = record { host_and_socket = host_and_socket place; identifier = place.identifier }
 
-abbrev pub flow_key : Flow → FlowKey
-flow_key flow = record { source = end_key flow.source; target = end_key flow.target }
+-- two ends, the lesser first
+abbrev pub lesser_first : EndKey → EndKey → ConnectionKey
+lesser_first a b = if is_gt (end_cmp a b) then record { lesser = b; greater = a } else record { lesser = a; greater = b }
+
+-- the key of a flow's connection: its two ends, whichever sends
+abbrev pub connection_key : Flow → ConnectionKey
+connection_key flow = lesser_first (end_key flow.source) (end_key flow.target)
 
 -- both ends are places
 pub record IsFlow (flow : Flow) : Type 0 where

@@ -1,5 +1,6 @@
 -- What the laws say: of what is heard, and of items that had not come.
-use Rattle.std.specs.Prelude.{◌≡◌, ◌≢◌, ℕ, ◌+◌, ◌%◌, ◌≤◌, ◌<◌, ◌⊎◌, List, [], ◌++◌, length, map, slice_get, IfOk, codes, Some}
+use Rattle.std.specs.Prelude.{◌≡◌, ◌≢◌, ℕ, ◌+◌, ◌%◌, ◌≤◌, ◌<◌, ◌⊎◌, List, [], ◌++◌, ◌||◌, length, map, slice_get, IfOk, codes, Some}
+use Rattle.std.specs.Ordering.{is_eq}
 use Rattle.xns_idp.specs.Packet.{PacketModel}
 use Rattle.xns_spp.specs.Ends.{most_pending}
 use Rattle.xns_spp.specs.Nearest.{field_round, half_round}
@@ -9,7 +10,8 @@ use Rattle.xns_spp.specs.declared.header.Header.{Header}
 use Rattle.courier_messages.specs.Conversation.{conversation, ending, opening}
 use Rattle.courier_messages.specs.declared.message.Message.{Message}
 use Rattle.xns_dump.specs.Dump.Line.{has_word}
-use Rattle.xns_dump.specs.Flows.{flow_of}
+use Rattle.xns_dump.specs.Flows.{flow_of, is_flow}
+use Rattle.xns_dump.specs.declared.flows.flow.Flow.{Flow}
 use Rattle.xns_lines.specs.Lines.{lines_of}
 use Rattle.xns_calls.specs.Calls.{calls_text, has_refusal}
 use Rattle.xns_calls.specs.Capture.{Known, after_sequenced, flow_behind, place_of}
@@ -18,6 +20,7 @@ use Rattle.xns_calls.specs.Events.{after_whole_events, captured, captured_in, ow
 use Rattle.xns_calls.specs.Exchange.{Scene, after_acknowledge, after_packet, after_told, first_track, of_other, seen_from_other}
 use Rattle.xns_calls.specs.Exchange.{take_number, told_of}
 use Rattle.xns_calls.specs.Input.{TellsConversation, events_in, first_field}
+use Rattle.xns_calls.specs.Keys.{IsFlow, connection_key, key_cmp}
 use Rattle.xns_calls.specs.Listening.{AreFaultless, heard_at_lines, message_lines, messages_heard, said_items}
 use Rattle.xns_calls.specs.Numbers.{near}
 use Rattle.xns_calls.specs.Reading.{Told}
@@ -111,3 +114,8 @@ abbrev pub OtherConnectionsStay : Type 0
 OtherConnectionsStay = (n : ℕ) (packet : PacketModel) (f : Header) (content : List ℕ) (k : Known) (i : ℕ) → i < length k.connections
     → place_of (flow_of packet f) k.connections ≢ Some i → place_of (flow_behind (flow_of packet f)) k.connections ≢ Some i
     → slice_get (after_sequenced n packet f content k).connections i ≡ slice_get k.connections i
+
+-- two flows have one key exactly where one is the other, or the flow behind it
+abbrev pub OneKeyServesBothDirections : Type 0
+OneKeyServesBothDirections = (a b : Flow) → IsFlow a → IsFlow b
+    → is_eq (key_cmp (connection_key a) (connection_key b)) ≡ (is_flow a b || is_flow a (flow_behind b))

@@ -1,11 +1,15 @@
 //! Laws of the definitions, as functions that do nothing.
 ghost use Rattle.xns_calls.specs.Laws.{AnItemIsAnEvent, HeardMessagesArePrinted, InputsTellTheirConversations};
 ghost use Rattle.xns_calls.specs.Laws.{MissingItemsAreBeforeCapturedOnes, NothingIsMissing};
-ghost use Rattle.xns_calls.specs.Laws.{NumbersAreReadBack, OtherConnectionsStay, PacketsAreEvents, RepeatsSayNothing, TheAnswerSaysRefused};
-ghost use Rattle.xns_calls.specs.Laws.{WhatIsHeardIsTheConversation, WholeFlowsSayTheirConversation};
+ghost use Rattle.xns_calls.specs.Laws.{NumbersAreReadBack, OneKeyServesBothDirections, OtherConnectionsStay, PacketsAreEvents};
+ghost use Rattle.xns_calls.specs.Laws.{RepeatsSayNothing, TheAnswerSaysRefused, WhatIsHeardIsTheConversation};
+ghost use Rattle.xns_calls.specs.Laws.{WholeFlowsSayTheirConversation};
 
 use courier_messages::laws::{conversation_is_read_sign_by_sign, one_item_more, signs_run_on};
-use xns_dump::laws::{joined_texts_say_refused, only_refusals_say_refused};
+use xns_dump::laws::{
+    flows_are_told_apart, joined_texts_say_refused, only_refusals_say_refused,
+    places_are_ordered_by_numbers,
+};
 
 /// What is heard of a flow from its version range on begins with the messages of the conversation of its items, and there
 /// is no more of it where the conversation has no fault.
@@ -92,3 +96,12 @@ pub fn inputs_tell_their_conversations()
 pub fn other_connections_stay()
     ensures { OtherConnectionsStay }
 {}
+
+/// Two flows have one key exactly where one is the other, or the flow behind it. So a connection is found by one key, whoever
+/// of the two sends.
+pub fn one_key_serves_both_directions()
+    ensures { OneKeyServesBothDirections }
+{
+    flows_are_told_apart();
+    places_are_ordered_by_numbers();
+}

@@ -1,14 +1,15 @@
 use Rattle.xns_calls.specs.Capture.{ended_at}
 use Rattle.std.proofs.lemmas.Grind.{elements}
-use Rattle.std.proofs.Common.{arith, ◌∙◌, sym, refl}
-use Rattle.xns_calls.proofs.Places.{place_set}
+use Rattle.std.proofs.Common.{arith, ◌∙◌, ap, sym, refl}
+use Rattle.std.specs.Prelude.{option_map}
+use Rattle.xns_calls.proofs.Places.{standing_set}
 use Rattle.xns_calls.proofs.capture.Capture.end_at.Goals as goal
 
 pub returns-then-flow-clause-placed : goal.returns-then-flow-clause-placed
-returns-then-flow-clause-placed c = λ h q formed. h q formed ∙ sym (place_set q c.args.self.now.connections.items c.args.flow.place c.in-Some.connection.now _ (sym c.in-Some.ensures.value) refl)
+returns-then-flow-clause-placed c = λ h q formed. h q formed ∙ sym (ap (λ o. option_map (λ at. at.place) o) (standing_set q c.args.self.now.connections.items c.args.flow.place c.in-Some.connection.now _ (sym c.in-Some.ensures.value) refl))
 
 pub returns-else-flow-clause-placed : goal.returns-else-flow-clause-placed
-returns-else-flow-clause-placed c = λ h q formed. h q formed ∙ sym (place_set q c.args.self.now.connections.items c.args.flow.place c.in-Some.connection.now _ (sym c.in-Some.ensures.value) refl)
+returns-else-flow-clause-placed c = λ h q formed. h q formed ∙ sym (ap (λ o. option_map (λ at. at.place) o) (standing_set q c.args.self.now.connections.items c.args.flow.place c.in-Some.connection.now _ (sym c.in-Some.ensures.value) refl))
 
 pub returns-in_default-clause-known : goal.returns-in_default-clause-known
 unfolding ended_at

@@ -1,0 +1,120 @@
+-- One key serves both directions of a connection.
+use Rattle.std.proofs.Common.{◌≡◌, ◌∙◌, ap, sym, refl, rules, Bool, true, false, cond, ◌||◌}
+use Rattle.std.specs.Cmp.{IsTotalOrder, both_ways, tied_itself}
+use Rattle.std.specs.Cmp.Rules.{comparing}
+use Rattle.std.specs.Ordering.{is_eq, is_gt, nat_cmp, ordering_reverse, ordering_then}
+use Rattle.std.specs.declared.cmp.Ordering.{Ordering}
+use Rattle.std.specs.declared.cmp.Ordering.TheVariants.{Less, Equal, Greater}
+use Rattle.xns_dump.specs.Flows.{is_flow}
+use Rattle.xns_dump.specs.Flows.Numbers.{flow_cmp}
+use Rattle.xns_dump.specs.Flows.Places.{host_and_socket, place_cmp}
+use Rattle.xns_dump.specs.Laws.{FlowsAreToldApart, PlacesAreOrderedByNumbers}
+use Rattle.xns_dump.specs.declared.flows.flow.Flow.{Flow}
+use Rattle.xns_dump.specs.declared.flows.place.Place.{Place}
+use Rattle.xns_calls.specs.Capture.{flow_behind}
+use Rattle.xns_calls.specs.Keys.{IsFlow, connection_key, end_key, key_cmp}
+use Rattle.xns_calls.specs.Laws.{OneKeyServesBothDirections}
+use Rattle.xns_calls.specs.declared.connection_key.ConnectionKey.{ConnectionKey}
+
+places_total : IsTotalOrder place_cmp
+places_total = search (comparing, rules)
+
+-- ---- a flow, or the one behind it: that from the lesser end
+
+turned_by : Bool → Flow → Flow
+turned_by true flow = flow_behind flow
+turned_by false flow = flow
+
+ordered : Flow → Flow
+ordered flow = turned_by (is_gt (place_cmp flow.source flow.target)) flow
+
+-- a flow whose ends are in no order is the one behind it
+even_ends : FlowsAreToldApart → (flow : Flow) → place_cmp flow.source flow.target ≡ Equal → flow ≡ flow_behind flow
+even_ends law flow even =
+    let turned : place_cmp flow.target flow.source ≡ Equal = places_total.antisymm flow.target flow.source ∙ ap ordering_reverse even in
+    let tied : flow_cmp flow (flow_behind flow) ≡ Equal = ap (λ r. ordering_then r (place_cmp flow.target flow.source)) even ∙ turned in
+    law.same flow (flow_behind flow) (sym (law.order flow (flow_behind flow)) ∙ ap is_eq tied)
+
+ordered_behind : FlowsAreToldApart → (flow : Flow) → ordered (flow_behind flow) ≡ ordered flow
+unfolding ordered turned_by
+ordered_behind law flow =
+    ap (λ r. turned_by (is_gt r) (flow_behind flow)) (places_total.antisymm flow.target flow.source) ∙ by_order (place_cmp flow.source flow.target) refl
+  where
+    by_order : (r : Ordering) → place_cmp flow.source flow.target ≡ r → turned_by (is_gt (ordering_reverse r)) (flow_behind flow) ≡ turned_by (is_gt r) flow
+    by_order Less e = refl
+    by_order Equal e = sym (even_ends law flow e)
+    by_order Greater e = refl
+
+-- ---- flows with one key
+
+pub same_flow : FlowsAreToldApart → (a b : Flow) → a ≡ b → is_flow a b ≡ true
+same_flow law a b same =
+    let tied : flow_cmp b b ≡ Equal = ap (λ r. ordering_then r (place_cmp b.target b.target)) (tied_itself places_total b.source) ∙ tied_itself places_total b.target in
+    ap (λ f. is_flow f b) same ∙ sym (law.order b b) ∙ ap is_eq tied
+
+either : (p q : Bool) (A : Type 0) → (p ≡ true → A) → (q ≡ true → A) → (p || q) ≡ true → A
+either true q A f g e = f refl
+either false q A f g e = g e
+
+or_left : (p q : Bool) → p ≡ true → (p || q) ≡ true
+or_left true q e = refl
+or_left false q e = (cc)
+
+or_right : (p q : Bool) → q ≡ true → (p || q) ≡ true
+or_right true q e = refl
+or_right false q e = e
+
+-- turned or not, one flow is one of the two
+turned_one : FlowsAreToldApart → (p q : Bool) (a b : Flow) → turned_by p a ≡ turned_by q b → (is_flow a b || is_flow a (flow_behind b)) ≡ true
+unfolding turned_by
+turned_one law true true a b e = or_left (is_flow a b) (is_flow a (flow_behind b)) (same_flow law a b (ap flow_behind e))
+turned_one law true false a b e = or_right (is_flow a b) (is_flow a (flow_behind b)) (same_flow law a (flow_behind b) (ap flow_behind e))
+turned_one law false true a b e = or_right (is_flow a b) (is_flow a (flow_behind b)) (same_flow law a (flow_behind b) e)
+turned_one law false false a b e = or_left (is_flow a b) (is_flow a (flow_behind b)) (same_flow law a b e)
+
+ordered_told : FlowsAreToldApart → (a b : Flow) → is_flow (ordered a) (ordered b) ≡ (is_flow a b || is_flow a (flow_behind b))
+unfolding ordered
+ordered_told law a b = both_ways (is_flow (ordered a) (ordered b)) (is_flow a b || is_flow a (flow_behind b))
+    (λ e. turned_one law (is_gt (place_cmp a.source a.target)) (is_gt (place_cmp b.source b.target)) a b (law.same (ordered a) (ordered b) e))
+    (either (is_flow a b) (is_flow a (flow_behind b)) (is_flow (ordered a) (ordered b) ≡ true)
+    (λ e. same_flow law (ordered a) (ordered b) (ap ordered (law.same a b e)))
+    (λ e. same_flow law (ordered a) (ordered b) (ap ordered (law.same a (flow_behind b) e) ∙ ordered_behind law b)))
+
+-- ---- keys are ordered as flows
+
+key_of_ends : Flow → ConnectionKey
+key_of_ends flow = record { lesser = end_key flow.source; greater = end_key flow.target }
+
+turned_key : (p : Bool) (flow : Flow) → cond p (key_of_ends (flow_behind flow)) (key_of_ends flow) ≡ key_of_ends (turned_by p flow)
+unfolding turned_by
+turned_key true flow = refl
+turned_key false flow = refl
+
+ordered_key : PlacesAreOrderedByNumbers → (flow : Flow) → IsFlow flow → connection_key flow ≡ key_of_ends (ordered flow)
+unfolding ordered key_of_ends
+ordered_key order flow formed =
+    ap (λ r. cond (is_gt r) (key_of_ends (flow_behind flow)) (key_of_ends flow)) (order flow.source flow.target formed.source formed.target)
+    ∙ turned_key (is_gt (place_cmp flow.source flow.target)) flow
+
+turned_formed : (p : Bool) (flow : Flow) → IsFlow flow → IsFlow (turned_by p flow)
+unfolding turned_by
+turned_formed true flow formed = record { source = formed.target; target = formed.source }
+turned_formed false flow formed = formed
+
+end_order : Place → Place → Ordering
+end_order a b = ordering_then (nat_cmp (host_and_socket a) (host_and_socket b)) (nat_cmp a.identifier b.identifier)
+
+keys_ordered : PlacesAreOrderedByNumbers → (a b : Flow) → IsFlow a → IsFlow b → key_cmp (key_of_ends a) (key_of_ends b) ≡ flow_cmp a b
+unfolding end_order key_of_ends
+keys_ordered law a b formed formed_too =
+    ap (λ r. ordering_then r (end_order a.target b.target)) (law a.source b.source formed.source formed_too.source)
+    ∙ ap (λ r. ordering_then (place_cmp a.source b.source) r) (law a.target b.target formed.target formed_too.target)
+
+pub one_key : FlowsAreToldApart → PlacesAreOrderedByNumbers → OneKeyServesBothDirections
+unfolding ordered
+one_key law order a b formed formed_too =
+    ap (λ k. is_eq (key_cmp k (connection_key b))) (ordered_key order a formed)
+    ∙ ap (λ k. is_eq (key_cmp (key_of_ends (ordered a)) k)) (ordered_key order b formed_too)
+    ∙ ap is_eq (keys_ordered order (ordered a) (ordered b)
+    (turned_formed (is_gt (place_cmp a.source a.target)) a formed) (turned_formed (is_gt (place_cmp b.source b.target)) b formed_too))
+    ∙ law.order (ordered a) (ordered b) ∙ ordered_told law a b
