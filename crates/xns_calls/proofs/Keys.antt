@@ -12,12 +12,15 @@ use Rattle.xns_dump.specs.Laws.{FlowsAreToldApart, PlacesAreOrderedByNumbers}
 use Rattle.xns_dump.specs.declared.flows.flow.Flow.{Flow}
 use Rattle.xns_dump.specs.declared.flows.place.Place.{Place}
 use Rattle.xns_calls.specs.Capture.{flow_behind}
-use Rattle.xns_calls.specs.Keys.{IsFlow, connection_key, end_key, key_cmp}
+use Rattle.xns_calls.specs.Keys.{IsFlow, connection_key, end_key, key_cmp, key_of_ends}
 use Rattle.xns_calls.specs.Laws.{OneKeyServesBothDirections}
 use Rattle.xns_calls.specs.declared.connection_key.ConnectionKey.{ConnectionKey}
 
 places_total : IsTotalOrder place_cmp
 places_total = search (comparing, rules)
+
+numbers_total : IsTotalOrder nat_cmp
+numbers_total = search (comparing, rules)
 
 -- ---- a flow, or the one behind it: that from the lesser end
 
@@ -82,18 +85,18 @@ ordered_told law a b = both_ways (is_flow (ordered a) (ordered b)) (is_flow a b 
 
 -- ---- keys are ordered as flows
 
-key_of_ends : Flow → ConnectionKey
-key_of_ends flow = record { lesser = end_key flow.source; greater = end_key flow.target }
+key_in : Flow → ConnectionKey
+key_in flow = key_of_ends (end_key flow.source) (end_key flow.target)
 
-turned_key : (p : Bool) (flow : Flow) → cond p (key_of_ends (flow_behind flow)) (key_of_ends flow) ≡ key_of_ends (turned_by p flow)
+turned_key : (p : Bool) (flow : Flow) → cond p (key_in (flow_behind flow)) (key_in flow) ≡ key_in (turned_by p flow)
 unfolding turned_by
 turned_key true flow = refl
 turned_key false flow = refl
 
-ordered_key : PlacesAreOrderedByNumbers → (flow : Flow) → IsFlow flow → connection_key flow ≡ key_of_ends (ordered flow)
-unfolding ordered key_of_ends
+ordered_key : PlacesAreOrderedByNumbers → (flow : Flow) → IsFlow flow → connection_key flow ≡ key_in (ordered flow)
+unfolding ordered key_in
 ordered_key order flow formed =
-    ap (λ r. cond (is_gt r) (key_of_ends (flow_behind flow)) (key_of_ends flow)) (order flow.source flow.target formed.source formed.target)
+    ap (λ r. cond (is_gt r) (key_in (flow_behind flow)) (key_in flow)) (order flow.source flow.target formed.source formed.target)
     ∙ turned_key (is_gt (place_cmp flow.source flow.target)) flow
 
 turned_formed : (p : Bool) (flow : Flow) → IsFlow flow → IsFlow (turned_by p flow)
@@ -104,17 +107,42 @@ turned_formed false flow formed = formed
 end_order : Place → Place → Ordering
 end_order a b = ordering_then (nat_cmp (host_and_socket a) (host_and_socket b)) (nat_cmp a.identifier b.identifier)
 
-keys_ordered : PlacesAreOrderedByNumbers → (a b : Flow) → IsFlow a → IsFlow b → key_cmp (key_of_ends a) (key_of_ends b) ≡ flow_cmp a b
-unfolding end_order key_of_ends
-keys_ordered law a b formed formed_too =
+ends_order : Flow → Flow → Ordering
+ends_order a b = ordering_then (end_order a.source b.source) (end_order a.target b.target)
+
+ends_ordered : PlacesAreOrderedByNumbers → (a b : Flow) → IsFlow a → IsFlow b → ends_order a b ≡ flow_cmp a b
+unfolding end_order ends_order
+ends_ordered law a b formed formed_too =
     ap (λ r. ordering_then r (end_order a.target b.target)) (law a.source b.source formed.source formed_too.source)
     ∙ ap (λ r. ordering_then (place_cmp a.source b.source) r) (law a.target b.target formed.target formed_too.target)
+
+-- what is compared first ties where the rest does
+tied_first : (r s : Ordering) → (s ≡ Equal → r ≡ Equal) → is_eq (ordering_then r s) ≡ is_eq s
+tied_first Less Less f = refl
+tied_first Less Equal f = ap is_eq (f refl)
+tied_first Less Greater f = refl
+tied_first Equal s f = refl
+tied_first Greater Less f = refl
+tied_first Greater Equal f = ap is_eq (f refl)
+tied_first Greater Greater f = refl
+
+same_mixed : FlowsAreToldApart → PlacesAreOrderedByNumbers → (a b : Flow) → IsFlow a → IsFlow b → ends_order a b ≡ Equal
+    → nat_cmp (key_in a).mixed (key_in b).mixed ≡ Equal
+same_mixed law order a b formed formed_too e =
+    let same : a ≡ b = law.same a b (sym (law.order a b) ∙ ap is_eq (sym (ends_ordered order a b formed formed_too) ∙ e)) in
+    ap (λ f. nat_cmp (key_in f).mixed (key_in b).mixed) same ∙ tied_itself numbers_total (key_in b).mixed
+
+keys_told : FlowsAreToldApart → PlacesAreOrderedByNumbers → (a b : Flow) → IsFlow a → IsFlow b → is_eq (key_cmp (key_in a) (key_in b)) ≡ is_flow a b
+unfolding end_order ends_order key_in
+keys_told law order a b formed formed_too =
+    tied_first (nat_cmp (key_in a).mixed (key_in b).mixed) (ends_order a b) (same_mixed law order a b formed formed_too)
+    ∙ ap is_eq (ends_ordered order a b formed formed_too) ∙ law.order a b
 
 pub one_key : FlowsAreToldApart → PlacesAreOrderedByNumbers → OneKeyServesBothDirections
 unfolding ordered
 one_key law order a b formed formed_too =
     ap (λ k. is_eq (key_cmp k (connection_key b))) (ordered_key order a formed)
-    ∙ ap (λ k. is_eq (key_cmp (key_of_ends (ordered a)) k)) (ordered_key order b formed_too)
-    ∙ ap is_eq (keys_ordered order (ordered a) (ordered b)
-    (turned_formed (is_gt (place_cmp a.source a.target)) a formed) (turned_formed (is_gt (place_cmp b.source b.target)) b formed_too))
-    ∙ law.order (ordered a) (ordered b) ∙ ordered_told law a b
+    ∙ ap (λ k. is_eq (key_cmp (key_in (ordered a)) k)) (ordered_key order b formed_too)
+    ∙ keys_told law order (ordered a) (ordered b)
+    (turned_formed (is_gt (place_cmp a.source a.target)) a formed) (turned_formed (is_gt (place_cmp b.source b.target)) b formed_too)
+    ∙ ordered_told law a b

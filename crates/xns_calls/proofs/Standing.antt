@@ -58,6 +58,13 @@ after_nowhere n packet f content k flow is e =
     after_none n packet f content k (place_of (flow_of packet f) k.connections) (place_of (flow_behind (flow_of packet f)) k.connections)
     (e ∙ ap (λ q. standing q k.connections) is)
 
+-- a system packet of it begins none
+pub after_system : (n : ℕ) (packet : PacketModel) (f : Header) (content : List ℕ) (k : Known) (flow : Flow) → flow ≡ flow_of packet f
+    → None ≡ standing flow k.connections → is_system f ≡ true → after_sequenced n packet f content k ≡ k
+after_system n packet f content k flow is e system =
+    after_nowhere n packet f content k flow is e
+    ∙ ap (λ p. cond p k (after_at n (length k.connections) false packet f content (with_new (flow_of packet f) k))) system
+
 pub wants_nowhere : (packet : PacketModel) (f : Header) (k : Known) (flow : Flow) → flow ≡ flow_of packet f
     → None ≡ standing flow k.connections → wants_sequenced packet f k ≡ not (is_system f)
 unfolding wants_sequenced

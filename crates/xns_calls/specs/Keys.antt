@@ -1,5 +1,6 @@
 -- The ends of a connection as numbers, by which it is found.
-use Rattle.std.specs.Prelude.{if◌then◌else◌}
+use Rattle.std.specs.Prelude.{if◌then◌else◌, ℕ, ◌*◌, ◌^◌}
+use Rattle.std.specs.Int.Bits.{bit_xor}
 use Rattle.std.specs.Ordering.{is_gt}
 use Rattle.std.specs.declared.cmp.Ordering.{Ordering}
 use Rattle.xns_dump.specs.Flows.Places.{IsPlace, host_and_socket}
@@ -21,9 +22,16 @@ end_cmp = (end_ord.ghosts).cmp
 abbrev pub end_key : Place → EndKey
 end_key place = record { host_and_socket = host_and_socket place; identifier = place.identifier }
 
+-- the numbers of two ends in one, the identifiers in the highest bits
+abbrev pub mixed : EndKey → EndKey → ℕ
+mixed a b = bit_xor (bit_xor a.host_and_socket b.host_and_socket) (bit_xor a.identifier b.identifier * 2 ^ 48)
+
+abbrev pub key_of_ends : EndKey → EndKey → ConnectionKey
+key_of_ends a b = record { mixed = mixed a b; lesser = a; greater = b }
+
 -- two ends, the lesser first
 abbrev pub lesser_first : EndKey → EndKey → ConnectionKey
-lesser_first a b = if is_gt (end_cmp a b) then record { lesser = b; greater = a } else record { lesser = a; greater = b }
+lesser_first a b = if is_gt (end_cmp a b) then key_of_ends b a else key_of_ends a b
 
 -- the key of a flow's connection: its two ends, whichever sends
 abbrev pub connection_key : Flow → ConnectionKey

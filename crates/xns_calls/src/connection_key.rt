@@ -1,15 +1,20 @@
 //! What the connections are found by.
 ghost use Rattle.std.specs.Prelude.{◌≡◌};
 ghost use Rattle.xns_dump.specs.Flows.Places.{IsPlace};
-ghost use Rattle.xns_calls.specs.Keys.{IsFlow, connection_key, end_key};
+ghost use Rattle.xns_calls.specs.Keys.{IsFlow, connection_key, end_key, key_of_ends, mixed as mixed_of};
 
 use crate::end_key::EndKey;
 use xns_dump::flows::flow::Flow;
 use xns_dump::flows::place::Place;
 
+/// What a word is multiplied by to stand in the highest bits.
+const TOP: u64 = 1 << 48;
+
 /// The two ends of a connection as numbers. Both its flows have this key.
 #[derive(Clone, Copy, PartialEq, Eq, PartialOrd, Ord)]
 pub struct ConnectionKey {
+    /// The numbers of both ends in one, which is compared first: it differs between nearly all connections.
+    pub mixed: u64,
     /// The end that stands first in the order of ends.
     pub lesser: EndKey,
     /// The other end.
@@ -25,17 +30,30 @@ impl ConnectionKey {
         let source = end_key_of(flow.source);
         let target = end_key_of(flow.target);
         if source > target {
-            ConnectionKey {
-                lesser: target,
-                greater: source,
-            }
+            ConnectionKey::of_ends(target, source)
         } else {
-            ConnectionKey {
-                lesser: source,
-                greater: target,
-            }
+            ConnectionKey::of_ends(source, target)
         }
     }
+
+    /// The key of two ends, the lesser first.
+    fn of_ends(lesser: EndKey, greater: EndKey) -> ConnectionKey
+        ensures { result ≡ key_of_ends lesser greater }
+    {
+        ConnectionKey {
+            mixed: mixed(lesser, greater),
+            lesser,
+            greater,
+        }
+    }
+}
+
+/// The numbers of two ends in one. It differs where the hosts, sockets or identifiers of one end alone differ.
+fn mixed(a: EndKey, b: EndKey) -> u64
+    ensures { result ≡ mixed_of a b }
+{
+    let identifiers = u64::from(a.identifier ^ b.identifier) * TOP;
+    a.host_and_socket ^ b.host_and_socket ^ identifiers
 }
 
 /// The key of an end.
