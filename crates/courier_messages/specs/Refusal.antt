@@ -27,6 +27,11 @@ IfNoMemory (Ok m) P = Unit {0}
 IfNoMemory (Err (refusals.Fault e)) P = Unit {0}
 IfNoMemory (Err refusals.NoMemory) P = P
 
+-- bytes that are no message
+abbrev pub IsNoMessage : Result Message MessageFault → Type 0
+IsNoMessage (Ok m) = ⊥
+IsNoMessage (Err e) = Unit {0}
+
 -- a message that has words behind its head
 abbrev pub HasOwnWords : Result Message MessageFault → Type 0
 HasOwnWords (Ok m) = 0 < length (words_in m)

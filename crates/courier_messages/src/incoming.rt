@@ -1,5 +1,5 @@
 //! The message that is coming in.
-ghost use Rattle.std.specs.Prelude.{◌≡◌, ◌<◌, ◌≤◌, ◌+◌, ◌*◌, ◌/◌, ◌++◌, Ok, Err, [], map, length, drop, slice_get, get_or, true, IfOk};
+ghost use Rattle.std.specs.Prelude.{◌≡◌, ◌<◌, ◌≤◌, ◌+◌, ◌*◌, ◌/◌, ◌++◌, ◌∷◌, None, Ok, Err, [], map, length, drop, slice_get, get_or, true, IfOk};
 ghost use Rattle.std.specs.Prelude.{IfErr, IfSome, MatchOption, OnOk, OnErr};
 ghost use Rattle.courier_messages.specs.declared.incoming.Stage.TheVariants.{Fresh, Inside};
 ghost use Rattle.courier_messages.specs.declared.fault.SessionFault.TheVariants.{NoMemory};
@@ -18,6 +18,7 @@ use crate::head::Head;
 use crate::pieced_message::PiecedMessage;
 use crate::pieces::Pieces;
 use crate::reading::{MOST_BYTES, head_of, read_head, take_word};
+use crate::whole_message::WholeMessage;
 use courier_types::PieceWords;
 use std::alloc::Global;
 use std::marker::Model;
@@ -287,6 +288,18 @@ fn behind(
     }
 }
 
+/// The message that a mark ends behind these bytes, where no others are kept.
+fn whole_behind<'a>(stage: Stage, skipped: usize, body: &'a [u8]) -> Option<WholeMessage<'a>>
+    requires { IsHeld stage skipped (kept_at stage body.now) }
+    ensures steps { IfSome result (λ message. step (phase_in stage (drop skipped (kept_at stage body.now))) mark ≡ Ok (inside [])) }
+    ensures ends { IfSome result (λ message. ended (phase_in stage (drop skipped (kept_at stage body.now))) mark ≡ message ∷ []) }
+{
+    match stage {
+        Stage::Opening | Stage::Fresh => None,
+        Stage::Inside => WholeMessage::of(&body[skipped..]),
+    }
+}
+
 /// What a mark would end behind these bytes.
 fn look_at_mark(
     stage: Stage,
@@ -374,6 +387,25 @@ impl Incoming {
         } else {
             Ok(None)
         }
+    }
+
+    /// The message that an item of datastream 0 with a mark brings whole, of these bytes, where nothing of it is kept already. `None`,
+    /// which changes nothing: [`take`](Incoming::take) says what it brings.
+    pub fn take_whole<'a>(&mut self, body: &'a [u8]) -> Option<WholeMessage<'a>>
+        ensures runs { IfSome result (λ message. run self.old (signs (item_of 0 true body.now)) ≡ Ok self.new) }
+        ensures said { IfSome result (λ message. said self.old (signs (item_of 0 true body.now)) ≡ message ∷ []) }
+        ensures same { result ≡ None → self.new ≡ self.old }
+    {
+        if self.pieces.len() > 0 {
+            return None;
+        }
+        let Ok((stage, skipped)) = behind(self.stage, &self.pieces, self.skipped, body) else {
+            return None;
+        };
+        let message = whole_behind(stage, skipped, body)?;
+        self.stage = Stage::Inside;
+        self.skipped = 0;
+        Some(message)
     }
 
     /// A mark, which may end a message.

@@ -13,6 +13,7 @@ mod pieced_message;
 mod pieces;
 mod reading;
 mod spare;
+mod whole_message;
 mod words;
 mod writing;
 
@@ -24,5 +25,6 @@ pub use message::Message;
 pub use pieced_message::PiecedMessage;
 pub use reading::{MOST_BYTES, read_message};
 pub use spare::Spare;
+pub use whole_message::WholeMessage;
 pub use words::Words;
 pub use writing::write_message;

@@ -2,6 +2,7 @@
 ghost use Rattle.std.specs.Option.{is_some};
 ghost use Rattle.std.specs.Prelude.{◌≡◌, ◌<◌, IfOk, IfSome, None, OnErr, OnOk, Some, true};
 ghost use Rattle.xns_idp.specs.Packet.{packet_model};
+ghost use Rattle.xns_spp.specs.Item.{item_with};
 ghost use Rattle.xns_calls.specs.Exchange.{acknowledged as acknowledged_of, advanced, after_acknowledge, after_data, after_new};
 ghost use Rattle.xns_calls.specs.Exchange.{after_packet, behind_last as behind_last_of, begun as begun_of, brings_new, ended, first_track};
 ghost use Rattle.xns_calls.specs.Exchange.{new_number as new_number_of, scene, wants_memory};
@@ -23,7 +24,7 @@ use std::alloc::{AllocError, Global};
 use xns_idp::Packet;
 use xns_lines::Page;
 use xns_spp::control::SYSTEM;
-use xns_spp::{Header, Item, MOST_PENDING};
+use xns_spp::{Header, MOST_PENDING};
 
 /// Brings a flow to a number, if it has begun.
 #[tactic(auto, unfolding(crate::specs::Exchange::advanced))]
@@ -123,7 +124,7 @@ fn new_number(side: &Side, field: u16) -> Option<u64>
     new_number_in(track.get(), field)
 }
 
-/// Takes an item of a number that is no repeat, if its flow has begun.
+/// Takes the item of a packet, of a number that is no repeat, if its flow has begun.
 #[tactic(auto, unfolding(crate::specs::Exchange::after_new))]
 fn take_new(
     scratch: &mut Scratch,
@@ -132,11 +133,13 @@ fn take_new(
     own: &mut Side,
     other: &mut Side,
     number: u64,
-    item: Item,
+    header: &Header,
+    content: &[u8],
 ) -> Result<(), AllocError>
     requires { number < most_numbers }
     ensures front { page.new.text.front ≡ page.old.text.front }
-    ensures scene { OnOk result (scene own.new other.new page.new ≡ after_new heading number item (scene own.old other.old page.old)) }
+    ensures scene { OnOk result (scene own.new other.new page.new
+        ≡ after_new heading number (item_with header.now content.now) (scene own.old other.old page.old)) }
 {
     let Some(track) = &mut own.track else {
         return Ok(());
@@ -152,7 +155,8 @@ fn take_new(
         track.get_mut(),
         &mut calls,
         number,
-        item,
+        header,
+        content,
     )?;
     own.call = calls.own;
     other.call = calls.asked;
@@ -200,8 +204,7 @@ fn take_data(
     let Some(number) = new_number(own, header.sequence) else {
         return Ok(());
     };
-    let item = Item::carried(scratch.alloc, header, content)?;
-    take_new(scratch, page, heading, own, other, number, item)
+    take_new(scratch, page, heading, own, other, number, header, content)
 }
 
 /// Takes a packet of a flow: what it acknowledges, and then its item, if it brings one. Memory is refused only where what it

@@ -2,7 +2,7 @@
 ghost use Rattle.std.specs.Prelude.{◌≡◌, IfOk};
 ghost use Rattle.courier_messages.specs.Head.{words_in};
 
-use courier_messages::PiecedMessage;
+use courier_messages::{PiecedMessage, WholeMessage};
 use std::alloc::{AllocError, Global};
 
 /// The allocator, and room for the words of a message, which the next one uses again.
@@ -21,6 +21,15 @@ impl Scratch {
             alloc,
             words: Vec::new(alloc),
         }
+    }
+
+    /// The words of a message that came in one piece.
+    pub fn words_of_whole(&mut self, message: WholeMessage<'_>) -> Result<&[u16], AllocError>
+        ensures { IfOk result (λ words. words.now ≡ words_in message.entry) }
+    {
+        self.words.resize(message.word_count(), 0)?;
+        message.put_words(self.words.as_mut_slice());
+        Ok(self.words.as_slice())
     }
 
     /// The words of a message.

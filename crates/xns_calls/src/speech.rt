@@ -1,9 +1,11 @@
 //! What a flow says.
-ghost use Rattle.std.specs.Prelude.{◌≡◌, IfOk, OnErr};
+ghost use Rattle.std.specs.Prelude.{◌≡◌, true, None, IfOk, IfSome, OnErr};
+ghost use Rattle.courier_messages.specs.Text.{item_of};
+ghost use Rattle.xns_calls.specs.declared.heard.Heard.TheVariants.{Message};
 ghost use Rattle.xns_calls.specs.Speech.{MayRefuse, after_item, behind as behind_of, heard_of};
 
 use crate::heard::Heard;
-use courier_messages::{Incoming, SessionFault};
+use courier_messages::{Incoming, SessionFault, WholeMessage};
 use std::alloc::{AllocError, Global};
 use xns_spp::Item;
 
@@ -25,6 +27,20 @@ impl Speech {
             Speech::Hearing(Incoming::behind_mark(alloc))
         } else {
             Speech::Waiting
+        }
+    }
+
+    /// Hears the message that an item of datastream 0 with a mark brings whole, of these bytes, where nothing of it was heard
+    /// before. `None`, which changes nothing: [`hear`](Speech::hear) says what it brings.
+    #[inline(always)]
+    pub fn hear_whole<'a>(&mut self, body: &'a [u8]) -> Option<WholeMessage<'a>>
+        ensures speech { IfSome result (λ message. self.new ≡ after_item self.old (item_of 0 true body.now)) }
+        ensures heard { IfSome result (λ message. heard_of self.old (item_of 0 true body.now) ≡ Message message) }
+        ensures same { result ≡ None → self.new ≡ self.old }
+    {
+        match self {
+            Speech::Waiting => None,
+            Speech::Hearing(incoming) => incoming.take_whole(body),
         }
     }
 

@@ -10,7 +10,7 @@ use crate::scratch::Scratch;
 use crate::texts::{append_answer, append_call, append_refused_line, append_words};
 use crate::unanswered::Calls;
 use crate::waiting::Waiting;
-use courier_messages::{Head, PiecedMessage};
+use courier_messages::{Head, PiecedMessage, WholeMessage};
 use std::alloc::AllocError;
 use xns_dump::layers::courier::append_field;
 use xns_lines::{Page, Report};
@@ -36,6 +36,22 @@ pub fn tell(
             Ok(())
         }
     }
+}
+
+/// Prints a message that came in one piece. A call waits for its answer then, and the call of an answer no longer.
+pub fn tell_whole(
+    scratch: &mut Scratch,
+    report: &mut Report,
+    heading: Heading,
+    calls: &mut Calls,
+    message: WholeMessage<'_>,
+) -> Result<(), AllocError>
+    ensures text { Adds result report.old report.new (message_line heading calls.old message.entry) }
+    ensures calls { OnOk result (calls.new ≡ after_message heading calls.old message.entry) }
+{
+    let head = message.head();
+    let words = scratch.words_of_whole(message)?;
+    tell_words(report, heading, calls, head, words)
 }
 
 /// Prints a message. A call waits for its answer then, and the call of an answer no longer.
