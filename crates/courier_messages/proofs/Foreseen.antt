@@ -1,16 +1,20 @@
 -- What an item would bring, before it is taken.
 use Rattle.std.proofs.Common.{◌≡◌, ◌∙◌, ap, refl, subst, sym, ℕ, List, [], ◌∷◌, ◌++◌, drop, length, map, Bool, true, false, Option, None, Result, Ok, Err}
+use Rattle.std.proofs.Common.{arith, ◌-◌, inl, inr}
+use Rattle.std.proofs.lemmas.List.{length-drop}
 use Rattle.std.specs.Prelude.{is_ok}
 use Rattle.xns_spp.specs.declared.item.Item.{Item}
 use Rattle.courier_messages.specs.declared.fault.SessionFault.{SessionFault}
+use Rattle.courier_messages.specs.declared.fault.SessionFault.TheVariants as faults
 use Rattle.courier_messages.specs.declared.head.Head.{Head}
 use Rattle.courier_messages.specs.declared.incoming.Stage.{Stage}
+use Rattle.courier_messages.specs.declared.incoming.Stage.TheVariants.{Opening, Fresh, Inside}
 use Rattle.courier_messages.specs.declared.message.Message.{Message}
-use Rattle.courier_messages.specs.Conversation.{Phase, inside}
+use Rattle.courier_messages.specs.Conversation.{Phase, inside, range_bytes}
 use Rattle.courier_messages.specs.Head.{head_in}
-use Rattle.courier_messages.specs.Inside.{kept_at, phase_in}
+use Rattle.courier_messages.specs.Inside.{IsHeld, kept_at, phase_in}
 use Rattle.courier_messages.specs.Phases.{step, ended, run, said, onwards, ◌then◌}
-use Rattle.courier_messages.specs.Refusal.{Foresees, Stops}
+use Rattle.courier_messages.specs.Refusal.{Foresees, KeepsNothing, Stops}
 use Rattle.courier_messages.specs.Text.{Sign, byte, mark, signs, end_of, item_of}
 use Rattle.courier_messages.proofs.Runs.{signs_open, run_append, said_append, said_bytes, run_mark, said_mark, without_mark, weaker}
 
@@ -47,11 +51,20 @@ pub whole_run : (p : Phase) (stage : Stage) (skipped : ℕ) (pieces body : List 
 whole_run p stage skipped [] body e r s = ran_to_mark p _ (item_of 0 true body) refl refl r ∙ s
 whole_run p stage skipped (b ∷ pieces) body e r s = (cc)
 
-pub whole_said : (p : Phase) (stage : Stage) (skipped : ℕ) (pieces body : List ℕ) (m : Message) → length pieces ≡ 0
+pub whole_said : (p : Phase) (stage : Stage) (skipped : ℕ) (pieces body : List ℕ) (ms : List Message) → length pieces ≡ 0
     → run p (map byte body) ≡ Ok (phase_in stage (drop skipped (kept_at stage (pieces ++ body))))
-    → ended (phase_in stage (drop skipped (kept_at stage body))) mark ≡ m ∷ [] → said p (signs (item_of 0 true body)) ≡ m ∷ []
-whole_said p stage skipped [] body m e r s = said_to_mark p _ (item_of 0 true body) refl refl r ∙ s
-whole_said p stage skipped (b ∷ pieces) body m e r s = (cc)
+    → ended (phase_in stage (drop skipped (kept_at stage body))) mark ≡ ms → said p (signs (item_of 0 true body)) ≡ ms
+whole_said p stage skipped [] body ms e r s = said_to_mark p _ (item_of 0 true body) refl refl r ∙ s
+whole_said p stage skipped (b ∷ pieces) body ms e r s = (cc)
+
+-- pieces with bytes keep some
+pub kept_none : (stage : Stage) (skipped : ℕ) (pieces : List ℕ) → IsHeld stage skipped pieces → KeepsNothing (phase_in stage (drop skipped pieces)) → length pieces ≡ 0
+kept_none Opening skipped pieces held none = ap length (ap (λ n. drop n pieces) (sym held.0) ∙ none)
+kept_none Fresh skipped pieces held none = ap length held.1
+kept_none Inside skipped pieces (inl whole, few) none = ap length (ap (λ n. drop n pieces) (sym whole) ∙ none)
+kept_none Inside skipped pieces (inr (range, more), few) none =
+    let left : length pieces - range_bytes ≡ 0 = sym (length-drop range_bytes pieces) ∙ ap length (ap (λ n. drop n pieces) (sym range) ∙ none) in
+    absurd (omega (arith, left, more))
 
 pub foreseen_fault : (e : SessionFault) (p : Phase) (x : Item) → x.stream ≡ 0 → Stops e ⊥ (run p (map byte x.body) ≡ Err e) → Foresees (Err e) (run p (signs x)) (said p (signs x))
 foreseen_fault e p x h = weaker e (λ u. u) on_fault where
@@ -64,3 +77,18 @@ foreseen_fault e p x h = weaker e (λ u. u) on_fault where
     ap (said p) (signs_open x h) ∙ said_append p bytes (end_of x.last) ∙ ap (λ (ms : List Message). ms ++ onwards (run p bytes) (λ q. said q (end_of x.last))) (said_bytes p x.body)
         ∙ ap (λ (t : Result Phase SessionFault). onwards t (λ q. said q (end_of x.last))) r,
   )
+
+-- a fault says no message
+said_none : (e : SessionFault) (P : Type 0) (ms : List Message) → Stops e ⊥ (P × (ms ≡ [])) → ms ≡ []
+said_none faults.NoMemory P ms s = absurd s
+said_none faults.NoCommonVersion P ms s = s.1
+said_none faults.BadVersions P ms s = s.1
+said_none (faults.BadMessage f) P ms s = s.1
+said_none faults.WrongTransaction P ms s = s.1
+said_none faults.BadReply P ms s = s.1
+said_none (faults.Stream kind) P ms s = s.1
+said_none faults.Failed P ms s = absurd s
+
+pub fault_said : (e : SessionFault) (p : Phase) (body : List ℕ) → Stops e ⊥ (run p (map byte body) ≡ Err e) → said p (signs (item_of 0 true body)) ≡ []
+fault_said e p body s =
+    said_none e (run p (signs (item_of 0 true body)) ≡ Err e) (said p (signs (item_of 0 true body))) (foreseen_fault e p (item_of 0 true body) refl s)

@@ -27,11 +27,6 @@ IfNoMemory (Ok m) P = Unit {0}
 IfNoMemory (Err (refusals.Fault e)) P = Unit {0}
 IfNoMemory (Err refusals.NoMemory) P = P
 
--- bytes that are no message
-abbrev pub IsNoMessage : Result Message MessageFault → Type 0
-IsNoMessage (Ok m) = ⊥
-IsNoMessage (Err e) = Unit {0}
-
 -- a message that has words behind its head
 abbrev pub HasOwnWords : Result Message MessageFault → Type 0
 HasOwnWords (Ok m) = 0 < length (words_in m)
@@ -78,6 +73,12 @@ abbrev pub MakeSecondPiece : Phase → List ℕ → Type 0
 MakeSecondPiece (opening bytes) more = (0 < length bytes) × (length bytes + length more ≢ range_bytes)
 MakeSecondPiece fresh more = ⊥
 MakeSecondPiece (inside bytes) more = 0 < length bytes
+
+-- nothing is kept of what came
+abbrev pub KeepsNothing : Phase → Type 0
+KeepsNothing (opening bytes) = bytes ≡ []
+KeepsNothing fresh = Unit {0}
+KeepsNothing (inside bytes) = bytes ≡ []
 
 -- bytes for which memory may be refused: there are some, nothing is wrong with them, and they are not the first that are kept
 abbrev pub MayBeKept : Phase → List ℕ → Type 0

@@ -1,6 +1,7 @@
 //! The message that is coming in.
 ghost use Rattle.std.specs.Prelude.{◌≡◌, ◌<◌, ◌≤◌, ◌+◌, ◌*◌, ◌/◌, ◌++◌, ◌∷◌, None, Ok, Err, [], map, length, drop, slice_get, get_or, true, IfOk};
-ghost use Rattle.std.specs.Prelude.{IfErr, IfSome, MatchOption, OnOk, OnErr};
+ghost use Rattle.std.specs.Option.{option_to_list};
+ghost use Rattle.std.specs.Prelude.{IfErr, IfNone, IfSome, MatchOption, OnOk, OnErr};
 ghost use Rattle.courier_messages.specs.declared.incoming.Stage.TheVariants.{Fresh, Inside};
 ghost use Rattle.courier_messages.specs.declared.fault.SessionFault.TheVariants.{NoMemory};
 ghost use Rattle.courier_types.specs.Pieces.{words_of};
@@ -10,7 +11,7 @@ ghost use Rattle.courier_messages.specs.Message.{most_bytes, message_of};
 ghost use Rattle.courier_messages.specs.Phases.{step, ended, run, said, agreement, opened};
 ghost use Rattle.courier_messages.specs.Bounds.{IsBounded};
 ghost use Rattle.courier_messages.specs.Inside.{phase_in, kept_at, IsHeld, IsSkipped};
-ghost use Rattle.courier_messages.specs.Refusal.{Follows, Takes, Foresees, Stops, UnlessMemory, AreRight, MayBeKept};
+ghost use Rattle.courier_messages.specs.Refusal.{Follows, Takes, Foresees, Stops, UnlessMemory, AreRight, KeepsNothing, MayBeKept};
 ghost use Rattle.courier_messages.specs.Head.{ReadsHead, size_of, heads_in};
 
 use crate::fault::{MessageFault, SessionFault};
@@ -292,7 +293,7 @@ fn behind(
 fn whole_behind<'a>(stage: Stage, skipped: usize, body: &'a [u8]) -> Option<WholeMessage<'a>>
     requires { IsHeld stage skipped (kept_at stage body.now) }
     ensures steps { IfSome result (λ message. step (phase_in stage (drop skipped (kept_at stage body.now))) mark ≡ Ok (inside [])) }
-    ensures ends { IfSome result (λ message. ended (phase_in stage (drop skipped (kept_at stage body.now))) mark ≡ message ∷ []) }
+    ensures ends { ended (phase_in stage (drop skipped (kept_at stage body.now))) mark ≡ option_to_list result }
 {
     match stage {
         Stage::Opening | Stage::Fresh => None,
@@ -394,6 +395,7 @@ impl Incoming {
     pub fn take_whole<'a>(&mut self, body: &'a [u8]) -> Option<WholeMessage<'a>>
         ensures runs { IfSome result (λ message. run self.old (signs (item_of 0 true body.now)) ≡ Ok self.new) }
         ensures said { IfSome result (λ message. said self.old (signs (item_of 0 true body.now)) ≡ message ∷ []) }
+        ensures none { IfNone result (KeepsNothing self.old → said self.old (signs (item_of 0 true body.now)) ≡ []) }
         ensures same { result ≡ None → self.new ≡ self.old }
     {
         if self.pieces.len() > 0 {
@@ -402,7 +404,9 @@ impl Incoming {
         let Ok((stage, skipped)) = behind(self.stage, &self.pieces, self.skipped, body) else {
             return None;
         };
-        let message = whole_behind(stage, skipped, body)?;
+        let Some(message) = whole_behind(stage, skipped, body) else {
+            return None;
+        };
         self.stage = Stage::Inside;
         self.skipped = 0;
         Some(message)

@@ -1,8 +1,8 @@
 //! A message that came in one piece.
-ghost use Rattle.std.specs.Prelude.{◌≡◌, ◌≤◌, ◌++◌, drop, length, IfNone, IfSome, Ok};
+ghost use Rattle.std.specs.Prelude.{◌≡◌, ◌≤◌, ◌++◌, [], drop, length, IfNone, IfSome, Ok};
 ghost use Rattle.courier_messages.specs.Head.{with_words, words_in};
 ghost use Rattle.courier_messages.specs.Message.{message_of};
-ghost use Rattle.courier_messages.specs.Refusal.{IsNoMessage};
+ghost use Rattle.courier_messages.specs.Phases.{good};
 
 use crate::head::Head;
 use crate::reading::{MOST_BYTES, put_front, read_head};
@@ -31,7 +31,7 @@ impl<'a> WholeMessage<'a> {
     #[inline(always)]
     pub fn of(bytes: &'a [u8]) -> Option<WholeMessage<'a>>
         ensures some { IfSome result (λ message. message_of bytes.now ≡ Ok message) }
-        ensures none { IfNone result (IsNoMessage (message_of bytes.now)) }
+        ensures none { IfNone result (good (message_of bytes.now) ≡ []) }
     {
         if bytes.len() % 2 == 1 || bytes.len() > MOST_BYTES {
             return None;
