@@ -1,12 +1,14 @@
 -- A packet, by where its flow stands.
-use Rattle.std.proofs.Common.{◌≡◌, ◌∙◌, ap, sym, refl, ℕ, true, false, cond, List, length, Option, Some, None}
+use Rattle.std.proofs.Common.{◌≡◌, ◌∙◌, ap, sym, refl, inl, inr, ℕ, true, false, cond, List, length, Option, Some, None}
 use Rattle.std.specs.Prelude.{not}
 use Rattle.xns_idp.specs.Packet.{PacketModel}
+use Rattle.xns_lines.specs.declared.page.Page.{Page}
 use Rattle.xns_spp.specs.Header.{is_system}
 use Rattle.xns_spp.specs.declared.header.Header.{Header}
 use Rattle.xns_dump.specs.Flows.{flow_of}
 use Rattle.xns_dump.specs.declared.flows.flow.Flow.{Flow}
-use Rattle.xns_calls.specs.Capture.{Known, after_at, after_new_flow, after_places, after_sequenced, flow_behind, place_of, standing, standing_at, wants_at, wants_places, wants_sequenced, with_new}
+use Rattle.xns_calls.specs.Capture.{Known, StandsOrBegins, known, after_at, after_new_flow, after_places, after_sequenced, flow_behind, place_of, standing, standing_at, wants_at, wants_places, wants_sequenced, with_new}
+use Rattle.xns_calls.specs.declared.connection.Connection.{Connection}
 use Rattle.xns_calls.specs.declared.flow_place.FlowPlace.{FlowPlace}
 
 -- a flow that stands somewhere
@@ -81,3 +83,21 @@ after_begun n packet f content k k' flow place is e plain last begun =
     ∙ ap (λ p. cond p k (after_at n (length k.connections) false packet f content (with_new (flow_of packet f) k))) plain
     ∙ ap (λ i. after_at n i false packet f content (with_new (flow_of packet f) k)) (sym last)
     ∙ ap (λ x. after_at n place false packet f content x) (ap (λ q. with_new q k) (sym is) ∙ sym begun)
+
+-- a data packet of a flow that stands somewhere, or begins a connection
+pub after_data : (n : ℕ) (packet : PacketModel) (f : Header) (content : List ℕ) (cs cs' : List Connection) (flows : List FlowPlace) (page : Page) (flow : Flow) (at : FlowPlace) → flow ≡ flow_of packet f
+    → is_system f ≡ false → StandsOrBegins flow at cs cs' → after_sequenced n packet f content (known cs flows page) ≡ after_at n at.place at.is_behind packet f content (known cs' flows page)
+after_data n packet f content cs cs' flows page flow at is plain (inl (stands, same)) =
+    after_standing n packet f content (known cs flows page) flow at is (sym stands)
+    ∙ ap (λ xs. after_at n at.place at.is_behind packet f content (known xs flows page)) (sym same)
+after_data n packet f content cs cs' flows page flow at is plain (inr (none, place, new)) =
+    after_begun n packet f content (known cs flows page) (known cs' flows page) flow at.place is (sym none) plain (ap (λ (t : FlowPlace). t.place) place) (ap (λ xs. known xs flows page) new)
+    ∙ ap (λ b. after_at n at.place b packet f content (known cs' flows page)) (sym (ap (λ (t : FlowPlace). t.is_behind) place))
+
+pub wants_data : (packet : PacketModel) (f : Header) (cs cs' : List Connection) (flows : List FlowPlace) (page : Page) (flow : Flow) (at : FlowPlace) → flow ≡ flow_of packet f
+    → is_system f ≡ false → StandsOrBegins flow at cs cs' → wants_at at.place at.is_behind f (known cs' flows page) ≡ true → wants_sequenced packet f (known cs flows page) ≡ true
+wants_data packet f cs cs' flows page flow at is plain (inl (stands, same)) wants =
+    wants_standing packet f (known cs flows page) flow at is (sym stands)
+    ∙ ap (λ xs. wants_at at.place at.is_behind f (known xs flows page)) (sym same) ∙ wants
+wants_data packet f cs cs' flows page flow at is plain (inr (none, place, new)) wants =
+    wants_nowhere packet f (known cs flows page) flow is (sym none) ∙ ap not plain
