@@ -1,8 +1,10 @@
 //! The lines of the output, a function for each.
-ghost use Rattle.std.specs.Prelude.{◌++◌};
+ghost use Rattle.std.specs.Prelude.{◌≡◌, ◌++◌, codes};
 ghost use Rattle.std.specs.Fmt.{decimal};
 ghost use Rattle.xns_idp.specs.Packet.{packet_model};
+ghost use Rattle.xns_dump.specs.Layers.Text.{address_text};
 ghost use Rattle.xns_lines.specs.Report.{Adds};
+ghost use Rattle.xns_lines.specs.Text.{hex_word};
 ghost use Rattle.xns_calls.specs.Texts.{answer_text, call_text, end_text, flow_line, heading_text, missing_line, reason_text, refused_line};
 ghost use Rattle.xns_calls.specs.Texts.{words_end};
 
@@ -11,10 +13,10 @@ use courier_messages::{MessageFault, SessionFault};
 use std::alloc::AllocError;
 use std::ops::Range;
 use xns_dump::layers::courier::{append_callee, append_field};
-use xns_dump::layers::text::append_address;
+use xns_dump::layers::text::spelled_address;
 use xns_idp::{Address, Packet};
-use xns_lines::Report;
-use xns_lines::numbers::{append_decimal, append_decimal_u64, append_word, append_word_list};
+use xns_lines::numbers::{append_decimal, append_decimal_u64, append_word_list};
+use xns_lines::{Report, write_few_digits};
 use xns_spp::Header;
 
 /// Appends the number of the line and the name of the flow.
@@ -32,22 +34,6 @@ fn append_heading(report: &mut Report, heading: Heading) -> Result<(), AllocErro
     }
 }
 
-/// Appends an end of a flow.
-#[tactic(auto, unfolding(crate::specs::Texts::end_text))]
-fn append_end(
-    report: &mut Report,
-    name: &[u8],
-    address: &Address,
-    identifier: u16,
-) -> Result<(), AllocError>
-    ensures { Adds result report.old report.new (end_text name.now address.now identifier) }
-{
-    report.append(name)?;
-    append_address(report, address)?;
-    report.append(b" id ")?;
-    append_word(report, identifier)
-}
-
 /// Appends the line of a flow that begins.
 #[tactic(auto, unfolding(crate::specs::Texts::flow_line))]
 pub fn append_flow_line(
@@ -59,9 +45,30 @@ pub fn append_flow_line(
     ensures { Adds result report.old report.new (flow_line heading (packet_model packet.now) header.now) }
 {
     append_heading(report, heading)?;
-    append_end(report, b" flow to ", &packet.target, header.target_id)?;
-    append_end(report, b" from ", &packet.source, header.source_id)?;
-    report.append(b"\n")
+    report.append(&spelled_ends(packet, header))
+}
+
+/// Both ends of a flow, up to the end of the line.
+#[tactic(auto, unfolding(crate::specs::Texts::end_text))]
+fn spelled_ends(packet: &Packet<'_>, header: &Header) -> [u8; 84]
+    ensures { result ≡ end_text (codes " flow to ") packet.now.target header.now.target_id
+        ++ end_text (codes " from ") packet.now.source header.now.source_id ++ codes "\n" }
+{
+    let mut text =
+        *b" flow to 00000000.000000000000.0000 id 0000 from 00000000.000000000000.0000 id 0000\n";
+    text[9..43].copy_from_slice(&spelled_end(&packet.target, header.target_id));
+    text[49..83].copy_from_slice(&spelled_end(&packet.source, header.source_id));
+    text
+}
+
+/// An end of a flow: its address and its connection identifier.
+fn spelled_end(address: &Address, identifier: u16) -> [u8; 34]
+    ensures { result ≡ address_text address.now ++ codes " id " ++ hex_word identifier }
+{
+    let mut text = *b"00000000.000000000000.0000 id 0000";
+    text[..26].copy_from_slice(&spelled_address(address));
+    write_few_digits(&identifier.to_be_bytes(), &mut text[30..]);
+    text
 }
 
 /// Appends the line of items that had not come by then.

@@ -1,4 +1,5 @@
 pub mod Blanks
+pub mod Filled
 pub mod Headers
 pub mod Numbered
 pub mod Pairs

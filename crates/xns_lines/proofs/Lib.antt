@@ -1,6 +1,7 @@
 pub mod AtFirst
 pub mod Cuts
 pub mod Cutting
+pub mod FewDigits
 pub mod Joined
 pub mod Pages
 pub mod WordsInHex

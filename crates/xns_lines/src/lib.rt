@@ -18,7 +18,7 @@ mod taker;
 mod taking;
 mod writing;
 
-pub use digits::write_digits;
+pub use digits::write_few_digits;
 pub use fault::RunFault;
 pub use limits::{MOST_LINE_BYTES, MOST_LINES};
 pub use line_end::without_return;

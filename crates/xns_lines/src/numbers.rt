@@ -6,7 +6,7 @@ ghost use Rattle.hex.specs.Hex.{encode_lower};
 ghost use Rattle.xns_lines.specs.Report.{Adds, LacksRoom};
 ghost use Rattle.xns_lines.specs.Text.{bytes_or_dash as bytes_or_dash_of, hex_word, words_in_hex, words_or_dash, words_text};
 
-use crate::digits::write_digits;
+use crate::digits::write_few_digits;
 use crate::report::Report;
 use itoa::Buffer;
 use std::alloc::AllocError;
@@ -47,7 +47,7 @@ pub fn append_word(report: &mut Report, word: u16) -> Result<(), AllocError>
     ensures room { report.old.room ≤ report.new.room }
 {
     let mut digits = [0; 4];
-    write_digits(&word.to_be_bytes(), &mut digits);
+    write_few_digits(&word.to_be_bytes(), &mut digits);
     report.append(&digits)
 }
 
