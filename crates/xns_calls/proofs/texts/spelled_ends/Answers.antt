@@ -16,4 +16,4 @@ returns c =
     let gap : List ℕ = codes "00000000.000000000000.0000 id 0000" in
     both_filled (codes " flow to ") gap (codes " from ") gap (codes "\n") c.copy_from_slice.new.self c.copy_from_slice-2.new.self 9 34 49 34 refl refl (omega (arith, c.copy_from_slice.ensures.len)) refl
     ∙ rw (c.copy_from_slice.ensures.after, c.spelled_end.ensures, c.copy_from_slice-2.ensures.after, c.spelled_end-2.ensures)
-        (joined (codes " flow to ") _ (codes " id ") _ (codes " from ") _ _ (codes "\n"))
+    (joined (codes " flow to ") _ (codes " id ") _ (codes " from ") _ _ (codes "\n"))

@@ -22,8 +22,11 @@ returns-in-Some-get-clause-stands c h =
     let is = c.in-Some-get.ensures.lookup in
     let at = ap (λ xs. slice_get xs c.in-Some.place) (sym same)
     ∙ slice_get_read c.deref.result.now (length c.deref.result.now) c.in-Some.place c.in-Some-get.connection.now refl is.3.0 is.1 in
-    inl (sym (stands c.flows_are_told_apart.ensures c.args.flow c.args.self.now.connections.items c.in-Some.place c.in-Some-get.connection.now
-    c.is_behind-is_behind.result (found ∙ h c.args.flow c.of-key.ensures.formed) at c.is_behind-is_behind.ensures), refl)
+    inl (
+      sym (stands c.flows_are_told_apart.ensures c.args.flow c.args.self.now.connections.items c.in-Some.place c.in-Some-get.connection.now
+          c.is_behind-is_behind.result (found ∙ h c.args.flow c.of-key.ensures.formed) at c.is_behind-is_behind.ensures),
+      refl,
+    )
 
 pub returns-in-None-clause-stands : goal.returns-in-None-clause-stands
 returns-in-None-clause-stands c h =
