@@ -17,6 +17,7 @@ mod Noting
 mod Ordered
 mod Peers
 mod Readable
+mod Registered
 mod Rejecting
 mod Serving
 mod Silent

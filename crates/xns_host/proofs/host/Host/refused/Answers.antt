@@ -9,7 +9,8 @@ returns-clause-closed c = λ n g place r there here.
     let quotes : Some r.quote ≡ Some c.in-Some.quote = sym r.quoted ∙ sym c.quoted_opening.ensures ∙ c.in-Some.is in
     let quote : r.quote ≡ c.in-Some.quote = cc in
     let owners : Some n ≡ Some c.in-Some-owner.number
-    = sym r.owner ∙ ap (λ (q : OpeningQuote). owner_in c.args.self.now.register.identifiers q.id) quote ∙ sym c.owner.ensures ∙ c.in-Some-owner.is in
+    = sym (c.args.self.now.registered.each n g there).own ∙ ap (λ (id : ℕ). owner_in c.args.self.now.register.identifiers id) (sym r.named)
+    ∙ ap (λ (q : OpeningQuote). owner_in c.args.self.now.register.identifiers q.id) quote ∙ sym c.owner.ensures ∙ c.in-Some-owner.is in
     let owner : n ≡ c.in-Some-owner.number = cc in
     let number : n ≡ c.from.result = owner ∙ sym c.from.ensures in
     c.not_served.ensures.closed g r.state place (subst (λ (m : ℕ). slice_get c.args.self.now.guests.items m ≡ Some (Some g)) number there) r.stands
