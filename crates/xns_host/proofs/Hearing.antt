@@ -1,7 +1,6 @@
 -- What became of connections by a packet.
-use Rattle.std.proofs.Common.{◌≡◌, ◌≢◌, ◌∙◌, ◌⊎◌, inl, inr, ap, refl, subst, sym, ℕ, ◌<◌, Bool, true, false, List, length, Option, Some, Result, Ok, Err, slice_get, get_or, arith}
+use Rattle.std.proofs.Common.{◌≡◌, ◌≢◌, ◌∙◌, ◌⊎◌, inl, inr, ap, refl, subst, sym, ℕ, ◌<◌, Bool, true, false, List, length, Option, Some, Result, Ok, Err, slice_get, get_or}
 use Rattle.std.specs.Prelude.{OnErr, OnOk, option_map, slice_set, ◌==◌, if◌then◌else◌}
-use Rattle.std.specs.BTreeMap.{get}
 use Rattle.std.specs.declared.alloc.AllocError.{AllocError}
 use Rattle.std.proofs.lemmas.Bool.{eqb-true}
 use Rattle.std.proofs.lemmas.Option.{slice_get_read}
@@ -17,14 +16,15 @@ use Rattle.xns_idp.specs.declared.packet.Packet.{Packet}
 use Rattle.xns_spp.specs.Header.{header_of}
 use Rattle.xns_spp.specs.declared.dropped.Dropped.{Dropped}
 use Rattle.xns_spp.specs.declared.dropped.Dropped.TheVariants.{NotSpp}
-use Rattle.xns_host.specs.Hosting.{EachGoes, EachHears, HasHeard, HearsIn, IsNamed, Receives, nothing, heard, goes, hears, listens, loses}
-use Rattle.xns_host.specs.Register.{number_by, owner_in, peer_at, peer_cmp}
+use Rattle.xns_host.specs.Hosting.{EachGoes, EachHears, HasHeard, HearsIn, IsPacketOf, Receives, nothing, heard, goes, hears, listens, loses}
+use Rattle.xns_host.specs.Register.{number_by, peer_at}
 use Rattle.xns_host.specs.Registered.{IsRegistered}
 use Rattle.xns_host.specs.Telling.{Hears}
 use Rattle.xns_host.specs.declared.guest.Guest.{Guest}
 use Rattle.xns_host.specs.declared.peer.Peer.{Peer}
 use Rattle.xns_host.specs.declared.register.Register.{Register}
 use Rattle.xns_host.proofs.Apart.{set_there}
+use Rattle.xns_host.proofs.Ends.{leads_to}
 use Rattle.xns_host.proofs.Noting.{place_other, same_or_other}
 
 abbrev Places : Type 0
@@ -104,25 +104,13 @@ pub the_packet : (bytes : List ℕ) (carrier : PacketModel) (taken : ℕ) (p : S
     → packet_of bytes ≡ Ok (carrier, taken) → spp_packet_of bytes ≡ Ok p → r ≡ carried_by carrier → r ≡ Ok p
 the_packet bytes carrier taken p r read is value = value ∙ carries bytes carrier taken p read is
 
--- the connection that it names is found
-found_by : (r : Register) (id : ℕ) (peer : Peer) (n : ℕ) (g : Guest) (b : Bool) → (id == 0) ≡ b → IsRegistered r n g
-    → (id ≡ g.id) ⊎ ((id ≡ 0) × (g.opener ≡ Some peer)) → (if b then get peer_cmp r.peers peer else owner_in r.identifiers id) ≡ Some n
-found_by r id peer n g true none is (inl same) =
-    let zero : id ≡ 0 = eqb-true id 0 none in
-    let known = is.known in
-    absurd (omega (arith, zero, same, known))
-found_by r id peer n g false some is (inl same) = ap (λ (i : ℕ). owner_in r.identifiers i) same ∙ is.own
-found_by r id peer n g true none is (inr opened) = is.opener peer opened.1
-found_by r id peer n g false some is (inr opened) = let zero : (0 == 0) ≡ false = ap (λ (i : ℕ). i == 0) (sym opened.0) ∙ some in absurd (cc)
-
+-- the connection that it is of is found
 pub finds : (host : List ℕ) (r : Register) (p q : SppPacketModel) (n : ℕ) (g : Guest) (peer : Peer) → p ≡ q
-    → peer ≡ peer_at q.source q.header.source_id q.target.socket → IsRegistered r n g → IsNamed host p g
+    → peer ≡ peer_at q.source q.header.source_id q.target.socket → IsRegistered r n g → IsPacketOf host p g
     → number_by r.identifiers r.peers q.header.target_id peer ≡ Some n
-finds host r p q n g peer same at is named =
-    let by : IsNamed host q g = subst (λ (x : SppPacketModel). IsNamed host x g) same named in
-    let there : number_by r.identifiers r.peers q.header.target_id (peer_at q.source q.header.source_id q.target.socket) ≡ Some n
-    = found_by r q.header.target_id (peer_at q.source q.header.source_id q.target.socket) n g (q.header.target_id == 0) refl is by.named in
-    ap (λ (x : Peer). number_by r.identifiers r.peers q.header.target_id x) at ∙ there
+finds host r p q n g peer same at is of =
+    let by : IsPacketOf host q g = subst (λ (x : SppPacketModel). IsPacketOf host x g) same of in
+    ap (λ (x : Peer). number_by r.identifiers r.peers q.header.target_id x) at ∙ leads_to r n g by.state q is by.stands by.ours
 
 -- it has type 5
 carrier_kind : (carrier : PacketModel) (p : SppPacketModel) → carried_by carrier ≡ Ok p → (carrier.kind == 5) ≡ true

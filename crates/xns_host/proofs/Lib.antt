@@ -5,6 +5,7 @@ mod Beside
 mod Coming
 mod Done
 mod Dues
+mod Ends
 mod Fetching
 mod Giving
 mod Going

@@ -1,21 +1,21 @@
 -- The register leads to each connection what names it.
-use Rattle.std.proofs.Common.{◌≡◌, ◌≢◌, ◌∙◌, ◌⊎◌, inl, inr, ap, refl, subst, sym, ℕ, ◌<◌, Bool, true, false, cond, List, length, replicate, Option, Some, None, slice_get, get_or}
+use Rattle.std.proofs.Common.{◌≡◌, ◌≢◌, ◌∙◌, ◌⊎◌, inl, inr, ap, refl, subst, sym, ℕ, ◌<◌, Bool, true, false, List, length, replicate, Option, Some, None, slice_get, get_or}
 use Rattle.std.specs.Prelude.{IfSome, position, slice_set}
 use Rattle.std.specs.BTreeMap.{BTreeMap, IsUnchanged, Updates, get, is_at}
 use Rattle.std.specs.Map.{lookup}
-use Rattle.std.specs.Cmp.{tied_then}
 use Rattle.std.specs.Cmp.Lexicographic.{slice_cmp}
 use Rattle.std.specs.Option.{is_none}
 use Rattle.std.specs.Ordering.{is_eq, nat_cmp, ordering_then}
 use Rattle.std.specs.declared.cmp.Ordering.{Ordering}
 use Rattle.std.specs.declared.cmp.Ordering.TheVariants.{Less, Equal, Greater}
+use Rattle.std.proofs.Math.Logic.{∥∥₁_map}
 use Rattle.std.proofs.lemmas.List.{get_or-set_other}
 use Rattle.std.proofs.lemmas.List.Quantifiers.{position-Some}
 use Rattle.std.proofs.lemmas.Map.Lookups.{exact_bytes, exact_unsigned}
 use Rattle.std.proofs.lemmas.Option.{get_or_from_slice_get, same_Some, slice_get_read}
 use Rattle.xns_host.specs.Identifiers.{Gives, Ids, IsNext, is_free}
 use Rattle.xns_host.specs.Register.{owner_in, peer_cmp}
-use Rattle.xns_host.specs.Registered.{HasLeft, IsAllRegistered, IsAnother, IsRegistered, name_in, name_of}
+use Rattle.xns_host.specs.Registered.{FitsEnd, FitsEndIn, HasLeft, IsAllRegistered, IsAnother, IsRegistered, name_in, name_of}
 use Rattle.xns_host.specs.declared.guest.Guest.{Guest}
 use Rattle.xns_host.specs.declared.peer.Peer.{Peer}
 use Rattle.xns_host.specs.declared.register.Register.{Register}
@@ -59,26 +59,28 @@ stays m n o p w u other = u.2 p (not_at o p (is_eq (peer_cmp o p)) refl other)
 
 -- ---- one that is there changes
 
-renamed : (r : Register) (n : ℕ) (g h : Guest) → name_of h ≡ name_of g → IsRegistered r n g → IsRegistered r n h
-renamed r n g h same is =
+renamed : (r : Register) (n : ℕ) (g h : Guest) → name_of h ≡ name_of g → ∥ FitsEnd h ∥₁ → IsRegistered r n g → IsRegistered r n h
+renamed r n g h same fits is =
     let id : h.id ≡ g.id = ap (λ (k : ℕ × Option Peer). k.0) same in
     let opener : h.opener ≡ g.opener = ap (λ (k : ℕ × Option Peer). k.1) same in
     record {
+      fits = fits;
       known = subst (λ (i : ℕ). 0 < i) (sym id) is.known;
       own = ap (λ (i : ℕ). owner_in r.identifiers i) id ∙ is.own;
       opener = λ o opened. is.opener o (sym opener ∙ opened);
     }
 
-renamed_in : (r : Register) (n : ℕ) (p : Option Guest) (h : Guest) → name_in (Some h) ≡ name_in p → ((g : Guest) → p ≡ Some g → IsRegistered r n g)
-    → IsRegistered r n h
-renamed_in r n None h same is = absurd (cc)
-renamed_in r n (Some g) h same is =
+renamed_in : (r : Register) (n : ℕ) (p : Option Guest) (h : Guest) → name_in (Some h) ≡ name_in p → ((g : Guest) → p ≡ Some g → FitsEnd g → FitsEnd h)
+    → ((g : Guest) → p ≡ Some g → IsRegistered r n g) → IsRegistered r n h
+renamed_in r n None h same fits is = absurd (cc)
+renamed_in r n (Some g) h same fits is =
     let names : name_of h ≡ name_of g = cc in
-    renamed r n g h names (is g refl)
+    let at = is g refl in
+    renamed r n g h names (∥∥₁_map at.fits (fits g refl)) at
 
 pub still_registered : (r : Register) (gs : Places) (n : ℕ) (old v : Option Guest) → IsAllRegistered r gs → name_in v ≡ name_in old
-    → old ≡ get_or gs n old → n < length gs → IsAllRegistered r (slice_set gs n v)
-still_registered r gs n old v all same read less = record { each = λ k g is. by k g is (same_or_other k n) } where
+    → ((g : Guest) → old ≡ Some g → FitsEnd g → FitsEndIn v) → old ≡ get_or gs n old → n < length gs → IsAllRegistered r (slice_set gs n v)
+still_registered r gs n old v all same fits read less = record { each = λ k g is. by k g is (same_or_other k n) } where
   there : slice_get gs n ≡ Some old
   there = slice_get_read gs (length gs) n old refl less read
 
@@ -87,7 +89,8 @@ still_registered r gs n old v all same read less = record { each = λ k g is. by
       let here : slice_get (slice_set gs n v) n ≡ Some (Some g) = subst (λ (m : ℕ). slice_get (slice_set gs n v) m ≡ Some (Some g)) e is in
       let one : v ≡ Some g = one_place v (Some g) (slice_get (slice_set gs n v) n) (place_set gs n v less) here in
       subst (λ (m : ℕ). IsRegistered r m g) (sym e)
-      (renamed_in r n old g (sym (ap name_in one) ∙ same) (λ h was. all.each n h (there ∙ ap Some was)))
+      (renamed_in r n old g (sym (ap name_in one) ∙ same) (λ h was fit. subst (λ (p : Option Guest). FitsEndIn p) one (fits h was fit))
+      (λ h was. all.each n h (there ∙ ap Some was)))
   by k g is (inr other) = all.each k g (sym (place_other gs n k v other) ∙ is)
 
 -- ---- one is forgotten
@@ -116,6 +119,7 @@ pub left : (r s : Register) (place : Option (Option Guest)) (p : Option Guest) (
     → HasLeft r s place
 left r s place p g there is released none same = record {
   others = λ n h at other. record {
+    fits = at.fits;
     known = at.known;
     own = left_own r s g h n released (other g (there ∙ ap Some is)) at.own;
     opener = λ o opened. ap (λ (m : BTreeMap Peer ℕ). get peer_cmp m o) same ∙ at.opener o opened;
@@ -129,6 +133,7 @@ left_opened r t s place p g opener there is released peers opened same u = recor
   others = λ n h at other.
       let apart = other g (there ∙ ap Some is) in
       record {
+        fits = at.fits;
         known = at.known;
         own = left_own r s g h n (same ∙ released) apart at.own;
         opener = λ o by. stays t.peers s.peers opener o None u (λ one. apart.opener opener opened (by ∙ ap Some (sym one)))
@@ -233,6 +238,7 @@ all_after r s gs number id all has = record {
   each = λ n g there.
       let is = all.each n g there in
       record {
+        fits = is.fits;
         known = is.known;
         own = has.others g.id (λ same. let none = sym has.free ∙ ap (λ (i : ℕ). owner_in r.identifiers i) (sym same) ∙ is.own in absurd (cc)) ∙ is.own;
         opener = λ o opened. has.peers o n (is.opener o opened);
@@ -255,6 +261,7 @@ unentered r t gs same unchanged all = record {
   each = λ n g there.
       let is = all.each n g there in
       record {
+        fits = is.fits;
         known = is.known;
         own = ap (λ (a : Ids). owner_in a g.id) same ∙ is.own;
         opener = λ o opened. ap (λ (es : List (Peer × ℕ)). lookup (is_at (peer_cmp o)) es) unchanged ∙ is.opener o opened;

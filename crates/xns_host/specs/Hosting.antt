@@ -1,5 +1,5 @@
 -- Many connections behind one address.
-use Rattle.std.specs.Prelude.{◌≡◌, ◌≢◌, ◌⊎◌, ℕ, Bool, true, false, not, ◌&&◌, ◌||◌, List, [], if◌then◌else◌, Option, Some, None, position}
+use Rattle.std.specs.Prelude.{◌≡◌, ◌≢◌, ℕ, Bool, true, false, not, ◌&&◌, ◌||◌, List, [], if◌then◌else◌, Option, Some, None, position}
 use Rattle.std.specs.Prelude.{slice_get}
 use Rattle.std.specs.Option.{is_some, is_none}
 use Rattle.std.specs.BTreeMap.{BTreeMap}
@@ -19,7 +19,6 @@ use Rattle.xns_host.specs.Identifiers.{Ids, IsNext, is_free}
 use Rattle.courier_messages.specs.declared.message.Message.{Message}
 use Rattle.xns_host.specs.Living.{GoesFrom}
 use Rattle.xns_host.specs.Quotes.{is_opened_by, quoted_opening}
-use Rattle.xns_host.specs.Register.{peer_at}
 use Rattle.xns_host.specs.Services.{programs_at}
 use Rattle.xns_host.specs.Story.{Story, has_message, new_story, waiting_message, with_handed}
 use Rattle.xns_host.specs.Telling.{Tells, Goes, HasSaidEnd, Hears, Keeps, MovesAndGives}
@@ -312,9 +311,9 @@ pub record IsRefusedBy (host : List ℕ) (p : PacketModel) (guest : Guest) : Typ
   pub here : p.target.host ≡ host
   pub quote : OpeningQuote
   pub quoted : quoted_opening p.body ≡ Some quote
-  pub named : quote.id ≡ guest.id
   pub state : State
   pub stands : StandsFor guest.connection.conversation.endpoint state
+  pub named : quote.id ≡ state.ends.id
   pub opened : is_opened_by guest state quote ≡ true
   pub unclosed : guest.connection.closed ≡ None
 
@@ -333,12 +332,9 @@ pub data HearsIn (bytes : List ℕ) : (old new : Option (Option Guest)) → Type
 abbrev pub EachHears : List ℕ → (old new : List (Option Guest)) → Type 0
 EachHears bytes old new = (k : ℕ) → HearsIn bytes (slice_get old k) (slice_get new k)
 
--- the packet is to this host and names this connection of it, by its identifier, or by 0 where it is of the peer that opened it; and it is
--- one of the connection
-pub record IsNamed (host : List ℕ) (p : SppPacketModel) (guest : Guest) : Type 0 where
+-- the packet is to this host, and one of this connection
+pub record IsPacketOf (host : List ℕ) (p : SppPacketModel) (guest : Guest) : Type 0 where
   pub here : p.target.host ≡ host
-  pub named : (p.header.target_id ≡ guest.id)
-      ⊎ ((p.header.target_id ≡ 0) × (guest.opener ≡ Some (peer_at p.source p.header.source_id p.target.socket)))
   pub state : State
   pub stands : StandsFor guest.connection.conversation.endpoint state
   pub ours : is_ours_at state.ends p ≡ true

@@ -15,11 +15,11 @@ ghost use Rattle.xns_spp.specs.State.{State};
 ghost use Rattle.xns_host.specs.Strays.{MayHaveStray, echo_socket, stray_of};
 ghost use Rattle.xns_host.specs.Events.{event_in};
 ghost use Rattle.xns_host.specs.Hosting.{ChangesOne, EachGoes, EachHears, EachKeeps, HasHeard, HasNoEvent, HasNoPacket, HasNoRoom};
-ghost use Rattle.xns_host.specs.Hosting.{IsAllInUse, IsAllNoted, IsAnswering, IsApart, IsAsked, IsConnected, IsFirstWant, IsNamed};
+ghost use Rattle.xns_host.specs.Hosting.{IsAllInUse, IsAllNoted, IsAnswering, IsApart, IsAsked, IsConnected, IsFirstWant, IsPacketOf};
 ghost use Rattle.xns_host.specs.Hosting.{IsNextEvent, IsNextPacket, IsNotServed, IsOpened, IsPlace, IsRefusedBy, IsThere, Receives};
 ghost use Rattle.xns_host.specs.Hosting.{TellsIn, WentOn, address_in, has_guest};
 ghost use Rattle.xns_host.specs.Quotes.{is_opened_by};
-ghost use Rattle.xns_host.specs.Register.{number_by, peer_cmp};
+ghost use Rattle.xns_host.specs.Register.{number_by, peer_at, peer_cmp};
 ghost use Rattle.xns_host.specs.Registered.{HasLeft, IsAllRegistered, IsAnother, IsRegistered};
 ghost use Rattle.xns_host.specs.Story.{asked_of};
 ghost use Rattle.courier_sessions.specs.Answering.{answer_message};
@@ -396,7 +396,7 @@ impl Host {
             → IsRefusedBy self.old.host p g → slice_get self.old.guests.items n ≡ Some (Some g)
             → slice_get self.new.guests.items n ≡ Some place → (result ≡ true) × IsNotServed g.connection place }
         ensures heard { (p : SppPacketModel) (n : ℕ) (g : Guest) (place : Option Guest) → spp_packet_of bytes.now ≡ Ok p
-            → IsNamed self.old.host p g → slice_get self.old.guests.items n ≡ Some (Some g)
+            → IsPacketOf self.old.host p g → slice_get self.old.guests.items n ≡ Some (Some g)
             → slice_get self.new.guests.items n ≡ Some place → (result ≡ true) × HasHeard bytes.now g place }
         ensures set_up { StaysSetUp self.old self.new }
     {
@@ -482,7 +482,7 @@ impl Host {
             self.old.host via) b self.old.guests.items self.new.guests.items }
         ensures heard { (b : List ℕ) (taken n : ℕ) (p : SppPacketModel) (g : Guest) (place : Option Guest)
             → packet_of b ≡ Ok (packet_model carrier.now, taken) → spp_packet_of b ≡ Ok p
-            → IsNamed self.old.host p g → slice_get self.old.guests.items n ≡ Some (Some g)
+            → IsPacketOf self.old.host p g → slice_get self.old.guests.items n ≡ Some (Some g)
             → slice_get self.new.guests.items n ≡ Some place → (result ≡ true) × HasHeard b g place }
         ensures one { ChangesOne self.old.guests.items self.new.guests.items }
         ensures unchanged { result ≡ false → (k : ℕ) → slice_get self.new.guests.items k ≡ slice_get self.old.guests.items k }
@@ -532,6 +532,7 @@ impl Host {
     #[tactic(auto, using(crate::proofs::Apart::one_changed, crate::proofs::Apart::none_changed, crate::proofs::Apart::apart_then))]
     fn opening(&mut self, now: u64, via: u32, opener: Peer, packet: &SppPacket) -> bool
         requires packet { IsSppPacket packet.now }
+        requires opener { opener ≡ peer_at packet.now.source packet.now.header.source_id packet.now.target.socket }
         requires unknown { number_by self.old.register.identifiers self.old.register.peers packet.now.header.target_id opener ≡ None }
         ensures became { (b : List ℕ) → spp_packet_of b ≡ Ok packet.now
             → Receives (IsOpened self.old.services.programs self.old.settings self.old.register.identifiers self.old.network
@@ -567,7 +568,8 @@ impl Host {
         peer_id: u16,
         programs: Vec<Program>,
     ) -> Option<usize>
-        requires { get peer_cmp self.old.register.peers opener ≡ None }
+        requires unknown { get peer_cmp self.old.register.peers opener ≡ None }
+        requires opener { opener ≡ peer_at peer peer_id socket }
         ensures apart { IfSome result (IsApart self.old.guests.items self.new.guests.items) }
         ensures place { IfSome result (IsPlace self.old.guests.items) }
         ensures opened { IfSome result (λ n. IsThere (IsAnswering self.old.settings self.old.register.identifiers

@@ -12,7 +12,7 @@ ghost use Rattle.xns_host.specs.Hosting.{WentOn, facts_in, is_done};
 ghost use Rattle.xns_spp.specs.Held.{StandsFor};
 ghost use Rattle.xns_spp.specs.State.{State};
 ghost use Rattle.xns_host.specs.Quotes.{is_opened_by};
-ghost use Rattle.xns_host.specs.Registered.{name_in};
+ghost use Rattle.xns_host.specs.Registered.{FitsEnd, FitsEndIn, name_in};
 ghost use Rattle.xns_host.specs.Story.{asked_of};
 ghost use Rattle.xns_host.specs.Telling.{Goes, Keeps};
 ghost use Rattle.courier_sessions.specs.Answering.{answer_message};
@@ -138,6 +138,7 @@ pub fn call_in(
         (λ h. record h { made = h.made ++ words_call program version procedure words.now ∷ [] }) slot.new }
     ensures unchanged { OnErr result (slot.new ≡ slot.old) }
     ensures kept { name_in slot.new ≡ name_in slot.old }
+    ensures fits { (g : Guest) → slot.old ≡ Some g → FitsEnd g → FitsEndIn slot.new }
 {
     let Some(guest) = slot else {
         return Err(HostFault::NoConnection { number });
@@ -161,6 +162,7 @@ pub fn answer_in(
         → WentOn g.connection (λ h. record h { answers = h.answers ++ answer_message answer k words.now ∷ [] }) slot.new }
     ensures unchanged { OnErr result (slot.new ≡ slot.old) }
     ensures kept { name_in slot.new ≡ name_in slot.old }
+    ensures fits { (g : Guest) → slot.old ≡ Some g → FitsEnd g → FitsEndIn slot.new }
 {
     let Some(guest) = slot else {
         return Err(HostFault::NoConnection { number });
@@ -175,6 +177,7 @@ pub fn act_in(slot: &mut Option<Guest>, now: u64) -> bool
     ensures goes { (g : Guest) → slot.old ≡ Some g → LedTo Goes g.connection slot.new }
     ensures keeps { (g : Guest) → slot.old ≡ Some g → LedTo Keeps g.connection slot.new }
     ensures kept { name_in slot.new ≡ name_in slot.old }
+    ensures fits { (g : Guest) → slot.old ≡ Some g → FitsEnd g → FitsEndIn slot.new }
     ensures acts { now < last_time → (g : Guest) → slot.old ≡ Some g → HasActedIn now g.connection slot.new }
 {
     let Some(guest) = slot else {
@@ -191,6 +194,7 @@ pub fn not_served_in(slot: &mut Option<Guest>, now: u64, quote: &OpeningQuote) -
     ensures goes { (g : Guest) → slot.old ≡ Some g → LedTo Goes g.connection slot.new }
     ensures unchanged { result ≡ false → slot.new ≡ slot.old }
     ensures kept { name_in slot.new ≡ name_in slot.old }
+    ensures fits { (g : Guest) → slot.old ≡ Some g → FitsEnd g → FitsEndIn slot.new }
 {
     let Some(guest) = slot else {
         return false;
@@ -217,6 +221,7 @@ pub fn hear_in(
         → (result ≡ true) × HasHeard b g slot.new }
     ensures unchanged { result ≡ false → slot.new ≡ slot.old }
     ensures kept { name_in slot.new ≡ name_in slot.old }
+    ensures fits { (g : Guest) → slot.old ≡ Some g → FitsEnd g → FitsEndIn slot.new }
 {
     let Some(guest) = slot else {
         return false;
@@ -224,6 +229,7 @@ pub fn hear_in(
     if !guest.connection.is_ours(packet) {
         return false;
     }
+    xns_spp::laws::written_packet_is_read_again();
     let _ = guest.receive(alloc, now, confirms, packet);
     true
 }
@@ -234,6 +240,7 @@ pub fn event_in(slot: &mut Option<Guest>, alloc: Global, now: u64, number: usize
     ensures told { (g : Guest) → slot.old ≡ Some g → result ≢ None → HasToldIn g.connection slot.new }
     ensures none { result ≡ None → slot.new ≡ slot.old }
     ensures kept { name_in slot.new ≡ name_in slot.old }
+    ensures fits { (g : Guest) → slot.old ≡ Some g → FitsEnd g → FitsEndIn slot.new }
 {
     let Some(guest) = slot else {
         return None;
@@ -268,6 +275,7 @@ pub fn packet_in(
     ensures goes { (g : Guest) → slot.old ≡ Some g → LedTo Goes g.connection slot.new }
     ensures keeps { ((o : Outgoing) → result ≢ Ok (Some o)) → (g : Guest) → slot.old ≡ Some g → LedTo Keeps g.connection slot.new }
     ensures kept { name_in slot.new ≡ name_in slot.old }
+    ensures fits { (g : Guest) → slot.old ≡ Some g → FitsEnd g → FitsEndIn slot.new }
     ensures steps { (g : Guest) → slot.old ≡ Some g → StepsIn now g.connection (Some slot.new) }
 {
     let Some(guest) = slot else {
@@ -294,6 +302,7 @@ pub fn close_in(
     ensures closed { (g : Guest) → slot.old ≡ Some g → IsAsked g.connection slot.new }
     ensures unchanged { OnErr result (slot.new ≡ slot.old) }
     ensures kept { name_in slot.new ≡ name_in slot.old }
+    ensures fits { (g : Guest) → slot.old ≡ Some g → FitsEnd g → FitsEndIn slot.new }
 {
     let Some(guest) = slot else {
         return Err(HostFault::NoConnection { number });

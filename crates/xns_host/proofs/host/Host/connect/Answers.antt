@@ -19,7 +19,12 @@ pub put-requires-clause-registered : goal.put-requires-clause-registered
 put-requires-clause-registered c =
     let has = joined c.args.self.now.register c.take.new.self _ c.in-Some-next.id c.take.result c.in-Some-next.ensures.next
     c.take.ensures.given c.take.ensures.some c.take.ensures.owner c.take.ensures.peers in
-    record { known = c.in-Some-next.ensures.known; own = has.own; opener = λ o opened. absurd (cc) }
+    record {
+      fits = ∣ record { story = _; tells = c.in-Ok.ensures.tells; id = refl; opener = λ responds. absurd (cc) } ∣₁;
+      known = c.in-Some-next.ensures.known;
+      own = has.own;
+      opener = λ o opened. absurd (cc);
+    }
 
 pub put-requires-clause-another : goal.put-requires-clause-another
 put-requires-clause-another c = λ g there.
