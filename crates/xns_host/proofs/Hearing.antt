@@ -16,13 +16,15 @@ use Rattle.xns_idp.specs.declared.packet.Packet.{Packet}
 use Rattle.xns_spp.specs.Header.{header_of}
 use Rattle.xns_spp.specs.declared.dropped.Dropped.{Dropped}
 use Rattle.xns_spp.specs.declared.dropped.Dropped.TheVariants.{NotSpp}
-use Rattle.xns_host.specs.Hosting.{EachGoes, EachHears, HasHeard, HearsIn, IsNamed, Receives, nothing, heard, goes, hears, listens, loses}
+use Rattle.xns_host.specs.Hosting.{EachGoes, EachHears, HasHeard, HearsIn, IsPacketOf, Receives, nothing, heard, goes, hears, listens, loses}
 use Rattle.xns_host.specs.Register.{number_by, peer_at}
+use Rattle.xns_host.specs.Registered.{IsRegistered}
 use Rattle.xns_host.specs.Telling.{Hears}
 use Rattle.xns_host.specs.declared.guest.Guest.{Guest}
 use Rattle.xns_host.specs.declared.peer.Peer.{Peer}
 use Rattle.xns_host.specs.declared.register.Register.{Register}
 use Rattle.xns_host.proofs.Apart.{set_there}
+use Rattle.xns_host.proofs.Ends.{leads_to}
 use Rattle.xns_host.proofs.Noting.{place_other, same_or_other}
 
 abbrev Places : Type 0
@@ -102,13 +104,13 @@ pub the_packet : (bytes : List ℕ) (carrier : PacketModel) (taken : ℕ) (p : S
     → packet_of bytes ≡ Ok (carrier, taken) → spp_packet_of bytes ≡ Ok p → r ≡ carried_by carrier → r ≡ Ok p
 the_packet bytes carrier taken p r read is value = value ∙ carries bytes carrier taken p read is
 
--- the connection that it names is found
-pub finds : (host : List ℕ) (register : Register) (p q : SppPacketModel) (n : ℕ) (g : Guest) (peer : Peer) → p ≡ q
-    → peer ≡ peer_at q.source q.header.source_id q.target.socket → IsNamed host register p n g
-    → number_by register.identifiers register.peers q.header.target_id peer ≡ Some n
-finds host register p q n g peer same is named =
-    let by : IsNamed host register q n g = subst (λ (x : SppPacketModel). IsNamed host register x n g) same named in
-    ap (λ (x : Peer). number_by register.identifiers register.peers q.header.target_id x) is ∙ by.named
+-- the connection that it is of is found
+pub finds : (host : List ℕ) (r : Register) (p q : SppPacketModel) (n : ℕ) (g : Guest) (peer : Peer) → p ≡ q
+    → peer ≡ peer_at q.source q.header.source_id q.target.socket → IsRegistered r n g → IsPacketOf host p g
+    → number_by r.identifiers r.peers q.header.target_id peer ≡ Some n
+finds host r p q n g peer same at is of =
+    let by : IsPacketOf host q g = subst (λ (x : SppPacketModel). IsPacketOf host x g) same of in
+    ap (λ (x : Peer). number_by r.identifiers r.peers q.header.target_id x) at ∙ leads_to r n g by.state q is by.stands by.ours
 
 -- it has type 5
 carrier_kind : (carrier : PacketModel) (p : SppPacketModel) → carried_by carrier ≡ Ok p → (carrier.kind == 5) ≡ true

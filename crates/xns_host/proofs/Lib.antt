@@ -5,6 +5,7 @@ mod Beside
 mod Coming
 mod Done
 mod Dues
+mod Ends
 mod Fetching
 mod Giving
 mod Going
@@ -17,6 +18,7 @@ mod Noting
 mod Ordered
 mod Peers
 mod Readable
+mod Registered
 mod Rejecting
 mod Serving
 mod Silent

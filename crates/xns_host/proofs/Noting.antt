@@ -8,6 +8,7 @@ use Rattle.courier_messages.specs.declared.message.Message.{Message}
 use Rattle.xns_host.specs.Agenda.{Plan, HasNobody, IsFor, IsNoted, noted, released}
 use Rattle.xns_host.specs.Events.{event_by, event_for, event_in}
 use Rattle.xns_host.specs.Hosting.{IsAllNoted, IsNotedBut, IsNotedIn, facts_in}
+use Rattle.xns_host.specs.Registered.{name_in}
 use Rattle.xns_host.specs.Turns.{Line, empty_line, has_turn, with_last, with_turn}
 use Rattle.xns_host.specs.Story.{has_message, waiting_message, listed_call}
 use Rattle.xns_host.specs.declared.connection.Connection.{Connection}
@@ -128,14 +129,21 @@ free_other a n k b p other is = other_noted a (record a { free = with_turn a.fre
 abbrev Places : Type 0
 Places = List (Option Guest)
 
+none_named : (p : Option Guest) → is_none (name_in p) ≡ is_none p
+none_named None = refl
+none_named (Some g) = refl
+
+same_none : (p q : Option Guest) → name_in q ≡ name_in p → is_none q ≡ is_none p
+same_none p q same = sym (none_named q) ∙ ap is_none same ∙ none_named p
+
 -- a connection that is there changed
-pub changed : (a : Plan) (gs : Places) (n : ℕ) (old v : Option Guest) → IsAllNoted a gs → slice_get gs n ≡ Some old → is_none v ≡ is_none old
+pub changed : (a : Plan) (gs : Places) (n : ℕ) (old v : Option Guest) → IsAllNoted a gs → slice_get gs n ≡ Some old → name_in v ≡ name_in old
     → IsNotedBut a (slice_set gs n v) n
 changed a gs n old v all there same =
     let less : n < length gs = slice_get_within gs n old there in record {
       others = λ k p other is. all.each k p (sym (place_other gs n k v other) ∙ is);
       free = λ p is. let here : v ≡ p = one_place v p (slice_get (slice_set gs n v) n) (place_set gs n v less) is in
-          (all.each n old there).free ∙ sym same ∙ ap is_none here;
+          (all.each n old there).free ∙ sym (same_none old v same) ∙ ap is_none here;
     }
 
 -- the place that was left out is noted
@@ -204,7 +212,7 @@ quiet_noted a gs n most for_most less quiet all = record { each = λ k p is. by 
 
 -- ---- no connection
 
-none_there : {X : Type 0} (n k : ℕ) (p : Option X) → slice_get (replicate n None) k ≡ Some p → p ≡ None
+pub none_there : {X : Type 0} (n k : ℕ) (p : Option X) → slice_get (replicate n None) k ≡ Some p → p ≡ None
 none_there {X = X} n k p is =
     let less : k < n = omega (arith, slice_get_within (replicate n None) k p is, length-replicate {A = Option X} n None) in
     sym (get_or_from_slice_get (replicate n None) k p None is) ∙ get_or-replicate n k None None less
@@ -253,7 +261,7 @@ nobody_yet a most k less dues packets closed strangers free = record {
 -- ---- as goals have them
 
 pub kept_but : (a : Plan) (gs hs : Places) (n : ℕ) (old v : Option Guest) → IsAllNoted a gs → n < length gs → old ≡ get_or gs n old → hs ≡ slice_set gs n v
-    → is_none v ≡ is_none old → IsNotedBut a hs n
+    → name_in v ≡ name_in old → IsNotedBut a hs n
 kept_but a gs hs n old v all less read is same =
     subst (λ (xs : Places). IsNotedBut a xs n) (sym is) (changed a gs n old v all (slice_get_read gs (length gs) n old refl less read) same)
 

@@ -19,7 +19,6 @@ use Rattle.xns_host.specs.Identifiers.{Ids, IsNext, is_free}
 use Rattle.courier_messages.specs.declared.message.Message.{Message}
 use Rattle.xns_host.specs.Living.{GoesFrom}
 use Rattle.xns_host.specs.Quotes.{is_opened_by, quoted_opening}
-use Rattle.xns_host.specs.Register.{number_by, owner_in, peer_at}
 use Rattle.xns_host.specs.Services.{programs_at}
 use Rattle.xns_host.specs.Story.{Story, has_message, new_story, waiting_message, with_handed}
 use Rattle.xns_host.specs.Telling.{Tells, Goes, HasSaidEnd, Hears, Keeps, MovesAndGives}
@@ -34,7 +33,6 @@ use Rattle.xns_host.specs.declared.facts.TheConstants.Facts.{NONE}
 use Rattle.xns_host.specs.declared.guest.Guest.{Guest}
 use Rattle.xns_host.specs.declared.opening_quote.OpeningQuote.{OpeningQuote}
 use Rattle.xns_host.specs.declared.outgoing.Outgoing.{Outgoing}
-use Rattle.xns_host.specs.declared.register.Register.{Register}
 use Rattle.xns_host.specs.declared.settings.Settings.{Settings}
 use Rattle.xns_host.specs.declared.why.Why.TheVariants.{NotServed}
 
@@ -307,15 +305,15 @@ pub record ChangesOne (old new : List (Option Guest)) : Type 0 where
 
 -- ---- an Error packet
 
--- it quotes the packet that was to open this connection of ours, which has this number and is not closed
-pub record IsRefusedBy (host : List ℕ) (ids : Ids) (p : PacketModel) (number : ℕ) (guest : Guest) : Type 0 where
+-- it quotes the packet that was to open this connection of ours, which is not closed
+pub record IsRefusedBy (host : List ℕ) (p : PacketModel) (guest : Guest) : Type 0 where
   pub kind : p.kind ≡ 3
   pub here : p.target.host ≡ host
   pub quote : OpeningQuote
   pub quoted : quoted_opening p.body ≡ Some quote
-  pub owner : owner_in ids quote.id ≡ Some number
   pub state : State
   pub stands : StandsFor guest.connection.conversation.endpoint state
+  pub named : quote.id ≡ state.ends.id
   pub opened : is_opened_by guest state quote ≡ true
   pub unclosed : guest.connection.closed ≡ None
 
@@ -334,11 +332,9 @@ pub data HearsIn (bytes : List ℕ) : (old new : Option (Option Guest)) → Type
 abbrev pub EachHears : List ℕ → (old new : List (Option Guest)) → Type 0
 EachHears bytes old new = (k : ℕ) → HearsIn bytes (slice_get old k) (slice_get new k)
 
--- the packet is to this host and names this connection of it, which has this number; and it is one of the connection
-pub record IsNamed (host : List ℕ) (register : Register) (p : SppPacketModel) (number : ℕ) (guest : Guest) : Type 0 where
+-- the packet is to this host, and one of this connection
+pub record IsPacketOf (host : List ℕ) (p : SppPacketModel) (guest : Guest) : Type 0 where
   pub here : p.target.host ≡ host
-  pub named : number_by register.identifiers register.peers p.header.target_id (peer_at p.source p.header.source_id p.target.socket)
-      ≡ Some number
   pub state : State
   pub stands : StandsFor guest.connection.conversation.endpoint state
   pub ours : is_ours_at state.ends p ≡ true

@@ -9,6 +9,7 @@ ghost use Rattle.xns_spp.specs.Packet.{IsSppPacket, spp_packet_of};
 ghost use Rattle.xns_spp.specs.Receiving.{StoresBytes};
 ghost use Rattle.xns_spp.specs.State.{State};
 ghost use Rattle.xns_host.specs.Quotes.{is_opened_by};
+ghost use Rattle.xns_host.specs.Registered.{name_of};
 ghost use Rattle.xns_host.specs.Reasons.{call_fault_of, answer_fault_of};
 ghost use Rattle.xns_host.specs.Refusing.{Answers};
 ghost use Rattle.courier_sessions.specs.Answering.{answer_message};
@@ -60,6 +61,7 @@ impl Guest {
         ensures unchanged { OnErr result (self.new ≡ self.old) }
         ensures memory { OnErr result ((s : State) (b : List ℕ) → StandsFor self.old.connection.conversation.endpoint s
             → spp_packet_of b ≡ Ok packet.now → StoresBytes s b) }
+        ensures name { name_of self.new ≡ name_of self.old }
     {
         self.connection.receive(alloc, now, packet)?;
         if confirms {
@@ -83,6 +85,7 @@ impl Guest {
             (λ h. record h { made = h.made ++ words_call program version procedure words.now ∷ [] }) }
         ensures wanted { StaysAsked self.old.connection.conversation self.new.connection.conversation }
         ensures unchanged { OnErr result (self.new ≡ self.old) }
+        ensures name { name_of self.new ≡ name_of self.old }
     {
         self.connection
             .call(alloc, now, program, version, procedure, words)?;
@@ -103,6 +106,7 @@ impl Guest {
             (λ h. record h { answers = h.answers ++ answer_message answer k words.now ∷ [] }) }
         ensures wanted { StaysAsked self.old.connection.conversation self.new.connection.conversation }
         ensures unchanged { OnErr result (self.new ≡ self.old) }
+        ensures name { name_of self.new ≡ name_of self.old }
     {
         self.connection.answer(alloc, now, answer, words)?;
         Ok(())
@@ -113,6 +117,7 @@ impl Guest {
         ensures goes { Goes self.old.connection.conversation self.new.connection.conversation }
         ensures asked { self.new.connection.conversation.closing.wanted ≡ true }
         ensures said { self.new.connection.owed.moving ≡ false → HasSaidEnd self.new.connection.conversation }
+        ensures name { name_of self.new ≡ name_of self.old }
     {
         self.connection.close(alloc, now);
     }
@@ -122,6 +127,7 @@ impl Guest {
         ensures goes { Goes self.old.connection.conversation self.new.connection.conversation }
         ensures not_served { (s : State) → StandsFor self.old.connection.conversation.endpoint s → is_open s.ends ≡ false
             → self.old.connection.closed ≡ None → self.new.connection.closed ≡ Some NotServed }
+        ensures name { name_of self.new ≡ name_of self.old }
     {
         self.connection.not_served(now);
     }

@@ -2,7 +2,7 @@
 
 ghost use Rattle.std.specs.Prelude.{◌≡◌, ◌≢◌, ◌<◌, ◌≤◌, ◌∷◌, ◌++◌, ◌⊎◌, ℕ, List, [], Option, length, max, true, false, IfOk, IfSome, OnErr, OnOk};
 ghost use Rattle.std.specs.Prelude.{Some, None, Ok, Err, count_by, slice_get};
-ghost use Rattle.std.specs.BTreeMap.{btree_map_len};
+ghost use Rattle.std.specs.BTreeMap.{btree_map_len, get};
 ghost use Rattle.std.specs.Option.{is_some};
 ghost use Rattle.courier_messages.specs.RawCalls.{words_call};
 ghost use Rattle.xns_idp.specs.Packet.{IsPacket, PacketModel, most_data, packet_model};
@@ -15,10 +15,12 @@ ghost use Rattle.xns_spp.specs.State.{State};
 ghost use Rattle.xns_host.specs.Strays.{MayHaveStray, echo_socket, stray_of};
 ghost use Rattle.xns_host.specs.Events.{event_in};
 ghost use Rattle.xns_host.specs.Hosting.{ChangesOne, EachGoes, EachHears, EachKeeps, HasHeard, HasNoEvent, HasNoPacket, HasNoRoom};
-ghost use Rattle.xns_host.specs.Hosting.{IsAllInUse, IsAllNoted, IsAnswering, IsApart, IsAsked, IsConnected, IsFirstWant, IsNamed};
+ghost use Rattle.xns_host.specs.Hosting.{IsAllInUse, IsAllNoted, IsAnswering, IsApart, IsAsked, IsConnected, IsFirstWant, IsPacketOf};
 ghost use Rattle.xns_host.specs.Hosting.{IsNextEvent, IsNextPacket, IsNotServed, IsOpened, IsPlace, IsRefusedBy, IsThere, Receives};
 ghost use Rattle.xns_host.specs.Hosting.{TellsIn, WentOn, address_in, has_guest};
 ghost use Rattle.xns_host.specs.Quotes.{is_opened_by};
+ghost use Rattle.xns_host.specs.Register.{number_by, peer_at, peer_cmp};
+ghost use Rattle.xns_host.specs.Registered.{HasLeft, IsAllRegistered, IsAnother, IsRegistered};
 ghost use Rattle.xns_host.specs.Story.{asked_of};
 ghost use Rattle.courier_sessions.specs.Answering.{answer_message};
 ghost use Rattle.xns_host.specs.Reasons.{call_fault_of, answer_fault_of};
@@ -82,6 +84,8 @@ pub struct Host {
     ghost settled: { length guests.items ≡ settings.connections },
     // What is to be done of each connection is noted, and of nothing else.
     ghost noted: { IsAllNoted agenda guests.items },
+    // The register leads to each connection what names it.
+    ghost registered: { IsAllRegistered register guests.items },
 }
 
 impl Host {
@@ -172,6 +176,7 @@ impl Host {
         ensures apart { IsApart self.old.guests.items self.new.guests.items number }
         ensures gone { slice_get self.new.guests.items number ≡ Some None }
         ensures sized { length self.new.guests.items ≡ length self.old.guests.items }
+        ensures left { HasLeft self.old.register self.new.register (slice_get self.old.guests.items number) }
         ensures strays { self.new.strays ≡ self.old.strays }
         ensures set_up { StaysSetUp self.old self.new }
     {
@@ -200,7 +205,8 @@ impl Host {
 
     /// Puts a new connection into its place, which is free.
     fn seat(&mut self, number: usize, guest: Guest)
-        requires { number < length self.old.guests.items }
+        requires within { number < length self.old.guests.items }
+        requires registered { IsRegistered self.old.register number guest }
         ensures apart { IsApart self.old.guests.items self.new.guests.items number }
         ensures there { slice_get self.new.guests.items number ≡ Some (Some guest) }
         ensures set_up { StaysSetUp self.old self.new }
@@ -210,7 +216,9 @@ impl Host {
 
     /// Puts a new connection into its place, whose old one gives way.
     fn put(&mut self, number: usize, guest: Guest)
-        requires { number < length self.old.guests.items }
+        requires within { number < length self.old.guests.items }
+        requires registered { IsRegistered self.old.register number guest }
+        requires another { (g : Guest) → slice_get self.old.guests.items number ≡ Some (Some g) → IsAnother g guest }
         ensures apart { IsApart self.old.guests.items self.new.guests.items number }
         ensures there { slice_get self.new.guests.items number ≡ Some (Some guest) }
         ensures set_up { StaysSetUp self.old self.new }
@@ -272,7 +280,7 @@ impl Host {
     /// An `Err`, which changes nothing, is [`HostFault::NoConnection`], [`HostFault::PeerCalls`] where the peer opened it,
     /// [`HostFault::Closing`] where it is closed or was asked to close, [`HostFault::Busy`] while a call waits or its answer was not
     /// fetched, [`HostFault::TooLong`] over 65,530 words, or [`HostFault::NoMemory`].
-    #[tactic(auto, using(crate::proofs::Noting::put_back))]
+    #[tactic(auto, using(crate::proofs::Noting::put_back, crate::proofs::Registered::still_registered))]
     pub fn call(
         &mut self,
         now: u64,
@@ -316,7 +324,7 @@ impl Host {
     /// An `Err`, which changes nothing, is [`HostFault::NoConnection`], [`HostFault::NoCall`] where no call was handed that is not
     /// answered, [`HostFault::Closing`] where the connection is closed, [`HostFault::TooLong`] over 131,072 bytes, or
     /// [`HostFault::NoMemory`].
-    #[tactic(auto, using(crate::proofs::Noting::put_back))]
+    #[tactic(auto, using(crate::proofs::Noting::put_back, crate::proofs::Registered::still_registered))]
     pub fn answer(
         &mut self,
         now: u64,
@@ -352,7 +360,7 @@ impl Host {
     }
 
     /// Closes a connection once all that it has to say is said. An `Err`, which changes nothing, is [`HostFault::NoConnection`].
-    #[tactic(auto, using(crate::proofs::Noting::put_back))]
+    #[tactic(auto, using(crate::proofs::Noting::put_back, crate::proofs::Registered::still_registered))]
     pub fn close(&mut self, now: u64, number: usize) -> Result<(), HostFault>
         ensures apart { IsApart self.old.guests.items self.new.guests.items number }
         ensures none { has_guest (slice_get self.old.guests.items number) ≡ false → result ≡ Err (NoConnection number) }
@@ -385,10 +393,10 @@ impl Host {
             × (self.new.guests ≡ self.old.guests) × MayHaveStray self.old.strays self.new.strays (stray_of via
             (echo_reply (address_in self.old.network self.old.host echo_socket) p)) }
         ensures refused { (p : PacketModel) (taken n : ℕ) (g : Guest) (place : Option Guest) → packet_of bytes.now ≡ Ok (p, taken)
-            → IsRefusedBy self.old.host self.old.register.identifiers p n g → slice_get self.old.guests.items n ≡ Some (Some g)
+            → IsRefusedBy self.old.host p g → slice_get self.old.guests.items n ≡ Some (Some g)
             → slice_get self.new.guests.items n ≡ Some place → (result ≡ true) × IsNotServed g.connection place }
         ensures heard { (p : SppPacketModel) (n : ℕ) (g : Guest) (place : Option Guest) → spp_packet_of bytes.now ≡ Ok p
-            → IsNamed self.old.host self.old.register p n g → slice_get self.old.guests.items n ≡ Some (Some g)
+            → IsPacketOf self.old.host p g → slice_get self.old.guests.items n ≡ Some (Some g)
             → slice_get self.new.guests.items n ≡ Some place → (result ≡ true) × HasHeard bytes.now g place }
         ensures set_up { StaysSetUp self.old self.new }
     {
@@ -425,7 +433,7 @@ impl Host {
     #[tactic(auto, using(crate::proofs::Apart::one_changed, crate::proofs::Apart::none_changed, crate::proofs::Going::each_stays))]
     fn refused(&mut self, now: u64, packet: &Packet<'_>) -> bool
         ensures closed { (n : ℕ) (g : Guest) (place : Option Guest)
-            → IsRefusedBy self.old.host self.old.register.identifiers (packet_model packet.now) n g
+            → IsRefusedBy self.old.host (packet_model packet.now) g
             → slice_get self.old.guests.items n ≡ Some (Some g) → slice_get self.new.guests.items n ≡ Some place
             → (result ≡ true) × IsNotServed g.connection place }
         ensures goes { EachGoes self.old.guests.items self.new.guests.items }
@@ -446,7 +454,7 @@ impl Host {
     }
 
     /// Closes the connection with this number, if it is the one that a quoted packet was to open.
-    #[tactic(auto, using(crate::proofs::Going::each_stays))]
+    #[tactic(auto, using(crate::proofs::Going::each_stays, crate::proofs::Registered::still_registered))]
     fn not_served(&mut self, now: u64, number: usize, quote: &OpeningQuote) -> bool
         ensures closed { (g : Guest) (s : State) (place : Option Guest) → slice_get self.old.guests.items number ≡ Some (Some g)
             → StandsFor g.connection.conversation.endpoint s → is_opened_by g s quote.now ≡ true → g.connection.closed ≡ None
@@ -474,7 +482,7 @@ impl Host {
             self.old.host via) b self.old.guests.items self.new.guests.items }
         ensures heard { (b : List ℕ) (taken n : ℕ) (p : SppPacketModel) (g : Guest) (place : Option Guest)
             → packet_of b ≡ Ok (packet_model carrier.now, taken) → spp_packet_of b ≡ Ok p
-            → IsNamed self.old.host self.old.register p n g → slice_get self.old.guests.items n ≡ Some (Some g)
+            → IsPacketOf self.old.host p g → slice_get self.old.guests.items n ≡ Some (Some g)
             → slice_get self.new.guests.items n ≡ Some place → (result ≡ true) × HasHeard b g place }
         ensures one { ChangesOne self.old.guests.items self.new.guests.items }
         ensures unchanged { result ≡ false → (k : ℕ) → slice_get self.new.guests.items k ≡ slice_get self.old.guests.items k }
@@ -499,7 +507,7 @@ impl Host {
     }
 
     /// Takes a packet in that names the connection with this number; whether it is one of it.
-    #[tactic(auto, using(crate::proofs::Hearing::hears_not))]
+    #[tactic(auto, using(crate::proofs::Hearing::hears_not, crate::proofs::Registered::still_registered))]
     fn hear(&mut self, now: u64, number: usize, confirms: bool, packet: &SppPacket) -> bool
         requires { IsSppPacket packet.now }
         ensures hears { (b : List ℕ) → spp_packet_of b ≡ Ok packet.now → EachHears b self.old.guests.items self.new.guests.items }
@@ -523,7 +531,9 @@ impl Host {
     /// lost.
     #[tactic(auto, using(crate::proofs::Apart::one_changed, crate::proofs::Apart::none_changed, crate::proofs::Apart::apart_then))]
     fn opening(&mut self, now: u64, via: u32, opener: Peer, packet: &SppPacket) -> bool
-        requires { IsSppPacket packet.now }
+        requires packet { IsSppPacket packet.now }
+        requires opener { opener ≡ peer_at packet.now.source packet.now.header.source_id packet.now.target.socket }
+        requires unknown { number_by self.old.register.identifiers self.old.register.peers packet.now.header.target_id opener ≡ None }
         ensures became { (b : List ℕ) → spp_packet_of b ≡ Ok packet.now
             → Receives (IsOpened self.old.services.programs self.old.settings self.old.register.identifiers self.old.network
             self.old.host via) b self.old.guests.items self.new.guests.items }
@@ -558,6 +568,8 @@ impl Host {
         peer_id: u16,
         programs: Vec<Program>,
     ) -> Option<usize>
+        requires unknown { get peer_cmp self.old.register.peers opener ≡ None }
+        requires opener { opener ≡ peer_at peer peer_id socket }
         ensures apart { IfSome result (IsApart self.old.guests.items self.new.guests.items) }
         ensures place { IfSome result (IsPlace self.old.guests.items) }
         ensures opened { IfSome result (λ n. IsThere (IsAnswering self.old.settings self.old.register.identifiers
@@ -600,7 +612,7 @@ impl Host {
     }
 
     /// What the connection with this number has to tell the program, if it has anything: it has had its turn.
-    #[tactic(auto, using(crate::proofs::Noting::put_back, crate::proofs::Noting::quiet_noted))]
+    #[tactic(auto, using(crate::proofs::Noting::put_back, crate::proofs::Noting::quiet_noted, crate::proofs::Registered::still_registered))]
     fn event(&mut self, number: usize) -> Option<Event>
         requires { number < length self.old.guests.items }
         ensures apart { IsApart self.old.guests.items self.new.guests.items number }
@@ -638,7 +650,7 @@ impl Host {
     }
 
     /// Does what is due of the connection with this number.
-    #[tactic(auto, using(crate::proofs::Going::each_stays, crate::proofs::Going::each_kept))]
+    #[tactic(auto, using(crate::proofs::Going::each_stays, crate::proofs::Going::each_kept, crate::proofs::Registered::still_registered))]
     fn act(&mut self, now: u64, number: usize)
         ensures goes { EachGoes self.old.guests.items self.new.guests.items }
         ensures keeps { EachKeeps self.old.guests.items self.new.guests.items }
@@ -673,6 +685,7 @@ impl Host {
     }
 
     /// The next packet of the connection with this number, which has had its turn.
+    #[tactic(auto, using(crate::proofs::Registered::still_registered))]
     fn packet(&mut self, now: u64, number: usize) -> Result<Option<Outgoing>, HostFault>
         requires { number < length self.old.guests.items }
         ensures goes { EachGoes self.old.guests.items self.new.guests.items }

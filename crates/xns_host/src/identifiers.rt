@@ -3,6 +3,7 @@
 ghost use Rattle.std.specs.Prelude.{◌≡◌, ◌≢◌, ◌<◌, ℕ, length, IfOk, IfSome, IsPermutation, Some, None, true, position, slice_get};
 ghost use Rattle.std.specs.Prelude.{slice_index_or, slice_set};
 ghost use Rattle.xns_host.specs.Identifiers.{IsNext, IsOrder, Gives, is_free, most_id, numbers, order_of};
+ghost use Rattle.xns_host.specs.Register.{owner_in};
 
 use rand::seq::SliceRandom;
 use rand_chacha::ChaCha20Rng;
@@ -115,6 +116,7 @@ impl Identifiers {
     fn give(&mut self, place: usize, number: u16) -> u16
         requires { position (is_free self.old.owners) self.old.ahead ≡ Some place }
         ensures gives { Gives self.old self.new place number result }
+        ensures owner { owner_in self.new result ≡ Some number }
         ensures order { IsOrder self.new.ahead }
     {
         let id = self.ahead[place];
@@ -141,6 +143,7 @@ impl Identifiers {
         ensures given { (place : ℕ) → position (is_free self.old.owners) self.old.ahead ≡ Some place
             → IfSome result (Gives self.old self.new place number) }
         ensures some { (place : ℕ) → position (is_free self.old.owners) self.old.ahead ≡ Some place → result ≢ None }
+        ensures owner { IfSome result (λ id. owner_in self.new id ≡ Some number) }
         ensures none { position (is_free self.old.owners) self.old.ahead ≡ None → (result ≡ None) × (self.new ≡ self.old) }
         // Each identifier comes, and none twice, before one comes again.
         ensures order { IsOrder self.new.ahead }

@@ -1,6 +1,6 @@
 //! Which connection a packet names.
 
-ghost use Rattle.std.specs.Prelude.{◌≡◌, ◌<◌, ℕ, true, false, IfOk, IfSome, OnOk, OnErr, Some, None, position, slice_get, slice_set};
+ghost use Rattle.std.specs.Prelude.{◌≡◌, ◌≢◌, ◌<◌, ℕ, true, false, IfOk, IfSome, OnOk, OnErr, Some, None, position, slice_get, slice_set};
 ghost use Rattle.std.specs.BTreeMap.{IsEmpty, IsUnchanged, Updates};
 ghost use Rattle.xns_host.specs.Identifiers.{Gives, IsNext, is_free, most_id, numbers, order_of};
 ghost use Rattle.xns_host.specs.Register.{number_by, owner_in, peer_cmp};
@@ -65,6 +65,9 @@ impl Register {
     pub fn take(&mut self, number: u16) -> Option<u16>
         ensures given { (place : ℕ) → position (is_free self.old.identifiers.owners) self.old.identifiers.ahead ≡ Some place
             → IfSome result (Gives self.old.identifiers self.new.identifiers place number) }
+        ensures some { (place : ℕ) → position (is_free self.old.identifiers.owners) self.old.identifiers.ahead ≡ Some place
+            → result ≢ None }
+        ensures owner { IfSome result (λ id. owner_in self.new.identifiers id ≡ Some number) }
         ensures none { position (is_free self.old.identifiers.owners) self.old.identifiers.ahead ≡ None → (result ≡ None)
             × (self.new.identifiers ≡ self.old.identifiers) }
         ensures peers { self.new.peers ≡ self.old.peers }

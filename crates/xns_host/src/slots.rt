@@ -2,7 +2,7 @@
 
 ghost use Rattle.std.specs.Prelude.{◌≡◌, ◌≢◌, ◌<◌, ◌∷◌, ◌++◌, ℕ, List, [], Option, length, false, IfOk, IfSome, OnErr, Some, None, Ok, Err};
 ghost use Rattle.std.specs.Prelude.{count_by, replicate, slice_get, slice_set, true};
-ghost use Rattle.std.specs.Option.{is_none, is_some};
+ghost use Rattle.std.specs.Option.{is_some};
 ghost use Rattle.courier_messages.specs.RawCalls.{words_call};
 ghost use Rattle.xns_spp.specs.Ends.{is_ours_at};
 ghost use Rattle.xns_spp.specs.Packet.{IsSppPacket, spp_packet_of};
@@ -12,6 +12,7 @@ ghost use Rattle.xns_host.specs.Hosting.{WentOn, facts_in, is_done};
 ghost use Rattle.xns_spp.specs.Held.{StandsFor};
 ghost use Rattle.xns_spp.specs.State.{State};
 ghost use Rattle.xns_host.specs.Quotes.{is_opened_by};
+ghost use Rattle.xns_host.specs.Registered.{FitsEnd, FitsEndIn, name_in};
 ghost use Rattle.xns_host.specs.Story.{asked_of};
 ghost use Rattle.xns_host.specs.Telling.{Goes, Keeps};
 ghost use Rattle.courier_sessions.specs.Answering.{answer_message};
@@ -96,6 +97,7 @@ pub fn vacate(guests: &mut Vec<Option<Guest>>, agenda: &mut Agenda, number: usiz
     requires noted { IsAllNoted agenda.old guests.old.items }
     ensures noted { IsAllNoted agenda.new guests.new.items }
     ensures sized { length agenda.new.dues ≡ length agenda.old.dues }
+    ensures taken { slice_get guests.old.items number ≡ Some result }
     ensures gone { guests.new.items ≡ slice_set guests.old.items number None }
 {
     agenda.release(number);
@@ -135,7 +137,8 @@ pub fn call_in(
     ensures called { (g : Guest) → slot.old ≡ Some g → result ≡ Ok tt → WentOn g.connection
         (λ h. record h { made = h.made ++ words_call program version procedure words.now ∷ [] }) slot.new }
     ensures unchanged { OnErr result (slot.new ≡ slot.old) }
-    ensures kept { is_none slot.new ≡ is_none slot.old }
+    ensures kept { name_in slot.new ≡ name_in slot.old }
+    ensures fits { (g : Guest) → slot.old ≡ Some g → FitsEnd g → FitsEndIn slot.new }
 {
     let Some(guest) = slot else {
         return Err(HostFault::NoConnection { number });
@@ -158,7 +161,8 @@ pub fn answer_in(
     ensures answered { (g : Guest) (k : ℕ) → slot.old ≡ Some g → asked_of g.connection.conversation.side ≡ Some k → result ≡ Ok tt
         → WentOn g.connection (λ h. record h { answers = h.answers ++ answer_message answer k words.now ∷ [] }) slot.new }
     ensures unchanged { OnErr result (slot.new ≡ slot.old) }
-    ensures kept { is_none slot.new ≡ is_none slot.old }
+    ensures kept { name_in slot.new ≡ name_in slot.old }
+    ensures fits { (g : Guest) → slot.old ≡ Some g → FitsEnd g → FitsEndIn slot.new }
 {
     let Some(guest) = slot else {
         return Err(HostFault::NoConnection { number });
@@ -172,7 +176,8 @@ pub fn act_in(slot: &mut Option<Guest>, now: u64) -> bool
     ensures done { result ≡ is_done slot.new }
     ensures goes { (g : Guest) → slot.old ≡ Some g → LedTo Goes g.connection slot.new }
     ensures keeps { (g : Guest) → slot.old ≡ Some g → LedTo Keeps g.connection slot.new }
-    ensures kept { is_none slot.new ≡ is_none slot.old }
+    ensures kept { name_in slot.new ≡ name_in slot.old }
+    ensures fits { (g : Guest) → slot.old ≡ Some g → FitsEnd g → FitsEndIn slot.new }
     ensures acts { now < last_time → (g : Guest) → slot.old ≡ Some g → HasActedIn now g.connection slot.new }
 {
     let Some(guest) = slot else {
@@ -188,7 +193,8 @@ pub fn not_served_in(slot: &mut Option<Guest>, now: u64, quote: &OpeningQuote) -
         → is_opened_by g s quote.now ≡ true → g.connection.closed ≡ None → (result ≡ true) × IsNotServed g.connection slot.new }
     ensures goes { (g : Guest) → slot.old ≡ Some g → LedTo Goes g.connection slot.new }
     ensures unchanged { result ≡ false → slot.new ≡ slot.old }
-    ensures kept { is_none slot.new ≡ is_none slot.old }
+    ensures kept { name_in slot.new ≡ name_in slot.old }
+    ensures fits { (g : Guest) → slot.old ≡ Some g → FitsEnd g → FitsEndIn slot.new }
 {
     let Some(guest) = slot else {
         return false;
@@ -214,7 +220,8 @@ pub fn hear_in(
         → StandsFor g.connection.conversation.endpoint s → is_ours_at s.ends packet.now ≡ true
         → (result ≡ true) × HasHeard b g slot.new }
     ensures unchanged { result ≡ false → slot.new ≡ slot.old }
-    ensures kept { is_none slot.new ≡ is_none slot.old }
+    ensures kept { name_in slot.new ≡ name_in slot.old }
+    ensures fits { (g : Guest) → slot.old ≡ Some g → FitsEnd g → FitsEndIn slot.new }
 {
     let Some(guest) = slot else {
         return false;
@@ -222,6 +229,7 @@ pub fn hear_in(
     if !guest.connection.is_ours(packet) {
         return false;
     }
+    xns_spp::laws::written_packet_is_read_again();
     let _ = guest.receive(alloc, now, confirms, packet);
     true
 }
@@ -231,7 +239,8 @@ pub fn event_in(slot: &mut Option<Guest>, alloc: Global, now: u64, number: usize
     ensures event { result ≡ event_in number slot.old }
     ensures told { (g : Guest) → slot.old ≡ Some g → result ≢ None → HasToldIn g.connection slot.new }
     ensures none { result ≡ None → slot.new ≡ slot.old }
-    ensures kept { is_none slot.new ≡ is_none slot.old }
+    ensures kept { name_in slot.new ≡ name_in slot.old }
+    ensures fits { (g : Guest) → slot.old ≡ Some g → FitsEnd g → FitsEndIn slot.new }
 {
     let Some(guest) = slot else {
         return None;
@@ -265,7 +274,8 @@ pub fn packet_in(
     ensures given { IfOk result (λ made. IfSome made (λ o. IsGiven (Some slot.old) (Some slot.new) o)) }
     ensures goes { (g : Guest) → slot.old ≡ Some g → LedTo Goes g.connection slot.new }
     ensures keeps { ((o : Outgoing) → result ≢ Ok (Some o)) → (g : Guest) → slot.old ≡ Some g → LedTo Keeps g.connection slot.new }
-    ensures kept { is_none slot.new ≡ is_none slot.old }
+    ensures kept { name_in slot.new ≡ name_in slot.old }
+    ensures fits { (g : Guest) → slot.old ≡ Some g → FitsEnd g → FitsEndIn slot.new }
     ensures steps { (g : Guest) → slot.old ≡ Some g → StepsIn now g.connection (Some slot.new) }
 {
     let Some(guest) = slot else {
@@ -291,7 +301,8 @@ pub fn close_in(
     ensures some { slot.old ≢ None → result ≡ Ok tt }
     ensures closed { (g : Guest) → slot.old ≡ Some g → IsAsked g.connection slot.new }
     ensures unchanged { OnErr result (slot.new ≡ slot.old) }
-    ensures kept { is_none slot.new ≡ is_none slot.old }
+    ensures kept { name_in slot.new ≡ name_in slot.old }
+    ensures fits { (g : Guest) → slot.old ≡ Some g → FitsEnd g → FitsEndIn slot.new }
 {
     let Some(guest) = slot else {
         return Err(HostFault::NoConnection { number });

@@ -4,6 +4,9 @@ use Rattle.xns_host.specs.declared.connection.Connection.{Connection}
 use Rattle.xns_host.specs.declared.guest.Guest.{Guest}
 use Rattle.xns_host.proofs.Fetching.{told_now, untold}
 use Rattle.xns_host.proofs.Going.{by_guest}
+use Rattle.std.proofs.Common.{refl}
+use Rattle.xns_host.specs.Story.{with_handed}
+use Rattle.xns_host.proofs.Ends.{from_fits, handed_still}
 use Rattle.xns_host.proofs.slots.event_in.Goals as goal
 
 pub returns-in_err-why-clause-none : goal.returns-in_err-why-clause-none
@@ -28,3 +31,9 @@ returns-clause-told c = λ g is some.
     (sym c.in_ok-why.was ∙ c.take_why.ensures.why) in
     by_guest (λ (h : Guest). HasTold h.connection c.take_why.new.self) c.args.slot.now g c.in-Some.guest c.in-Some.is is
     (closed (sym c.take_message.ensures.message ∙ none) (now ∙ ap (λ (t : Connection). record t { told = true }) message))
+
+pub returns-in-Some-take_message-clause-fits : goal.returns-in-Some-take_message-clause-fits
+returns-in-Some-take_message-clause-fits c = λ g is fits.
+    from_fits c.args.slot.now g c.in-Some.guest _ (λ s. with_handed c.in-Some.guest.connection.conversation.side s c.in-Some-take_message.message)
+    (handed_still c.in-Some.guest.connection.conversation.side c.in-Some-take_message.message) c.in-Some.is is refl
+    (λ s tells. c.take_message.ensures.handed s c.in-Some-take_message.message tells c.in-Some-take_message.is) fits

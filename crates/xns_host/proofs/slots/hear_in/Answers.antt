@@ -2,6 +2,9 @@ use Rattle.std.proofs.Common.{◌≡◌, Option, Some, refl, subst}
 use Rattle.xns_host.specs.Hosting.{HasHeard, HearsIn, nothing}
 use Rattle.xns_host.specs.declared.guest.Guest.{Guest}
 use Rattle.xns_host.proofs.Hearing.{has_heard, heard_or_not}
+use Rattle.std.proofs.Common.{[], ◌++◌}
+use Rattle.xns_spp.specs.Packet.{spp_packet_spelling}
+use Rattle.xns_host.proofs.Ends.{received_fits}
 use Rattle.xns_host.proofs.slots.hear_in.Goals as goal
 
 pub returns-in_default-clause-hears : goal.returns-in_default-clause-hears
@@ -25,3 +28,9 @@ returns-clause-heard c = λ b g s read is stands ours.
           (has_heard b c.args.packet.now c.in-Some.guest c.receive.new.self c.receive.result read c.receive.ensures.hears c.receive.ensures.unchanged
           c.receive.ensures.memory),
     )
+
+pub returns-clause-fits : goal.returns-clause-fits
+returns-clause-fits c = λ g is fits.
+    received_fits c.args.slot.now g c.in-Some.guest _ c.args.packet.now c.receive.result (spp_packet_spelling c.args.packet.now ++ []) c.in-Some.is is
+    (c.written_packet_is_read_again.ensures.again c.args.packet.now [] c.requires) c.receive.ensures.name c.receive.ensures.hears
+    c.receive.ensures.unchanged fits

@@ -4,6 +4,7 @@ use Rattle.xns_host.specs.Quotes.{is_opened_by}
 use Rattle.xns_host.specs.declared.guest.Guest.{Guest}
 use Rattle.xns_host.proofs.Going.{goes_by, not_open}
 use Rattle.xns_host.proofs.Leading.{goes_not}
+use Rattle.xns_host.proofs.Ends.{goes_fits}
 use Rattle.xns_host.proofs.slots.not_served_in.Goals as goal
 
 pub returns-then-not-is_opened_by-clause-goes : goal.returns-then-not-is_opened_by-clause-goes
@@ -27,3 +28,6 @@ returns-clause-closed c = λ g s is stands opened unclosed.
 
 pub returns-clause-goes : goal.returns-clause-goes
 returns-clause-goes c = λ g is. goes_by c.args.slot.now g c.in-Some.guest c.in-Some.is is c.not_served.ensures.goes
+
+pub returns-clause-fits : goal.returns-clause-fits
+returns-clause-fits c = λ g is fits. goes_fits c.args.slot.now g c.in-Some.guest _ c.in-Some.is is c.not_served.ensures.name c.not_served.ensures.goes fits

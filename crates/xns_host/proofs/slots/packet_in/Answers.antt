@@ -1,6 +1,7 @@
 use Rattle.std.proofs.Common.{ap, refl, subst, ℕ, List, Option, Some}
 use Rattle.xns_host.specs.Telling.{MovesAndGives}
 use Rattle.xns_host.proofs.Going.{keeps_by, keeps_none}
+use Rattle.xns_host.proofs.Ends.{goes_fits}
 use Rattle.xns_host.proofs.slots.packet_in.Goals as goal
 
 pub returns-in-Some-2-clause-given : goal.returns-in-Some-2-clause-given
@@ -32,3 +33,15 @@ returns-in-None-2-clause-keeps c = λ none g is.
     keeps_by c.args.slot.now g c.in-Some.guest c.in-Some.is is
     (keeps_none _ _ (subst (λ (o : Option (List ℕ)). MovesAndGives c.in-Some.guest.connection.conversation c.next_packet.new.self.conversation o)
     c.in-None-2.is c.in_ok-packet.ensures.gives))
+
+pub returns-in_err-packet-clause-fits : goal.returns-in_err-packet-clause-fits
+returns-in_err-packet-clause-fits c = λ g is fits. goes_fits c.args.slot.now g c.in-Some.guest _ c.in-Some.is is refl c.next_packet.ensures.goes fits
+
+pub returns-in-Some-2-clause-fits : goal.returns-in-Some-2-clause-fits
+returns-in-Some-2-clause-fits c = λ g is fits. goes_fits c.args.slot.now g c.in-Some.guest _ c.in-Some.is is refl c.next_packet.ensures.goes fits
+
+pub returns-in-None-clause-fits : goal.returns-in-None-clause-fits
+returns-in-None-clause-fits c = λ g is fits. goes_fits c.args.slot.now g c.in-Some.guest _ c.in-Some.is is refl c.next_packet.ensures.goes fits
+
+pub returns-in-None-2-clause-fits : goal.returns-in-None-2-clause-fits
+returns-in-None-2-clause-fits c = λ g is fits. goes_fits c.args.slot.now g c.in-Some.guest _ c.in-Some.is is refl c.next_packet.ensures.goes fits

@@ -6,7 +6,31 @@ use Rattle.xns_host.specs.Hosting.{IsPlace}
 use Rattle.xns_host.specs.Story.{new_story}
 use Rattle.xns_host.specs.Telling.{Tells}
 use Rattle.xns_host.proofs.Waking.{all_in_use, gets_place, no_room, not_both}
+use Rattle.xns_host.proofs.Registered.{all_after, gave_way, joined}
 use Rattle.xns_host.proofs.host.Host.connect.Goals as goal
+
+pub invariant_of-self-2-clause-registered : goal.invariant_of-self-2-clause-registered
+invariant_of-self-2-clause-registered c =
+    all_after c.args.self.now.register c.take.new.self c.args.self.now.guests.items _ c.in-Some-next.id c.args.self.now.registered
+    (joined c.args.self.now.register c.take.new.self _ c.in-Some-next.id c.take.result c.in-Some-next.ensures.next c.take.ensures.given
+    c.take.ensures.some c.take.ensures.owner c.take.ensures.peers)
+
+pub put-requires-clause-registered : goal.put-requires-clause-registered
+put-requires-clause-registered c =
+    let has = joined c.args.self.now.register c.take.new.self _ c.in-Some-next.id c.take.result c.in-Some-next.ensures.next
+    c.take.ensures.given c.take.ensures.some c.take.ensures.owner c.take.ensures.peers in
+    record {
+      fits = ∣ record { story = _; tells = c.in-Ok.ensures.tells; id = refl; opener = λ responds. absurd (cc) } ∣₁;
+      known = c.in-Some-next.ensures.known;
+      own = has.own;
+      opener = λ o opened. absurd (cc);
+    }
+
+pub put-requires-clause-another : goal.put-requires-clause-another
+put-requires-clause-another c = λ g there.
+    gave_way c.args.self.now.register c.take.new.self c.args.self.now.guests.items _ c.in-Some.number g _ c.args.self.now.registered
+    (joined c.args.self.now.register c.take.new.self _ c.in-Some-next.id c.take.result c.in-Some-next.ensures.next c.take.ensures.given
+    c.take.ensures.some c.take.ensures.owner c.take.ensures.peers) (λ o opened. absurd (cc)) there
 
 pub returns-in_default-clause-room : goal.returns-in_default-clause-room
 returns-in_default-clause-room c = λ z.

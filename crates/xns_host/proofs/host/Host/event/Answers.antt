@@ -7,6 +7,7 @@ use Rattle.xns_host.specs.declared.guest.Guest.{Guest}
 use Rattle.xns_host.proofs.Apart.{apart_then, set_apart, set_there}
 use Rattle.xns_host.proofs.Going.{told_settled}
 use Rattle.xns_host.proofs.Noting.{kept_but, passed_but, same_place, told_nothing}
+use Rattle.xns_host.proofs.Registered.{still_registered}
 use Rattle.xns_host.proofs.host.Host.event.Goals as goal
 
 pub invariant_of-self : goal.invariant_of-self
@@ -23,6 +24,8 @@ invariant_of-self c =
       settled = size ∙ c.args.self.now.settled;
       noted = rw c.pass_event.ensures.passed (told_nothing c.args.self.now.agenda c.args.self.now.guests.items c.args.number (length c.args.self.now.agenda.dues)
           c.index_mut.result.now c.event_in-event.new.slot c.args.self.now.noted c.pass_event.ensures.room less c.requires old same quiet);
+      registered = still_registered c.args.self.now.register c.args.self.now.guests.items c.args.number c.index_mut.result.now c.event_in-event.new.slot
+          c.args.self.now.registered c.event_in-event.ensures.kept c.event_in-event.ensures.fits old c.requires;
     }
 
 pub note-requires-clause-others : goal.note-requires-clause-others

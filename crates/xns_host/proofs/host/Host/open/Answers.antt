@@ -1,10 +1,66 @@
-use Rattle.std.proofs.Common.{Some, refl, subst, false}
+use Rattle.std.proofs.Common.{◌≡◌, ◌∙◌, ap, refl, rules, subst, sym, ℕ, Some, false}
+use Rattle.std.specs.BTreeMap.{BTreeMap, IsUnchanged, Updates, get}
 use Rattle.xns_idp.specs.declared.address.Address.{Address}
 use Rattle.xns_spp.specs.State.{responder_state}
+use Rattle.xns_host.specs.Register.{peer_at, peer_cmp}
 use Rattle.xns_host.specs.Story.{new_story}
 use Rattle.xns_host.specs.Telling.{Tells}
+use Rattle.xns_host.specs.declared.peer.Peer.{Peer}
 use Rattle.xns_host.proofs.Waking.{gets_place}
+use Rattle.xns_host.proofs.Registered.{all_after, gave_way, joined_opened, unentered}
 use Rattle.xns_host.proofs.host.Host.open.Goals as goal
+
+pub invariant_of-self : goal.invariant_of-self
+invariant_of-self c =
+    let unchanged : IsUnchanged c.args.self.now.register.peers c.enter.new.self.peers = search rules in
+    record {
+      fit = c.args.self.now.fit;
+      sized = c.args.self.now.sized;
+      few = c.args.self.now.few;
+      settled = c.args.self.now.settled;
+      noted = c.args.self.now.noted;
+      registered = unentered c.args.self.now.register c.enter.new.self c.args.self.now.guests.items c.enter.ensures.identifiers unchanged
+          c.args.self.now.registered;
+    }
+
+pub invariant_of-self-2-clause-registered : goal.invariant_of-self-2-clause-registered
+invariant_of-self-2-clause-registered c =
+    let entered : Updates peer_cmp c.args.self.now.register.peers c.enter.new.self.peers c.args.opener (Some c.in_ok-number.number) = search rules in
+    all_after c.args.self.now.register c.take.new.self c.args.self.now.guests.items _ c.in_ok-id.id c.args.self.now.registered
+    (joined_opened c.args.self.now.register c.enter.new.self c.take.new.self _ c.in_ok-id.id c.args.opener c.take.result
+    c.enter.ensures.identifiers entered c.requires.unknown c.in_ok-id.ensures.next c.take.ensures.given c.take.ensures.some c.take.ensures.owner
+    c.take.ensures.peers)
+
+pub put-requires-clause-registered : goal.put-requires-clause-registered
+put-requires-clause-registered c =
+    let entered : Updates peer_cmp c.args.self.now.register.peers c.enter.new.self.peers c.args.opener (Some c.in_ok-number.number) = search rules in
+    let has = joined_opened c.args.self.now.register c.enter.new.self c.take.new.self _ c.in_ok-id.id c.args.opener c.take.result
+    c.enter.ensures.identifiers entered c.requires.unknown c.in_ok-id.ensures.next c.take.ensures.given c.take.ensures.some c.take.ensures.owner
+    c.take.ensures.peers in
+    record {
+      fits = ∣ record {
+        story = _;
+        tells = c.in-Ok.ensures.tells;
+        id = refl;
+        opener = λ responds. ap Some (c.requires.opener
+            ∙ ap (λ (own : Address). peer_at c.args.peer c.args.peer_id own.socket) (sym c.address-own.ensures));
+      } ∣₁;
+      known = c.in_ok-id.ensures.known;
+      own = has.own;
+      opener = λ o opened.
+          let same : c.args.opener ≡ o = cc in
+          ap (λ (m : BTreeMap Peer ℕ). get peer_cmp m o) c.take.ensures.peers ∙ ap (λ (p : Peer). get peer_cmp c.enter.new.self.peers p) (sym same)
+          ∙ entered.1;
+    }
+
+pub put-requires-clause-another : goal.put-requires-clause-another
+put-requires-clause-another c = λ g there.
+    let entered : Updates peer_cmp c.args.self.now.register.peers c.enter.new.self.peers c.args.opener (Some c.in_ok-number.number) = search rules in
+    gave_way c.args.self.now.register c.take.new.self c.args.self.now.guests.items _ c.in_ok-number.number g _ c.args.self.now.registered
+    (joined_opened c.args.self.now.register c.enter.new.self c.take.new.self _ c.in_ok-id.id c.args.opener c.take.result
+    c.enter.ensures.identifiers entered c.requires.unknown c.in_ok-id.ensures.next c.take.ensures.given c.take.ensures.some c.take.ensures.owner
+    c.take.ensures.peers)
+    (λ o opened. let same : c.args.opener ≡ o = cc in ap (λ (p : Peer). get peer_cmp c.args.self.now.register.peers p) (sym same) ∙ c.requires.unknown) there
 
 pub returns-clause-place : goal.returns-clause-place
 returns-clause-place c =

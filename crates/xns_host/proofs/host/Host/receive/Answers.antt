@@ -18,7 +18,7 @@ returns-in-2-clause-became c =
 pub returns-in-3-clause-refused : goal.returns-in-3-clause-refused
 returns-in-3-clause-refused c = λ p taken n g place at by there here.
     let same : p ≡ packet_model c.in-Ok.packet = one_packet (packet_model c.in-Ok.packet) p c.in-Ok.field-0-1 taken c.in-Ok.ensures.exact at in
-    c.refused.ensures.closed n g place (subst (λ (q : PacketModel). IsRefusedBy c.args.self.now.host c.args.self.now.register.identifiers q n g) same by)
+    c.refused.ensures.closed n g place (subst (λ (q : PacketModel). IsRefusedBy c.args.self.now.host q g) same by)
     there here
 
 pub returns-in-5-clause-became : goal.returns-in-5-clause-became

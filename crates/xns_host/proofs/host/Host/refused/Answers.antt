@@ -1,17 +1,30 @@
-use Rattle.std.proofs.Common.{◌≡◌, ◌∙◌, ap, subst, sym, ℕ, Some, slice_get, true}
+use Rattle.std.proofs.Common.{◌≡◌, ◌∙◌, ap, rules, subst, sym, ℕ, Some, slice_get, true}
 use Rattle.xns_host.specs.Quotes.{is_opened_by}
 use Rattle.xns_host.specs.Register.{owner_in}
 use Rattle.xns_host.specs.declared.opening_quote.OpeningQuote.{OpeningQuote}
+use Rattle.xns_host.proofs.Ends.{end_id}
 use Rattle.xns_host.proofs.host.Host.refused.Goals as goal
 
 pub returns-clause-closed : goal.returns-clause-closed
 returns-clause-closed c = λ n g place r there here.
     let quotes : Some r.quote ≡ Some c.in-Some.quote = sym r.quoted ∙ sym c.quoted_opening.ensures ∙ c.in-Some.is in
     let quote : r.quote ≡ c.in-Some.quote = cc in
+    let at = c.args.self.now.registered.each n g there in
     let owners : Some n ≡ Some c.in-Some-owner.number
-    = sym r.owner ∙ ap (λ (q : OpeningQuote). owner_in c.args.self.now.register.identifiers q.id) quote ∙ sym c.owner.ensures ∙ c.in-Some-owner.is in
+    = sym at.own ∙ ap (λ (id : ℕ). owner_in c.args.self.now.register.identifiers id) (sym (r.named ∙ end_id g r.state at.fits r.stands))
+    ∙ ap (λ (q : OpeningQuote). owner_in c.args.self.now.register.identifiers q.id) quote ∙ sym c.owner.ensures ∙ c.in-Some-owner.is in
     let owner : n ≡ c.in-Some-owner.number = cc in
     let number : n ≡ c.from.result = owner ∙ sym c.from.ensures in
     c.not_served.ensures.closed g r.state place (subst (λ (m : ℕ). slice_get c.args.self.now.guests.items m ≡ Some (Some g)) number there) r.stands
     (subst (λ (q : OpeningQuote). is_opened_by g r.state q ≡ true) quote r.opened) r.unclosed
     (subst (λ (m : ℕ). slice_get c.not_served.new.self.guests.items m ≡ Some place) number here)
+
+pub returns-in_default-owner-clause-closed : goal.returns-in_default-owner-clause-closed
+returns-in_default-owner-clause-closed c = λ n g place r there here.
+    let quotes : Some r.quote ≡ Some c.in-Some.quote = sym r.quoted ∙ sym c.quoted_opening.ensures ∙ c.in-Some.is in
+    let quote : r.quote ≡ c.in-Some.quote = cc in
+    let at = c.args.self.now.registered.each n g there in
+    let some : c.owner.result ≡ Some n = c.owner.ensures
+    ∙ ap (λ (id : ℕ). owner_in c.args.self.now.register.identifiers id)
+    (ap (λ (q : OpeningQuote). q.id) (sym quote) ∙ r.named ∙ end_id g r.state at.fits r.stands) ∙ at.own in
+    absurd (search rules)

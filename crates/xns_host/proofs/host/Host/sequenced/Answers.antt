@@ -43,7 +43,8 @@ returns-in-Some-clause-heard c = λ b taken n p g place read is by there here.
     let peer : c.at-peer.result ≡ peer_at c.in-Ok.packet.source c.in-Ok.packet.header.source_id c.in-Ok.packet.target.socket = search rules in
     let find : c.find.result
     ≡ number_by c.args.self.now.register.identifiers c.args.self.now.register.peers c.in-Ok.packet.header.target_id c.at-peer.result = search rules in
-    let found = sym c.in-Some.is ∙ find ∙ finds c.args.self.now.host c.args.self.now.register p c.in-Ok.packet n g c.at-peer.result same peer by in
+    let found = sym c.in-Some.is ∙ find ∙ finds c.args.self.now.host c.args.self.now.register p c.in-Ok.packet n g c.at-peer.result same peer
+    (c.args.self.now.registered.each n g there) by in
     let number : n ≡ c.from.result = let e : n ≡ c.in-Some.number = cc in e ∙ sym c.from.ensures in
     c.hear.ensures.heard b g by.state place (is ∙ ap Ok same) (subst (λ (m : ℕ). slice_get c.args.self.now.guests.items m ≡ Some (Some g)) number there)
     by.stands (subst (λ (q : SppPacketModel). is_ours_at by.state.ends q ≡ true) same by.ours)
@@ -57,5 +58,6 @@ returns-in-None-clause-heard c = λ b taken n p g place read is by there here.
     let peer : c.at-peer.result ≡ peer_at c.in-Ok.packet.source c.in-Ok.packet.header.source_id c.in-Ok.packet.target.socket = search rules in
     let find : c.find.result
     ≡ number_by c.args.self.now.register.identifiers c.args.self.now.register.peers c.in-Ok.packet.header.target_id c.at-peer.result = search rules in
-    let found = sym c.in-None.is ∙ find ∙ finds c.args.self.now.host c.args.self.now.register p c.in-Ok.packet n g c.at-peer.result same peer by in
+    let found = sym c.in-None.is ∙ find ∙ finds c.args.self.now.host c.args.self.now.register p c.in-Ok.packet n g c.at-peer.result same peer
+    (c.args.self.now.registered.each n g there) by in
     absurd (cc)

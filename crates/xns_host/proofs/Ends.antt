@@ -1,0 +1,244 @@
+-- The end of a connection keeps its identifier, and who opened it.
+use Rattle.std.proofs.Common.{◌≡◌, ◌∙◌, ap, refl, subst, sym, ℕ, ◌<◌, Bool, true, false, List, Option, Some, None, Result, Ok, Err, arith}
+use Rattle.std.specs.Prelude.{OnErr, OnOk, ◌+◌, ◌&&◌, ◌||◌, ◌==◌, not, if◌then◌else◌, nat_lt, max}
+use Rattle.std.specs.BTreeMap.{get}
+use Rattle.std.specs.Cmp.Lexicographic.{bytes_decides}
+use Rattle.std.specs.Str.{bytes_eq}
+use Rattle.std.specs.declared.alloc.AllocError.{AllocError}
+use Rattle.courier_messages.specs.declared.message.Message.{Message}
+use Rattle.courier_sessions.specs.Answering.{answer_refusal}
+use Rattle.courier_sessions.specs.declared.answer.Answer.{Answer}
+use Rattle.std.proofs.Math.Logic.{∥∥₁_elim}
+use Rattle.std.proofs.Props.{props}
+use Rattle.std.proofs.lemmas.Bool.{eqb-true}
+use Rattle.xns_idp.specs.Packet.{same_place}
+use Rattle.xns_spp.specs.Ends.{IsEnds, from_host, from_peer, is_meant, is_open, is_ours_at, to_responder}
+use Rattle.xns_spp.specs.Held.{Held, StandsFor}
+use Rattle.xns_spp.specs.Packet.{SppPacketModel, spp_packet_of}
+use Rattle.xns_spp.specs.Receiving.{after_decided, after_receive, decided}
+use Rattle.xns_spp.specs.Sending.{accepting, handing, send_fault, take_answer}
+use Rattle.xns_spp.specs.State.{State, send_limit}
+use Rattle.xns_spp.specs.declared.arrival.Arrival.{Arrival}
+use Rattle.xns_spp.specs.declared.dropped.Dropped.{Dropped}
+use Rattle.xns_spp.specs.declared.ends.Ends.{Ends}
+use Rattle.xns_spp.specs.declared.item.Item.{Item}
+use Rattle.xns_spp.specs.declared.role.Role.{Role}
+use Rattle.xns_spp.specs.declared.role.Role.TheVariants.{Initiator, Responder}
+use Rattle.xns_spp.specs.declared.send_fault.SendFault.{SendFault}
+use Rattle.xns_host.specs.Closing.{drains}
+use Rattle.xns_host.specs.Living.{GoesFrom}
+use Rattle.xns_host.specs.Reasons.{answer_fault_of}
+use Rattle.xns_host.specs.Refusing.{answer_fault, side_answer_fault}
+use Rattle.xns_host.specs.Register.{number_by, owner_in, peer_at, peer_cmp}
+use Rattle.xns_host.specs.Registered.{FitsEnd, IsRegistered, name_of, opener_at}
+use Rattle.xns_host.specs.Story.{Runs, Story, asked_of, with_handed, start, sends, takes, flushes, resends, tells}
+use Rattle.xns_host.specs.Telling.{Goes, Hears, Tells}
+use Rattle.xns_host.specs.declared.side.Side.{Side}
+use Rattle.xns_host.specs.declared.side.Side.TheVariants.{Answers, Calls}
+use Rattle.xns_host.specs.declared.conversation.Conversation.{Conversation}
+use Rattle.xns_host.specs.declared.guest.Guest.{Guest}
+use Rattle.xns_host.specs.declared.host_fault.HostFault.TheVariants.{Closing}
+use Rattle.xns_host.specs.declared.peer.Peer.{Peer}
+use Rattle.xns_host.specs.declared.register.Register.{Register}
+
+-- ---- an end's own steps
+
+sent_ends : (o : Option SendFault) (s : State) (x : Item) → (accepting o s x).ends ≡ s.ends
+sent_ends None s x = refl
+sent_ends (Some f) s x = refl
+
+took_ends : (o : Option Item) (s : State) → (handing o s).ends ≡ s.ends
+took_ends None s = refl
+took_ends (Some x) s = refl
+
+either_ends : (b : Bool) (s : State) (n : ℕ) → (if b then record s { sent = n } else s).ends ≡ s.ends
+either_ends true s n = refl
+either_ends false s n = refl
+
+run_ends : {s v : State} → Runs s v → v.ends ≡ s.ends
+run_ends start = refl
+run_ends (sends {v = v} p x) = sent_ends (send_fault v x) v x ∙ run_ends p
+run_ends (takes {v = v} p) = took_ends (take_answer v) v ∙ run_ends p
+run_ends (flushes {v = v} p) = either_ends (is_open v.ends) v (send_limit v) ∙ run_ends p
+run_ends (resends {v = v} p) = either_ends (is_open v.ends && nat_lt v.acknowledged (send_limit v)) v (max v.sent (v.acknowledged + 1)) ∙ run_ends p
+run_ends (tells p asks) = run_ends p
+
+-- ---- bytes that came
+
+-- the end is another at most by the peer that an initiator learns
+record IsSameEnd (a b : Ends) : Type 0 where
+  pub id : b.id ≡ a.id
+  pub role : b.role ≡ a.role
+  pub opened : a.role ≡ Responder → b ≡ a
+
+the_same : (e f : Ends) → f ≡ e → IsSameEnd e f
+the_same e f same = record { id = ap (λ (x : Ends). x.id) same; role = ap (λ (x : Ends). x.role) same; opened = λ is. same }
+
+open_by : (n : ℕ) (b : Bool) → (n == 0) ≡ b → 0 < n → b ≡ false
+open_by n true zero some = let is : n ≡ 0 = eqb-true n 0 zero in absurd (omega (arith, is, some))
+open_by n false zero some = refl
+
+learned_end : (e : Ends) (p : SppPacketModel) (b : Bool) → is_open e ≡ b → IsEnds e
+    → IsSameEnd e (if b then e else record e { peer = p.source; peer_id = p.header.source_id })
+learned_end e p true opened is = the_same e e refl
+learned_end e p false shut is = record {
+  id = refl;
+  role = refl;
+  opened = λ responds.
+      let zero : (e.peer_id == 0) ≡ false = open_by e.peer_id (e.peer_id == 0) refl (is.peer_known responds) in
+      let there : is_open e ≡ true = ap not zero in
+      absurd (cc);
+}
+
+decided_end : (s : State) (r : Result Arrival Dropped) → IsEnds s.ends → IsSameEnd s.ends (after_decided s r).ends
+decided_end s (Err d) is = the_same s.ends s.ends refl
+decided_end s (Ok a) is = learned_end s.ends a.packet (is_open s.ends) refl is
+
+received_end : (s : State) (bytes : List ℕ) → IsEnds s.ends → IsSameEnd s.ends (after_receive s bytes).ends
+received_end s bytes is = decided_end s (decided s bytes) is
+
+-- ---- the end of a connection
+
+-- its story went on
+went : (g h : Guest) → name_of h ≡ name_of g → (e : FitsEnd g) → (m : Story) → Tells h.connection.conversation m → IsSameEnd e.story.state.ends m.state.ends
+    → FitsEnd h
+went g h same e m told end =
+    let id : h.id ≡ g.id = ap (λ (k : ℕ × Option Peer). k.0) same in
+    let opener : h.opener ≡ g.opener = ap (λ (k : ℕ × Option Peer). k.1) same in
+    record {
+      story = m;
+      tells = told;
+      id = end.id ∙ e.id ∙ sym id;
+      opener = λ responds.
+          let was : e.story.state.ends.role ≡ Responder = sym end.role ∙ responds in
+          opener ∙ e.opener was ∙ ap (λ (x : Ends). Some (opener_at x)) (sym (end.opened was));
+    }
+
+went_from : (g h : Guest) (base : Story → Story) → ((s : Story) → (base s).state ≡ s.state) → name_of h ≡ name_of g
+    → GoesFrom g.connection.conversation h.connection.conversation base → FitsEnd g → FitsEnd h
+went_from g h base still same goes e =
+    let next = goes e.story e.tells in
+    let ends : next.0.state.ends ≡ e.story.state.ends = run_ends next.2.path ∙ ap (λ (s : State). s.ends) (still e.story) in
+    went g h same e next.0 next.1 (the_same e.story.state.ends next.0.state.ends ends)
+
+-- in the place of that one, which is this one
+
+one : (place : Option Guest) (g f : Guest) → place ≡ Some f → place ≡ Some g → FitsEnd g → FitsEnd f
+one place g f there is fits = let same : g ≡ f = cc in subst FitsEnd same fits
+
+pub same_fits : (place : Option Guest) (g f h : Guest) → place ≡ Some f → place ≡ Some g → h ≡ f → FitsEnd g → FitsEnd h
+same_fits place g f h there is same fits = subst FitsEnd (sym same) (one place g f there is fits)
+
+pub from_fits : (place : Option Guest) (g f h : Guest) (base : Story → Story) → ((s : Story) → (base s).state ≡ s.state) → place ≡ Some f → place ≡ Some g
+    → name_of h ≡ name_of f → GoesFrom f.connection.conversation h.connection.conversation base → FitsEnd g → FitsEnd h
+from_fits place g f h base still there is same goes fits = went_from f h base still same goes (one place g f there is fits)
+
+pub goes_fits : (place : Option Guest) (g f h : Guest) → place ≡ Some f → place ≡ Some g → name_of h ≡ name_of f
+    → Goes f.connection.conversation h.connection.conversation → FitsEnd g → FitsEnd h
+goes_fits place g f h there is same goes fits = from_fits place g f h (λ s. s) (λ s. refl) there is same goes.on fits
+
+hears_fits : (place : Option Guest) (g f h : Guest) (bytes : List ℕ) → place ≡ Some f → place ≡ Some g → name_of h ≡ name_of f
+    → Hears f.connection.conversation h.connection.conversation bytes → FitsEnd g → FitsEnd h
+hears_fits place g f h bytes there is same hears fits =
+    let e = one place g f there is fits in
+    let next = hears.on e.story e.tells in
+    let here : IsSameEnd e.story.state.ends (after_receive e.story.state bytes).ends = received_end e.story.state bytes e.tells.stands.fits.ends in
+    let ends : next.0.state.ends ≡ (after_receive e.story.state bytes).ends = run_ends next.2.path in
+    went f h same e next.0 next.1 (subst (λ (x : Ends). IsSameEnd e.story.state.ends x) (sym ends) here)
+
+pub received_fits : (place : Option Guest) (g f h : Guest) (m : SppPacketModel) (r : Result (Unit {0}) AllocError) (bytes : List ℕ) → place ≡ Some f
+    → place ≡ Some g → spp_packet_of bytes ≡ Ok m → name_of h ≡ name_of f
+    → OnOk r ((b : List ℕ) → spp_packet_of b ≡ Ok m → Hears f.connection.conversation h.connection.conversation b) → OnErr r (h ≡ f)
+    → FitsEnd g → FitsEnd h
+received_fits place g f h m (Ok u) bytes there is read same ok err fits = hears_fits place g f h bytes there is same (ok bytes read) fits
+received_fits place g f h m (Err e) bytes there is read same ok err fits = same_fits place g f h there is err fits
+
+pub handed_still : (side : Side) (m : Message) (s : Story) → (with_handed side s m).state ≡ s.state
+handed_still (Calls t) m s = refl
+handed_still (Answers a) m s = refl
+
+-- an answer is given to a call that waits
+asked_by : (side : Side) (b : Bool) (answer : Answer) (words : List ℕ) → (if b then Some Closing else side_answer_fault side answer words) ≡ None
+    → (k : ℕ) × (asked_of side ≡ Some k)
+asked_by side true answer words free = absurd (cc)
+asked_by (Calls t) false answer words free = absurd (cc)
+asked_by (Answers a) false answer words free = waits a.asked free where
+  waits : (o : Option ℕ) → answer_fault (answer_refusal o answer words) ≡ None → (k : ℕ) × (o ≡ Some k)
+  waits None none = absurd (cc)
+  waits (Some k) none = (k, refl)
+
+pub asked_of_one : (t : Conversation) (answer : Answer) (words : List ℕ) → answer_fault_of t answer words ≡ None
+    → (k : ℕ) × (asked_of t.side ≡ Some k)
+asked_of_one t answer words free = asked_by t.side (drains t.side t.closing) answer words free
+
+-- ---- which connection a packet is of
+
+end_of : (g : Guest) (s : State) → (fits : FitsEnd g) → StandsFor g.connection.conversation.endpoint s → s.ends ≡ fits.story.state.ends
+end_of g s fits stands = ap (λ (e : Held). e.ends) (sym stands.holds ∙ fits.tells.stands.holds)
+
+end_named : (g : Guest) (s : State) → FitsEnd g → StandsFor g.connection.conversation.endpoint s → s.ends.id ≡ g.id
+end_named g s fits stands = ap (λ (e : Ends). e.id) (end_of g s fits stands) ∙ fits.id
+
+pub end_id : (g : Guest) (s : State) → ∥ FitsEnd g ∥₁ → StandsFor g.connection.conversation.endpoint s → s.ends.id ≡ g.id
+end_id g s fits stands = ∥∥₁_elim fits (Prim.hlevel props) (λ fit. end_named g s fit stands)
+
+and_both : (p q : Bool) → (p && q) ≡ true → (p ≡ true) × (q ≡ true)
+and_both true true is = (refl, refl)
+and_both true false is = absurd (cc)
+and_both false q is = absurd (cc)
+
+or_first : (p q : Bool) → (p || q) ≡ true → q ≡ false → p ≡ true
+or_first true q is none = refl
+or_first false q is none = absurd (cc)
+
+-- it is from the opener
+same_opener : (e : Ends) (p : SppPacketModel) → same_place p.target e.own ≡ true → from_peer e p ≡ true
+    → peer_at p.source p.header.source_id p.target.socket ≡ opener_at e
+same_opener e p target from =
+    let to = and_both (bytes_eq p.target.host e.own.host) (p.target.socket == e.own.socket) target in
+    let of = and_both (same_place p.source e.peer) (p.header.source_id == e.peer_id) from in
+    let place = and_both (bytes_eq p.source.host e.peer.host) (p.source.socket == e.peer.socket) of.0 in
+    λ i. record {
+      host = (bytes_decides p.source.host e.peer.host).0 place.0 i;
+      socket = eqb-true p.source.socket e.peer.socket place.1 i;
+      id = eqb-true p.header.source_id e.peer_id of.1 i;
+      to = eqb-true p.target.socket e.own.socket to.1 i;
+    }
+
+by_owner : (r : Register) (n : ℕ) (g : Guest) (e : Ends) (id : ℕ) → IsRegistered r n g → e.id ≡ g.id → (id == e.id) ≡ true
+    → owner_in r.identifiers id ≡ Some n
+by_owner r n g e id is same meant = ap (λ (i : ℕ). owner_in r.identifiers i) (eqb-true id e.id meant ∙ same) ∙ is.own
+
+meant_by : (r : Register) (n : ℕ) (g : Guest) (e : Ends) (p : SppPacketModel) (role : Role) (b : Bool) → e.role ≡ role
+    → (p.header.target_id == 0) ≡ b → IsRegistered r n g → e.id ≡ g.id → (e.role ≡ Responder → g.opener ≡ Some (opener_at e))
+    → same_place p.target e.own ≡ true → is_meant role e p ≡ true
+    → (if b then get peer_cmp r.peers (peer_at p.source p.header.source_id p.target.socket) else owner_in r.identifiers p.header.target_id) ≡ Some n
+meant_by r n g e p Responder true role zero is id opener target meant =
+    let from = and_both (to_responder e.id p) (from_peer e p) meant in
+    ap (λ (o : Peer). get peer_cmp r.peers o) (same_opener e p target from.1) ∙ is.opener (opener_at e) (opener role)
+meant_by r n g e p Responder false role zero is id opener target meant =
+    let to = and_both (to_responder e.id p) (from_peer e p) meant in
+    by_owner r n g e p.header.target_id is id (or_first (p.header.target_id == e.id) (p.header.target_id == 0) to.0 zero)
+meant_by r n g e p Initiator true role zero is id opener target meant =
+    let to = and_both (p.header.target_id == e.id) (if is_open e then from_peer e p else from_host e p) meant in
+    let none : p.header.target_id ≡ 0 = eqb-true p.header.target_id 0 zero in
+    let same : p.header.target_id ≡ g.id = eqb-true p.header.target_id e.id to.0 ∙ id in
+    let known = is.known in
+    absurd (omega (arith, none, same, known))
+meant_by r n g e p Initiator false role zero is id opener target meant =
+    let to = and_both (p.header.target_id == e.id) (if is_open e then from_peer e p else from_host e p) meant in
+    by_owner r n g e p.header.target_id is id to.0
+
+leads_by : (r : Register) (n : ℕ) (g : Guest) (s : State) (p : SppPacketModel) → IsRegistered r n g → FitsEnd g
+    → StandsFor g.connection.conversation.endpoint s → is_ours_at s.ends p ≡ true
+    → number_by r.identifiers r.peers p.header.target_id (peer_at p.source p.header.source_id p.target.socket) ≡ Some n
+leads_by r n g s p is fits stands ours =
+    let same = end_of g s fits stands in
+    let both = and_both (same_place p.target s.ends.own) (is_meant s.ends.role s.ends p) ours in
+    meant_by r n g s.ends p s.ends.role (p.header.target_id == 0) refl refl is (end_named g s fits stands)
+    (λ responds. fits.opener (sym (ap (λ (e : Ends). e.role) same) ∙ responds) ∙ ap (λ (e : Ends). Some (opener_at e)) (sym same)) both.0 both.1
+
+pub leads_to : (r : Register) (n : ℕ) (g : Guest) (s : State) (p : SppPacketModel) → IsRegistered r n g
+    → StandsFor g.connection.conversation.endpoint s → is_ours_at s.ends p ≡ true
+    → number_by r.identifiers r.peers p.header.target_id (peer_at p.source p.header.source_id p.target.socket) ≡ Some n
+leads_to r n g s p is stands ours = ∥∥₁_elim is.fits (Prim.hlevel props) (λ fits. leads_by r n g s p is fits stands ours)

@@ -1,0 +1,16 @@
+use Rattle.std.proofs.Common.{◌≡◌, ◌++◌, ◌∷◌, [], Ok, Result, refl, rules, subst}
+use Rattle.courier_sessions.specs.Answering.{answer_message}
+use Rattle.xns_host.specs.Reasons.{answer_fault_of}
+use Rattle.xns_host.specs.Refusing.{Answers}
+use Rattle.xns_host.specs.declared.host_fault.HostFault.{HostFault}
+use Rattle.xns_host.proofs.Ends.{asked_of_one, from_fits}
+use Rattle.xns_host.proofs.slots.answer_in.Goals as goal
+
+pub returns-clause-fits : goal.returns-clause-fits
+returns-clause-fits c = λ g is fits.
+    let good : c.answer.result ≡ Ok tt = search rules in
+    let free = subst (λ (r : Result (Unit {0}) HostFault). Answers (answer_fault_of c.in-Some.guest.connection.conversation c.args.answer c.args.words.now) r) good
+    c.answer.ensures.answer in
+    let asked = asked_of_one c.in-Some.guest.connection.conversation c.args.answer c.args.words.now free in
+    from_fits c.args.slot.now g c.in-Some.guest _ (λ h. record h { answers = h.answers ++ answer_message c.args.answer asked.0 c.args.words.now ∷ [] })
+    (λ s. refl) c.in-Some.is is c.answer.ensures.name (c.answer.ensures.answered asked.0 asked.1 good) fits

@@ -1,0 +1,56 @@
+-- Where the register leads the packets of connections.
+use Rattle.std.specs.Prelude.{◌≡◌, ◌≢◌, ℕ, ◌<◌, List, Option, Some, None, slice_get}
+use Rattle.std.specs.BTreeMap.{get}
+use Rattle.xns_spp.specs.declared.ends.Ends.{Ends}
+use Rattle.xns_spp.specs.declared.role.Role.TheVariants.{Responder}
+use Rattle.xns_host.specs.Register.{owner_in, peer_at, peer_cmp}
+use Rattle.xns_host.specs.Story.{Story}
+use Rattle.xns_host.specs.Telling.{Tells}
+use Rattle.xns_host.specs.declared.guest.Guest.{Guest}
+use Rattle.xns_host.specs.declared.peer.Peer.{Peer}
+use Rattle.xns_host.specs.declared.register.Register.{Register}
+
+-- what a packet names a connection by: its identifier, or who opened it
+abbrev pub name_of : Guest → ℕ × Option Peer
+name_of g = (g.id, g.opener)
+
+-- the one in this place
+abbrev pub name_in : Option Guest → Option (ℕ × Option Peer)
+name_in None = None
+name_in (Some g) = Some (name_of g)
+
+-- who opened a connection, as the end knows it that answers
+abbrev pub opener_at : Ends → Peer
+opener_at e = peer_at e.peer e.peer_id e.own.socket
+
+-- what is noted of the connection is what its end has: its identifier, and its peer where that opened it
+pub record FitsEnd (g : Guest) : Type 0 where
+  pub story : Story
+  pub tells : Tells g.connection.conversation story
+  pub id : story.state.ends.id ≡ g.id
+  pub opener : story.state.ends.role ≡ Responder → g.opener ≡ Some (opener_at story.state.ends)
+
+-- so it is of the one in this place
+abbrev pub FitsEndIn : Option Guest → Type 0
+FitsEndIn None = ⊥
+FitsEndIn (Some g) = FitsEnd g
+
+-- it is so of this connection, and the register leads to this number what names it
+pub record IsRegistered (r : Register) (number : ℕ) (g : Guest) : Type 0 where
+  pub fits : ∥ FitsEnd g ∥₁
+  pub known : 0 < g.id
+  pub own : owner_in r.identifiers g.id ≡ Some number
+  pub opener : (o : Peer) → g.opener ≡ Some o → get peer_cmp r.peers o ≡ Some number
+
+-- it does so of each connection
+pub record IsAllRegistered (r : Register) (guests : List (Option Guest)) : Type 0 where
+  pub each : (n : ℕ) (g : Guest) → slice_get guests n ≡ Some (Some g) → IsRegistered r n g
+
+-- nothing names both of these connections
+pub record IsAnother (g h : Guest) : Type 0 where
+  pub own : h.id ≢ g.id
+  pub opener : (o : Peer) → g.opener ≡ Some o → h.opener ≢ Some o
+
+-- the connection in this place left the register: to each other one it leads still
+pub record HasLeft (old new : Register) (place : Option (Option Guest)) : Type 0 where
+  pub others : (n : ℕ) (g : Guest) → IsRegistered old n g → ((h : Guest) → place ≡ Some (Some h) → IsAnother h g) → IsRegistered new n g
