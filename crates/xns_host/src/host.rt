@@ -8,7 +8,7 @@ ghost use Rattle.courier_messages.specs.RawCalls.{words_call};
 ghost use Rattle.xns_idp.specs.Packet.{IsPacket, PacketModel, most_data, packet_model};
 ghost use Rattle.xns_idp.specs.Reading.{packet_of};
 ghost use Rattle.xns_spp.specs.Ends.{is_ours_at};
-ghost use Rattle.xns_spp.specs.Packet.{IsSppPacket, SppPacketModel, spp_packet_of};
+ghost use Rattle.xns_spp.specs.Packet.{IsSppPacket, SppPacketModel, opener_of, spp_packet_of};
 ghost use Rattle.xns_small.specs.Echo.{IsAnswered, echo_reply};
 ghost use Rattle.xns_spp.specs.Held.{StandsFor};
 ghost use Rattle.xns_spp.specs.State.{State};
@@ -85,6 +85,7 @@ pub struct Host {
 }
 
 impl Host {
+    ghost use Rattle.xns_host.specs.Ours.{IsOf, IsOpener, IsOurs, IsToOpen, QuotesOurs};
     ghost use Rattle.xns_host.specs.Standing.{IsNewHost, IsSameHost, StaysSetUp};
 
     /// A host at this address, without services and connections. The identifiers of its connections come in an order that the secret
@@ -390,6 +391,8 @@ impl Host {
         ensures heard { (p : SppPacketModel) (n : ℕ) (g : Guest) (place : Option Guest) → spp_packet_of bytes.now ≡ Ok p
             → IsNamed self.old.host self.old.register p n g → slice_get self.old.guests.items n ≡ Some (Some g)
             → slice_get self.new.guests.items n ≡ Some place → (result ≡ true) × HasHeard bytes.now g place }
+        ensures ours { result ≡ true → IsOurs self.old bytes.now }
+        ensures opener { (p : SppPacketModel) → spp_packet_of bytes.now ≡ Ok p → IsOpener self.old p → result ≡ true }
         ensures set_up { StaysSetUp self.old self.new }
     {
         let now = self.clock.tell(now);
@@ -410,6 +413,7 @@ impl Host {
         ensures answered { IsAnswered (address_in self.old.network self.old.host echo_socket) (packet_model packet.now) → (result ≡ true)
             × MayHaveStray self.old.strays self.new.strays (stray_of via
             (echo_reply (address_in self.old.network self.old.host echo_socket) (packet_model packet.now))) }
+        ensures ours { result ≡ true → IsAnswered (address_in self.old.network self.old.host echo_socket) (packet_model packet.now) }
         ensures guests { self.new.guests ≡ self.old.guests }
         ensures agenda { self.new.agenda ≡ self.old.agenda }
         ensures set_up { StaysSetUp self.old self.new }
@@ -428,6 +432,7 @@ impl Host {
             → IsRefusedBy self.old.host self.old.register.identifiers (packet_model packet.now) n g
             → slice_get self.old.guests.items n ≡ Some (Some g) → slice_get self.new.guests.items n ≡ Some place
             → (result ≡ true) × IsNotServed g.connection place }
+        ensures ours { packet.now.kind ≡ 3 → result ≡ true → QuotesOurs self.old (packet_model packet.now) }
         ensures goes { EachGoes self.old.guests.items self.new.guests.items }
         ensures one { ChangesOne self.old.guests.items self.new.guests.items }
         ensures unchanged { result ≡ false → (k : ℕ) → slice_get self.new.guests.items k ≡ slice_get self.old.guests.items k }
@@ -451,6 +456,7 @@ impl Host {
         ensures closed { (g : Guest) (s : State) (place : Option Guest) → slice_get self.old.guests.items number ≡ Some (Some g)
             → StandsFor g.connection.conversation.endpoint s → is_opened_by g s quote.now ≡ true → g.connection.closed ≡ None
             → slice_get self.new.guests.items number ≡ Some place → (result ≡ true) × IsNotServed g.connection place }
+        ensures ours { result ≡ true → IsThere (IsToOpen quote.now) (slice_get self.old.guests.items number) }
         ensures goes { EachGoes self.old.guests.items self.new.guests.items }
         ensures apart { IsApart self.old.guests.items self.new.guests.items number }
         ensures unchanged { result ≡ false → (k : ℕ) → slice_get self.new.guests.items k ≡ slice_get self.old.guests.items k }
@@ -476,6 +482,9 @@ impl Host {
             → packet_of b ≡ Ok (packet_model carrier.now, taken) → spp_packet_of b ≡ Ok p
             → IsNamed self.old.host self.old.register p n g → slice_get self.old.guests.items n ≡ Some (Some g)
             → slice_get self.new.guests.items n ≡ Some place → (result ≡ true) × HasHeard b g place }
+        ensures ours { (b : List ℕ) (taken : ℕ) → packet_of b ≡ Ok (packet_model carrier.now, taken) → result ≡ true → IsOurs self.old b }
+        ensures opener { (b : List ℕ) (taken : ℕ) (p : SppPacketModel) → packet_of b ≡ Ok (packet_model carrier.now, taken)
+            → spp_packet_of b ≡ Ok p → IsOpener self.old p → result ≡ true }
         ensures one { ChangesOne self.old.guests.items self.new.guests.items }
         ensures unchanged { result ≡ false → (k : ℕ) → slice_get self.new.guests.items k ≡ slice_get self.old.guests.items k }
         ensures set_up { StaysSetUp self.old self.new }
@@ -507,6 +516,7 @@ impl Host {
             → slice_get self.old.guests.items number ≡ Some (Some g) → StandsFor g.connection.conversation.endpoint s
             → is_ours_at s.ends packet.now ≡ true → slice_get self.new.guests.items number ≡ Some place
             → (result ≡ true) × HasHeard b g place }
+        ensures ours { result ≡ true → IsThere (IsOf packet.now) (slice_get self.old.guests.items number) }
         ensures apart { IsApart self.old.guests.items self.new.guests.items number }
         ensures unchanged { result ≡ false → (k : ℕ) → slice_get self.new.guests.items k ≡ slice_get self.old.guests.items k }
         ensures set_up { StaysSetUp self.old self.new }
@@ -527,6 +537,10 @@ impl Host {
         ensures became { (b : List ℕ) → spp_packet_of b ≡ Ok packet.now
             → Receives (IsOpened self.old.services.programs self.old.settings self.old.register.identifiers self.old.network
             self.old.host via) b self.old.guests.items self.new.guests.items }
+        ensures opener { result ≡ true → (opener_of packet.now ≢ None)
+            × (programs_at self.old.services.programs packet.now.target.socket ≢ None) }
+        ensures answer { opener_of packet.now ≢ None → programs_at self.old.services.programs packet.now.target.socket ≢ None
+            → result ≡ true }
         ensures one { ChangesOne self.old.guests.items self.new.guests.items }
         ensures unchanged { result ≡ false → (k : ℕ) → slice_get self.new.guests.items k ≡ slice_get self.old.guests.items k }
         ensures set_up { StaysSetUp self.old self.new }

@@ -7,10 +7,11 @@ ghost use Rattle.courier_messages.specs.RawCalls.{words_call};
 ghost use Rattle.xns_spp.specs.Ends.{is_ours_at};
 ghost use Rattle.xns_spp.specs.Packet.{IsSppPacket, spp_packet_of};
 ghost use Rattle.xns_host.specs.Events.{event_in, event_of};
-ghost use Rattle.xns_host.specs.Hosting.{HasHeard, HasToldIn, HearsIn, IsAllNoted, IsAsked, IsGiven, IsNotServed, IsNotedBut, LedTo};
+ghost use Rattle.xns_host.specs.Hosting.{HasHeard, HasToldIn, HearsIn, IsAllNoted, IsAsked, IsGiven, IsNotServed, IsNotedBut, IsThere, LedTo};
 ghost use Rattle.xns_host.specs.Hosting.{WentOn, facts_in, is_done};
 ghost use Rattle.xns_spp.specs.Held.{StandsFor};
 ghost use Rattle.xns_spp.specs.State.{State};
+ghost use Rattle.xns_host.specs.Ours.{IsOf, IsToOpen};
 ghost use Rattle.xns_host.specs.Quotes.{is_opened_by};
 ghost use Rattle.xns_host.specs.Story.{asked_of};
 ghost use Rattle.xns_host.specs.Telling.{Goes, Keeps};
@@ -186,6 +187,7 @@ pub fn act_in(slot: &mut Option<Guest>, now: u64) -> bool
 pub fn not_served_in(slot: &mut Option<Guest>, now: u64, quote: &OpeningQuote) -> bool
     ensures closed { (g : Guest) (s : State) → slot.old ≡ Some g → StandsFor g.connection.conversation.endpoint s
         → is_opened_by g s quote.now ≡ true → g.connection.closed ≡ None → (result ≡ true) × IsNotServed g.connection slot.new }
+    ensures ours { result ≡ true → IsThere (IsToOpen quote.now) (Some slot.old) }
     ensures goes { (g : Guest) → slot.old ≡ Some g → LedTo Goes g.connection slot.new }
     ensures unchanged { result ≡ false → slot.new ≡ slot.old }
     ensures kept { is_none slot.new ≡ is_none slot.old }
@@ -213,6 +215,7 @@ pub fn hear_in(
     ensures heard { (b : List ℕ) (g : Guest) (s : State) → spp_packet_of b ≡ Ok packet.now → slot.old ≡ Some g
         → StandsFor g.connection.conversation.endpoint s → is_ours_at s.ends packet.now ≡ true
         → (result ≡ true) × HasHeard b g slot.new }
+    ensures ours { result ≡ true → IsThere (IsOf packet.now) (Some slot.old) }
     ensures unchanged { result ≡ false → slot.new ≡ slot.old }
     ensures kept { is_none slot.new ≡ is_none slot.old }
 {

@@ -1,4 +1,4 @@
-use Rattle.std.proofs.Common.{◌≡◌, Option, Some, refl, subst}
+use Rattle.std.proofs.Common.{◌≡◌, Option, Some, ap, refl, rules, subst}
 use Rattle.xns_host.specs.Hosting.{HasHeard, HearsIn, nothing}
 use Rattle.xns_host.specs.declared.guest.Guest.{Guest}
 use Rattle.xns_host.proofs.Hearing.{has_heard, heard_or_not}
@@ -25,3 +25,10 @@ returns-clause-heard c = λ b g s read is stands ours.
           (has_heard b c.args.packet.now c.in-Some.guest c.receive.new.self c.receive.result read c.receive.ensures.hears c.receive.ensures.unchanged
           c.receive.ensures.memory),
     )
+
+pub returns-clause-ours : goal.returns-clause-ours
+returns-clause-ours c = λ yes. record {
+  guest = c.in-Some.guest;
+  there = ap Some c.in-Some.is;
+  is = λ s stands. let e = c.is_ours.ensures s stands in search rules;
+}
