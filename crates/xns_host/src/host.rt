@@ -86,7 +86,7 @@ pub struct Host {
 
 impl Host {
     ghost use Rattle.xns_host.specs.Ours.{IsOf, IsOpener, IsOurs, IsToOpen, QuotesOurs};
-    ghost use Rattle.xns_host.specs.Standing.{IsNewHost, IsSameHost, StaysSetUp};
+    ghost use Rattle.xns_host.specs.Standing.{IsNewHost, IsSameHost, StaysSetUp, StaysSetUpAt};
 
     /// A host at this address, without services and connections. The identifiers of its connections come in an order that the secret
     /// gives.
@@ -102,6 +102,7 @@ impl Host {
         ensures made { IfOk result (IsNewHost network host settings secret) }
         ensures room { IfOk result (λ h. length h.guests.items ≡ settings.connections) }
         ensures settings { (s : Setting) → wrong_setting settings ≡ Some s → result ≡ Err (OutOfRange s) }
+        ensures fault { OnErr result (wrong_setting settings ≡ None → result ≡ Err NoMemory) }
     {
         settings.check()?;
         match Host::made(alloc, network, host, settings, secret) {
@@ -162,6 +163,7 @@ impl Host {
         ensures guests { self.new.guests ≡ self.old.guests }
         ensures agenda { self.new.agenda ≡ self.old.agenda }
         ensures same { IsSameHost self.old self.new }
+        ensures clock { self.new.clock ≡ self.old.clock }
     {
         self.services.serve(self.alloc, socket, programs)
     }
@@ -240,7 +242,7 @@ impl Host {
         ensures fault { OnErr result ((result ≡ Err NoRoom) ⊎ (result ≡ Err NoMemory)) }
         ensures unchanged { OnErr result ((k : ℕ) → slice_get self.new.guests.items k ≡ slice_get self.old.guests.items k) }
         ensures agenda { OnErr result (self.new.agenda ≡ self.old.agenda) }
-        ensures set_up { StaysSetUp self.old self.new }
+        ensures set_up { StaysSetUpAt now self.old self.new }
     {
         let now = self.clock.tell(now);
         let Some(number) = self.agenda.place() else {
@@ -292,7 +294,7 @@ impl Host {
             → WentOn g.connection (λ h. record h { made = h.made ++ words_call program version procedure words.now ∷ [] }) place }
         ensures unchanged { OnErr result ((k : ℕ) → slice_get self.new.guests.items k ≡ slice_get self.old.guests.items k) }
         ensures agenda { OnErr result (self.new.agenda ≡ self.old.agenda) }
-        ensures set_up { StaysSetUp self.old self.new }
+        ensures set_up { StaysSetUpAt now self.old self.new }
     {
         let now = self.clock.tell(now);
         if number >= self.guests.len() {
@@ -334,7 +336,7 @@ impl Host {
             → WentOn g.connection (λ h. record h { answers = h.answers ++ answer_message answer k words.now ∷ [] }) place }
         ensures unchanged { OnErr result ((k : ℕ) → slice_get self.new.guests.items k ≡ slice_get self.old.guests.items k) }
         ensures agenda { OnErr result (self.new.agenda ≡ self.old.agenda) }
-        ensures set_up { StaysSetUp self.old self.new }
+        ensures set_up { StaysSetUpAt now self.old self.new }
     {
         let now = self.clock.tell(now);
         if number >= self.guests.len() {
@@ -362,7 +364,7 @@ impl Host {
             → slice_get self.new.guests.items number ≡ Some place → IsAsked g.connection place }
         ensures unchanged { OnErr result ((k : ℕ) → slice_get self.new.guests.items k ≡ slice_get self.old.guests.items k) }
         ensures agenda { OnErr result (self.new.agenda ≡ self.old.agenda) }
-        ensures set_up { StaysSetUp self.old self.new }
+        ensures set_up { StaysSetUpAt now self.old self.new }
     {
         let now = self.clock.tell(now);
         if number >= self.guests.len() {
@@ -393,7 +395,7 @@ impl Host {
             → slice_get self.new.guests.items n ≡ Some place → (result ≡ true) × HasHeard bytes.now g place }
         ensures ours { result ≡ true → IsOurs self.old bytes.now }
         ensures opener { (p : SppPacketModel) → spp_packet_of bytes.now ≡ Ok p → IsOpener self.old p → result ≡ true }
-        ensures set_up { StaysSetUp self.old self.new }
+        ensures set_up { StaysSetUpAt now self.old self.new }
     {
         let now = self.clock.tell(now);
         let Ok((packet, _)) = decode(bytes) else {
@@ -724,7 +726,7 @@ impl Host {
         ensures fault { OnErr result (result ≡ Err NoMemory) }
         ensures due { let time = max self.old.clock.latest now in time < last_time
             → DoesDue time self.old.guests.items self.new.guests.items }
-        ensures set_up { StaysSetUp self.old self.new }
+        ensures set_up { StaysSetUpAt now self.old self.new }
     {
         let now = self.clock.tell(now);
         self.act_all(now);
