@@ -294,6 +294,7 @@ impl Host {
             → WentOn g.connection (λ h. record h { made = h.made ++ words_call program version procedure words.now ∷ [] }) place }
         ensures unchanged { OnErr result ((k : ℕ) → slice_get self.new.guests.items k ≡ slice_get self.old.guests.items k) }
         ensures agenda { OnErr result (self.new.agenda ≡ self.old.agenda) }
+        ensures steps { EachSteps (max self.old.clock.latest now) self.old.guests.items self.new.guests.items }
         ensures set_up { StaysSetUpAt now self.old self.new }
     {
         let now = self.clock.tell(now);
@@ -336,6 +337,7 @@ impl Host {
             → WentOn g.connection (λ h. record h { answers = h.answers ++ answer_message answer k words.now ∷ [] }) place }
         ensures unchanged { OnErr result ((k : ℕ) → slice_get self.new.guests.items k ≡ slice_get self.old.guests.items k) }
         ensures agenda { OnErr result (self.new.agenda ≡ self.old.agenda) }
+        ensures steps { EachSteps (max self.old.clock.latest now) self.old.guests.items self.new.guests.items }
         ensures set_up { StaysSetUpAt now self.old self.new }
     {
         let now = self.clock.tell(now);
@@ -364,6 +366,7 @@ impl Host {
             → slice_get self.new.guests.items number ≡ Some place → IsAsked g.connection place }
         ensures unchanged { OnErr result ((k : ℕ) → slice_get self.new.guests.items k ≡ slice_get self.old.guests.items k) }
         ensures agenda { OnErr result (self.new.agenda ≡ self.old.agenda) }
+        ensures steps { EachSteps (max self.old.clock.latest now) self.old.guests.items self.new.guests.items }
         ensures set_up { StaysSetUpAt now self.old self.new }
     {
         let now = self.clock.tell(now);

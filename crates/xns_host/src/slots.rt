@@ -135,6 +135,7 @@ pub fn call_in(
         (call_fault_of g.connection.conversation (words_call program version procedure words.now)) result }
     ensures called { (g : Guest) → slot.old ≡ Some g → result ≡ Ok tt → WentOn g.connection
         (λ h. record h { made = h.made ++ words_call program version procedure words.now ∷ [] }) slot.new }
+    ensures steps { (g : Guest) → slot.old ≡ Some g → StepsIn now g.connection (Some slot.new) }
     ensures unchanged { OnErr result (slot.new ≡ slot.old) }
     ensures kept { is_none slot.new ≡ is_none slot.old }
 {
@@ -158,6 +159,7 @@ pub fn answer_in(
     ensures answer { (g : Guest) → slot.old ≡ Some g → Answers (answer_fault_of g.connection.conversation answer words.now) result }
     ensures answered { (g : Guest) (k : ℕ) → slot.old ≡ Some g → asked_of g.connection.conversation.side ≡ Some k → result ≡ Ok tt
         → WentOn g.connection (λ h. record h { answers = h.answers ++ answer_message answer k words.now ∷ [] }) slot.new }
+    ensures steps { (g : Guest) → slot.old ≡ Some g → StepsIn now g.connection (Some slot.new) }
     ensures unchanged { OnErr result (slot.new ≡ slot.old) }
     ensures kept { is_none slot.new ≡ is_none slot.old }
 {
@@ -293,6 +295,7 @@ pub fn close_in(
     ensures none { slot.old ≡ None → result ≡ Err (NoConnection number) }
     ensures some { slot.old ≢ None → result ≡ Ok tt }
     ensures closed { (g : Guest) → slot.old ≡ Some g → IsAsked g.connection slot.new }
+    ensures steps { (g : Guest) → slot.old ≡ Some g → StepsIn now g.connection (Some slot.new) }
     ensures unchanged { OnErr result (slot.new ≡ slot.old) }
     ensures kept { is_none slot.new ≡ is_none slot.old }
 {
