@@ -7,7 +7,7 @@ use Rattle.std.proofs.Math.Nat.{le-min}
 use Rattle.xns_host.specs.Agenda.{Plan}
 use Rattle.xns_host.specs.Hosting.{ActsIn, DoesDue, EachActs, EachSteps, StepsIn, HasActed, HasActedIn, IsAllNoted, IsApart, StaysIn, facts_in, forgotten, is_done, may_go, stays}
 use Rattle.xns_host.specs.Times.{HasNoneBy, IsFirstBy}
-use Rattle.xns_host.specs.Waiting.{StepsAt, still, step, close, after_step, lingering}
+use Rattle.xns_host.specs.Waiting.{StepsAt, still, step, close, HearsAt, no_word, word, after_step, after_word, lingering}
 use Rattle.xns_host.specs.Waiting.{Waiting, IsWaiting, IsDueAfter, act_by, after_act, after_by, due_time, last_time, later, unless_silent}
 use Rattle.xns_host.specs.declared.act.Act.{Act}
 use Rattle.xns_host.specs.declared.act.Act.TheVariants.{Nothing, Again, Ask, GiveUp, Forget}
@@ -338,6 +338,12 @@ one_step w v b now is = subst (λ (u : Waiting). StepsAt now w u) (sym is) (step
 
 pub one_close : (w v : Waiting) (now : ℕ) → v ≡ lingering w now → StepsAt now w v
 one_close w v now is = subst (λ (u : Waiting). StepsAt now w u) (sym is) (close still)
+
+-- a word of the peer may have come first
+pub hears_at : (foreign : Bool) (w u v : Waiting) (more : Bool) (now : ℕ) → (foreign ≡ true → u ≡ w) → (foreign ≡ false → u ≡ after_word w more now)
+    → StepsAt now u v → HearsAt now w v
+hears_at true w u v more now same heard steps = no_word (subst (λ (x : Waiting). StepsAt now x v) (same refl) steps)
+hears_at false w u v more now same heard steps = word more (subst (λ (x : Waiting). StepsAt now x v) (heard refl) steps)
 
 pub steps_then : (now : ℕ) (u w : Waiting) {v : Waiting} → StepsAt now u w → StepsAt now w v → StepsAt now u v
 steps_then now u w first still = first

@@ -16,7 +16,8 @@ use Rattle.xns_idp.specs.declared.packet.Packet.{Packet}
 use Rattle.xns_spp.specs.Header.{header_of}
 use Rattle.xns_spp.specs.declared.dropped.Dropped.{Dropped}
 use Rattle.xns_spp.specs.declared.dropped.Dropped.TheVariants.{NotSpp}
-use Rattle.xns_host.specs.Hosting.{EachGoes, EachHears, HasHeard, HearsIn, IsPacketOf, Receives, nothing, heard, goes, hears, listens, loses}
+use Rattle.xns_host.specs.Hosting.{EachGoes, EachHears, HasHeard, HearsIn, IsPacketOf, IsThere, Receives, nothing, heard, goes, hears, listens, loses}
+use Rattle.xns_host.specs.Ours.{named_in}
 use Rattle.xns_host.specs.Register.{number_by, peer_at}
 use Rattle.xns_host.specs.Registered.{IsRegistered}
 use Rattle.xns_host.specs.Telling.{Hears}
@@ -66,6 +67,12 @@ hears_set bytes a b n old p less read is step = λ k. by k (same_or_other k n) w
   by k (inl e) = subst (λ (m : ℕ). HearsIn bytes (slice_get a m) (slice_get b m)) (sym e) at
   by k (inr other) = same_in bytes (slice_get a k) (slice_get b k) (ap (λ (xs : Places). slice_get xs k) is ∙ place_other a n k p other)
 
+-- such a one was read from a place
+pub there_in : (P : Guest → Type 0) (a : Places) (n : ℕ) (old : Option Guest) → n < length a → old ≡ get_or a n old → IsThere P (Some old)
+    → IsThere P (slice_get a n)
+there_in P a n old less read one =
+    record { guest = one.guest; there = slice_get_read a (length a) n old refl less read ∙ one.there; is = one.is }
+
 -- ---- all of them
 
 pub went_on : (opened : Guest → Type 0) (bytes : List ℕ) (a b : Places) → EachGoes a b → Receives opened bytes a b
@@ -111,6 +118,13 @@ pub finds : (host : List ℕ) (r : Register) (p q : SppPacketModel) (n : ℕ) (g
 finds host r p q n g peer same at is of =
     let by : IsPacketOf host q g = subst (λ (x : SppPacketModel). IsPacketOf host x g) same of in
     ap (λ (x : Peer). number_by r.identifiers r.peers q.header.target_id x) at ∙ leads_to r n g by.state q is by.stands by.ours
+
+-- what is found is what it names
+pub found_is_named : (register : Register) (q : SppPacketModel) (peer : Peer) (found : Option ℕ)
+    → peer ≡ peer_at q.source q.header.source_id q.target.socket
+    → found ≡ number_by register.identifiers register.peers q.header.target_id peer → named_in register q ≡ found
+found_is_named register q peer found is finds =
+    ap (λ (x : Peer). number_by register.identifiers register.peers q.header.target_id x) (sym is) ∙ sym finds
 
 -- it has type 5
 carrier_kind : (carrier : PacketModel) (p : SppPacketModel) → carried_by carrier ≡ Ok p → (carrier.kind == 5) ≡ true

@@ -7,6 +7,7 @@ pub mod Events
 pub mod Hosting
 pub mod Identifiers
 pub mod Living
+pub mod Ours
 pub mod Quotes
 pub mod Reasons
 pub mod Refusing

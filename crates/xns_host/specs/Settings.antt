@@ -1,6 +1,7 @@
 -- What a host is made with.
 use Rattle.std.specs.Prelude.{◌≡◌, ℕ, ◌≤◌, Bool, not, ◌&&◌, ◌==◌, nat_lt, nat_le, if◌then◌else◌, Option, Some, None, Result, Ok, Err}
 use Rattle.xns_spp.specs.Ends.{IsCapacity, most_pending}
+use Rattle.xns_host.specs.Waiting.{StepsAt, Waiting, new_waiting}
 use Rattle.xns_host.specs.declared.host_fault.HostFault.{HostFault}
 use Rattle.xns_host.specs.declared.host_fault.HostFault.TheVariants.{OutOfRange}
 use Rattle.xns_host.specs.declared.pace.Pace.{Pace}
@@ -68,3 +69,9 @@ pub record IsPaceOf (s : Settings) (p : Pace) : Type 0 where
   pub longest : p.longest ≡ s.longest_wait
   pub idle : p.idle ≡ s.idle
   pub tries : p.tries ≡ s.tries
+
+-- the waits of a connection that was made at this time, with these settings
+pub record IsBegun (s : Settings) (now : ℕ) (w : Waiting) : Type 0 where
+  pub pace : Pace
+  pub paced : IsPaceOf s pace
+  pub began : StepsAt now (new_waiting pace now) w

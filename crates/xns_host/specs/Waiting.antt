@@ -131,6 +131,11 @@ pub data StepsAt (now : ℕ) (w : Waiting) : Waiting → Type 0 where
   step : {v : Waiting} → StepsAt now w v → (waits : Bool) → StepsAt now w (after_step v waits now)
   close : {v : Waiting} → StepsAt now w v → StepsAt now w (lingering v now)
 
+-- the same, where a word of the peer may have come first
+pub data HearsAt (now : ℕ) (w v : Waiting) : Type 0 where
+  no_word : StepsAt now w v → HearsAt now w v
+  word : (more : Bool) → StepsAt now (after_word w more now) v → HearsAt now w v
+
 -- ---- a silent peer
 
 -- a packet goes out by the time alone

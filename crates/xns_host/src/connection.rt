@@ -18,10 +18,10 @@ ghost use Rattle.xns_host.specs.Connecting.{is_again, is_open_due, is_closed_due
 ghost use Rattle.xns_host.specs.Connecting.{why_after, owed_after, is_foreign};
 ghost use Rattle.xns_host.specs.Reasons.{call_fault_of, answer_fault_of};
 ghost use Rattle.xns_host.specs.Refusing.{Answers};
-ghost use Rattle.xns_host.specs.Settings.{IsFit};
+ghost use Rattle.xns_host.specs.Settings.{IsBegun, IsFit};
 ghost use Rattle.xns_host.specs.Story.{Story, GoesOn, new_story, asked_of, waiting_message, with_handed, has_message};
 ghost use Rattle.xns_host.specs.Telling.{Tells, Goes, MovesAndGives, Rested, Calm, CalmFrom, HasSaidEnd, Hears, ReadsAll, waits, is_over};
-ghost use Rattle.xns_host.specs.Waiting.{IsDueAfter, StepsAt, act_at, after_act, after_step, after_word, last_time, lingering, new_waiting};
+ghost use Rattle.xns_host.specs.Waiting.{HearsAt, IsDueAfter, StepsAt, act_at, after_act, after_step, after_word, last_time, lingering, new_waiting};
 ghost use Rattle.xns_host.specs.declared.act.Act.TheVariants.{GiveUp};
 ghost use Rattle.xns_host.specs.declared.why.Why.TheVariants.{NotServed};
 
@@ -308,6 +308,7 @@ impl Connection {
         ensures open { (result.closed ≡ None) × (result.told ≡ false) }
         ensures owed { (result.owed.again ≡ again) × (result.owed.fresh ≡ true) }
         ensures wait { (s : State) → StandsFor endpoint s → result.wait ≡ after_step (new_waiting pace now) (waits s) now }
+        ensures begun { StepsAt now (new_waiting pace now) result.wait }
     {
         let conversation = Conversation::new(alloc, endpoint, side);
         let mut wait = Wait::new(pace, now);
@@ -342,6 +343,7 @@ impl Connection {
             (new_story None (initiator_state own id peer settings.now.window settings.now.backlog))) }
         ensures packets { IfOk result (λ t. t.conversation.packets.items ≡ []) }
         ensures open { IfOk result (λ t. (t.closed ≡ None) × (t.owed.again ≡ true)) }
+        ensures begun { IfOk result (λ t. IsBegun settings.now now t.wait) }
     {
         courier_sessions::laws::a_session_is_its_conversation();
         let endpoint = Endpoint::initiator(
@@ -382,6 +384,7 @@ impl Connection {
             (responder_state own id peer peer_id settings.now.window settings.now.backlog))) }
         ensures packets { IfOk result (λ t. t.conversation.packets.items ≡ []) }
         ensures open { IfOk result (λ t. (t.closed ≡ None) × (t.owed.again ≡ false)) }
+        ensures begun { IfOk result (λ t. IsBegun settings.now now t.wait) }
     {
         courier_sessions::laws::a_server_session_is_its_conversation();
         let endpoint = Endpoint::responder(
@@ -440,6 +443,7 @@ impl Connection {
         ensures closed { self.old.closed ≢ None → self.new.closed ≡ self.old.closed }
         ensures packets { self.new.conversation.packets ≡ self.old.conversation.packets }
         ensures told { self.new.told ≡ self.old.told }
+        ensures steps { OnOk result (HearsAt now self.old.wait self.new.wait) }
         ensures fresh { OnOk result (self.new.owed.fresh ≡ true) }
         ensures unchanged { OnErr result (self.new ≡ self.old) }
         ensures memory { OnErr result ((s : State) (b : List ℕ) → StandsFor self.old.conversation.endpoint s
@@ -549,6 +553,7 @@ impl Connection {
 
     /// Puts out a call. It is refused, and nothing is changed, as `Closing` where the connection closes or is closed; `PeerCalls`; `Busy`
     /// where a call waits for its answer, or the answer was not fetched; `TooLong` over 65,530 words; `NoMemory`.
+    #[tactic(auto, using(crate::proofs::Done::no_step))]
     pub fn call(
         &mut self,
         alloc: Global,
@@ -572,6 +577,7 @@ impl Connection {
         ensures closed { self.old.closed ≢ None → self.new.closed ≡ self.old.closed }
         ensures packets { self.new.conversation.packets ≡ self.old.conversation.packets }
         ensures told { self.new.told ≡ self.old.told }
+        ensures steps { StepsAt now self.old.wait self.new.wait }
         ensures fresh { result ≡ Ok tt → self.new.owed.fresh ≡ true }
         ensures unchanged { OnErr result (self.new ≡ self.old) }
     {
@@ -590,6 +596,7 @@ impl Connection {
 
     /// Answers the call that was handed. It is refused, and nothing is changed, as `Closing` where the connection closes or is closed;
     /// `NoCall` where none was handed that is not answered; `TooLong` over 131,072 bytes; `NoMemory`.
+    #[tactic(auto, using(crate::proofs::Done::no_step))]
     pub fn answer(
         &mut self,
         alloc: Global,
@@ -612,6 +619,7 @@ impl Connection {
         ensures closed { self.old.closed ≢ None → self.new.closed ≡ self.old.closed }
         ensures packets { self.new.conversation.packets ≡ self.old.conversation.packets }
         ensures told { self.new.told ≡ self.old.told }
+        ensures steps { StepsAt now self.old.wait self.new.wait }
         ensures fresh { result ≡ Ok tt → self.new.owed.fresh ≡ true }
         ensures unchanged { OnErr result (self.new ≡ self.old) }
     {
@@ -639,6 +647,7 @@ impl Connection {
         ensures said { self.new.owed.moving ≡ false → HasSaidEnd self.new.conversation }
         ensures closed { self.old.closed ≢ None → self.new.closed ≡ self.old.closed }
         ensures told { self.new.told ≡ self.old.told }
+        ensures steps { StepsAt now self.old.wait self.new.wait }
         ensures fresh { self.new.owed.fresh ≡ true }
     {
         self.conversation.close();
@@ -653,6 +662,7 @@ impl Connection {
     }
 
     /// The message that waits for the program, once: an answer, or a call. `None` where none waits.
+    #[tactic(auto, using(crate::proofs::Done::no_step))]
     pub fn take_message(&mut self, alloc: Global, now: u64) -> Option<PiecedMessage>
         ensures message { result ≡ waiting_message self.old.conversation.side }
         ensures handed { (h : Story) (m : Message) → Tells self.old.conversation h → result ≡ Some m → (n : Story)
@@ -667,6 +677,7 @@ impl Connection {
         ensures closed { self.old.closed ≢ None → self.new.closed ≡ self.old.closed }
         ensures packets { self.new.conversation.packets ≡ self.old.conversation.packets }
         ensures told { self.new.told ≡ self.old.told }
+        ensures steps { StepsAt now self.old.wait self.new.wait }
         ensures none { result ≡ None → self.new ≡ self.old }
     {
         let message = self.conversation.take_message()?;

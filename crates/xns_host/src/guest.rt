@@ -16,6 +16,7 @@ ghost use Rattle.courier_sessions.specs.Answering.{answer_message};
 ghost use Rattle.xns_host.specs.Living.{GoesFrom};
 ghost use Rattle.xns_host.specs.Story.{asked_of};
 ghost use Rattle.xns_host.specs.Telling.{Goes, HasSaidEnd, Hears};
+ghost use Rattle.xns_host.specs.Waiting.{StepsAt};
 ghost use Rattle.xns_host.specs.declared.why.Why.TheVariants.{NotServed};
 
 use crate::connection::Connection;
@@ -84,6 +85,7 @@ impl Guest {
         ensures called { result ≡ Ok tt → GoesFrom self.old.connection.conversation self.new.connection.conversation
             (λ h. record h { made = h.made ++ words_call program version procedure words.now ∷ [] }) }
         ensures wanted { StaysAsked self.old.connection.conversation self.new.connection.conversation }
+        ensures steps { StepsAt now self.old.connection.wait self.new.connection.wait }
         ensures unchanged { OnErr result (self.new ≡ self.old) }
         ensures name { name_of self.new ≡ name_of self.old }
     {
@@ -105,6 +107,7 @@ impl Guest {
             → GoesFrom self.old.connection.conversation self.new.connection.conversation
             (λ h. record h { answers = h.answers ++ answer_message answer k words.now ∷ [] }) }
         ensures wanted { StaysAsked self.old.connection.conversation self.new.connection.conversation }
+        ensures steps { StepsAt now self.old.connection.wait self.new.connection.wait }
         ensures unchanged { OnErr result (self.new ≡ self.old) }
         ensures name { name_of self.new ≡ name_of self.old }
     {
@@ -118,6 +121,7 @@ impl Guest {
         ensures asked { self.new.connection.conversation.closing.wanted ≡ true }
         ensures said { self.new.connection.owed.moving ≡ false → HasSaidEnd self.new.connection.conversation }
         ensures name { name_of self.new ≡ name_of self.old }
+        ensures steps { StepsAt now self.old.connection.wait self.new.connection.wait }
     {
         self.connection.close(alloc, now);
     }

@@ -8,7 +8,7 @@ ghost use Rattle.courier_messages.specs.RawCalls.{words_call};
 ghost use Rattle.xns_idp.specs.Packet.{IsPacket, PacketModel, most_data, packet_model};
 ghost use Rattle.xns_idp.specs.Reading.{packet_of};
 ghost use Rattle.xns_spp.specs.Ends.{is_ours_at};
-ghost use Rattle.xns_spp.specs.Packet.{IsSppPacket, SppPacketModel, spp_packet_of};
+ghost use Rattle.xns_spp.specs.Packet.{IsSppPacket, SppPacketModel, opener_of, spp_packet_of};
 ghost use Rattle.xns_small.specs.Echo.{IsAnswered, echo_reply};
 ghost use Rattle.xns_spp.specs.Held.{StandsFor};
 ghost use Rattle.xns_spp.specs.State.{State};
@@ -89,7 +89,8 @@ pub struct Host {
 }
 
 impl Host {
-    ghost use Rattle.xns_host.specs.Standing.{IsNewHost, IsSameHost, StaysSetUp};
+    ghost use Rattle.xns_host.specs.Ours.{IsOf, IsOpener, IsOurs, IsToOpen, QuotesOurs};
+    ghost use Rattle.xns_host.specs.Standing.{IsNewHost, IsSameHost, StaysSetUp, StaysSetUpAt};
 
     /// A host at this address, without services and connections. The identifiers of its connections come in an order that the secret
     /// gives.
@@ -105,6 +106,7 @@ impl Host {
         ensures made { IfOk result (IsNewHost network host settings secret) }
         ensures room { IfOk result (λ h. length h.guests.items ≡ settings.connections) }
         ensures settings { (s : Setting) → wrong_setting settings ≡ Some s → result ≡ Err (OutOfRange s) }
+        ensures fault { OnErr result (wrong_setting settings ≡ None → result ≡ Err NoMemory) }
     {
         settings.check()?;
         match Host::made(alloc, network, host, settings, secret) {
@@ -165,6 +167,7 @@ impl Host {
         ensures guests { self.new.guests ≡ self.old.guests }
         ensures agenda { self.new.agenda ≡ self.old.agenda }
         ensures same { IsSameHost self.old self.new }
+        ensures clock { self.new.clock ≡ self.old.clock }
     {
         self.services.serve(self.alloc, socket, programs)
     }
@@ -247,7 +250,7 @@ impl Host {
         ensures fault { OnErr result ((result ≡ Err NoRoom) ⊎ (result ≡ Err NoMemory)) }
         ensures unchanged { OnErr result ((k : ℕ) → slice_get self.new.guests.items k ≡ slice_get self.old.guests.items k) }
         ensures agenda { OnErr result (self.new.agenda ≡ self.old.agenda) }
-        ensures set_up { StaysSetUp self.old self.new }
+        ensures set_up { StaysSetUpAt now self.old self.new }
     {
         let now = self.clock.tell(now);
         let Some(number) = self.agenda.place() else {
@@ -299,7 +302,8 @@ impl Host {
             → WentOn g.connection (λ h. record h { made = h.made ++ words_call program version procedure words.now ∷ [] }) place }
         ensures unchanged { OnErr result ((k : ℕ) → slice_get self.new.guests.items k ≡ slice_get self.old.guests.items k) }
         ensures agenda { OnErr result (self.new.agenda ≡ self.old.agenda) }
-        ensures set_up { StaysSetUp self.old self.new }
+        ensures steps { EachSteps (max self.old.clock.latest now) self.old.guests.items self.new.guests.items }
+        ensures set_up { StaysSetUpAt now self.old self.new }
     {
         let now = self.clock.tell(now);
         if number >= self.guests.len() {
@@ -341,7 +345,8 @@ impl Host {
             → WentOn g.connection (λ h. record h { answers = h.answers ++ answer_message answer k words.now ∷ [] }) place }
         ensures unchanged { OnErr result ((k : ℕ) → slice_get self.new.guests.items k ≡ slice_get self.old.guests.items k) }
         ensures agenda { OnErr result (self.new.agenda ≡ self.old.agenda) }
-        ensures set_up { StaysSetUp self.old self.new }
+        ensures steps { EachSteps (max self.old.clock.latest now) self.old.guests.items self.new.guests.items }
+        ensures set_up { StaysSetUpAt now self.old self.new }
     {
         let now = self.clock.tell(now);
         if number >= self.guests.len() {
@@ -369,7 +374,8 @@ impl Host {
             → slice_get self.new.guests.items number ≡ Some place → IsAsked g.connection place }
         ensures unchanged { OnErr result ((k : ℕ) → slice_get self.new.guests.items k ≡ slice_get self.old.guests.items k) }
         ensures agenda { OnErr result (self.new.agenda ≡ self.old.agenda) }
-        ensures set_up { StaysSetUp self.old self.new }
+        ensures steps { EachSteps (max self.old.clock.latest now) self.old.guests.items self.new.guests.items }
+        ensures set_up { StaysSetUpAt now self.old self.new }
     {
         let now = self.clock.tell(now);
         if number >= self.guests.len() {
@@ -398,7 +404,9 @@ impl Host {
         ensures heard { (p : SppPacketModel) (n : ℕ) (g : Guest) (place : Option Guest) → spp_packet_of bytes.now ≡ Ok p
             → IsPacketOf self.old.host p g → slice_get self.old.guests.items n ≡ Some (Some g)
             → slice_get self.new.guests.items n ≡ Some place → (result ≡ true) × HasHeard bytes.now g place }
-        ensures set_up { StaysSetUp self.old self.new }
+        ensures ours { result ≡ true → IsOurs self.old bytes.now }
+        ensures opener { (p : SppPacketModel) → spp_packet_of bytes.now ≡ Ok p → IsOpener self.old p → result ≡ true }
+        ensures set_up { StaysSetUpAt now self.old self.new }
     {
         let now = self.clock.tell(now);
         let Ok((packet, _)) = decode(bytes) else {
@@ -418,6 +426,7 @@ impl Host {
         ensures answered { IsAnswered (address_in self.old.network self.old.host echo_socket) (packet_model packet.now) → (result ≡ true)
             × MayHaveStray self.old.strays self.new.strays (stray_of via
             (echo_reply (address_in self.old.network self.old.host echo_socket) (packet_model packet.now))) }
+        ensures ours { result ≡ true → IsAnswered (address_in self.old.network self.old.host echo_socket) (packet_model packet.now) }
         ensures guests { self.new.guests ≡ self.old.guests }
         ensures agenda { self.new.agenda ≡ self.old.agenda }
         ensures set_up { StaysSetUp self.old self.new }
@@ -436,6 +445,7 @@ impl Host {
             → IsRefusedBy self.old.host (packet_model packet.now) g
             → slice_get self.old.guests.items n ≡ Some (Some g) → slice_get self.new.guests.items n ≡ Some place
             → (result ≡ true) × IsNotServed g.connection place }
+        ensures ours { packet.now.kind ≡ 3 → result ≡ true → QuotesOurs self.old (packet_model packet.now) }
         ensures goes { EachGoes self.old.guests.items self.new.guests.items }
         ensures one { ChangesOne self.old.guests.items self.new.guests.items }
         ensures unchanged { result ≡ false → (k : ℕ) → slice_get self.new.guests.items k ≡ slice_get self.old.guests.items k }
@@ -459,6 +469,7 @@ impl Host {
         ensures closed { (g : Guest) (s : State) (place : Option Guest) → slice_get self.old.guests.items number ≡ Some (Some g)
             → StandsFor g.connection.conversation.endpoint s → is_opened_by g s quote.now ≡ true → g.connection.closed ≡ None
             → slice_get self.new.guests.items number ≡ Some place → (result ≡ true) × IsNotServed g.connection place }
+        ensures ours { result ≡ true → IsThere (IsToOpen quote.now) (slice_get self.old.guests.items number) }
         ensures goes { EachGoes self.old.guests.items self.new.guests.items }
         ensures apart { IsApart self.old.guests.items self.new.guests.items number }
         ensures unchanged { result ≡ false → (k : ℕ) → slice_get self.new.guests.items k ≡ slice_get self.old.guests.items k }
@@ -484,6 +495,9 @@ impl Host {
             → packet_of b ≡ Ok (packet_model carrier.now, taken) → spp_packet_of b ≡ Ok p
             → IsPacketOf self.old.host p g → slice_get self.old.guests.items n ≡ Some (Some g)
             → slice_get self.new.guests.items n ≡ Some place → (result ≡ true) × HasHeard b g place }
+        ensures ours { (b : List ℕ) (taken : ℕ) → packet_of b ≡ Ok (packet_model carrier.now, taken) → result ≡ true → IsOurs self.old b }
+        ensures opener { (b : List ℕ) (taken : ℕ) (p : SppPacketModel) → packet_of b ≡ Ok (packet_model carrier.now, taken)
+            → spp_packet_of b ≡ Ok p → IsOpener self.old p → result ≡ true }
         ensures one { ChangesOne self.old.guests.items self.new.guests.items }
         ensures unchanged { result ≡ false → (k : ℕ) → slice_get self.new.guests.items k ≡ slice_get self.old.guests.items k }
         ensures set_up { StaysSetUp self.old self.new }
@@ -515,6 +529,7 @@ impl Host {
             → slice_get self.old.guests.items number ≡ Some (Some g) → StandsFor g.connection.conversation.endpoint s
             → is_ours_at s.ends packet.now ≡ true → slice_get self.new.guests.items number ≡ Some place
             → (result ≡ true) × HasHeard b g place }
+        ensures ours { result ≡ true → IsThere (IsOf packet.now) (slice_get self.old.guests.items number) }
         ensures apart { IsApart self.old.guests.items self.new.guests.items number }
         ensures unchanged { result ≡ false → (k : ℕ) → slice_get self.new.guests.items k ≡ slice_get self.old.guests.items k }
         ensures set_up { StaysSetUp self.old self.new }
@@ -537,6 +552,10 @@ impl Host {
         ensures became { (b : List ℕ) → spp_packet_of b ≡ Ok packet.now
             → Receives (IsOpened self.old.services.programs self.old.settings self.old.register.identifiers self.old.network
             self.old.host via) b self.old.guests.items self.new.guests.items }
+        ensures opener { result ≡ true → (opener_of packet.now ≢ None)
+            × (programs_at self.old.services.programs packet.now.target.socket ≢ None) }
+        ensures answer { opener_of packet.now ≢ None → programs_at self.old.services.programs packet.now.target.socket ≢ None
+            → result ≡ true }
         ensures one { ChangesOne self.old.guests.items self.new.guests.items }
         ensures unchanged { result ≡ false → (k : ℕ) → slice_get self.new.guests.items k ≡ slice_get self.old.guests.items k }
         ensures set_up { StaysSetUp self.old self.new }
@@ -723,7 +742,7 @@ impl Host {
         ensures fault { OnErr result (result ≡ Err NoMemory) }
         ensures due { let time = max self.old.clock.latest now in time < last_time
             → DoesDue time self.old.guests.items self.new.guests.items }
-        ensures set_up { StaysSetUp self.old self.new }
+        ensures set_up { StaysSetUpAt now self.old self.new }
     {
         let now = self.clock.tell(now);
         self.act_all(now);

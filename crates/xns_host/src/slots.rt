@@ -7,10 +7,11 @@ ghost use Rattle.courier_messages.specs.RawCalls.{words_call};
 ghost use Rattle.xns_spp.specs.Ends.{is_ours_at};
 ghost use Rattle.xns_spp.specs.Packet.{IsSppPacket, spp_packet_of};
 ghost use Rattle.xns_host.specs.Events.{event_in, event_of};
-ghost use Rattle.xns_host.specs.Hosting.{HasHeard, HasToldIn, HearsIn, IsAllNoted, IsAsked, IsGiven, IsNotServed, IsNotedBut, LedTo};
+ghost use Rattle.xns_host.specs.Hosting.{HasHeard, HasToldIn, HearsIn, IsAllNoted, IsAsked, IsGiven, IsNotServed, IsNotedBut, IsThere, LedTo};
 ghost use Rattle.xns_host.specs.Hosting.{WentOn, facts_in, is_done};
 ghost use Rattle.xns_spp.specs.Held.{StandsFor};
 ghost use Rattle.xns_spp.specs.State.{State};
+ghost use Rattle.xns_host.specs.Ours.{IsOf, IsToOpen};
 ghost use Rattle.xns_host.specs.Quotes.{is_opened_by};
 ghost use Rattle.xns_host.specs.Registered.{FitsEnd, FitsEndIn, name_in};
 ghost use Rattle.xns_host.specs.Story.{asked_of};
@@ -136,6 +137,7 @@ pub fn call_in(
         (call_fault_of g.connection.conversation (words_call program version procedure words.now)) result }
     ensures called { (g : Guest) → slot.old ≡ Some g → result ≡ Ok tt → WentOn g.connection
         (λ h. record h { made = h.made ++ words_call program version procedure words.now ∷ [] }) slot.new }
+    ensures steps { (g : Guest) → slot.old ≡ Some g → StepsIn now g.connection (Some slot.new) }
     ensures unchanged { OnErr result (slot.new ≡ slot.old) }
     ensures kept { name_in slot.new ≡ name_in slot.old }
     ensures fits { (g : Guest) → slot.old ≡ Some g → FitsEnd g → FitsEndIn slot.new }
@@ -160,6 +162,7 @@ pub fn answer_in(
     ensures answer { (g : Guest) → slot.old ≡ Some g → Answers (answer_fault_of g.connection.conversation answer words.now) result }
     ensures answered { (g : Guest) (k : ℕ) → slot.old ≡ Some g → asked_of g.connection.conversation.side ≡ Some k → result ≡ Ok tt
         → WentOn g.connection (λ h. record h { answers = h.answers ++ answer_message answer k words.now ∷ [] }) slot.new }
+    ensures steps { (g : Guest) → slot.old ≡ Some g → StepsIn now g.connection (Some slot.new) }
     ensures unchanged { OnErr result (slot.new ≡ slot.old) }
     ensures kept { name_in slot.new ≡ name_in slot.old }
     ensures fits { (g : Guest) → slot.old ≡ Some g → FitsEnd g → FitsEndIn slot.new }
@@ -191,6 +194,7 @@ pub fn act_in(slot: &mut Option<Guest>, now: u64) -> bool
 pub fn not_served_in(slot: &mut Option<Guest>, now: u64, quote: &OpeningQuote) -> bool
     ensures closed { (g : Guest) (s : State) → slot.old ≡ Some g → StandsFor g.connection.conversation.endpoint s
         → is_opened_by g s quote.now ≡ true → g.connection.closed ≡ None → (result ≡ true) × IsNotServed g.connection slot.new }
+    ensures ours { result ≡ true → IsThere (IsToOpen quote.now) (Some slot.old) }
     ensures goes { (g : Guest) → slot.old ≡ Some g → LedTo Goes g.connection slot.new }
     ensures unchanged { result ≡ false → slot.new ≡ slot.old }
     ensures kept { name_in slot.new ≡ name_in slot.old }
@@ -219,6 +223,7 @@ pub fn hear_in(
     ensures heard { (b : List ℕ) (g : Guest) (s : State) → spp_packet_of b ≡ Ok packet.now → slot.old ≡ Some g
         → StandsFor g.connection.conversation.endpoint s → is_ours_at s.ends packet.now ≡ true
         → (result ≡ true) × HasHeard b g slot.new }
+    ensures ours { result ≡ true → IsThere (IsOf packet.now) (Some slot.old) }
     ensures unchanged { result ≡ false → slot.new ≡ slot.old }
     ensures kept { name_in slot.new ≡ name_in slot.old }
     ensures fits { (g : Guest) → slot.old ≡ Some g → FitsEnd g → FitsEndIn slot.new }
@@ -300,6 +305,7 @@ pub fn close_in(
     ensures none { slot.old ≡ None → result ≡ Err (NoConnection number) }
     ensures some { slot.old ≢ None → result ≡ Ok tt }
     ensures closed { (g : Guest) → slot.old ≡ Some g → IsAsked g.connection slot.new }
+    ensures steps { (g : Guest) → slot.old ≡ Some g → StepsIn now g.connection (Some slot.new) }
     ensures unchanged { OnErr result (slot.new ≡ slot.old) }
     ensures kept { name_in slot.new ≡ name_in slot.old }
     ensures fits { (g : Guest) → slot.old ≡ Some g → FitsEnd g → FitsEndIn slot.new }

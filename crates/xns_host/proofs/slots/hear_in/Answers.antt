@@ -1,4 +1,4 @@
-use Rattle.std.proofs.Common.{◌≡◌, Option, Some, refl, subst}
+use Rattle.std.proofs.Common.{◌≡◌, Option, Some, ap, refl, rules, subst}
 use Rattle.xns_host.specs.Hosting.{HasHeard, HearsIn, nothing}
 use Rattle.xns_host.specs.declared.guest.Guest.{Guest}
 use Rattle.xns_host.proofs.Hearing.{has_heard, heard_or_not}
@@ -34,3 +34,10 @@ returns-clause-fits c = λ g is fits.
     received_fits c.args.slot.now g c.in-Some.guest _ c.args.packet.now c.receive.result (spp_packet_spelling c.args.packet.now ++ []) c.in-Some.is is
     (c.written_packet_is_read_again.ensures.again c.args.packet.now [] c.requires) c.receive.ensures.name c.receive.ensures.hears
     c.receive.ensures.unchanged fits
+
+pub returns-clause-ours : goal.returns-clause-ours
+returns-clause-ours c = λ yes. record {
+  guest = c.in-Some.guest;
+  there = ap Some c.in-Some.is;
+  is = λ s stands. let e = c.is_ours.ensures s stands in search rules;
+}

@@ -1,4 +1,4 @@
-use Rattle.std.proofs.Common.{◌≡◌, refl, subst, None, true}
+use Rattle.std.proofs.Common.{◌≡◌, ap, refl, rules, subst, None, Some, true}
 use Rattle.xns_spp.specs.Held.{StandsFor}
 use Rattle.xns_host.specs.Quotes.{is_opened_by}
 use Rattle.xns_host.specs.declared.guest.Guest.{Guest}
@@ -31,3 +31,10 @@ returns-clause-goes c = λ g is. goes_by c.args.slot.now g c.in-Some.guest c.in-
 
 pub returns-clause-fits : goal.returns-clause-fits
 returns-clause-fits c = λ g is fits. goes_fits c.args.slot.now g c.in-Some.guest _ c.in-Some.is is c.not_served.ensures.name c.not_served.ensures.goes fits
+
+pub returns-clause-ours : goal.returns-clause-ours
+returns-clause-ours c = λ yes. record {
+  guest = c.in-Some.guest;
+  there = ap Some c.in-Some.is;
+  is = λ s stands. let e = c.is_opened_by.ensures s stands in search rules;
+}

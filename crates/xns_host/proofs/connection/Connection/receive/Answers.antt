@@ -1,5 +1,6 @@
 use Rattle.xns_host.proofs.Leading.{calm_from}
 use Rattle.xns_spp.specs.Receiving.{after_receive}
+use Rattle.xns_host.proofs.Done.{hears_at}
 use Rattle.xns_host.proofs.Tellings.{still_wanted}
 use Rattle.xns_host.proofs.connection.Connection.receive.Goals as goal
 
@@ -11,3 +12,6 @@ returns-clause-calm c = λ b read still free. calm_from (λ h tells. c.in_ok-inp
 
 pub returns-clause-read : goal.returns-clause-read
 returns-clause-read c = λ b read still same h tells yes. c.settled.ensures.read still same (record h { state = after_receive h.state b }) (c.in_ok-input.ensures.tells h b tells read) yes
+
+pub returns-clause-steps : goal.returns-clause-steps
+returns-clause-steps c = hears_at _ _ _ _ _ _ (λ yes. (c.note.ensures.foreign yes).0) c.note.ensures.wait c.settled.ensures.steps

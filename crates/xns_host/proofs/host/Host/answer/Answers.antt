@@ -1,4 +1,7 @@
-use Rattle.std.proofs.Common.{rules, arith}
+use Rattle.std.proofs.Common.{refl, rules, subst, arith, ℕ}
+use Rattle.std.specs.Prelude.{slice_set}
+use Rattle.xns_host.specs.Hosting.{EachSteps}
+use Rattle.xns_host.proofs.Done.{each_step, each_still}
 use Rattle.xns_host.proofs.Noting.{kept_but}
 use Rattle.xns_host.proofs.host.Host.answer.Goals as goal
 
@@ -6,3 +9,20 @@ pub note-requires-clause-others : goal.note-requires-clause-others
 note-requires-clause-others c =
     kept_but c.args.self.now.agenda c.args.self.now.guests.items c.as_slice.result.now c.args.number c.index_mut.result.now c.answer_in.new.slot
     c.args.self.now.noted (omega arith) (search rules) (search rules) (search rules)
+
+pub returns-then-number-len-clause-steps : goal.returns-then-number-len-clause-steps
+returns-then-number-len-clause-steps c = each_still _ c.args.self.now.guests.items c.args.self.now.guests.items (λ k. refl)
+
+pub returns-clause-steps : goal.returns-clause-steps
+returns-clause-steps c =
+    subst (λ (t : ℕ). EachSteps t c.args.self.now.guests.items (slice_set c.args.self.now.guests.items c.args.number c.answer_in.new.slot))
+    c.tell-now.ensures.result
+    (each_step c.tell-now.result c.args.self.now.guests.items (slice_set c.args.self.now.guests.items c.args.number c.answer_in.new.slot) c.args.number
+    c.index_mut.result.now c.answer_in.new.slot (omega arith) (search rules) refl c.answer_in.ensures.steps)
+
+pub returns-in_err-answer_in-clause-steps : goal.returns-in_err-answer_in-clause-steps
+returns-in_err-answer_in-clause-steps c =
+    subst (λ (t : ℕ). EachSteps t c.args.self.now.guests.items (slice_set c.args.self.now.guests.items c.args.number c.answer_in.new.slot))
+    c.tell-now.ensures.result
+    (each_step c.tell-now.result c.args.self.now.guests.items (slice_set c.args.self.now.guests.items c.args.number c.answer_in.new.slot) c.args.number
+    c.index_mut.result.now c.answer_in.new.slot (omega arith) (search rules) refl c.answer_in.ensures.steps)

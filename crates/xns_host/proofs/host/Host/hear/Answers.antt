@@ -3,7 +3,7 @@ use Rattle.std.specs.Prelude.{slice_set}
 use Rattle.xns_host.specs.Hosting.{HasHeard}
 use Rattle.xns_host.specs.declared.guest.Guest.{Guest}
 use Rattle.xns_host.proofs.Apart.{set_apart, set_there}
-use Rattle.xns_host.proofs.Hearing.{hears_set}
+use Rattle.xns_host.proofs.Hearing.{hears_set, there_in}
 use Rattle.xns_host.proofs.Noting.{kept_but, same_place}
 use Rattle.xns_host.proofs.host.Host.hear.Goals as goal
 
@@ -34,3 +34,7 @@ returns-clause-heard c = λ b g s place read there stands ours here.
     let same : c.hear_in-heard.new.slot ≡ place = cc in
     let k = c.hear_in-heard.ensures.heard b g s read old stands ours in
     (k.0, subst (λ (p : Option Guest). HasHeard b g p) same k.1)
+
+pub returns-clause-ours : goal.returns-clause-ours
+returns-clause-ours c = λ yes.
+    there_in _ c.args.self.now.guests.items c.args.number c.index_mut.result.now (omega arith) (search rules) (c.hear_in-heard.ensures.ours yes)

@@ -2,6 +2,7 @@ use Rattle.std.proofs.Common.{refl, rules, arith}
 use Rattle.std.specs.Prelude.{slice_set}
 use Rattle.xns_host.proofs.Apart.{set_apart}
 use Rattle.xns_host.proofs.Going.{each_set}
+use Rattle.xns_host.proofs.Hearing.{there_in}
 use Rattle.xns_host.proofs.Noting.{kept_but}
 use Rattle.xns_host.proofs.host.Host.not_served.Goals as goal
 
@@ -20,3 +21,7 @@ pub returns-clause-apart : goal.returns-clause-apart
 returns-clause-apart c =
     set_apart c.args.self.now.guests.items (slice_set c.args.self.now.guests.items c.args.number c.not_served_in-closed.new.slot) c.args.number
     c.not_served_in-closed.new.slot refl
+
+pub returns-clause-ours : goal.returns-clause-ours
+returns-clause-ours c = λ yes.
+    there_in _ c.args.self.now.guests.items c.args.number c.index_mut.result.now (omega arith) (search rules) (c.not_served_in-closed.ensures.ours yes)

@@ -1,6 +1,7 @@
 use Rattle.std.proofs.Common.{◌≡◌, ap, refl, rules, subst, sym}
 use Rattle.xns_idp.specs.Packet.{PacketModel, packet_model}
 use Rattle.xns_host.specs.Hosting.{IsRefusedBy, goes}
+use Rattle.xns_host.specs.Ours.{asks, names, opens, quotes}
 use Rattle.xns_host.proofs.Going.{each_stays}
 use Rattle.xns_host.proofs.Hearing.{not_read, one_packet, sequenced_kind}
 use Rattle.xns_host.proofs.host.Host.receive.Goals as goal
@@ -45,4 +46,59 @@ returns-in_default-kind-clause-heard c = λ p n g place is by there here.
 
 pub returns-in_default-clause-heard : goal.returns-in_default-clause-heard
 returns-in_default-clause-heard c = λ p n g place is by there here.
+    absurd (not_read c.args.bytes.now c.decode.result p c.decode.ensures.exact (λ x yes. absurd (search rules)) is)
+
+pub returns-in-2-clause-ours : goal.returns-in-2-clause-ours
+returns-in-2-clause-ours c = λ yes. asks (packet_model c.in-Ok.packet) c.in-Ok.field-0-1 (sym c.in-Ok.ensures.exact) (c.echo.ensures.ours yes)
+
+pub returns-in-3-clause-ours : goal.returns-in-3-clause-ours
+returns-in-3-clause-ours c = λ yes.
+    quotes (packet_model c.in-Ok.packet) c.in-Ok.field-0-1 (sym c.in-Ok.ensures.exact) (
+    let q = c.refused.ensures.ours (search rules) yes in
+    record { kind = q.kind; here = q.here; quote = q.quote; quoted = q.quoted; number = q.number; owner = q.owner; there = q.there }
+    )
+
+pub returns-in-5-clause-ours : goal.returns-in-5-clause-ours
+returns-in-5-clause-ours c = λ yes.
+    elim (c.sequenced.ensures.ours c.args.bytes.now c.in-Ok.field-0-1 (sym c.in-Ok.ensures.exact) yes) [
+      | asks p taken read is ↦ asks p taken read is
+      | quotes p taken read q ↦ quotes p taken read (record {
+        kind = q.kind;
+        here = q.here;
+        quote = q.quote;
+        quoted = q.quoted;
+        number = q.number;
+        owner = q.owner;
+        there = q.there;
+      })
+      | names p is n ↦ names p is (record { here = n.here; number = n.number; named = n.named; there = n.there })
+      | opens p is o ↦ opens p is (record { here = o.here; unnamed = o.unnamed; opener = o.opener; served = o.served })
+    ]
+
+pub returns-in-2-clause-opener : goal.returns-in-2-clause-opener
+returns-in-2-clause-opener c = λ p is by.
+    let kind = sequenced_kind c.args.bytes.now (packet_model c.in-Ok.packet) c.in-Ok.field-0-1 p (sym c.in-Ok.ensures.exact) is in
+    absurd (search rules)
+
+pub returns-in-3-clause-opener : goal.returns-in-3-clause-opener
+returns-in-3-clause-opener c = λ p is by.
+    let kind = sequenced_kind c.args.bytes.now (packet_model c.in-Ok.packet) c.in-Ok.field-0-1 p (sym c.in-Ok.ensures.exact) is in
+    absurd (search rules)
+
+pub returns-in-5-clause-opener : goal.returns-in-5-clause-opener
+returns-in-5-clause-opener c = λ p is by.
+    c.sequenced.ensures.opener c.args.bytes.now c.in-Ok.field-0-1 p (sym c.in-Ok.ensures.exact) is (record {
+      here = by.here;
+      unnamed = by.unnamed;
+      opener = by.opener;
+      served = by.served;
+    })
+
+pub returns-in_default-kind-clause-opener : goal.returns-in_default-kind-clause-opener
+returns-in_default-kind-clause-opener c = λ p is by.
+    let kind = sequenced_kind c.args.bytes.now (packet_model c.in-Ok.packet) c.in-Ok.field-0-1 p (sym c.in-Ok.ensures.exact) is in
+    absurd (search rules)
+
+pub returns-in_default-clause-opener : goal.returns-in_default-clause-opener
+returns-in_default-clause-opener c = λ p is by.
     absurd (not_read c.args.bytes.now c.decode.result p c.decode.ensures.exact (λ x yes. absurd (search rules)) is)

@@ -1,4 +1,6 @@
 use Rattle.std.proofs.Common.{◌≡◌, ◌∙◌, ap, rules, subst, sym, ℕ, Some, slice_get, true}
+use Rattle.xns_host.specs.Hosting.{IsThere}
+use Rattle.xns_host.specs.Ours.{IsToOpen}
 use Rattle.xns_host.specs.Quotes.{is_opened_by}
 use Rattle.xns_host.specs.Register.{owner_in}
 use Rattle.xns_host.specs.declared.opening_quote.OpeningQuote.{OpeningQuote}
@@ -28,3 +30,15 @@ returns-in_default-owner-clause-closed c = λ n g place r there here.
     ∙ ap (λ (id : ℕ). owner_in c.args.self.now.register.identifiers id)
     (ap (λ (q : OpeningQuote). q.id) (sym quote) ∙ r.named ∙ end_id g r.state at.fits r.stands) ∙ at.own in
     absurd (search rules)
+
+pub returns-clause-ours : goal.returns-clause-ours
+returns-clause-ours c = λ kind yes. record {
+  kind = kind;
+  here = search rules;
+  quote = c.in-Some.quote;
+  quoted = sym c.quoted_opening.ensures ∙ c.in-Some.is;
+  number = c.in-Some-owner.number;
+  owner = sym c.owner.ensures ∙ c.in-Some-owner.is;
+  there = subst (λ (m : ℕ). IsThere (IsToOpen c.in-Some.quote) (slice_get c.args.self.now.guests.items m)) c.from.ensures
+      (c.not_served.ensures.ours yes);
+}

@@ -1,11 +1,12 @@
-use Rattle.std.proofs.Common.{◌≡◌, ◌∙◌, ap, refl, rules, subst, sym, ℕ, Ok, Some, slice_get, true}
+use Rattle.std.proofs.Common.{◌≡◌, ◌∙◌, ap, refl, rules, subst, sym, ℕ, None, Ok, Some, slice_get, true}
 use Rattle.xns_idp.specs.Packet.{packet_model}
 use Rattle.xns_spp.specs.Ends.{is_ours_at}
 use Rattle.xns_spp.specs.Packet.{SppPacketModel}
-use Rattle.xns_host.specs.Hosting.{goes, hears}
+use Rattle.xns_host.specs.Hosting.{IsThere, goes, hears}
+use Rattle.xns_host.specs.Ours.{IsOf, IsOpener, named_in, names, opens}
 use Rattle.xns_host.specs.Register.{number_by, peer_at}
 use Rattle.xns_host.proofs.Going.{each_stays}
-use Rattle.xns_host.proofs.Hearing.{finds, spelled, the_packet}
+use Rattle.xns_host.proofs.Hearing.{finds, found_is_named, spelled, the_packet}
 use Rattle.xns_host.proofs.host.Host.sequenced.Goals as goal
 
 pub returns-in_default-clause-became : goal.returns-in_default-clause-became
@@ -61,3 +62,53 @@ returns-in-None-clause-heard c = λ b taken n p g place read is by there here.
     let found = sym c.in-None.is ∙ find ∙ finds c.args.self.now.host c.args.self.now.register p c.in-Ok.packet n g c.at-peer.result same peer
     (c.args.self.now.registered.each n g there) by in
     absurd (cc)
+
+pub returns-in-Some-clause-ours : goal.returns-in-Some-clause-ours
+returns-in-Some-clause-ours c = λ b taken read yes.
+    let is = spelled b (packet_model c.args.carrier.now) taken c.in-Ok.packet read c.carried_packet.ensures.value c.in-Ok.is in
+    names c.in-Ok.packet is (record {
+      here = search rules;
+      number = c.in-Some.number;
+      named = found_is_named c.args.self.now.register c.in-Ok.packet c.at-peer.result c.find.result (search rules) (search rules) ∙ c.in-Some.is;
+      there = subst (λ (m : ℕ). IsThere (IsOf c.in-Ok.packet) (slice_get c.args.self.now.guests.items m)) c.from.ensures (c.hear.ensures.ours yes);
+    })
+
+pub returns-in-None-clause-ours : goal.returns-in-None-clause-ours
+returns-in-None-clause-ours c = λ b taken read yes.
+    let is = spelled b (packet_model c.args.carrier.now) taken c.in-Ok.packet read c.carried_packet.ensures.value c.in-Ok.is in
+    opens c.in-Ok.packet is (record {
+      here = search rules;
+      unnamed = found_is_named c.args.self.now.register c.in-Ok.packet c.at-peer.result c.find.result (search rules) (search rules) ∙ c.in-None.is;
+      opener = (c.opening.ensures.opener yes).0;
+      served = (c.opening.ensures.opener yes).1;
+    })
+
+pub returns-in_default-clause-opener : goal.returns-in_default-clause-opener
+returns-in_default-clause-opener c = λ b taken p read is opens.
+    let one = the_packet b (packet_model c.args.carrier.now) taken p c.carried_packet.result read is c.carried_packet.ensures.value in
+    absurd (search rules)
+
+pub returns-then-ne-clause-opener : goal.returns-then-ne-clause-opener
+returns-then-ne-clause-opener c = λ b taken p read is opens.
+    let one = sym c.in-Ok.is
+    ∙ the_packet b (packet_model c.args.carrier.now) taken p c.carried_packet.result read is c.carried_packet.ensures.value in
+    let same : p ≡ c.in-Ok.packet = cc in
+    let ours : c.in-Ok.packet.target.host ≡ c.args.self.now.host = ap (λ (q : SppPacketModel). q.target.host) (sym same) ∙ opens.here in
+    absurd (search rules)
+
+pub returns-in-Some-clause-opener : goal.returns-in-Some-clause-opener
+returns-in-Some-clause-opener c = λ b taken p read is opens.
+    let one = sym c.in-Ok.is
+    ∙ the_packet b (packet_model c.args.carrier.now) taken p c.carried_packet.result read is c.carried_packet.ensures.value in
+    let same : p ≡ c.in-Ok.packet = cc in
+    let named = found_is_named c.args.self.now.register c.in-Ok.packet c.at-peer.result c.find.result (search rules) (search rules) ∙ c.in-Some.is in
+    let none = subst (λ (q : SppPacketModel). named_in c.args.self.now.register q ≡ None) same opens.unnamed in
+    absurd (cc)
+
+pub returns-in-None-clause-opener : goal.returns-in-None-clause-opener
+returns-in-None-clause-opener c = λ b taken p read is opens.
+    let one = sym c.in-Ok.is
+    ∙ the_packet b (packet_model c.args.carrier.now) taken p c.carried_packet.result read is c.carried_packet.ensures.value in
+    let same : p ≡ c.in-Ok.packet = cc in
+    let by = subst (λ (q : SppPacketModel). IsOpener c.args.self.now q) same opens in
+    c.opening.ensures.answer by.opener by.served

@@ -1,0 +1,62 @@
+-- Which packets are a host's.
+use Rattle.std.specs.Prelude.{◌≡◌, ◌≢◌, ℕ, List, true, Option, Some, None, Ok, slice_get}
+use Rattle.xns_idp.specs.Packet.{PacketModel}
+use Rattle.xns_idp.specs.Reading.{packet_of}
+use Rattle.xns_small.specs.Echo.{IsAnswered}
+use Rattle.xns_spp.specs.Ends.{is_ours_at}
+use Rattle.xns_spp.specs.Held.{StandsFor}
+use Rattle.xns_spp.specs.Packet.{SppPacketModel, opener_of, spp_packet_of}
+use Rattle.xns_spp.specs.State.{State}
+use Rattle.xns_host.specs.Hosting.{IsThere, address_in}
+use Rattle.xns_host.specs.Quotes.{is_opened_by, quoted_opening}
+use Rattle.xns_host.specs.Register.{number_by, owner_in, peer_at}
+use Rattle.xns_host.specs.Services.{programs_at}
+use Rattle.xns_host.specs.Strays.{echo_socket}
+use Rattle.xns_host.specs.declared.guest.Guest.{Guest}
+use Rattle.xns_host.specs.declared.host.Host.{Host}
+use Rattle.xns_host.specs.declared.opening_quote.OpeningQuote.{OpeningQuote}
+use Rattle.xns_host.specs.declared.register.Register.{Register}
+
+-- the packet is one of this connection
+abbrev pub IsOf : SppPacketModel → Guest → Type 0
+IsOf p g = (s : State) → StandsFor g.connection.conversation.endpoint s → is_ours_at s.ends p ≡ true
+
+-- the quoted packet was to open this connection of ours, which is not open yet
+abbrev pub IsToOpen : OpeningQuote → Guest → Type 0
+IsToOpen q g = (s : State) → StandsFor g.connection.conversation.endpoint s → is_opened_by g s q ≡ true
+
+-- the number of the connection that a packet names
+abbrev pub named_in : Register → SppPacketModel → Option ℕ
+named_in register p = number_by register.identifiers register.peers p.header.target_id (peer_at p.source p.header.source_id p.target.socket)
+
+-- a packet to this host names a connection of it, and is one of that
+pub record Names (h : Host) (p : SppPacketModel) : Type 0 where
+  pub here : p.target.host ≡ h.host
+  pub number : ℕ
+  pub named : named_in h.register p ≡ Some number
+  pub there : IsThere (IsOf p) (slice_get h.guests.items number)
+
+-- a packet to this host opens a connection, where there is room: it names none, its sender has an identifier, and its socket is served
+pub record IsOpener (h : Host) (p : SppPacketModel) : Type 0 where
+  pub here : p.target.host ≡ h.host
+  pub unnamed : named_in h.register p ≡ None
+  pub opener : opener_of p ≢ None
+  pub served : programs_at h.services.programs p.target.socket ≢ None
+
+-- an Error packet to this host quotes the packet that was to open a connection of it, which is not open yet
+pub record QuotesOurs (h : Host) (p : PacketModel) : Type 0 where
+  pub kind : p.kind ≡ 3
+  pub here : p.target.host ≡ h.host
+  pub quote : OpeningQuote
+  pub quoted : quoted_opening p.body ≡ Some quote
+  pub number : ℕ
+  pub owner : owner_in h.register.identifiers quote.id ≡ Some number
+  pub there : IsThere (IsToOpen quote) (slice_get h.guests.items number)
+
+-- these bytes are a packet that is the host's: an Echo request to it, or one of those
+pub data IsOurs (h : Host) (bytes : List ℕ) : Type 0 where
+  asks : (p : PacketModel) (taken : ℕ) → packet_of bytes ≡ Ok (p, taken) → IsAnswered (address_in h.network h.host echo_socket) p
+      → IsOurs h bytes
+  quotes : (p : PacketModel) (taken : ℕ) → packet_of bytes ≡ Ok (p, taken) → QuotesOurs h p → IsOurs h bytes
+  names : (p : SppPacketModel) → spp_packet_of bytes ≡ Ok p → Names h p → IsOurs h bytes
+  opens : (p : SppPacketModel) → spp_packet_of bytes ≡ Ok p → IsOpener h p → IsOurs h bytes
