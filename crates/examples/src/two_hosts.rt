@@ -15,9 +15,13 @@ const LISTED: Program = Program {
 pub fn talk(rt: &HostRuntime) -> Result<(), anyhow::Error> {
     let alloc = rt.alloc();
     let usual = Settings::default();
-    let mut service = Host::new(alloc, SERVER.network, SERVER.host, usual, [1; 32])?;
-    let mut client = Host::new(alloc, CALLER.network, CALLER.host, usual, [2; 32])?;
-    meet(rt, &mut client, &mut service)
+    let mut hosts = Vec::new(alloc);
+    hosts.push(Host::new(alloc, SERVER.network, SERVER.host, usual, [1; 32])?)?;
+    hosts.push(Host::new(alloc, CALLER.network, CALLER.host, usual, [2; 32])?)?;
+    if let [service, client] = hosts.as_mut_slice() {
+        meet(rt, client, service)?;
+    }
+    Ok(())
 }
 
 /// Makes a call, and prints what comes of it.

@@ -8,27 +8,16 @@
 //! a number of connections and of calls, `bench/compare.py` times calls in memory.
 #![tactic(auto)]
 
-mod crowd;
-mod late;
 mod manner;
 mod meeting;
-mod network;
-mod outcome;
-mod play;
-mod player;
-mod restart;
-mod scene;
 mod speed;
-mod station;
-mod strangers;
 mod stubborn;
-mod words;
 
-use crowd::Crowd;
+use host_scenes::crowd::Crowd;
+use host_scenes::play::Play;
+use host_scenes::scene::Scene;
 use manner::Manner;
 use meeting::Meeting;
-use play::Play;
-use scene::Scene;
 use speed::Made;
 use std::alloc::{AllocError, Global};
 use std::env;
@@ -113,8 +102,12 @@ fn show_meeting(rt: &HostRuntime, manner: Manner) -> Result<(), anyhow::Error> {
 
 /// Has a host meet an odd peer, and puts what came of it.
 fn play_meeting(alloc: Global, manner: Manner, text: &mut String) -> Result<(), anyhow::Error> {
-    let mut meeting = Meeting::new(alloc, manner)?;
-    meeting.run_and_tell(text)
+    let mut meetings = room(alloc)?;
+    meetings.push(Meeting::new(alloc, manner)?)?;
+    for meeting in &mut meetings {
+        meeting.run_and_tell(text)?;
+    }
+    Ok(())
 }
 
 /// Plays a thousand connections for so many seconds, and prints what came of them.
@@ -130,8 +123,12 @@ fn show_crowd(rt: &HostRuntime, seconds: u32) -> Result<(), anyhow::Error> {
 
 /// Plays a thousand connections for so many seconds, and puts what came of them.
 fn play_crowd(alloc: Global, seconds: u32, text: &mut String) -> Result<(), anyhow::Error> {
-    let mut crowd = Crowd::new(alloc)?;
-    crowd.run_and_tell(u64::from(seconds), text)
+    let mut crowds = room(alloc)?;
+    crowds.push(Crowd::new(alloc)?)?;
+    for crowd in &mut crowds {
+        crowd.run_and_tell(u64::from(seconds), text)?;
+    }
+    Ok(())
 }
 
 /// Has two hosts talk that ask once more for what is refused memory, and prints whether all came as it should.
@@ -146,11 +143,19 @@ fn show_stubborn(rt: &HostRuntime) -> Result<(), anyhow::Error> {
 
 /// Has two hosts talk that ask once more for what is refused memory; whether all came as it should.
 fn talk_stubbornly(alloc: Global) -> Result<bool, anyhow::Error> {
-    let mut hosts = Stubborn::new(alloc)?;
-    hosts.run_and_judge()
+    let mut pairs = room(alloc)?;
+    pairs.push(Stubborn::new(alloc)?)?;
+    let mut is_done = false;
+    for hosts in &mut pairs {
+        is_done = hosts.run_and_judge()?;
+    }
+    Ok(is_done)
 }
 
-/// Puts a number and what it counts.
-fn put_count(text: &mut String, count: usize, what: &str) -> Result<(), AllocError> {
-    write!(text, "{count} {what}, ")
+/// Room for one of what has hosts, which is asked for once more where memory is refused. What is in it is dropped by one call.
+fn room<T: Drop>(alloc: Global) -> Result<Vec<T>, AllocError> {
+    match Vec::with_capacity(alloc, 1) {
+        Err(_) => Vec::with_capacity(alloc, 1),
+        room => room,
+    }
 }

@@ -1,6 +1,6 @@
 use crate::manner::Manner;
-use crate::player::SERVER;
-use crate::station::Station;
+use host_scenes::player::SERVER;
+use host_scenes::station::Station;
 use std::alloc::{AllocError, Global};
 use xns_host::{Event, HostFault, Settings, Why};
 use xns_idp::Address;

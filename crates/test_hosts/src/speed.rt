@@ -4,6 +4,7 @@
 mod by_hand;
 mod pair;
 
+use crate::room;
 use crate::speed::by_hand::ByHand;
 use crate::speed::pair::Pair;
 use std::alloc::Global;
@@ -37,12 +38,22 @@ pub fn run(
 
 /// So many calls between two hosts: how many were answered.
 fn between_hosts(alloc: Global, connections: u32, calls: u32) -> Result<u32, anyhow::Error> {
-    let mut pair = Pair::new(alloc, connections as usize)?;
-    Ok(pair.call_all(connections, calls)?)
+    let mut pairs = room(alloc)?;
+    pairs.push(Pair::new(alloc, connections as usize)?)?;
+    let mut answered = 0;
+    for pair in &mut pairs {
+        answered = pair.call_all(connections, calls)?;
+    }
+    Ok(answered)
 }
 
 /// So many calls between ends that are made by hand: how many were answered.
 fn between_ends(alloc: Global, calls: u32) -> Result<u32, anyhow::Error> {
-    let mut ends = ByHand::new(alloc)?;
-    Ok(ends.call_all(calls)?)
+    let mut all = room(alloc)?;
+    all.push(ByHand::new(alloc)?)?;
+    let mut answered = 0;
+    for ends in &mut all {
+        answered = ends.call_all(calls)?;
+    }
+    Ok(answered)
 }

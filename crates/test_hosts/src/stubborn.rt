@@ -1,7 +1,7 @@
-use crate::player::SERVER;
-use crate::station::{Station, both};
 use courier_messages::{PiecedMessage, Words};
 use courier_sessions::{Answer, Program};
+use host_scenes::player::SERVER;
+use host_scenes::station::{Station, both};
 use std::alloc::{AllocError, Global};
 use xns_host::{Event, HostFault, Settings, Why};
 
@@ -138,22 +138,29 @@ impl Stubborn {
 
     /// What the server is told.
     fn serve_next(&mut self) -> Result<(), anyhow::Error> {
-        let Some(event) = self.server.next_event() else {
-            return Ok(());
-        };
+        match self.server.next_event() {
+            Some(event) => self.serve_event(&event),
+            None => Ok(()),
+        }
+    }
+
+    fn serve_event(&mut self, event: &Event) -> Result<(), anyhow::Error> {
         match event {
             Event::Call {
                 number,
                 message,
                 ..
-            } => {
-                let words = words_of(self.alloc, &message)?;
-                answer(&mut self.server, self.now, number, words.as_slice())?;
-            }
+            } => return self.answer(*number, message),
             Event::Answer { .. } => self.wrong = self.wrong.saturating_add(1),
-            Event::Closed { why, .. } => self.server_closed = Some(why),
+            Event::Closed { why, .. } => self.server_closed = Some(*why),
         }
         Ok(())
+    }
+
+    /// Answers a call by its own words.
+    fn answer(&mut self, number: usize, message: &PiecedMessage) -> Result<(), anyhow::Error> {
+        let words = words_of(self.alloc, message)?;
+        Ok(answer(&mut self.server, self.now, number, words.as_slice())?)
     }
 
     /// Takes an answer.
@@ -169,28 +176,39 @@ impl Stubborn {
 
     /// What the client is told.
     fn hear_next(&mut self) -> Result<(), anyhow::Error> {
-        let Some(event) = self.client.next_event() else {
-            return Ok(());
-        };
+        match self.client.next_event() {
+            Some(event) => self.hear_event(&event),
+            None => Ok(()),
+        }
+    }
+
+    fn hear_event(&mut self, event: &Event) -> Result<(), anyhow::Error> {
         match event {
             Event::Call { .. } => self.wrong = self.wrong.saturating_add(1),
             Event::Answer {
                 answer,
                 message,
                 ..
-            } => {
-                let words = words_of(self.alloc, &message)?;
-                self.take(answer, words.as_slice());
-                self.next()?;
-            }
-            Event::Closed { why, .. } => self.client_closed = Some(why),
+            } => return self.hear_answer(*answer, message),
+            Event::Closed { why, .. } => self.client_closed = Some(*why),
         }
         Ok(())
     }
 
+    /// Takes an answer, and makes the next call.
+    fn hear_answer(
+        &mut self,
+        answer: Answer,
+        message: &PiecedMessage,
+    ) -> Result<(), anyhow::Error> {
+        let words = words_of(self.alloc, message)?;
+        self.take(answer, words.as_slice());
+        Ok(self.next()?)
+    }
+
     /// When something is to be done next. `None`: both are at rest.
     fn next_time(&self) -> Option<u64> {
-        crate::player::earlier(self.client.wake(), self.server.wake())
+        host_scenes::player::earlier(self.client.wake(), self.server.wake())
     }
 
     /// Lets both do what they can, and goes on to when they want to be asked again; whether there is such a time.

@@ -77,6 +77,19 @@ impl Ends {
             "caller" => act(alloc, &mut self.caller, &mut self.sent, words, text),
             "server" => act(alloc, &mut self.server, &mut self.sent, words, text),
             "ends" => self.replace(alloc, words),
+            _ => self.tell(alloc, word, words, text),
+        }
+    }
+
+    /// Takes a step that changes neither end.
+    fn tell(
+        &self,
+        alloc: Global,
+        word: &str,
+        words: &str,
+        text: &mut String,
+    ) -> Result<(), AllocError> {
+        match word {
             "write" => writing::tell(alloc, words, text),
             "at" => small::tell(alloc, words, text),
             "controls" => controls(alloc, words, text),
@@ -124,8 +137,20 @@ fn ask(
         "full" => put(text, &end.is_full()),
         "open" => put(text, &end.is_open()),
         "waiting" => put(text, &end.waiting()),
-        _ => put(text, &end.is_ours(&sent.bytes(alloc, words)?)),
+        _ => put_owner(alloc, end, sent, words, text),
     }
+}
+
+/// Whether the bytes that words stand for are a packet of the connection.
+fn put_owner(
+    alloc: Global,
+    end: &Endpoint,
+    sent: &Sent,
+    words: &str,
+    text: &mut String,
+) -> Result<(), AllocError> {
+    let bytes = sent.bytes(alloc, words)?;
+    put(text, &end.is_ours(&bytes))
 }
 
 /// Sends the item that words say.
@@ -266,6 +291,17 @@ fn put_controls(alloc: Global, packet: &mut [u8], text: &mut String) -> Result<(
     let first = packet.get(CONTROL).copied().unwrap_or(0);
     let mut outcome = String::new(alloc);
     put_control(alloc, packet, first, &mut outcome)?;
-    let last = last_alike(alloc, packet, first, outcome.as_str())?;
-    write!(text, "{first} to {last}: {}", outcome.as_str())
+    put_alike(alloc, packet, first, outcome.as_str(), text)
+}
+
+/// The controls from this one on with which the packet comes to the same, and to what.
+fn put_alike(
+    alloc: Global,
+    packet: &mut [u8],
+    first: u8,
+    outcome: &str,
+    text: &mut String,
+) -> Result<(), AllocError> {
+    let last = last_alike(alloc, packet, first, outcome)?;
+    write!(text, "{first} to {last}: {outcome}")
 }

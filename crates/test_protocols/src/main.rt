@@ -28,7 +28,6 @@
 mod ends;
 mod faults;
 mod hexed;
-mod items;
 mod reading;
 mod sent;
 mod small;
@@ -36,8 +35,8 @@ mod text;
 mod writing;
 
 use crate::ends::Ends;
-use crate::items::{long_play, plays, timeouts};
 use std::alloc::{AllocError, Global};
+use test_items::{long_play, plays, timeouts};
 use test_setting::SERVER_ID;
 
 fn main(rt: HostRuntime) -> Result<(), anyhow::Error> {

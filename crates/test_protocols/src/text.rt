@@ -50,11 +50,22 @@ fn push_digits(bytes: &mut Vec<u8>, digits: &str) -> Result<(), AllocError> {
 /// The bytes that words stand for: pairs of hex digits, and how often they come.
 pub fn read_bytes(alloc: Global, words: &str) -> Result<Vec<u8>, AllocError> {
     let mut bytes = Vec::new(alloc);
-    for word in words.split(" ") {
-        let (digits, count) = word.split_once("*").unwrap_or((word, "1"));
-        for _ in 0..count.parse::<u16>().unwrap_or(0) {
-            push_digits(&mut bytes, digits)?;
-        }
-    }
+    push_words(&mut bytes, words)?;
     Ok(bytes)
+}
+
+fn push_words(bytes: &mut Vec<u8>, words: &str) -> Result<(), AllocError> {
+    for word in words.split(" ") {
+        push_word(bytes, word)?;
+    }
+    Ok(())
+}
+
+/// Adds the bytes of a word, as often as it says.
+fn push_word(bytes: &mut Vec<u8>, word: &str) -> Result<(), AllocError> {
+    let (digits, count) = word.split_once("*").unwrap_or((word, "1"));
+    for _ in 0..count.parse::<u16>().unwrap_or(0) {
+        push_digits(bytes, digits)?;
+    }
+    Ok(())
 }

@@ -1,6 +1,6 @@
 use crate::speed::WORDS;
-use crate::station::{Station, both};
 use courier_sessions::{Answer, Program};
+use host_scenes::station::{Station, both};
 use std::alloc::Global;
 use xns_host::{Event, HostFault, Settings};
 use xns_idp::Address;
@@ -73,32 +73,45 @@ impl Pair {
 
     /// Answers a call by its own words.
     fn answer(&mut self) -> Result<(), HostFault> {
-        if let Some(
-            Event::Call {
-                number,
-                message,
-                ..
-            },
-        ) = self.service.next_event()
-        {
-            let Ok(words) = message.words(self.alloc) else {
-                return Err(HostFault::NoMemory);
-            };
-            self.service
-                .answer(self.now, number, Answer::Return, words.as_slice())?;
+        match self.service.next_event() {
+            Some(event) => self.answer_to(&event),
+            None => Ok(()),
         }
-        Ok(())
+    }
+
+    fn answer_to(&mut self, event: &Event) -> Result<(), HostFault> {
+        let Event::Call {
+            number,
+            message,
+            ..
+        } = event
+        else {
+            return Ok(());
+        };
+        let Ok(words) = message.words(self.alloc) else {
+            return Err(HostFault::NoMemory);
+        };
+        self.service
+            .answer(self.now, *number, Answer::Return, words.as_slice())
     }
 
     /// Picks an answer up.
     fn hear(&mut self) -> Result<(), HostFault> {
-        if let Some(Event::Answer { message, .. }) = self.client.next_event() {
-            let Ok(words) = message.words(self.alloc) else {
-                return Err(HostFault::NoMemory);
-            };
-            if words.as_slice() == WORDS.as_slice() {
-                self.answered = self.answered.saturating_add(1);
-            }
+        match self.client.next_event() {
+            Some(event) => self.take(&event),
+            None => Ok(()),
+        }
+    }
+
+    fn take(&mut self, event: &Event) -> Result<(), HostFault> {
+        let Event::Answer { message, .. } = event else {
+            return Ok(());
+        };
+        let Ok(words) = message.words(self.alloc) else {
+            return Err(HostFault::NoMemory);
+        };
+        if words.as_slice() == WORDS.as_slice() {
+            self.answered = self.answered.saturating_add(1);
         }
         Ok(())
     }

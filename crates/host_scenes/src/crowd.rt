@@ -1,7 +1,7 @@
-use crate::outcome::Outcome;
+use crate::outcome::{Outcome, put_count};
 use crate::player::SERVER;
-use crate::put_count;
 use crate::station::{Station, both};
+use courier_messages::PiecedMessage;
 use courier_sessions::{Answer, Program};
 use std::alloc::{AllocError, Global};
 use xns_host::{Event, HostFault, Settings};
@@ -101,28 +101,36 @@ impl Crowd {
     }
 
     /// What a host is told: a call is answered by its own words.
-    fn hear(&mut self, event: Event) -> Result<(), AllocError> {
+    fn hear(&mut self, event: &Event) -> Result<(), AllocError> {
         match event {
             Event::Call {
                 number,
                 message,
                 ..
-            } => {
-                let words = message.words(self.alloc)?;
-                let _ = self
-                    .server
-                    .answer(self.now, number, Answer::Return, words.as_slice());
-            }
+            } => self.answer(*number, message),
             Event::Answer {
                 number,
                 message,
                 ..
-            } => {
-                let words = message.words(self.alloc)?;
-                self.answered(number, words.as_slice());
+            } => self.take_answer(*number, message),
+            Event::Closed { why, .. } => {
+                self.outcome.closed(*why);
+                Ok(())
             }
-            Event::Closed { why, .. } => self.outcome.closed(why),
         }
+    }
+
+    fn answer(&mut self, number: usize, message: &PiecedMessage) -> Result<(), AllocError> {
+        let words = message.words(self.alloc)?;
+        let _ = self
+            .server
+            .answer(self.now, number, Answer::Return, words.as_slice());
+        Ok(())
+    }
+
+    fn take_answer(&mut self, number: usize, message: &PiecedMessage) -> Result<(), AllocError> {
+        let words = message.words(self.alloc)?;
+        self.answered(number, words.as_slice());
         Ok(())
     }
 
@@ -149,13 +157,13 @@ impl Crowd {
             let Some(event) = self.server.next_event() else {
                 break;
             };
-            self.hear(event)?;
+            self.hear(&event)?;
         }
         for _ in 0..CONNECTIONS {
             let Some(event) = self.client.next_event() else {
                 break;
             };
-            self.hear(event)?;
+            self.hear(&event)?;
         }
         Ok(())
     }

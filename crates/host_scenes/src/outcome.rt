@@ -1,4 +1,3 @@
-use crate::put_count;
 use std::alloc::AllocError;
 use xns_host::Why;
 
@@ -53,4 +52,9 @@ impl Outcome {
         put_count(text, self.by_peer, "by the peer")?;
         put_count(text, self.otherwise, "else")
     }
+}
+
+/// Puts a number and what it counts.
+pub fn put_count(text: &mut String, count: usize, what: &str) -> Result<(), AllocError> {
+    write!(text, "{count} {what}, ")
 }

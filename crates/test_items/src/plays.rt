@@ -1,6 +1,6 @@
 //! Plays of items over worked examples, and over steps that look random.
-use crate::items::generator::Generator;
-use crate::items::step::Step;
+use crate::generator::Generator;
+use crate::step::Step;
 use item_world::{Bag, Event, ItemTrace, Items, Setup, Side, play_items};
 use std::alloc::{AllocError, Global};
 use std::fmt::{Debug, Write};

@@ -4,6 +4,7 @@ use crate::restart::Restart;
 use crate::scene::Scene;
 use crate::station::Station;
 use crate::words::{answer_to, words_of};
+use courier_messages::PiecedMessage;
 use courier_sessions::Answer;
 use std::alloc::{AllocError, Global};
 use std::mem::replace;
@@ -133,28 +134,50 @@ impl Player {
         Ok(())
     }
 
+    fn hear_call(
+        &mut self,
+        now: u64,
+        number: usize,
+        message: &PiecedMessage,
+    ) -> Result<(), anyhow::Error> {
+        let words = message.words(self.alloc)?;
+        Ok(self.called(now, number, words.as_slice())?)
+    }
+
+    fn hear_answer(&mut self, now: u64, message: &PiecedMessage) -> Result<(), anyhow::Error> {
+        let words = message.words(self.alloc)?;
+        self.answered(now, words.as_slice())
+    }
+
     /// Hears what its host tells.
-    pub fn hear(&mut self, now: u64, event: Event) -> Result<(), anyhow::Error> {
+    fn hear(&mut self, now: u64, event: &Event) -> Result<(), anyhow::Error> {
         match event {
             Event::Call {
                 number,
                 message,
                 ..
-            } => {
-                let words = message.words(self.alloc)?;
-                self.called(now, number, words.as_slice())?;
+            } => self.hear_call(now, *number, message),
+            Event::Answer { message, .. } => self.hear_answer(now, message),
+            Event::Closed { why, .. } => {
+                self.outcome.closed(*why);
+                Ok(())
             }
-            Event::Answer { message, .. } => {
-                let words = message.words(self.alloc)?;
-                self.answered(now, words.as_slice())?;
-            }
-            Event::Closed { why, .. } => self.outcome.closed(why),
         }
-        Ok(())
+    }
+
+    /// Hears what its host tells, or else gives an answer whose time has come; whether there was one.
+    pub fn step(&mut self, now: u64) -> Result<bool, anyhow::Error> {
+        match self.host.next_event() {
+            Some(event) => {
+                self.hear(now, &event)?;
+                Ok(true)
+            }
+            None => Ok(self.answer(now)),
+        }
     }
 
     /// Gives an answer whose time has come; whether there was one.
-    pub fn answer(&mut self, now: u64) -> bool {
+    fn answer(&mut self, now: u64) -> bool {
         let Some(place) = self.late.iter().position(|late| late.at <= now) else {
             return false;
         };

@@ -1,8 +1,8 @@
 use crate::network::{Flying, Network};
-use crate::outcome::Outcome;
+use crate::outcome::{Outcome, put_count};
 use crate::player::{Player, SERVER, earlier};
 use crate::scene::Scene;
-use crate::{put_count, strangers};
+use crate::strangers;
 use courier_sessions::Program;
 use std::alloc::{AllocError, Global};
 
@@ -83,11 +83,7 @@ impl Play {
         let Some(player) = self.players.get_mut(place) else {
             return Ok(false);
         };
-        if let Some(event) = player.host.next_event() {
-            player.hear(self.now, event)?;
-            return Ok(true);
-        }
-        if player.answer(self.now) {
+        if player.step(self.now)? {
             return Ok(true);
         }
         let Some(out) = player.host.next_packet(self.now)? else {

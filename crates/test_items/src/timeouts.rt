@@ -2,9 +2,9 @@
 //! what the two ends say of their own.
 ghost use Rattle.std.specs.Prelude.{◌≤◌};
 
-use crate::items::counts::Counts;
-use crate::items::trial::Trial;
-use crate::items::way::Way;
+use crate::counts::Counts;
+use crate::trial::Trial;
+use crate::way::Way;
 use std::alloc::{AllocError, Global};
 
 const WINDOWS: [usize; 4] = [1, 2, 8, 64];

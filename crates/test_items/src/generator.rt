@@ -1,4 +1,4 @@
-use crate::items::step::Step;
+use crate::step::Step;
 use item_world::Side;
 
 /// Numbers that look random, always the same.

@@ -88,27 +88,57 @@ fn push_round(
     round: usize,
     loser: Side,
 ) -> Result<(), AllocError> {
-    let first = first_packet(round);
     push_sends(alloc, events, round, loser)?;
     push_sends(alloc, events, round, loser.other())?;
+    push_arrival(events, first_packet(round))?;
+    push_late(events, round)?;
+    events.push(Event::Tick(loser))?;
+    push_again(events, first_again(round))?;
+    push_takes(events)
+}
+
+/// The packet comes that is the number of this one and so many more.
+fn push_packet(events: &mut Vec<Event>, first: usize, more: usize) -> Result<(), AllocError> {
+    events.push(Event::Deliver(first.saturating_add(more)))?;
+    Ok(())
+}
+
+/// The packets of a round come, but for the first, in reverse; the one in the middle comes twice; and one of the replies comes, the last of
+/// 7 + 9, which acknowledges all that the other side sent.
+fn push_arrival(events: &mut Vec<Event>, first: usize) -> Result<(), AllocError> {
     push_reversed(events, first.saturating_add(1), ITEMS - 1)?;
     push_reversed(events, first.saturating_add(ITEMS), ITEMS)?;
-    events.push(Event::Deliver(first.saturating_add(ITEMS)))?;
-    // The last of 7 + 9 replies acknowledges all that the other side sent; those before it are lost.
-    events.push(Event::Deliver(first.saturating_add(31)))?;
-    let mut next = first.saturating_add(32);
-    if round >= LATE {
-        events.push(Event::Deliver(first_packet(round - LATE)))?;
-        next = next.saturating_add(1);
+    push_packet(events, first, ITEMS)?;
+    push_packet(events, first, 31)
+}
+
+/// A packet comes again that lives still, and one that lives no more, where there were so many rounds.
+fn push_late(events: &mut Vec<Event>, round: usize) -> Result<(), AllocError> {
+    for age in [LATE, PAST] {
+        if round >= age {
+            push_packet(events, first_packet(round - age), 0)?;
+        }
     }
-    if round >= PAST {
-        events.push(Event::Deliver(first_packet(round - PAST)))?;
-    }
-    events.push(Event::Tick(loser))?;
+    Ok(())
+}
+
+/// The number of the first packet that a round sends again: before it are the 16 items, their replies, and the reply to a late one.
+fn first_again(round: usize) -> usize {
+    first_packet(round)
+        .saturating_add(32)
+        .saturating_add(usize::from(round >= LATE))
+}
+
+/// What was lost comes, with all that followed it, and the last reply to that.
+fn push_again(events: &mut Vec<Event>, next: usize) -> Result<(), AllocError> {
     for packet in 0..ITEMS {
-        events.push(Event::Deliver(next.saturating_add(packet)))?;
+        push_packet(events, next, packet)?;
     }
-    events.push(Event::Deliver(next.saturating_add(15)))?;
+    push_packet(events, next, 15)
+}
+
+/// Both sides hand up the items of a round.
+fn push_takes(events: &mut Vec<Event>) -> Result<(), AllocError> {
     for _ in 0..ITEMS {
         events.push(Event::Take(Side::A))?;
         events.push(Event::Take(Side::B))?;

@@ -1,0 +1,15 @@
+//! Hosts over a network in played time that loses, repeats, delays and corrupts packets, and two hosts with a thousand connections at once:
+//! plays, of each of which `test_hosts` prints what came.
+#![tactic(auto)]
+
+pub mod crowd;
+mod late;
+mod network;
+mod outcome;
+pub mod play;
+pub mod player;
+mod restart;
+pub mod scene;
+pub mod station;
+mod strangers;
+mod words;
