@@ -44,10 +44,11 @@ pub fn append_flow_line(
 ) -> Result<(), AllocError>
     ensures { Adds result report.old report.new (flow_line heading (packet_model packet.now) header.now) }
 {
+    // The ends are written before the heading, so that they are in memory by the time they are copied.
+    let mut ends = [0; 84];
+    write_ends(packet, header, &mut ends);
     append_heading(report, heading)?;
-    let mut text = [0; 84];
-    write_ends(packet, header, &mut text);
-    report.append(&text)
+    report.append(&ends)
 }
 
 /// Writes both ends of a flow, up to the end of the line.
