@@ -1,5 +1,5 @@
 //! The lines of the output, a function for each.
-ghost use Rattle.std.specs.Prelude.{◌≡◌, ◌++◌, codes};
+ghost use Rattle.std.specs.Prelude.{◌≡◌, ◌++◌, codes, length};
 ghost use Rattle.std.specs.Fmt.{decimal};
 ghost use Rattle.xns_idp.specs.Packet.{packet_model};
 ghost use Rattle.xns_dump.specs.Layers.Text.{address_text};
@@ -13,7 +13,7 @@ use courier_messages::{MessageFault, SessionFault};
 use std::alloc::AllocError;
 use std::ops::Range;
 use xns_dump::layers::courier::{append_callee, append_field};
-use xns_dump::layers::text::spelled_address;
+use xns_dump::layers::text::write_address;
 use xns_idp::{Address, Packet};
 use xns_lines::numbers::{append_decimal, append_decimal_u64, append_word_list};
 use xns_lines::{Report, write_few_digits};
@@ -44,31 +44,34 @@ pub fn append_flow_line(
 ) -> Result<(), AllocError>
     ensures { Adds result report.old report.new (flow_line heading (packet_model packet.now) header.now) }
 {
+    // The ends are written before the heading, so that they are in memory by the time they are copied.
+    let mut ends = [0; 84];
+    write_ends(packet, header, &mut ends);
     append_heading(report, heading)?;
-    report.append(&spelled_ends(packet, header))
+    report.append(&ends)
 }
 
-/// Both ends of a flow, up to the end of the line.
-#[tactic(auto, unfolding(crate::specs::Texts::end_text))]
-fn spelled_ends(packet: &Packet<'_>, header: &Header) -> [u8; 84]
-    ensures { result ≡ end_text (codes " flow to ") packet.now.target header.now.target_id
+/// Writes both ends of a flow, up to the end of the line.
+fn write_ends(packet: &Packet<'_>, header: &Header, text: &mut [u8])
+    requires { length text.old ≡ 84 }
+    ensures { text.new ≡ end_text (codes " flow to ") packet.now.target header.now.target_id
         ++ end_text (codes " from ") packet.now.source header.now.source_id ++ codes "\n" }
 {
-    let mut text =
-        *b" flow to 00000000.000000000000.0000 id 0000 from 00000000.000000000000.0000 id 0000\n";
-    text[9..43].copy_from_slice(&spelled_end(&packet.target, header.target_id));
-    text[49..83].copy_from_slice(&spelled_end(&packet.source, header.source_id));
-    text
+    text[..9].copy_from_slice(b" flow to ");
+    write_end(&packet.target, header.target_id, &mut text[9..43]);
+    text[43..49].copy_from_slice(b" from ");
+    write_end(&packet.source, header.source_id, &mut text[49..83]);
+    text[83] = b'\n';
 }
 
-/// An end of a flow: its address and its connection identifier.
-fn spelled_end(address: &Address, identifier: u16) -> [u8; 34]
-    ensures { result ≡ address_text address.now ++ codes " id " ++ hex_word identifier }
+/// Writes an end of a flow: its address and its connection identifier.
+fn write_end(address: &Address, identifier: u16, text: &mut [u8])
+    requires { length text.old ≡ 34 }
+    ensures { text.new ≡ address_text address.now ++ codes " id " ++ hex_word identifier }
 {
-    let mut text = *b"00000000.000000000000.0000 id 0000";
-    text[..26].copy_from_slice(&spelled_address(address));
+    write_address(address, &mut text[..26]);
+    text[26..30].copy_from_slice(b" id ");
     write_few_digits(&identifier.to_be_bytes(), &mut text[30..]);
-    text
 }
 
 /// Appends the line of items that had not come by then.

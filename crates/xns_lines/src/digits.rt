@@ -43,7 +43,8 @@ pub fn write_few_digits(bytes: &[u8], digits: &mut [u8])
 {
     for i in 0..bytes.len() {
         let pair = 2 * usize::from(bytes[i]);
-        digits[2 * i..2 * i + 2].copy_from_slice(&PAIRS[pair..pair + 2]);
+        digits[2 * i] = PAIRS[pair];
+        digits[2 * i + 1] = PAIRS[pair + 1];
     }
 }
 
