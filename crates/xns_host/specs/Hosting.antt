@@ -104,7 +104,7 @@ LedTo Steps c (Some g) = Steps c.conversation g.connection.conversation
 abbrev pub IsAsked : Connection → Option Guest → Type 0
 IsAsked c None = ⊥
 IsAsked c (Some g) = Goes c.conversation g.connection.conversation × (g.connection.conversation.closing.wanted ≡ true)
-    × (g.connection.owed.moving ≡ false → HasSaidEnd g.connection.conversation)
+    × (g.connection.owed.moving ≡ false → HasSaidEnd g.connection.conversation) × HasReplied c g.connection
 
 -- the connection is in this place; or it was forgotten: it is closed, the program was told, and it lingers no more
 pub data StaysIn (c : Connection) : Option (Option Guest) → Type 0 where
@@ -170,7 +170,7 @@ pub record DoesDue (now : ℕ) (old new : List (Option Guest)) : Type 0 where
 pub data HasTold (c next : Connection) : Type 0 where
   handed : (m : Message) → waiting_message c.conversation.side ≡ Some m
       → GoesFrom c.conversation next.conversation (λ h. with_handed c.conversation.side h m)
-      → StaysAsked c.conversation next.conversation → HasTold c next
+      → StaysAsked c.conversation next.conversation → HasReplied c next → HasTold c next
   closed : waiting_message c.conversation.side ≡ None → next ≡ record c { told = true } → HasTold c next
 
 -- this was the step that led to the connection in this place

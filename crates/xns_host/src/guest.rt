@@ -120,6 +120,7 @@ impl Guest {
         ensures goes { Goes self.old.connection.conversation self.new.connection.conversation }
         ensures asked { self.new.connection.conversation.closing.wanted ≡ true }
         ensures said { self.new.connection.owed.moving ≡ false → HasSaidEnd self.new.connection.conversation }
+        ensures replied { HasReplied self.old.connection self.new.connection }
         ensures name { name_of self.new ≡ name_of self.old }
     {
         self.connection.close(alloc, now);
