@@ -7,7 +7,7 @@ use Rattle.xns_idp.specs.Packet.{same_place}
 use Rattle.xns_spp.specs.Ends.{is_open}
 use Rattle.xns_spp.specs.State.{State}
 use Rattle.xns_spp.specs.Telling.{own_name}
-use Rattle.xns_host.specs.Hosting.{Each, EachGoes, EachKeeps, HasToldIn, IsApart, IsGiven, IsNextPacket, LedIn, LedTo, StaysIn, TellsIn}
+use Rattle.xns_host.specs.Hosting.{Each, EachGoes, EachKeeps, HasReplied, HasToldIn, IsApart, IsGiven, IsNextPacket, LedIn, LedTo, StaysIn, TellsIn}
 use Rattle.xns_host.specs.Hosting.{forgotten, is_done, may_go, stays}
 use Rattle.xns_host.specs.Quotes.{is_opened_by}
 use Rattle.xns_host.specs.Registered.{name_in}
@@ -31,6 +31,10 @@ by_guest P place g h there is here = let same : h ≡ g = cc in subst P same her
 pub goes_by : {d : Conversation} (place : Option Guest) (g h : Guest) → place ≡ Some h → place ≡ Some g → Goes h.connection.conversation d
     → Goes g.connection.conversation d
 goes_by {d = d} place g h there is here = let same : h ≡ g = cc in subst (λ (x : Guest). Goes x.connection.conversation d) same here
+
+pub replied_by : (next : Connection) (place : Option Guest) (g h : Guest) → place ≡ Some h → place ≡ Some g → HasReplied h.connection next
+    → HasReplied g.connection next
+replied_by next place g h there is here = let same : h ≡ g = cc in subst (λ (x : Guest). HasReplied x.connection next) same here
 
 -- ---- steps, one after the other
 

@@ -16,7 +16,7 @@ use Rattle.xns_idp.specs.declared.packet.Packet.{Packet}
 use Rattle.xns_spp.specs.Header.{header_of}
 use Rattle.xns_spp.specs.declared.dropped.Dropped.{Dropped}
 use Rattle.xns_spp.specs.declared.dropped.Dropped.TheVariants.{NotSpp}
-use Rattle.xns_host.specs.Hosting.{EachGoes, EachHears, HasHeard, HearsIn, IsPacketOf, IsThere, Receives, nothing, heard, goes, hears, listens, loses}
+use Rattle.xns_host.specs.Hosting.{EachGoes, EachHears, HasHeard, HasReplied, HearsIn, IsPacketOf, IsThere, Receives, nothing, heard, goes, hears, listens, loses}
 use Rattle.xns_host.specs.Ours.{named_in}
 use Rattle.xns_host.specs.Register.{number_by, peer_at}
 use Rattle.xns_host.specs.Registered.{IsRegistered}
@@ -49,10 +49,11 @@ heard_or_not bytes m place g h (Err e) read is ok err = subst (λ (p : Option Gu
 
 pub has_heard : (bytes : List ℕ) (m : SppPacketModel) (g h : Guest) (r : Result (Unit {0}) AllocError) → spp_packet_of bytes ≡ Ok m
     → OnOk r ((b : List ℕ) → spp_packet_of b ≡ Ok m → Hears g.connection.conversation h.connection.conversation b) → OnErr r (h ≡ g)
+    → OnOk r (HasReplied g.connection h.connection)
     → OnErr r ((s : State) (b : List ℕ) → StandsFor g.connection.conversation.endpoint s → spp_packet_of b ≡ Ok m → StoresBytes s b)
     → HasHeard bytes g (Some h)
-has_heard bytes m g h (Ok u) read ok err memory = listens h (ok bytes read)
-has_heard bytes m g h (Err e) read ok err memory =
+has_heard bytes m g h (Ok u) read ok err replied memory = listens h (ok bytes read) replied
+has_heard bytes m g h (Err e) read ok err replied memory =
     subst (λ (x : Guest). HasHeard bytes g (Some x)) (sym err) (loses (λ s stands. memory s bytes stands read))
 
 -- the connection in one place heard them

@@ -21,7 +21,7 @@ use Rattle.xns_host.specs.Living.{GoesFrom}
 use Rattle.xns_host.specs.Quotes.{is_opened_by, quoted_opening}
 use Rattle.xns_host.specs.Services.{programs_at}
 use Rattle.xns_host.specs.Story.{Story, has_message, new_story, waiting_message, with_handed}
-use Rattle.xns_host.specs.Telling.{Tells, Goes, HasSaidEnd, Hears, Keeps, MovesAndGives}
+use Rattle.xns_host.specs.Telling.{Tells, Goes, HasSaidEnd, HasSaidReply, Hears, Keeps, MovesAndGives}
 use Rattle.xns_host.specs.Times.{IsBy}
 use Rattle.xns_host.specs.Turns.{has_turn}
 use Rattle.xns_host.specs.Waiting.{IsDueAfter, StepsAt, after_act, due_time}
@@ -85,10 +85,15 @@ pub record IsApart (old new : List (Option Guest)) (number : ℕ) : Type 0 where
 abbrev pub StaysAsked : (old new : Conversation) → Type 0
 StaysAsked old new = old.closing.wanted ≡ true → new.closing.wanted ≡ true
 
+-- a connection owes no EndReply any longer, unless memory was refused while items moved, or this step closed it
+abbrev pub HasReplied : (old new : Connection) → Type 0
+HasReplied old new = new.owed.moving ≡ false → new.closed ≡ old.closed → HasSaidReply new.conversation
+
 -- the connection in this place went on from where that one was when the program had done this, whatever it had done before
 abbrev pub WentOn : Connection → (Story → Story) → Option Guest → Type 0
 WentOn c deed None = ⊥
 WentOn c deed (Some g) = GoesFrom c.conversation g.connection.conversation deed × StaysAsked c.conversation g.connection.conversation
+    × HasReplied c g.connection
 
 -- such steps led to the one in this place
 abbrev pub LedTo : (Conversation → Conversation → Type 0) → Connection → Option Guest → Type 0
@@ -99,7 +104,7 @@ LedTo Steps c (Some g) = Steps c.conversation g.connection.conversation
 abbrev pub IsAsked : Connection → Option Guest → Type 0
 IsAsked c None = ⊥
 IsAsked c (Some g) = Goes c.conversation g.connection.conversation × (g.connection.conversation.closing.wanted ≡ true)
-    × (g.connection.owed.moving ≡ false → HasSaidEnd g.connection.conversation)
+    × (g.connection.owed.moving ≡ false → HasSaidEnd g.connection.conversation) × HasReplied c g.connection
 
 -- the connection is in this place; or it was forgotten: it is closed, the program was told, and it lingers no more
 pub data StaysIn (c : Connection) : Option (Option Guest) → Type 0 where
@@ -165,7 +170,7 @@ pub record DoesDue (now : ℕ) (old new : List (Option Guest)) : Type 0 where
 pub data HasTold (c next : Connection) : Type 0 where
   handed : (m : Message) → waiting_message c.conversation.side ≡ Some m
       → GoesFrom c.conversation next.conversation (λ h. with_handed c.conversation.side h m)
-      → StaysAsked c.conversation next.conversation → HasTold c next
+      → StaysAsked c.conversation next.conversation → HasReplied c next → HasTold c next
   closed : waiting_message c.conversation.side ≡ None → next ≡ record c { told = true } → HasTold c next
 
 -- this was the step that led to the connection in this place
@@ -341,7 +346,8 @@ pub record IsPacketOf (host : List ℕ) (p : SppPacketModel) (guest : Guest) : T
 
 -- the connection in this place has heard these bytes; or they bring bytes of an item that memory was refused for, and are as if lost
 pub data HasHeard (bytes : List ℕ) (g : Guest) : Option Guest → Type 0 where
-  listens : (h : Guest) → Hears g.connection.conversation h.connection.conversation bytes → HasHeard bytes g (Some h)
+  listens : (h : Guest) → Hears g.connection.conversation h.connection.conversation bytes → HasReplied g.connection h.connection
+      → HasHeard bytes g (Some h)
   loses : ((s : State) → StandsFor g.connection.conversation.endpoint s → StoresBytes s bytes) → HasHeard bytes g (Some g)
 
 -- a peer, with this identifier, opened this connection at an address of ours, and nothing was said in it: it has the identifier that came

@@ -9,7 +9,7 @@ use Rattle.xns_spp.specs.Receiving.{after_receive}
 use Rattle.xns_spp.specs.Sending.{flush_answer, send_answer, waiting_count}
 use Rattle.xns_spp.specs.State.{State}
 use Rattle.xns_spp.specs.Telling.{unacknowledged_count}
-use Rattle.xns_host.specs.Closing.{closing_item, closing_items, drains, end_stream}
+use Rattle.xns_host.specs.Closing.{closing_item, closing_items, drains, end_reply_stream, end_stream}
 use Rattle.xns_host.specs.Story.{Story, SideHas, GoesOn, made_on, out_of, has_call, IsMoved, IsListed}
 use Rattle.xns_host.specs.declared.closing.Closing.{Closing}
 use Rattle.xns_host.specs.declared.conversation.Conversation.{Conversation}
@@ -25,6 +25,10 @@ HasSaidEnd t = owes_end t ≡ true → (s : State) → StandsFor t.endpoint s �
 -- EndReply is to be put out
 abbrev pub owes_reply : Conversation → Bool
 owes_reply t = t.closing.reply_wanted && (not t.closing.reply_sent && (drains t.side t.closing && not (has_items (out_of t.side))))
+
+-- it is put out, unless there is no room for it
+abbrev pub HasSaidReply : Conversation → Type 0
+HasSaidReply t = owes_reply t ≡ true → (s : State) → StandsFor t.endpoint s → is_ok (send_answer s (closing_item end_reply_stream)) ≡ false
 
 -- something waits for the peer
 abbrev pub waits : State → Bool

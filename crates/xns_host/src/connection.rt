@@ -20,7 +20,7 @@ ghost use Rattle.xns_host.specs.Reasons.{call_fault_of, answer_fault_of};
 ghost use Rattle.xns_host.specs.Refusing.{Answers};
 ghost use Rattle.xns_host.specs.Settings.{IsBegun, IsFit};
 ghost use Rattle.xns_host.specs.Story.{Story, GoesOn, new_story, asked_of, waiting_message, with_handed, has_message};
-ghost use Rattle.xns_host.specs.Telling.{Tells, Goes, MovesAndGives, Rested, Calm, CalmFrom, HasSaidEnd, Hears, ReadsAll, waits, is_over};
+ghost use Rattle.xns_host.specs.Telling.{Tells, Goes, MovesAndGives, Rested, Calm, CalmFrom, HasSaidEnd, HasSaidReply, Hears, ReadsAll, waits, is_over};
 ghost use Rattle.xns_host.specs.Waiting.{HearsAt, IsDueAfter, StepsAt, act_at, after_act, after_step, after_word, last_time, lingering, new_waiting};
 ghost use Rattle.xns_host.specs.declared.act.Act.TheVariants.{GiveUp};
 ghost use Rattle.xns_host.specs.declared.why.Why.TheVariants.{NotServed};
@@ -217,6 +217,7 @@ fn settled(
         → Calm conversation.old conversation.new }
     ensures read { owed.new.moving ≡ false → closed.new ≡ closed.old → ReadsAll conversation.old conversation.new }
     ensures said { owed.new.moving ≡ false → HasSaidEnd conversation.new }
+    ensures replied { owed.new.moving ≡ false → closed.new ≡ closed.old → HasSaidReply conversation.new }
 {
     let waiting = conversation.endpoint.waiting();
     let moved = conversation.settle(alloc);
@@ -440,6 +441,8 @@ impl Connection {
         ensures read { OnOk result ((b : List ℕ) → spp_packet_of b ≡ Ok packet.now → self.new.owed.moving ≡ false
             → self.new.closed ≡ self.old.closed → ReadsAll self.old.conversation self.new.conversation) }
         ensures said { OnOk result (self.new.owed.moving ≡ false → HasSaidEnd self.new.conversation) }
+        ensures replied { OnOk result (self.new.owed.moving ≡ false → self.new.closed ≡ self.old.closed
+            → HasSaidReply self.new.conversation) }
         ensures closed { self.old.closed ≢ None → self.new.closed ≡ self.old.closed }
         ensures packets { self.new.conversation.packets ≡ self.old.conversation.packets }
         ensures told { self.new.told ≡ self.old.told }
@@ -574,6 +577,8 @@ impl Connection {
         ensures read { result ≡ Ok tt → self.new.owed.moving ≡ false → self.new.closed ≡ self.old.closed
             → ReadsAll self.old.conversation self.new.conversation }
         ensures said { result ≡ Ok tt → self.new.owed.moving ≡ false → HasSaidEnd self.new.conversation }
+        ensures replied { result ≡ Ok tt → self.new.owed.moving ≡ false → self.new.closed ≡ self.old.closed
+            → HasSaidReply self.new.conversation }
         ensures closed { self.old.closed ≢ None → self.new.closed ≡ self.old.closed }
         ensures packets { self.new.conversation.packets ≡ self.old.conversation.packets }
         ensures told { self.new.told ≡ self.old.told }
@@ -616,6 +621,8 @@ impl Connection {
         ensures read { (k : ℕ) → asked_of self.old.conversation.side ≡ Some k → result ≡ Ok tt → self.new.owed.moving ≡ false
             → self.new.closed ≡ self.old.closed → ReadsAll self.old.conversation self.new.conversation }
         ensures said { result ≡ Ok tt → self.new.owed.moving ≡ false → HasSaidEnd self.new.conversation }
+        ensures replied { result ≡ Ok tt → self.new.owed.moving ≡ false → self.new.closed ≡ self.old.closed
+            → HasSaidReply self.new.conversation }
         ensures closed { self.old.closed ≢ None → self.new.closed ≡ self.old.closed }
         ensures packets { self.new.conversation.packets ≡ self.old.conversation.packets }
         ensures told { self.new.told ≡ self.old.told }
@@ -645,6 +652,8 @@ impl Connection {
         ensures read { self.new.owed.moving ≡ false → self.new.closed ≡ self.old.closed
             → ReadsAll self.old.conversation self.new.conversation }
         ensures said { self.new.owed.moving ≡ false → HasSaidEnd self.new.conversation }
+        ensures replied { self.new.owed.moving ≡ false → self.new.closed ≡ self.old.closed
+            → HasSaidReply self.new.conversation }
         ensures closed { self.old.closed ≢ None → self.new.closed ≡ self.old.closed }
         ensures told { self.new.told ≡ self.old.told }
         ensures steps { StepsAt now self.old.wait self.new.wait }
@@ -674,6 +683,8 @@ impl Connection {
         ensures read { (m : Message) → result ≡ Some m → self.new.owed.moving ≡ false → self.new.closed ≡ self.old.closed
             → ReadsAll self.old.conversation self.new.conversation }
         ensures said { result ≢ None → self.new.owed.moving ≡ false → HasSaidEnd self.new.conversation }
+        ensures replied { result ≢ None → self.new.owed.moving ≡ false → self.new.closed ≡ self.old.closed
+            → HasSaidReply self.new.conversation }
         ensures closed { self.old.closed ≢ None → self.new.closed ≡ self.old.closed }
         ensures packets { self.new.conversation.packets ≡ self.old.conversation.packets }
         ensures told { self.new.told ≡ self.old.told }

@@ -71,7 +71,7 @@ fn noted(closing: Closing, stream: u8) -> Closing
 
 impl Conversation {
     ghost use Rattle.xns_host.specs.Reasons.{call_fault_of, answer_fault_of};
-    ghost use Rattle.xns_host.specs.Telling.{Tells, Goes, Gives, Rested, Calm, HasSaidEnd, NoneWaits, ReadsAll, owes_end, owes_reply};
+    ghost use Rattle.xns_host.specs.Telling.{Tells, Goes, Gives, Rested, Calm, HasSaidEnd, HasSaidReply, NoneWaits, ReadsAll, owes_end, owes_reply};
     ghost use Rattle.xns_host.specs.Telling.{waits, is_over};
 
     /// One in which nothing was said.
@@ -175,6 +175,7 @@ impl Conversation {
         ensures drains { drains self.new.side self.new.closing ≡ drains self.old.side self.old.closing }
         ensures waiting { (s v : State) → StandsFor self.old.endpoint s → StandsFor self.new.endpoint v
             → waiting_count v ≡ waiting_count s }
+        ensures replied { HasSaidReply self.new }
     {
         xns_spp::laws::items_are_accepted_or_change_nothing();
         if !self.owes_reply() {
@@ -220,6 +221,7 @@ impl Conversation {
         ensures idle { drains self.new.side self.new.closing ≡ false → self.new ≡ self.old }
         ensures read { ReadsAll self.old self.new }
         ensures said { HasSaidEnd self.new }
+        ensures replied { HasSaidReply self.new }
     {
         self.say_end(alloc);
         self.drain_out();
@@ -257,6 +259,7 @@ impl Conversation {
         ensures calm { result ≢ Err NoMemory → drains self.new.side self.new.closing ≡ false → Calm self.old self.new }
         ensures read { result ≢ Err NoMemory → ReadsAll self.old self.new }
         ensures said { result ≢ Err NoMemory → HasSaidEnd self.new }
+        ensures replied { result ≢ Err NoMemory → HasSaidReply self.new }
     {
         let moved = self.converse(alloc);
         self.mark(moved);

@@ -1,7 +1,7 @@
 //! A connection in its place at a host.
 
 ghost use Rattle.std.specs.Prelude.{◌≡◌, ℕ, List, [], ◌∷◌, ◌++◌, OnErr, OnOk, Ok, None, Some, true, false};
-ghost use Rattle.xns_host.specs.Hosting.{StaysAsked, facts_of, lingers_since, may_go, stranger_since};
+ghost use Rattle.xns_host.specs.Hosting.{HasReplied, StaysAsked, facts_of, lingers_since, may_go, stranger_since};
 ghost use Rattle.courier_messages.specs.RawCalls.{words_call};
 ghost use Rattle.xns_spp.specs.Ends.{is_open};
 ghost use Rattle.xns_spp.specs.Held.{StandsFor};
@@ -62,6 +62,7 @@ impl Guest {
         ensures unchanged { OnErr result (self.new ≡ self.old) }
         ensures memory { OnErr result ((s : State) (b : List ℕ) → StandsFor self.old.connection.conversation.endpoint s
             → spp_packet_of b ≡ Ok packet.now → StoresBytes s b) }
+        ensures replied { OnOk result (HasReplied self.old.connection self.new.connection) }
         ensures name { name_of self.new ≡ name_of self.old }
     {
         self.connection.receive(alloc, now, packet)?;
@@ -86,6 +87,7 @@ impl Guest {
             (λ h. record h { made = h.made ++ words_call program version procedure words.now ∷ [] }) }
         ensures wanted { StaysAsked self.old.connection.conversation self.new.connection.conversation }
         ensures steps { StepsAt now self.old.connection.wait self.new.connection.wait }
+        ensures replied { result ≡ Ok tt → HasReplied self.old.connection self.new.connection }
         ensures unchanged { OnErr result (self.new ≡ self.old) }
         ensures name { name_of self.new ≡ name_of self.old }
     {
@@ -108,6 +110,7 @@ impl Guest {
             (λ h. record h { answers = h.answers ++ answer_message answer k words.now ∷ [] }) }
         ensures wanted { StaysAsked self.old.connection.conversation self.new.connection.conversation }
         ensures steps { StepsAt now self.old.connection.wait self.new.connection.wait }
+        ensures replied { result ≡ Ok tt → HasReplied self.old.connection self.new.connection }
         ensures unchanged { OnErr result (self.new ≡ self.old) }
         ensures name { name_of self.new ≡ name_of self.old }
     {
@@ -120,6 +123,7 @@ impl Guest {
         ensures goes { Goes self.old.connection.conversation self.new.connection.conversation }
         ensures asked { self.new.connection.conversation.closing.wanted ≡ true }
         ensures said { self.new.connection.owed.moving ≡ false → HasSaidEnd self.new.connection.conversation }
+        ensures replied { HasReplied self.old.connection self.new.connection }
         ensures name { name_of self.new ≡ name_of self.old }
         ensures steps { StepsAt now self.old.connection.wait self.new.connection.wait }
     {

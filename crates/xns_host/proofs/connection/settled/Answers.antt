@@ -1,6 +1,6 @@
 use Rattle.std.proofs.Common.{◌≡◌, true, false, sym, subst, rules}
 use Rattle.xns_host.specs.Closing.{drains}
-use Rattle.xns_host.specs.Telling.{Calm, HasSaidEnd, NoneWaits}
+use Rattle.xns_host.specs.Telling.{Calm, HasSaidEnd, HasSaidReply, NoneWaits}
 use Rattle.xns_host.specs.declared.conversation.Conversation.{Conversation}
 use Rattle.xns_host.proofs.Leading.{goes_then}
 use Rattle.xns_host.proofs.Tellings.{drains_still, undrained}
@@ -28,3 +28,8 @@ pub returns-clause-said : goal.returns-clause-said
 returns-clause-said c = λ still owes.
     let same = c.after_moving.ensures.idle (undrained c.after_moving.new.conversation owes) in
     subst HasSaidEnd (sym same) (c.settle-moved.ensures.said (λ refused. absurd (search rules))) owes
+
+pub returns-clause-replied : goal.returns-clause-replied
+returns-clause-replied c = λ still kept.
+    let same = c.after_moving.ensures.stays kept in
+    subst HasSaidReply (sym same) (c.settle-moved.ensures.replied (λ refused. absurd (search rules)))

@@ -20,7 +20,8 @@ pub returns-in-Some-take_message-clause-told : goal.returns-in-Some-take_message
 returns-in-Some-take_message-clause-told c = λ g is some.
     by_guest (λ (h : Guest). HasTold h.connection c.take_message.new.self) c.args.slot.now g c.in-Some.guest c.in-Some.is is
     (handed c.in-Some-take_message.message (sym c.take_message.ensures.message ∙ c.in-Some-take_message.is)
-    (λ h tells. c.take_message.ensures.handed h c.in-Some-take_message.message tells c.in-Some-take_message.is) c.take_message.ensures.wanted)
+    (λ h tells. c.take_message.ensures.handed h c.in-Some-take_message.message tells c.in-Some-take_message.is) c.take_message.ensures.wanted
+    (λ still kept. c.take_message.ensures.replied (λ none. absurd (search rules)) still kept))
 
 pub returns-clause-told : goal.returns-clause-told
 returns-clause-told c = λ g is some.

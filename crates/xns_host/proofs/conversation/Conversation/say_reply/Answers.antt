@@ -1,4 +1,6 @@
-use Rattle.std.proofs.Common.{◌∙◌, true, ap, sym, refl}
+use Rattle.std.proofs.Common.{◌≡◌, ◌∙◌, true, false, ap, sym, subst, refl}
+use Rattle.xns_spp.specs.Held.{StandsFor}
+use Rattle.xns_host.specs.Telling.{owes_reply}
 use Rattle.xns_host.specs.Closing.{closing_item, end_reply_stream, drains}
 use Rattle.xns_host.specs.declared.closing.Closing.{Closing}
 use Rattle.xns_host.proofs.Leading.{goes_not}
@@ -45,3 +47,18 @@ returns-else-put-clause-waiting c = λ s v old new. sends_one s v (closing_item 
 
 pub returns-then-not-owes_reply-clause-waiting : goal.returns-then-not-owes_reply-clause-waiting
 returns-then-not-owes_reply-clause-waiting c = λ s v old new. same_waiting v s new old
+
+pub returns-then-put-clause-replied : goal.returns-then-put-clause-replied
+returns-then-put-clause-replied c = λ owes.
+    let u : Conversation = record c.put.new.self { closing = record c.put.new.self.closing { reply_sent = true } } in
+    let unsent : u.closing.reply_sent ≡ false = unsent_reply u owes in
+    absurd (cc)
+
+pub returns-else-put-clause-replied : goal.returns-else-put-clause-replied
+returns-else-put-clause-replied c = λ owes s stands.
+    let same = c.put.ensures.refused c.if-put.false in
+    sym (c.put.ensures.answer s (subst (λ (t : Conversation). StandsFor t.endpoint s) same stands)) ∙ c.if-put.false
+
+pub returns-then-not-owes_reply-clause-replied : goal.returns-then-not-owes_reply-clause-replied
+returns-then-not-owes_reply-clause-replied c = λ owes.
+    let no : owes_reply c.args.self.now ≡ false = sym c.owes_reply.ensures ∙ c.if-not-owes_reply.true in absurd (cc)
