@@ -48,12 +48,20 @@ fn answer(alloc: Global, line: &str, text: &mut String) -> Result<(), AllocError
         "server" => serving::play(alloc, words, text),
         "caller" => calling::play(alloc, words, text),
         "own" => calling::play_own(alloc, words, text),
+        "faults" => faults::tell(text),
+        _ => answer_values(alloc, line, text),
+    }
+}
+
+/// Puts what a line of shapes, values and tables is answered.
+fn answer_values(alloc: Global, line: &str, text: &mut String) -> Result<(), AllocError> {
+    let (word, words) = line.split_once(' ').unwrap_or((line, ""));
+    match word {
         "shape" => values::check(alloc, words, text),
         "words" => values::read_again(alloc, words, text),
         "pieces" => values::read_pieced(alloc, words, text),
         "fits" => values::fit(alloc, words, text),
         "table" => tables::check(alloc, words, text),
-        "faults" => faults::tell(text),
         _ => text.push_str(line),
     }
 }

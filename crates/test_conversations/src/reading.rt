@@ -13,19 +13,43 @@ fn put_head(text: &mut String, message: &Message) -> Result<(), AllocError> {
             version,
             procedure,
             ..
-        } => write!(text, "call {transaction} {program} {version} {procedure}"),
+        } => put_numbers(
+            text,
+            "call",
+            &[
+                u32::from(*transaction),
+                *program,
+                u32::from(*version),
+                u32::from(*procedure),
+            ],
+        ),
         Message::Reject {
             transaction,
             reason,
             ..
-        } => write!(text, "reject {transaction} {reason}"),
-        Message::Return { transaction, .. } => write!(text, "return {transaction}"),
+        } => put_numbers(
+            text,
+            "reject",
+            &[u32::from(*transaction), u32::from(*reason)],
+        ),
+        Message::Return { transaction, .. } => {
+            put_numbers(text, "return", &[u32::from(*transaction)])
+        }
         Message::Abort {
             transaction,
             error,
             ..
-        } => write!(text, "abort {transaction} {error}"),
+        } => put_numbers(text, "abort", &[u32::from(*transaction), u32::from(*error)]),
     }
+}
+
+/// A word, and numbers behind it.
+fn put_numbers(text: &mut String, word: &str, numbers: &[u32]) -> Result<(), AllocError> {
+    text.push_str(word)?;
+    for number in numbers {
+        write!(text, " {number}")?;
+    }
+    Ok(())
 }
 
 /// A message, and the bytes that it is written as.

@@ -112,25 +112,45 @@ pub fn put_out<F: FnMut() -> Option<Item>>(
 }
 
 /// Why bytes are no message; of an unknown kind, which.
-pub fn put_message_fault(text: &mut String, fault: MessageFault) -> Result<(), AllocError> {
+fn message_fault(fault: MessageFault) -> (&'static str, Option<u16>) {
     match fault {
-        MessageFault::OddLength => text.push_str(" OddLength"),
-        MessageFault::ShortMessage => text.push_str(" ShortMessage"),
-        MessageFault::UnknownKind { found } => write!(text, " UnknownKind {found}"),
-        MessageFault::TooLong => text.push_str(" TooLong"),
+        MessageFault::OddLength => (" OddLength", None),
+        MessageFault::ShortMessage => (" ShortMessage", None),
+        MessageFault::UnknownKind { found } => (" UnknownKind", Some(found)),
+        MessageFault::TooLong => (" TooLong", None),
     }
 }
 
 /// Why a session stopped; of an item of another datastream, which.
-pub fn put_session_fault(text: &mut String, fault: SessionFault) -> Result<(), AllocError> {
+fn session_fault(fault: SessionFault) -> (&'static str, Option<u16>) {
     match fault {
-        SessionFault::NoCommonVersion => text.push_str(" NoCommonVersion"),
-        SessionFault::BadVersions => text.push_str(" BadVersions"),
-        SessionFault::BadMessage(fault) => put_message_fault(text, fault),
-        SessionFault::WrongTransaction => text.push_str(" WrongTransaction"),
-        SessionFault::BadReply => text.push_str(" BadReply"),
-        SessionFault::Stream { kind } => write!(text, " Stream {kind}"),
-        SessionFault::NoMemory => text.push_str(" NoMemory"),
-        SessionFault::Failed => text.push_str(" Failed"),
+        SessionFault::NoCommonVersion => (" NoCommonVersion", None),
+        SessionFault::BadVersions => (" BadVersions", None),
+        SessionFault::BadMessage(fault) => message_fault(fault),
+        SessionFault::WrongTransaction => (" WrongTransaction", None),
+        SessionFault::BadReply => (" BadReply", None),
+        SessionFault::Stream { kind } => (" Stream", Some(u16::from(kind))),
+        SessionFault::NoMemory => (" NoMemory", None),
+        SessionFault::Failed => (" Failed", None),
     }
+}
+
+/// A name, and the number behind it where there is one.
+fn put_named(
+    text: &mut String,
+    (name, number): (&'static str, Option<u16>),
+) -> Result<(), AllocError> {
+    text.push_str(name)?;
+    match number {
+        Some(number) => write!(text, " {number}"),
+        None => Ok(()),
+    }
+}
+
+pub fn put_message_fault(text: &mut String, fault: MessageFault) -> Result<(), AllocError> {
+    put_named(text, message_fault(fault))
+}
+
+pub fn put_session_fault(text: &mut String, fault: SessionFault) -> Result<(), AllocError> {
+    put_named(text, session_fault(fault))
 }

@@ -40,22 +40,29 @@ fn choice(alloc: Global, text: u16) -> Result<Shape, AllocError> {
     Ok(Shape::Choice(members))
 }
 
+/// The shape of this name that has no parts; a boolean where there is none.
+fn plain(name: &str) -> Shape {
+    match name {
+        "cardinal" => Shape::Cardinal,
+        "long-cardinal" => Shape::LongCardinal,
+        "integer" => Shape::Integer,
+        "long-integer" => Shape::LongInteger,
+        "text" => Shape::Text,
+        _ => Shape::Boolean,
+    }
+}
+
 /// The shape that a word makes of the shapes before it.
 fn make(alloc: Global, shapes: &mut Vec<Shape>, word: &str) -> Result<Shape, AllocError> {
     let (name, text) = word.split_once(':').unwrap_or((word, ""));
     let number = text.parse::<u16>().unwrap_or(0);
     match name {
-        "cardinal" => Ok(Shape::Cardinal),
-        "long-cardinal" => Ok(Shape::LongCardinal),
-        "integer" => Ok(Shape::Integer),
-        "long-integer" => Ok(Shape::LongInteger),
-        "text" => Ok(Shape::Text),
         "enumeration" => Ok(Shape::Enumeration(numbers(alloc, text)?)),
         "array" => array(alloc, number, last(shapes)),
         "sequence" => sequence(alloc, number, last(shapes)),
         "record" => Ok(Shape::Fields(mem::replace(shapes, Vec::new(alloc)))),
         "choice" => choice(alloc, number),
-        _ => Ok(Shape::Boolean),
+        _ => Ok(plain(name)),
     }
 }
 
