@@ -15,11 +15,11 @@ use Rattle.xns_c.specs.declared.kept_host.KeptHost.{KeptHost}
 -- an event that was fetched, or was kept, is given
 pub event_fetched : (k n m : KeptHost) (e : Event) (before after : XnsEvent) (old new : List ℕ) (had count number : ℕ)
     → n.event ≡ Some e → ((x : Event) → k.event ≡ Some x → n ≡ k)
-    → ((x : Event) → k.event ≡ None → n.event ≡ Some x → IsNextEvent k.host.guests.items n.host.guests.items x)
+    → ((x : Event) → k.event ≡ None → n.event ≡ Some x → IsNextEvent k.host.clock.latest k.host.guests.items n.host.guests.items x)
     → n.packet ≡ k.packet → EventIsGiven e after old new count number → m.host ≡ n.host → m.event ≡ left_of (Some e) number → m.packet ≡ n.packet → FetchesEvent k m before after old new had count number
 event_fetched k n m e before after old new had count number there kept told packet given host left same = record {
   found = Some e;
-  told = λ x no is. subst (λ (h : Host). IsNextEvent k.host.guests.items h.guests.items x) (sym host) (told x no (there ∙ is));
+  told = λ x no is. subst (λ (h : Host). IsNextEvent k.host.clock.latest k.host.guests.items h.guests.items x) (sym host) (told x no (there ∙ is));
   none = λ no is. absurd cc;
   kept = λ x is. (sym there ∙ (ap (λ (y : KeptHost). y.event) (kept x is) ∙ is), host ∙ ap (λ (y : KeptHost). y.host) (kept x is));
   given = given;

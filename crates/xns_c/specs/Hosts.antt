@@ -1,5 +1,5 @@
 -- What becomes of a host that C holds.
-use Rattle.std.specs.Prelude.{◌≡◌, ◌≢◌, ◌⊎◌, ◌<◌, ◌≤◌, ℕ, false, ◌==◌, if◌then◌else◌, List, length, Option, Some, None, slice_get}
+use Rattle.std.specs.Prelude.{◌≡◌, ◌≢◌, ◌⊎◌, ◌<◌, ◌≤◌, ℕ, false, ◌==◌, if◌then◌else◌, List, length, max, Option, Some, None, slice_get}
 use Rattle.courier_messages.specs.RawCalls.{RawCall}
 use Rattle.courier_sessions.specs.declared.answer.Answer.{Answer}
 use Rattle.xns_idp.specs.declared.address.Address.{Address}
@@ -107,9 +107,9 @@ pub record Wakes (k : KeptHost) (time : ℕ) : Type 0 where
   pub wanted : k.event ≡ None → k.packet ≡ None → (time ≡ never) ⊎ WantsAt k time
 
 -- a new connection has this number, and all others are as they were; or none is made, and none is changed
-pub record Connects (k n : KeptHost) (socket : ℕ) (to : Address) (way number result : ℕ) : Type 0 where
+pub record Connects (k n : KeptHost) (now socket : ℕ) (to : Address) (way number result : ℕ) : Type 0 where
   pub connected : result ≡ ok → IsConnected n.host.guests.items number k.host.settings k.host.register.identifiers
-      (address_in k.host.network k.host.host socket) to way
+      (address_in k.host.network k.host.host socket) to way (max k.host.clock.latest now)
   pub apart : result ≡ ok → IsApart k.host.guests.items n.host.guests.items number
   pub full : HasNoRoom k.host.guests.items → result ≡ no_slot
   pub fault : result ≢ ok → (result ≡ no_slot) ⊎ (result ≡ no_memory)
@@ -131,7 +131,7 @@ GivesEvent (Some e) before after old new had count result = EventIsGiven e after
 pub record FetchesEvent (k n : KeptHost) (before after : XnsEvent) (old new : List ℕ) (had count result : ℕ) : Type 0 where
   pub found : Option Event
   pub kept : (e : Event) → k.event ≡ Some e → (found ≡ Some e) × (n.host ≡ k.host)
-  pub told : (e : Event) → k.event ≡ None → found ≡ Some e → IsNextEvent k.host.guests.items n.host.guests.items e
+  pub told : (e : Event) → k.event ≡ None → found ≡ Some e → IsNextEvent k.host.clock.latest k.host.guests.items n.host.guests.items e
   pub none : k.event ≡ None → found ≡ None → HasNoEvent k.host.guests.items
   pub given : GivesEvent found before after old new had count result
   pub left : n.event ≡ left_of found result

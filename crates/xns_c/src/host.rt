@@ -121,7 +121,7 @@ pub extern "C" fn xns_host_connect(
     number: &mut usize,
 ) -> u32
     ensures connects { Does (kept_of handle.old) (kept_of handle.new) result
-        (λ k n. Connects k n socket (address_in peer.now) via number.new result) }
+        (λ k n. Connects k n now socket (address_in peer.now) via number.new result) }
     ensures untold { result ≢ ok → number.new ≡ number.old }
 {
     let Some(mut kept) = handle.take(alloc) else {

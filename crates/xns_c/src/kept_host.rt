@@ -74,7 +74,7 @@ impl KeptHost {
         peer: &XnsAddress,
         number: &mut usize,
     ) -> u32
-        ensures connects { Connects self.old self.new socket (address_in peer.now) via number.new result }
+        ensures connects { Connects self.old self.new now socket (address_in peer.now) via number.new result }
         ensures untold { result ≢ ok → number.new ≡ number.old }
     {
         match self.host.connect(now, via, socket, peer.address()) {
@@ -155,7 +155,7 @@ impl KeptHost {
     fn fetch_event(&mut self)
         ensures kept { (e : Event) → self.old.event ≡ Some e → self.new ≡ self.old }
         ensures told { (e : Event) → self.old.event ≡ None → self.new.event ≡ Some e
-            → IsNextEvent self.old.host.guests.items self.new.host.guests.items e }
+            → IsNextEvent self.old.host.clock.latest self.old.host.guests.items self.new.host.guests.items e }
         ensures none { self.old.event ≡ None → self.new.event ≡ None → HasNoEvent self.old.host.guests.items }
         ensures packet { self.new.packet ≡ self.old.packet }
     {

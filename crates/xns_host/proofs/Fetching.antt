@@ -39,17 +39,18 @@ pub no_event : (a : Plan) (old gs : Places) → IsAllNoted a gs → ((k : ℕ) �
 no_event a old gs all same none = λ k place there.
     (all.each k place (same k ∙ there)).event (no_turn (has_turn a.events k) a.events k none refl)
 
-told_in : (old new : Places) (n : ℕ) (e : Event) (place : Option Guest) → slice_get old n ≡ Some place → Some e ≡ event_in n place
-    → ((g : Guest) → place ≡ Some g → TellsIn g.connection (slice_get new n)) → IsApart old new n → IsNextEvent old new e
-told_in old new n e None there told once apart = absurd (cc)
-told_in old new n e (Some g) there told once apart = record { number = n; guest = g; there = there; told = sym told; once = once g refl; others = apart }
+told_in : (now : ℕ) (old new : Places) (n : ℕ) (e : Event) (place : Option Guest) → slice_get old n ≡ Some place → Some e ≡ event_in n place
+    → ((g : Guest) → place ≡ Some g → TellsIn now g.connection (slice_get new n)) → IsApart old new n → IsNextEvent now old new e
+told_in now old new n e None there told once apart = absurd (cc)
+told_in now old new n e (Some g) there told once apart =
+    record { number = n; guest = g; there = there; told = sym told; once = once g refl; others = apart }
 
-pub next_told : (old mid new : Places) (n : ℕ) (e : Event) → ((k : ℕ) → slice_get mid k ≡ slice_get old k) → n < length mid
+pub next_told : (now : ℕ) (old mid new : Places) (n : ℕ) (e : Event) → ((k : ℕ) → slice_get mid k ≡ slice_get old k) → n < length mid
     → ((place : Option Guest) → slice_get mid n ≡ Some place → Some e ≡ event_in n place)
-    → ((g : Guest) → slice_get mid n ≡ Some (Some g) → TellsIn g.connection (slice_get new n)) → IsApart mid new n → IsNextEvent old new e
-next_told old mid new n e same less told once apart =
+    → ((g : Guest) → slice_get mid n ≡ Some (Some g) → TellsIn now g.connection (slice_get new n)) → IsApart mid new n → IsNextEvent now old new e
+next_told now old mid new n e same less told once apart =
     let there : slice_get mid n ≡ Some (get_or mid n None) = slice_get-get_or mid n None less in
-    told_in old new n e (get_or mid n None) (sym (same n) ∙ there) (told (get_or mid n None) there) (λ g is. once g (there ∙ ap Some is))
+    told_in now old new n e (get_or mid n None) (sym (same n) ∙ there) (told (get_or mid n None) there) (λ g is. once g (there ∙ ap Some is))
     (record { others = λ k other. apart.others k other ∙ same k })
 
 -- ---- packets

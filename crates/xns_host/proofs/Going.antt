@@ -216,10 +216,10 @@ given_then a b c (Some o) first next = record {
 }
 
 -- one that had something to tell is told of, and is forgotten, if it is done
-pub told_settled : (a b : Places) (n : ℕ) (c : Connection) (p : Option Guest) (done : Bool) → slice_get a n ≡ Some p → HasToldIn c p → done ≡ is_done p
-    → (done ≡ true → slice_get b n ≡ Some None) → (done ≡ false → b ≡ a) → TellsIn c (slice_get b n)
-told_settled a b n c None done there told is gone kept = absurd told
-told_settled a b n c (Some g) done there told is gone kept = record {
+pub told_settled : (now : ℕ) (a b : Places) (n : ℕ) (c : Connection) (p : Option Guest) (done : Bool) → slice_get a n ≡ Some p → HasToldIn now c p
+    → done ≡ is_done p → (done ≡ true → slice_get b n ≡ Some None) → (done ≡ false → b ≡ a) → TellsIn now c (slice_get b n)
+told_settled now a b n c None done there told is gone kept = absurd told
+told_settled now a b n c (Some g) done there told is gone kept = record {
   next = g.connection;
   told = told;
   stays = settled a b n g done there is gone kept;

@@ -16,36 +16,40 @@ use Rattle.xns_idp.specs.declared.packet.Packet.{Packet}
 use Rattle.xns_spp.specs.Header.{header_of}
 use Rattle.xns_spp.specs.declared.dropped.Dropped.{Dropped}
 use Rattle.xns_spp.specs.declared.dropped.Dropped.TheVariants.{NotSpp}
-use Rattle.xns_host.specs.Hosting.{EachGoes, EachHears, HasHeard, HasReplied, HearsIn, IsPacketOf, IsThere, Receives, nothing, heard, goes, hears, listens, loses}
+use Rattle.xns_host.specs.Hosting.{EachHears, HasHeard, HasReplied, HearsIn, IsPacketOf, IsThere, Receives, nothing, heard, goes, listens, loses}
 use Rattle.xns_host.specs.Ours.{named_in}
 use Rattle.xns_host.specs.Register.{number_by, peer_at}
 use Rattle.xns_host.specs.Registered.{IsRegistered}
 use Rattle.xns_host.specs.Telling.{Hears}
+use Rattle.xns_host.specs.Waiting.{HearsAt}
 use Rattle.xns_host.specs.declared.guest.Guest.{Guest}
 use Rattle.xns_host.specs.declared.peer.Peer.{Peer}
 use Rattle.xns_host.specs.declared.register.Register.{Register}
 use Rattle.xns_host.proofs.Apart.{set_there}
+use Rattle.xns_host.proofs.Done.{each_still}
 use Rattle.xns_host.proofs.Ends.{leads_to}
+use Rattle.xns_host.proofs.Going.{each_same}
 use Rattle.xns_host.proofs.Noting.{place_other, same_or_other}
 
 abbrev Places : Type 0
 Places = List (Option Guest)
 
-same_in : (bytes : List ℕ) (p q : Option (Option Guest)) → q ≡ p → HearsIn bytes p q
-same_in bytes p q is = subst (λ (r : Option (Option Guest)). HearsIn bytes p r) (sym is) nothing
+same_in : (now : ℕ) (bytes : List ℕ) (p q : Option (Option Guest)) → q ≡ p → HearsIn now bytes p q
+same_in now bytes p q is = subst (λ (r : Option (Option Guest)). HearsIn now bytes p r) (sym is) nothing
 
-pub hears_not : (bytes : List ℕ) (a b : Places) → b ≡ a → EachHears bytes a b
-hears_not bytes a b is = λ k. same_in bytes (slice_get a k) (slice_get b k) (ap (λ (xs : Places). slice_get xs k) is)
+pub hears_not : (now : ℕ) (bytes : List ℕ) (a b : Places) → b ≡ a → EachHears now bytes a b
+hears_not now bytes a b is = λ k. same_in now bytes (slice_get a k) (slice_get b k) (ap (λ (xs : Places). slice_get xs k) is)
 
 -- where memory was refused they came to nothing
-pub heard_or_not : (bytes : List ℕ) (m : SppPacketModel) (place : Option Guest) (g h : Guest) (r : Result (Unit {0}) AllocError)
+pub heard_or_not : (now : ℕ) (bytes : List ℕ) (m : SppPacketModel) (place : Option Guest) (g h : Guest) (r : Result (Unit {0}) AllocError)
     → spp_packet_of bytes ≡ Ok m → place ≡ Some g
-    → OnOk r ((b : List ℕ) → spp_packet_of b ≡ Ok m → Hears g.connection.conversation h.connection.conversation b) → OnErr r (h ≡ g)
-    → HearsIn bytes (Some place) (Some (Some h))
-heard_or_not bytes m place g h (Ok u) read is ok err = subst (λ (p : Option Guest). HearsIn bytes (Some p) (Some (Some h))) (sym is)
-    (heard (ok bytes read))
-heard_or_not bytes m place g h (Err e) read is ok err = subst (λ (p : Option Guest). HearsIn bytes (Some p) (Some (Some h))) (sym is)
-    (subst (λ (x : Guest). HearsIn bytes (Some (Some g)) (Some (Some x))) (sym err) nothing)
+    → OnOk r ((b : List ℕ) → spp_packet_of b ≡ Ok m → Hears g.connection.conversation h.connection.conversation b)
+    → OnOk r (HearsAt now g.connection.wait h.connection.wait) → OnErr r (h ≡ g) → HearsIn now bytes (Some place) (Some (Some h))
+heard_or_not now bytes m place g h (Ok u) read is ok steps err =
+    subst (λ (p : Option Guest). HearsIn now bytes (Some p) (Some (Some h))) (sym is) (heard (ok bytes read) steps)
+heard_or_not now bytes m place g h (Err e) read is ok steps err =
+    subst (λ (p : Option Guest). HearsIn now bytes (Some p) (Some (Some h))) (sym is)
+    (subst (λ (x : Guest). HearsIn now bytes (Some (Some g)) (Some (Some x))) (sym err) nothing)
 
 pub has_heard : (bytes : List ℕ) (m : SppPacketModel) (g h : Guest) (r : Result (Unit {0}) AllocError) → spp_packet_of bytes ≡ Ok m
     → OnOk r ((b : List ℕ) → spp_packet_of b ≡ Ok m → Hears g.connection.conversation h.connection.conversation b) → OnErr r (h ≡ g)
@@ -57,16 +61,16 @@ has_heard bytes m g h (Err e) read ok err replied memory =
     subst (λ (x : Guest). HasHeard bytes g (Some x)) (sym err) (loses (λ s stands. memory s bytes stands read))
 
 -- the connection in one place heard them
-pub hears_set : (bytes : List ℕ) (a b : Places) (n : ℕ) (old p : Option Guest) → n < length a → old ≡ get_or a n old → b ≡ slice_set a n p
-    → HearsIn bytes (Some old) (Some p) → EachHears bytes a b
-hears_set bytes a b n old p less read is step = λ k. by k (same_or_other k n) where
-  at : HearsIn bytes (slice_get a n) (slice_get b n)
-  at = subst (λ (q : Option (Option Guest)). HearsIn bytes q (slice_get b n)) (sym (slice_get_read a (length a) n old refl less read))
-      (subst (λ (q : Option (Option Guest)). HearsIn bytes (Some old) q) (sym (set_there a b n p less is)) step)
+pub hears_set : (now : ℕ) (bytes : List ℕ) (a b : Places) (n : ℕ) (old p : Option Guest) → n < length a → old ≡ get_or a n old
+    → b ≡ slice_set a n p → HearsIn now bytes (Some old) (Some p) → EachHears now bytes a b
+hears_set now bytes a b n old p less read is step = λ k. by k (same_or_other k n) where
+  at : HearsIn now bytes (slice_get a n) (slice_get b n)
+  at = subst (λ (q : Option (Option Guest)). HearsIn now bytes q (slice_get b n)) (sym (slice_get_read a (length a) n old refl less read))
+      (subst (λ (q : Option (Option Guest)). HearsIn now bytes (Some old) q) (sym (set_there a b n p less is)) step)
 
-  by : (k : ℕ) → (k ≡ n) ⊎ (k ≢ n) → HearsIn bytes (slice_get a k) (slice_get b k)
-  by k (inl e) = subst (λ (m : ℕ). HearsIn bytes (slice_get a m) (slice_get b m)) (sym e) at
-  by k (inr other) = same_in bytes (slice_get a k) (slice_get b k) (ap (λ (xs : Places). slice_get xs k) is ∙ place_other a n k p other)
+  by : (k : ℕ) → (k ≡ n) ⊎ (k ≢ n) → HearsIn now bytes (slice_get a k) (slice_get b k)
+  by k (inl e) = subst (λ (m : ℕ). HearsIn now bytes (slice_get a m) (slice_get b m)) (sym e) at
+  by k (inr other) = same_in now bytes (slice_get a k) (slice_get b k) (ap (λ (xs : Places). slice_get xs k) is ∙ place_other a n k p other)
 
 -- such a one was read from a place
 pub there_in : (P : Guest → Type 0) (a : Places) (n : ℕ) (old : Option Guest) → n < length a → old ≡ get_or a n old → IsThere P (Some old)
@@ -74,13 +78,10 @@ pub there_in : (P : Guest → Type 0) (a : Places) (n : ℕ) (old : Option Guest
 there_in P a n old less read one =
     record { guest = one.guest; there = slice_get_read a (length a) n old refl less read ∙ one.there; is = one.is }
 
--- ---- all of them
-
-pub went_on : (opened : Guest → Type 0) (bytes : List ℕ) (a b : Places) → EachGoes a b → Receives opened bytes a b
-went_on opened bytes a b each = goes each
-
-pub hears_on : (opened : Guest → Type 0) (bytes : List ℕ) (a b : Places) → EachHears bytes a b → Receives opened bytes a b
-hears_on opened bytes a b each = hears each
+-- nothing came of them
+pub nothing_came : (now : ℕ) (opened : Guest → Type 0) (bytes : List ℕ) (a b : Places) → ((k : ℕ) → slice_get b k ≡ slice_get a k)
+    → Receives now opened bytes a b
+nothing_came now opened bytes a b same = goes (each_same a b same) (each_still now a b same)
 
 -- ---- what was read
 

@@ -20,11 +20,12 @@ use Rattle.courier_messages.specs.declared.message.Message.{Message}
 use Rattle.xns_host.specs.Living.{GoesFrom}
 use Rattle.xns_host.specs.Quotes.{is_opened_by, quoted_opening}
 use Rattle.xns_host.specs.Services.{programs_at}
+use Rattle.xns_host.specs.Settings.{IsBegun}
 use Rattle.xns_host.specs.Story.{Story, has_message, new_story, waiting_message, with_handed}
 use Rattle.xns_host.specs.Telling.{Tells, Goes, HasSaidEnd, HasSaidReply, Hears, Keeps, MovesAndGives}
 use Rattle.xns_host.specs.Times.{IsBy}
 use Rattle.xns_host.specs.Turns.{has_turn}
-use Rattle.xns_host.specs.Waiting.{IsDueAfter, StepsAt, after_act, due_time}
+use Rattle.xns_host.specs.Waiting.{HearsAt, IsDueAfter, StepsAt, after_act, due_time, lingering}
 use Rattle.xns_host.specs.declared.connection.Connection.{Connection}
 use Rattle.xns_host.specs.declared.conversation.Conversation.{Conversation}
 use Rattle.xns_host.specs.declared.event.Event.{Event}
@@ -166,31 +167,32 @@ pub record DoesDue (now : ℕ) (old new : List (Option Guest)) : Type 0 where
   pub acts : EachActs now old between
   pub steps : EachSteps now between new
 
--- the program was handed the message that waits, and the connection goes on from there; where none waits, it was told that it is closed
-pub data HasTold (c next : Connection) : Type 0 where
+-- the program was handed the message that waits, and the connection goes on from there, its waits by steps of this moment; where none
+-- waits, it was told that it is closed
+pub data HasTold (now : ℕ) (c next : Connection) : Type 0 where
   handed : (m : Message) → waiting_message c.conversation.side ≡ Some m
       → GoesFrom c.conversation next.conversation (λ h. with_handed c.conversation.side h m)
-      → StaysAsked c.conversation next.conversation → HasReplied c next → HasTold c next
-  closed : waiting_message c.conversation.side ≡ None → next ≡ record c { told = true } → HasTold c next
+      → StaysAsked c.conversation next.conversation → HasReplied c next → StepsAt now c.wait next.wait → HasTold now c next
+  closed : waiting_message c.conversation.side ≡ None → next ≡ record c { told = true } → HasTold now c next
 
 -- this was the step that led to the connection in this place
-abbrev pub HasToldIn : Connection → Option Guest → Type 0
-HasToldIn c None = ⊥
-HasToldIn c (Some g) = HasTold c g.connection
+abbrev pub HasToldIn : ℕ → Connection → Option Guest → Type 0
+HasToldIn now c None = ⊥
+HasToldIn now c (Some g) = HasTold now c g.connection
 
 -- and it is in this place or forgotten
-pub record TellsIn (c : Connection) (place : Option (Option Guest)) : Type 0 where
+pub record TellsIn (now : ℕ) (c : Connection) (place : Option (Option Guest)) : Type 0 where
   pub next : Connection
-  pub told : HasTold c next
+  pub told : HasTold now c next
   pub stays : StaysIn next place
 
--- the event is what one of the connections had to tell, once, and the others are as they were
-pub record IsNextEvent (old new : List (Option Guest)) (event : Event) : Type 0 where
+-- the event is what one of the connections had to tell, once, at this time, and the others are as they were
+pub record IsNextEvent (now : ℕ) (old new : List (Option Guest)) (event : Event) : Type 0 where
   pub number : ℕ
   pub guest : Guest
   pub there : slice_get old number ≡ Some (Some guest)
   pub told : event_in number (Some guest) ≡ Some event
-  pub once : TellsIn guest.connection (slice_get new number)
+  pub once : TellsIn now guest.connection (slice_get new number)
   pub others : IsApart old new number
 
 -- no connection has anything to tell
@@ -286,14 +288,15 @@ pub record HasNoRoom (guests : List (Option Guest)) : Type 0 where
 abbrev pub address_in : ℕ → List ℕ → ℕ → Address
 address_in network host socket = record { network = network; host = host; socket = socket }
 
--- with this number there is a connection of ours to the peer, which has done nothing yet: it has the identifier that came next of these,
--- and its packets go out by this way
-pub record IsConnected (guests : List (Option Guest)) (number : ℕ) (settings : Settings) (ids : Ids) (own to : Address) (way : ℕ)
+-- with this number there is a connection of ours to the peer, which was made at this time and has done nothing yet: it has the identifier
+-- that came next of these, and its packets go out by this way
+pub record IsConnected (guests : List (Option Guest)) (number : ℕ) (settings : Settings) (ids : Ids) (own to : Address) (way now : ℕ)
     : Type 0 where
   pub guest : Guest
   pub there : slice_get guests number ≡ Some (Some guest)
   pub next : IsNext ids guest.id
   pub tells : Tells guest.connection.conversation (new_story None (initiator_state own guest.id to settings.window settings.backlog))
+  pub begun : IsBegun settings now guest.connection.wait
   pub unclosed : guest.connection.closed ≡ None
   pub via : guest.via ≡ way
   pub peer : guest.peer ≡ to
@@ -322,20 +325,23 @@ pub record IsRefusedBy (host : List ℕ) (p : PacketModel) (guest : Guest) : Typ
   pub opened : is_opened_by guest state quote ≡ true
   pub unclosed : guest.connection.closed ≡ None
 
--- the connection in this place is closed, for nobody hears its opening packet
-abbrev pub IsNotServed : Connection → Option Guest → Type 0
-IsNotServed c None = ⊥
-IsNotServed c (Some g) = Goes c.conversation g.connection.conversation × (g.connection.closed ≡ Some NotServed)
+-- the connection in this place is closed, for nobody hears its opening packet, and lingers from this time on
+abbrev pub IsNotServed : ℕ → Connection → Option Guest → Type 0
+IsNotServed now c None = ⊥
+IsNotServed now c (Some g) = Goes c.conversation g.connection.conversation × (g.connection.closed ≡ Some NotServed)
+    × (g.connection.wait ≡ lingering c.wait now)
 
 -- ---- a packet that came
 
--- what these bytes came to in a place: nothing; or the connection in it goes on from where it is after they came
-pub data HearsIn (bytes : List ℕ) : (old new : Option (Option Guest)) → Type 0 where
-  nothing : {place : Option (Option Guest)} → HearsIn bytes place place
-  heard : {g h : Guest} → Hears g.connection.conversation h.connection.conversation bytes → HearsIn bytes (Some (Some g)) (Some (Some h))
+-- what these bytes came to in a place at this time: nothing; or the connection in it goes on from where it is after they came, and so do
+-- its waits
+pub data HearsIn (now : ℕ) (bytes : List ℕ) : (old new : Option (Option Guest)) → Type 0 where
+  nothing : {place : Option (Option Guest)} → HearsIn now bytes place place
+  heard : {g h : Guest} → Hears g.connection.conversation h.connection.conversation bytes
+      → HearsAt now g.connection.wait h.connection.wait → HearsIn now bytes (Some (Some g)) (Some (Some h))
 
-abbrev pub EachHears : List ℕ → (old new : List (Option Guest)) → Type 0
-EachHears bytes old new = (k : ℕ) → HearsIn bytes (slice_get old k) (slice_get new k)
+abbrev pub EachHears : ℕ → List ℕ → (old new : List (Option Guest)) → Type 0
+EachHears now bytes old new = (k : ℕ) → HearsIn now bytes (slice_get old k) (slice_get new k)
 
 -- the packet is to this host, and one of this connection
 pub record IsPacketOf (host : List ℕ) (p : SppPacketModel) (guest : Guest) : Type 0 where
@@ -350,26 +356,27 @@ pub data HasHeard (bytes : List ℕ) (g : Guest) : Option Guest → Type 0 where
       → HasHeard bytes g (Some h)
   loses : ((s : State) → StandsFor g.connection.conversation.endpoint s → StoresBytes s bytes) → HasHeard bytes g (Some g)
 
--- a peer, with this identifier, opened this connection at an address of ours, and nothing was said in it: it has the identifier that came
--- next of these, and its packets go out by this way
-pub record IsAnswering (settings : Settings) (ids : Ids) (own opener : Address) (id way : ℕ) (programs : List Program) (guest : Guest)
+-- a peer, with this identifier, opened this connection at an address of ours at this time, and nothing was said in it: it has the
+-- identifier that came next of these, and its packets go out by this way
+pub record IsAnswering (settings : Settings) (ids : Ids) (own opener : Address) (id way now : ℕ) (programs : List Program) (guest : Guest)
     : Type 0 where
   pub next : IsNext ids guest.id
   pub tells : Tells guest.connection.conversation
       (new_story (Some programs) (responder_state own guest.id opener id settings.window settings.backlog))
+  pub begun : IsBegun settings now guest.connection.wait
   pub unclosed : guest.connection.closed ≡ None
   pub via : guest.via ≡ way
   pub peer : guest.peer ≡ opener
 
 -- it did at a socket that is served, and the programs are those that are served there
 pub record IsOpened (services : BTreeMap ℕ (Vec Program Global)) (settings : Settings) (ids : Ids) (network : ℕ) (host : List ℕ)
-    (way : ℕ) (guest : Guest) : Type 0 where
+    (way now : ℕ) (guest : Guest) : Type 0 where
   pub socket : ℕ
   pub programs : List Program
   pub opener : Address
   pub id : ℕ
   pub served : programs_at services socket ≡ Some programs
-  pub answering : IsAnswering settings ids (address_in network host socket) opener id way programs guest
+  pub answering : IsAnswering settings ids (address_in network host socket) opener id way now programs guest
 
 -- the connection in this place is such
 pub record IsThere (P : Guest → Type 0) (place : Option (Option Guest)) : Type 0 where
@@ -377,9 +384,10 @@ pub record IsThere (P : Guest → Type 0) (place : Option (Option Guest)) : Type
   pub there : place ≡ Some (Some guest)
   pub is : P guest
 
--- what became of the connections by these bytes: each went on by itself, or heard them, or a new one was opened first and heard them
-pub data Receives (opened : Guest → Type 0) (bytes : List ℕ) (old new : List (Option Guest)) : Type 0 where
-  goes : EachGoes old new → Receives opened bytes old new
-  hears : EachHears bytes old new → Receives opened bytes old new
+-- what became of the connections by these bytes at this time: each went on by itself, its waits by steps of this moment; or heard them; or
+-- a new one was opened first and heard them
+pub data Receives (now : ℕ) (opened : Guest → Type 0) (bytes : List ℕ) (old new : List (Option Guest)) : Type 0 where
+  goes : EachGoes old new → EachSteps now old new → Receives now opened bytes old new
+  hears : EachHears now bytes old new → Receives now opened bytes old new
   opens : (mid : List (Option Guest)) (n : ℕ) → IsPlace old n → IsApart old mid n → IsThere opened (slice_get mid n)
-      → EachHears bytes mid new → Receives opened bytes old new
+      → EachHears now bytes mid new → Receives now opened bytes old new

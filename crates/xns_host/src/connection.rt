@@ -510,6 +510,7 @@ impl Connection {
     }
 
     /// Nobody hears the packet that was to open the connection: it is closed, unless it is open or closed.
+    #[tactic(auto, using(crate::proofs::Done::no_step, crate::proofs::Done::one_close))]
     pub fn not_served(&mut self, now: u64)
         ensures goes { Goes self.old.conversation self.new.conversation }
         ensures packets { self.new.conversation.packets ≡ self.old.conversation.packets }
@@ -517,6 +518,7 @@ impl Connection {
         ensures open { (s : State) → StandsFor self.old.conversation.endpoint s → is_open s.ends ≡ true → self.new ≡ self.old }
         ensures not_served { (s : State) → StandsFor self.old.conversation.endpoint s → is_open s.ends ≡ false → self.old.closed ≡ None
             → (self.new.closed ≡ Some NotServed) × (self.new.wait ≡ lingering self.old.wait now) }
+        ensures steps { StepsAt now self.old.wait self.new.wait }
         ensures told { self.new.told ≡ self.old.told }
     {
         if self.conversation.endpoint.is_open() {

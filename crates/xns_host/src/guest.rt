@@ -16,7 +16,7 @@ ghost use Rattle.courier_sessions.specs.Answering.{answer_message};
 ghost use Rattle.xns_host.specs.Living.{GoesFrom};
 ghost use Rattle.xns_host.specs.Story.{asked_of};
 ghost use Rattle.xns_host.specs.Telling.{Goes, HasSaidEnd, Hears};
-ghost use Rattle.xns_host.specs.Waiting.{StepsAt};
+ghost use Rattle.xns_host.specs.Waiting.{HearsAt, StepsAt, lingering};
 ghost use Rattle.xns_host.specs.declared.why.Why.TheVariants.{NotServed};
 
 use crate::connection::Connection;
@@ -63,6 +63,7 @@ impl Guest {
         ensures memory { OnErr result ((s : State) (b : List ℕ) → StandsFor self.old.connection.conversation.endpoint s
             → spp_packet_of b ≡ Ok packet.now → StoresBytes s b) }
         ensures replied { OnOk result (HasReplied self.old.connection self.new.connection) }
+        ensures steps { OnOk result (HearsAt now self.old.connection.wait self.new.connection.wait) }
         ensures name { name_of self.new ≡ name_of self.old }
     {
         self.connection.receive(alloc, now, packet)?;
@@ -134,7 +135,9 @@ impl Guest {
     pub fn not_served(&mut self, now: u64)
         ensures goes { Goes self.old.connection.conversation self.new.connection.conversation }
         ensures not_served { (s : State) → StandsFor self.old.connection.conversation.endpoint s → is_open s.ends ≡ false
-            → self.old.connection.closed ≡ None → self.new.connection.closed ≡ Some NotServed }
+            → self.old.connection.closed ≡ None → (self.new.connection.closed ≡ Some NotServed)
+            × (self.new.connection.wait ≡ lingering self.old.connection.wait now) }
+        ensures steps { StepsAt now self.old.connection.wait self.new.connection.wait }
         ensures name { name_of self.new ≡ name_of self.old }
     {
         self.connection.not_served(now);

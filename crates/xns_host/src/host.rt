@@ -241,7 +241,8 @@ impl Host {
         peer: Address,
     ) -> Result<usize, HostFault>
         ensures connected { IfOk result (λ n. IsConnected self.new.guests.items n self.old.settings
-            self.old.register.identifiers (address_in self.old.network self.old.host socket) peer via) }
+            self.old.register.identifiers (address_in self.old.network self.old.host socket) peer via
+            (max self.old.clock.latest now)) }
         ensures apart { IfOk result (IsApart self.old.guests.items self.new.guests.items) }
         ensures place { IfOk result (IsPlace self.old.guests.items) }
         ensures full { HasNoRoom self.old.guests.items → result ≡ Err NoRoom }
@@ -388,11 +389,12 @@ impl Host {
 
     /// Takes a packet in that came by this `via`, and says whether it was for the host. One that was not changes nothing: it is the
     /// program's to use.
-    #[tactic(auto, using(crate::proofs::Apart::one_changed, crate::proofs::Apart::none_changed, crate::proofs::Hearing::went_on))]
+    #[tactic(auto, using(crate::proofs::Apart::one_changed, crate::proofs::Apart::none_changed))]
     pub fn receive(&mut self, now: u64, via: u32, bytes: &[u8]) -> bool
         ensures one { ChangesOne self.old.guests.items self.new.guests.items }
-        ensures became { Receives (IsOpened self.old.services.programs self.old.settings self.old.register.identifiers self.old.network
-            self.old.host via) bytes.now self.old.guests.items self.new.guests.items }
+        ensures became { let time = max self.old.clock.latest now in Receives time
+            (IsOpened self.old.services.programs self.old.settings self.old.register.identifiers self.old.network self.old.host via time)
+            bytes.now self.old.guests.items self.new.guests.items }
         ensures unchanged { result ≡ false → (k : ℕ) → slice_get self.new.guests.items k ≡ slice_get self.old.guests.items k }
         ensures echo { (p : PacketModel) (taken : ℕ) → packet_of bytes.now ≡ Ok (p, taken)
             → IsAnswered (address_in self.old.network self.old.host echo_socket) p → (result ≡ true)
@@ -400,7 +402,8 @@ impl Host {
             (echo_reply (address_in self.old.network self.old.host echo_socket) p)) }
         ensures refused { (p : PacketModel) (taken n : ℕ) (g : Guest) (place : Option Guest) → packet_of bytes.now ≡ Ok (p, taken)
             → IsRefusedBy self.old.host p g → slice_get self.old.guests.items n ≡ Some (Some g)
-            → slice_get self.new.guests.items n ≡ Some place → (result ≡ true) × IsNotServed g.connection place }
+            → slice_get self.new.guests.items n ≡ Some place
+            → (result ≡ true) × IsNotServed (max self.old.clock.latest now) g.connection place }
         ensures heard { (p : SppPacketModel) (n : ℕ) (g : Guest) (place : Option Guest) → spp_packet_of bytes.now ≡ Ok p
             → IsPacketOf self.old.host p g → slice_get self.old.guests.items n ≡ Some (Some g)
             → slice_get self.new.guests.items n ≡ Some place → (result ≡ true) × HasHeard bytes.now g place }
@@ -444,9 +447,10 @@ impl Host {
         ensures closed { (n : ℕ) (g : Guest) (place : Option Guest)
             → IsRefusedBy self.old.host (packet_model packet.now) g
             → slice_get self.old.guests.items n ≡ Some (Some g) → slice_get self.new.guests.items n ≡ Some place
-            → (result ≡ true) × IsNotServed g.connection place }
+            → (result ≡ true) × IsNotServed now g.connection place }
         ensures ours { packet.now.kind ≡ 3 → result ≡ true → QuotesOurs self.old (packet_model packet.now) }
         ensures goes { EachGoes self.old.guests.items self.new.guests.items }
+        ensures steps { EachSteps now self.old.guests.items self.new.guests.items }
         ensures one { ChangesOne self.old.guests.items self.new.guests.items }
         ensures unchanged { result ≡ false → (k : ℕ) → slice_get self.new.guests.items k ≡ slice_get self.old.guests.items k }
         ensures set_up { StaysSetUp self.old self.new }
@@ -468,9 +472,10 @@ impl Host {
     fn not_served(&mut self, now: u64, number: usize, quote: &OpeningQuote) -> bool
         ensures closed { (g : Guest) (s : State) (place : Option Guest) → slice_get self.old.guests.items number ≡ Some (Some g)
             → StandsFor g.connection.conversation.endpoint s → is_opened_by g s quote.now ≡ true → g.connection.closed ≡ None
-            → slice_get self.new.guests.items number ≡ Some place → (result ≡ true) × IsNotServed g.connection place }
+            → slice_get self.new.guests.items number ≡ Some place → (result ≡ true) × IsNotServed now g.connection place }
         ensures ours { result ≡ true → IsThere (IsToOpen quote.now) (slice_get self.old.guests.items number) }
         ensures goes { EachGoes self.old.guests.items self.new.guests.items }
+        ensures steps { EachSteps now self.old.guests.items self.new.guests.items }
         ensures apart { IsApart self.old.guests.items self.new.guests.items number }
         ensures unchanged { result ≡ false → (k : ℕ) → slice_get self.new.guests.items k ≡ slice_get self.old.guests.items k }
         ensures set_up { StaysSetUp self.old self.new }
@@ -489,8 +494,8 @@ impl Host {
         requires fits { IsPacket (packet_model carrier.now) }
         requires size { length carrier.now.body.now ≤ most_data }
         ensures became { (b : List ℕ) (taken : ℕ) → packet_of b ≡ Ok (packet_model carrier.now, taken)
-            → Receives (IsOpened self.old.services.programs self.old.settings self.old.register.identifiers self.old.network
-            self.old.host via) b self.old.guests.items self.new.guests.items }
+            → Receives now (IsOpened self.old.services.programs self.old.settings self.old.register.identifiers self.old.network
+            self.old.host via now) b self.old.guests.items self.new.guests.items }
         ensures heard { (b : List ℕ) (taken n : ℕ) (p : SppPacketModel) (g : Guest) (place : Option Guest)
             → packet_of b ≡ Ok (packet_model carrier.now, taken) → spp_packet_of b ≡ Ok p
             → IsPacketOf self.old.host p g → slice_get self.old.guests.items n ≡ Some (Some g)
@@ -524,7 +529,7 @@ impl Host {
     #[tactic(auto, using(crate::proofs::Hearing::hears_not, crate::proofs::Registered::still_registered))]
     fn hear(&mut self, now: u64, number: usize, confirms: bool, packet: &SppPacket) -> bool
         requires { IsSppPacket packet.now }
-        ensures hears { (b : List ℕ) → spp_packet_of b ≡ Ok packet.now → EachHears b self.old.guests.items self.new.guests.items }
+        ensures hears { (b : List ℕ) → spp_packet_of b ≡ Ok packet.now → EachHears now b self.old.guests.items self.new.guests.items }
         ensures heard { (b : List ℕ) (g : Guest) (s : State) (place : Option Guest) → spp_packet_of b ≡ Ok packet.now
             → slice_get self.old.guests.items number ≡ Some (Some g) → StandsFor g.connection.conversation.endpoint s
             → is_ours_at s.ends packet.now ≡ true → slice_get self.new.guests.items number ≡ Some place
@@ -550,8 +555,8 @@ impl Host {
         requires opener { opener ≡ peer_at packet.now.source packet.now.header.source_id packet.now.target.socket }
         requires unknown { number_by self.old.register.identifiers self.old.register.peers packet.now.header.target_id opener ≡ None }
         ensures became { (b : List ℕ) → spp_packet_of b ≡ Ok packet.now
-            → Receives (IsOpened self.old.services.programs self.old.settings self.old.register.identifiers self.old.network
-            self.old.host via) b self.old.guests.items self.new.guests.items }
+            → Receives now (IsOpened self.old.services.programs self.old.settings self.old.register.identifiers self.old.network
+            self.old.host via now) b self.old.guests.items self.new.guests.items }
         ensures opener { result ≡ true → (opener_of packet.now ≢ None)
             × (programs_at self.old.services.programs packet.now.target.socket ≢ None) }
         ensures answer { opener_of packet.now ≢ None → programs_at self.old.services.programs packet.now.target.socket ≢ None
@@ -592,7 +597,7 @@ impl Host {
         ensures apart { IfSome result (IsApart self.old.guests.items self.new.guests.items) }
         ensures place { IfSome result (IsPlace self.old.guests.items) }
         ensures opened { IfSome result (λ n. IsThere (IsAnswering self.old.settings self.old.register.identifiers
-            (address_in self.old.network self.old.host socket) peer peer_id via programs.items) (slice_get self.new.guests.items n)) }
+            (address_in self.old.network self.old.host socket) peer peer_id via now programs.items) (slice_get self.new.guests.items n)) }
         ensures unchanged { result ≡ None → (k : ℕ) → slice_get self.new.guests.items k ≡ slice_get self.old.guests.items k }
         ensures set_up { StaysSetUp self.old self.new }
     {
@@ -637,7 +642,7 @@ impl Host {
         ensures apart { IsApart self.old.guests.items self.new.guests.items number }
         ensures event { (place : Option Guest) → slice_get self.old.guests.items number ≡ Some place → result ≡ event_in number place }
         ensures told { (g : Guest) → slice_get self.old.guests.items number ≡ Some (Some g) → result ≢ None
-            → TellsIn g.connection (slice_get self.new.guests.items number) }
+            → TellsIn self.old.clock.latest g.connection (slice_get self.new.guests.items number) }
         ensures none { result ≡ None → (k : ℕ) → slice_get self.new.guests.items k ≡ slice_get self.old.guests.items k }
         ensures passed { result ≡ None → self.new.agenda
             ≡ record self.old.agenda { events = with_turn self.old.agenda.events number false } }
@@ -655,7 +660,7 @@ impl Host {
 
     /// The next thing that the program is told. A `None`: there is nothing, until something is done again.
     pub fn next_event(&mut self) -> Option<Event>
-        ensures told { IfSome result (λ e. IsNextEvent self.old.guests.items self.new.guests.items e) }
+        ensures told { IfSome result (λ e. IsNextEvent self.old.clock.latest self.old.guests.items self.new.guests.items e) }
         ensures none { result ≡ None → HasNoEvent self.old.guests.items }
         ensures unchanged { result ≡ None → (k : ℕ) → slice_get self.new.guests.items k ≡ slice_get self.old.guests.items k }
         ensures set_up { StaysSetUp self.old self.new }

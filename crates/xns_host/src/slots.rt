@@ -193,9 +193,10 @@ pub fn act_in(slot: &mut Option<Guest>, now: u64) -> bool
 /// Closes the connection of a place, if it is the one that a quoted packet was to open; whether it is.
 pub fn not_served_in(slot: &mut Option<Guest>, now: u64, quote: &OpeningQuote) -> bool
     ensures closed { (g : Guest) (s : State) → slot.old ≡ Some g → StandsFor g.connection.conversation.endpoint s
-        → is_opened_by g s quote.now ≡ true → g.connection.closed ≡ None → (result ≡ true) × IsNotServed g.connection slot.new }
+        → is_opened_by g s quote.now ≡ true → g.connection.closed ≡ None → (result ≡ true) × IsNotServed now g.connection slot.new }
     ensures ours { result ≡ true → IsThere (IsToOpen quote.now) (Some slot.old) }
     ensures goes { (g : Guest) → slot.old ≡ Some g → LedTo Goes g.connection slot.new }
+    ensures steps { (g : Guest) → slot.old ≡ Some g → StepsIn now g.connection (Some slot.new) }
     ensures unchanged { result ≡ false → slot.new ≡ slot.old }
     ensures kept { name_in slot.new ≡ name_in slot.old }
     ensures fits { (g : Guest) → slot.old ≡ Some g → FitsEnd g → FitsEndIn slot.new }
@@ -219,7 +220,7 @@ pub fn hear_in(
     packet: &SppPacket,
 ) -> bool
     requires { IsSppPacket packet.now }
-    ensures hears { (b : List ℕ) → spp_packet_of b ≡ Ok packet.now → HearsIn b (Some slot.old) (Some slot.new) }
+    ensures hears { (b : List ℕ) → spp_packet_of b ≡ Ok packet.now → HearsIn now b (Some slot.old) (Some slot.new) }
     ensures heard { (b : List ℕ) (g : Guest) (s : State) → spp_packet_of b ≡ Ok packet.now → slot.old ≡ Some g
         → StandsFor g.connection.conversation.endpoint s → is_ours_at s.ends packet.now ≡ true
         → (result ≡ true) × HasHeard b g slot.new }
@@ -242,7 +243,7 @@ pub fn hear_in(
 /// What the connection of a place, with this number, has to tell, once. `None`: nothing.
 pub fn event_in(slot: &mut Option<Guest>, alloc: Global, now: u64, number: usize) -> Option<Event>
     ensures event { result ≡ event_in number slot.old }
-    ensures told { (g : Guest) → slot.old ≡ Some g → result ≢ None → HasToldIn g.connection slot.new }
+    ensures told { (g : Guest) → slot.old ≡ Some g → result ≢ None → HasToldIn now g.connection slot.new }
     ensures none { result ≡ None → slot.new ≡ slot.old }
     ensures kept { name_in slot.new ≡ name_in slot.old }
     ensures fits { (g : Guest) → slot.old ≡ Some g → FitsEnd g → FitsEndIn slot.new }

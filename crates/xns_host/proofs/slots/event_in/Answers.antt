@@ -18,10 +18,10 @@ returns-in_err-why-clause-none c = λ none.
 
 pub returns-in-Some-take_message-clause-told : goal.returns-in-Some-take_message-clause-told
 returns-in-Some-take_message-clause-told c = λ g is some.
-    by_guest (λ (h : Guest). HasTold h.connection c.take_message.new.self) c.args.slot.now g c.in-Some.guest c.in-Some.is is
+    by_guest (λ (h : Guest). HasTold c.args.now h.connection c.take_message.new.self) c.args.slot.now g c.in-Some.guest c.in-Some.is is
     (handed c.in-Some-take_message.message (sym c.take_message.ensures.message ∙ c.in-Some-take_message.is)
     (λ h tells. c.take_message.ensures.handed h c.in-Some-take_message.message tells c.in-Some-take_message.is) c.take_message.ensures.wanted
-    (λ still kept. c.take_message.ensures.replied (λ none. absurd (search rules)) still kept))
+    (λ still kept. c.take_message.ensures.replied (λ none. absurd (search rules)) still kept) c.take_message.ensures.steps)
 
 pub returns-clause-told : goal.returns-clause-told
 returns-clause-told c = λ g is some.
@@ -30,7 +30,7 @@ returns-clause-told c = λ g is some.
     let now : c.take_why.new.self ≡ record c.take_message.new.self { told = true }
     = told_now c.take_message.new.self c.take_why.new.self c.in_ok-why.why c.take_why.ensures.rest c.take_why.ensures.told
     (sym c.in_ok-why.was ∙ c.take_why.ensures.why) in
-    by_guest (λ (h : Guest). HasTold h.connection c.take_why.new.self) c.args.slot.now g c.in-Some.guest c.in-Some.is is
+    by_guest (λ (h : Guest). HasTold c.args.now h.connection c.take_why.new.self) c.args.slot.now g c.in-Some.guest c.in-Some.is is
     (closed (sym c.take_message.ensures.message ∙ none) (now ∙ ap (λ (t : Connection). record t { told = true }) message))
 
 pub returns-in-Some-take_message-clause-fits : goal.returns-in-Some-take_message-clause-fits

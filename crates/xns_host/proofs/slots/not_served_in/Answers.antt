@@ -2,7 +2,8 @@ use Rattle.std.proofs.Common.{◌≡◌, ap, refl, rules, subst, None, Some, tru
 use Rattle.xns_spp.specs.Held.{StandsFor}
 use Rattle.xns_host.specs.Quotes.{is_opened_by}
 use Rattle.xns_host.specs.declared.guest.Guest.{Guest}
-use Rattle.xns_host.proofs.Going.{goes_by, not_open}
+use Rattle.xns_host.specs.Waiting.{StepsAt, lingering, still as steps_still}
+use Rattle.xns_host.proofs.Going.{by_guest, goes_by, not_open}
 use Rattle.xns_host.proofs.Leading.{goes_not}
 use Rattle.xns_host.proofs.Ends.{goes_fits}
 use Rattle.xns_host.proofs.slots.not_served_in.Goals as goal
@@ -18,13 +19,25 @@ returns-clause-closed c = λ g s is stands opened unclosed.
     let here : StandsFor c.in-Some.guest.connection.conversation.endpoint s
     = subst (λ (x : Guest). StandsFor x.connection.conversation.endpoint s) same stands in
     let by : is_opened_by c.in-Some.guest s c.args.quote.now ≡ true = subst (λ (x : Guest). is_opened_by x s c.args.quote.now ≡ true) same opened in
-    let still : c.in-Some.guest.connection.closed ≡ None = subst (λ (x : Guest). x.connection.closed ≡ None) same unclosed in (
+    let still : c.in-Some.guest.connection.closed ≡ None = subst (λ (x : Guest). x.connection.closed ≡ None) same unclosed in
+    let closed = c.not_served.ensures.not_served s here (not_open c.in-Some.guest s c.args.quote.now by) still in (
       refl,
       (
         goes_by c.args.slot.now g c.in-Some.guest c.in-Some.is is c.not_served.ensures.goes,
-        c.not_served.ensures.not_served s here (not_open c.in-Some.guest s c.args.quote.now by) still,
+        closed.0,
+        by_guest (λ (h : Guest). c.not_served.new.self.connection.wait ≡ lingering h.connection.wait c.args.now) c.args.slot.now g c.in-Some.guest
+            c.in-Some.is is closed.1,
       ),
     )
+
+pub returns-then-not-is_opened_by-clause-steps : goal.returns-then-not-is_opened_by-clause-steps
+returns-then-not-is_opened_by-clause-steps c = λ g is.
+    by_guest (λ (h : Guest). StepsAt c.args.now h.connection.wait c.in-Some.guest.connection.wait) c.args.slot.now g c.in-Some.guest c.in-Some.is is steps_still
+
+pub returns-clause-steps : goal.returns-clause-steps
+returns-clause-steps c = λ g is.
+    by_guest (λ (h : Guest). StepsAt c.args.now h.connection.wait c.not_served.new.self.connection.wait) c.args.slot.now g c.in-Some.guest c.in-Some.is is
+    c.not_served.ensures.steps
 
 pub returns-clause-goes : goal.returns-clause-goes
 returns-clause-goes c = λ g is. goes_by c.args.slot.now g c.in-Some.guest c.in-Some.is is c.not_served.ensures.goes

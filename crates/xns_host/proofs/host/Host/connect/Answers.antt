@@ -1,8 +1,9 @@
-use Rattle.std.proofs.Common.{◌≡◌, inl, inr, refl, rules, subst, false, None}
+use Rattle.std.proofs.Common.{◌≡◌, inl, inr, refl, rules, subst, ℕ, false, None}
 use Rattle.xns_idp.specs.declared.address.Address.{Address}
 use Rattle.xns_spp.specs.State.{initiator_state}
 use Rattle.xns_host.specs.Agenda.{HasNoNumber}
 use Rattle.xns_host.specs.Hosting.{IsPlace}
+use Rattle.xns_host.specs.Settings.{IsBegun}
 use Rattle.xns_host.specs.Story.{new_story}
 use Rattle.xns_host.specs.Telling.{Tells}
 use Rattle.xns_host.proofs.Waking.{all_in_use, gets_place, no_room, not_both}
@@ -65,6 +66,7 @@ returns-clause-connected c = record {
   tells = subst (λ (own : Address). Tells c.in-Ok.connection.conversation
       (new_story None (initiator_state own c.in-Some-next.id c.args.peer c.args.self.now.settings.window c.args.self.now.settings.backlog)))
       c.address-own.ensures c.in-Ok.ensures.tells;
+  begun = subst (λ (t : ℕ). IsBegun c.args.self.now.settings t c.in-Ok.connection.wait) c.tell-now.ensures.result c.in-Ok.ensures.begun;
   unclosed = c.in-Ok.ensures.open.0;
   via = refl;
   peer = refl;

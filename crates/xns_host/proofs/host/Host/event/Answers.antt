@@ -1,8 +1,9 @@
-use Rattle.std.proofs.Common.{◌≡◌, ◌∙◌, ◌<◌, ap, sym, rules, length, get_or, slice_get, Option, None, Some, arith}
+use Rattle.std.proofs.Common.{◌≡◌, ◌∙◌, ◌<◌, ap, subst, sym, rules, ℕ, length, get_or, slice_get, Option, None, Some, arith}
 use Rattle.std.specs.Prelude.{slice_set}
 use Rattle.std.proofs.lemmas.List.{length-set}
 use Rattle.xns_host.specs.Agenda.{Plan}
 use Rattle.xns_host.specs.Events.{event_in}
+use Rattle.xns_host.specs.Hosting.{TellsIn}
 use Rattle.xns_host.specs.declared.guest.Guest.{Guest}
 use Rattle.xns_host.proofs.Apart.{apart_then, set_apart, set_there}
 use Rattle.xns_host.proofs.Going.{told_settled}
@@ -52,5 +53,6 @@ returns-clause-told c = λ g there some.
     let items : c.as_slice.result.now ≡ slice_set c.args.self.now.guests.items c.args.number c.event_in-event.new.slot = search rules in
     let here : slice_get c.as_slice.result.now c.args.number ≡ Some c.event_in-event.new.slot
     = set_there c.args.self.now.guests.items c.as_slice.result.now c.args.number c.event_in-event.new.slot c.requires items in
-    told_settled c.as_slice.result.now c.settle.new.self.guests.items c.args.number g.connection c.event_in-event.new.slot c.is_done_in-done.result here
-    (c.event_in-event.ensures.told g same (search rules)) (search rules) (search rules) (search rules)
+    subst (λ (t : ℕ). TellsIn t g.connection (slice_get c.settle.new.self.guests.items c.args.number)) c.latest-now.ensures
+    (told_settled c.latest-now.result c.as_slice.result.now c.settle.new.self.guests.items c.args.number g.connection c.event_in-event.new.slot
+    c.is_done_in-done.result here (c.event_in-event.ensures.told g same (search rules)) (search rules) (search rules) (search rules))

@@ -1,14 +1,17 @@
-use Rattle.std.proofs.Common.{◌<◌, ◌∙◌, sym, rules, length, None, arith}
+use Rattle.std.proofs.Common.{◌<◌, ◌∙◌, subst, sym, rules, length, slice_get, None, arith}
+use Rattle.xns_host.specs.Hosting.{TellsIn}
 use Rattle.xns_host.specs.Times.{HasEarliest}
+use Rattle.xns_host.specs.declared.clock.Clock.{Clock}
 use Rattle.xns_host.proofs.Fetching.{next_told, no_event}
 use Rattle.xns_host.proofs.host.Host.next_event.Goals as goal
 
 pub returns-in-Some-event-clause-told : goal.returns-in-Some-event-clause-told
 returns-in-Some-event-clause-told c =
     let less : c.in-Some.number < length c.loop-number.self.guests.items = omega (arith, c.in-Some.ensures.within, c.loop-number.self.sized) in
-    next_told c.args.self.now.guests.items c.loop-number.self.guests.items c.event.new.self.guests.items c.in-Some.number c.in-Some-event.event
-    c.loop-number.invariant.0 less (λ place there. sym c.in-Some-event.is ∙ c.event.ensures.event place there)
-    (λ g there. c.event.ensures.told g there (λ none. cc)) c.event.ensures.apart
+    next_told c.args.self.now.clock.latest c.args.self.now.guests.items c.loop-number.self.guests.items c.event.new.self.guests.items c.in-Some.number
+    c.in-Some-event.event c.loop-number.invariant.0 less (λ place there. sym c.in-Some-event.is ∙ c.event.ensures.event place there)
+    (λ g there. subst (λ (k : Clock). TellsIn k.latest g.connection (slice_get c.event.new.self.guests.items c.in-Some.number))
+    c.loop-number.invariant.1.2 (c.event.ensures.told g there (λ none. cc))) c.event.ensures.apart
 
 pub returns-clause-none : goal.returns-clause-none
 returns-clause-none c = λ z.

@@ -84,6 +84,7 @@ returns-clause-opened c = record {
     tells = subst (λ (own : Address). Tells c.in-Ok.connection.conversation (new_story (Some c.args.programs.items)
         (responder_state own c.in_ok-id.id c.args.peer c.args.peer_id c.args.self.now.settings.window c.args.self.now.settings.backlog)))
         c.address-own.ensures c.in-Ok.ensures.tells;
+    begun = c.in-Ok.ensures.begun;
     unclosed = c.in-Ok.ensures.open.0;
     via = refl;
     peer = refl;

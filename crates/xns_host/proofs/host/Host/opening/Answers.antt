@@ -1,17 +1,16 @@
 use Rattle.std.proofs.Common.{◌≡◌, refl, rules, None}
-use Rattle.xns_host.specs.Hosting.{goes, opens}
-use Rattle.xns_host.proofs.Going.{each_same, each_stays}
-use Rattle.xns_host.proofs.Hearing.{served_by}
+use Rattle.xns_host.specs.Hosting.{opens}
+use Rattle.xns_host.proofs.Hearing.{nothing_came, served_by}
 use Rattle.xns_host.proofs.host.Host.opening.Goals as goal
 
 pub returns-in_default-clause-became : goal.returns-in_default-clause-became
-returns-in_default-clause-became c = λ b read. goes (each_stays c.args.self.now.guests.items c.args.self.now.guests.items refl)
+returns-in_default-clause-became c = λ b read. nothing_came c.args.now _ b c.args.self.now.guests.items c.args.self.now.guests.items (λ k. refl)
 
 pub returns-in_default-at-clause-became : goal.returns-in_default-at-clause-became
-returns-in_default-at-clause-became c = λ b read. goes (each_stays c.args.self.now.guests.items c.args.self.now.guests.items refl)
+returns-in_default-at-clause-became c = λ b read. nothing_came c.args.now _ b c.args.self.now.guests.items c.args.self.now.guests.items (λ k. refl)
 
 pub returns-in_default-from_slice-clause-became : goal.returns-in_default-from_slice-clause-became
-returns-in_default-from_slice-clause-became c = λ b read. goes (each_stays c.args.self.now.guests.items c.args.self.now.guests.items refl)
+returns-in_default-from_slice-clause-became c = λ b read. nothing_came c.args.now _ b c.args.self.now.guests.items c.args.self.now.guests.items (λ k. refl)
 
 pub returns-in-Some-open-clause-became : goal.returns-in-Some-open-clause-became
 returns-in-Some-open-clause-became c = λ b read.
@@ -32,4 +31,4 @@ returns-in-Some-open-clause-became c = λ b read.
 pub returns-in_default-open-clause-became : goal.returns-in_default-open-clause-became
 returns-in_default-open-clause-became c = λ b read.
     let none : c.open.result ≡ None = search rules in
-    goes (each_same c.args.self.now.guests.items c.open.new.self.guests.items (c.open.ensures.unchanged none))
+    nothing_came c.args.now _ b c.args.self.now.guests.items c.open.new.self.guests.items (c.open.ensures.unchanged none)

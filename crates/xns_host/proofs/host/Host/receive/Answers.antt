@@ -1,29 +1,38 @@
-use Rattle.std.proofs.Common.{◌≡◌, ap, refl, rules, subst, sym}
+use Rattle.std.proofs.Common.{◌≡◌, ap, refl, rules, slice_get, subst, sym, ℕ}
 use Rattle.xns_idp.specs.Packet.{PacketModel, packet_model}
-use Rattle.xns_host.specs.Hosting.{IsRefusedBy, goes}
+use Rattle.xns_host.specs.Hosting.{EachSteps, IsNotServed, IsOpened, IsRefusedBy, Receives, goes}
 use Rattle.xns_host.specs.Ours.{asks, names, opens, quotes}
-use Rattle.xns_host.proofs.Going.{each_stays}
-use Rattle.xns_host.proofs.Hearing.{not_read, one_packet, sequenced_kind}
+use Rattle.xns_host.proofs.Hearing.{nothing_came, not_read, one_packet, sequenced_kind}
 use Rattle.xns_host.proofs.host.Host.receive.Goals as goal
 
 pub returns-in_default-clause-became : goal.returns-in_default-clause-became
-returns-in_default-clause-became c = goes (each_stays c.args.self.now.guests.items c.args.self.now.guests.items refl)
+returns-in_default-clause-became c = nothing_came _ _ c.args.bytes.now c.args.self.now.guests.items c.args.self.now.guests.items (λ k. refl)
 
 pub returns-in_default-kind-clause-became : goal.returns-in_default-kind-clause-became
-returns-in_default-kind-clause-became c = goes (each_stays c.args.self.now.guests.items c.args.self.now.guests.items refl)
+returns-in_default-kind-clause-became c = nothing_came _ _ c.args.bytes.now c.args.self.now.guests.items c.args.self.now.guests.items (λ k. refl)
 
 pub returns-in-2-clause-became : goal.returns-in-2-clause-became
 returns-in-2-clause-became c =
-    goes (each_stays c.args.self.now.guests.items c.echo.new.self.guests.items (ap (λ gs. gs.items) c.echo.ensures.guests))
+    nothing_came _ _ c.args.bytes.now c.args.self.now.guests.items c.echo.new.self.guests.items
+    (λ k. ap (λ gs. slice_get gs.items k) c.echo.ensures.guests)
+
+pub returns-in-3-clause-became : goal.returns-in-3-clause-became
+returns-in-3-clause-became c =
+    goes c.refused.ensures.goes
+    (subst (λ (t : ℕ). EachSteps t c.args.self.now.guests.items c.refused.new.self.guests.items) c.tell-now.ensures.result c.refused.ensures.steps)
 
 pub returns-in-3-clause-refused : goal.returns-in-3-clause-refused
 returns-in-3-clause-refused c = λ p taken n g place at by there here.
     let same : p ≡ packet_model c.in-Ok.packet = one_packet (packet_model c.in-Ok.packet) p c.in-Ok.field-0-1 taken c.in-Ok.ensures.exact at in
-    c.refused.ensures.closed n g place (subst (λ (q : PacketModel). IsRefusedBy c.args.self.now.host q g) same by)
-    there here
+    let closed = c.refused.ensures.closed n g place (subst (λ (q : PacketModel). IsRefusedBy c.args.self.now.host q g) same by) there here in
+    (closed.0, subst (λ (t : ℕ). IsNotServed t g.connection place) c.tell-now.ensures.result closed.1)
 
 pub returns-in-5-clause-became : goal.returns-in-5-clause-became
-returns-in-5-clause-became c = c.sequenced.ensures.became c.args.bytes.now c.in-Ok.field-0-1 (sym c.in-Ok.ensures.exact)
+returns-in-5-clause-became c =
+    subst
+    (λ (t : ℕ). Receives t (IsOpened c.args.self.now.services.programs c.args.self.now.settings c.args.self.now.register.identifiers
+    c.args.self.now.network c.args.self.now.host c.args.via t) c.args.bytes.now c.args.self.now.guests.items c.sequenced.new.self.guests.items)
+    c.tell-now.ensures.result (c.sequenced.ensures.became c.args.bytes.now c.in-Ok.field-0-1 (sym c.in-Ok.ensures.exact))
 
 pub returns-in-2-clause-heard : goal.returns-in-2-clause-heard
 returns-in-2-clause-heard c = λ p n g place is by there here.

@@ -1,9 +1,10 @@
-use Rattle.std.proofs.Common.{◌≡◌, ◌∙◌, ap, rules, subst, sym, ℕ, Some, slice_get, true}
+use Rattle.std.proofs.Common.{◌≡◌, ◌∙◌, ap, refl, rules, subst, sym, ℕ, Some, slice_get, true}
 use Rattle.xns_host.specs.Hosting.{IsThere}
 use Rattle.xns_host.specs.Ours.{IsToOpen}
 use Rattle.xns_host.specs.Quotes.{is_opened_by}
 use Rattle.xns_host.specs.Register.{owner_in}
 use Rattle.xns_host.specs.declared.opening_quote.OpeningQuote.{OpeningQuote}
+use Rattle.xns_host.proofs.Done.{each_still}
 use Rattle.xns_host.proofs.Ends.{end_id}
 use Rattle.xns_host.proofs.host.Host.refused.Goals as goal
 
@@ -20,6 +21,15 @@ returns-clause-closed c = λ n g place r there here.
     c.not_served.ensures.closed g r.state place (subst (λ (m : ℕ). slice_get c.args.self.now.guests.items m ≡ Some (Some g)) number there) r.stands
     (subst (λ (q : OpeningQuote). is_opened_by g r.state q ≡ true) quote r.opened) r.unclosed
     (subst (λ (m : ℕ). slice_get c.not_served.new.self.guests.items m ≡ Some place) number here)
+
+pub returns-then-ne-clause-steps : goal.returns-then-ne-clause-steps
+returns-then-ne-clause-steps c = each_still c.args.now c.args.self.now.guests.items c.args.self.now.guests.items (λ k. refl)
+
+pub returns-in_default-clause-steps : goal.returns-in_default-clause-steps
+returns-in_default-clause-steps c = each_still c.args.now c.args.self.now.guests.items c.args.self.now.guests.items (λ k. refl)
+
+pub returns-in_default-owner-clause-steps : goal.returns-in_default-owner-clause-steps
+returns-in_default-owner-clause-steps c = each_still c.args.now c.args.self.now.guests.items c.args.self.now.guests.items (λ k. refl)
 
 pub returns-in_default-owner-clause-closed : goal.returns-in_default-owner-clause-closed
 returns-in_default-owner-clause-closed c = λ n g place r there here.

@@ -2,18 +2,19 @@ use Rattle.std.proofs.Common.{◌≡◌, ◌∙◌, ap, refl, rules, subst, sym,
 use Rattle.xns_idp.specs.Packet.{packet_model}
 use Rattle.xns_spp.specs.Ends.{is_ours_at}
 use Rattle.xns_spp.specs.Packet.{SppPacketModel}
-use Rattle.xns_host.specs.Hosting.{IsThere, goes, hears}
+use Rattle.xns_host.specs.Hosting.{IsThere, hears}
 use Rattle.xns_host.specs.Ours.{IsOf, IsOpener, named_in, names, opens}
 use Rattle.xns_host.specs.Register.{number_by, peer_at}
-use Rattle.xns_host.proofs.Going.{each_stays}
-use Rattle.xns_host.proofs.Hearing.{finds, found_is_named, spelled, the_packet}
+use Rattle.xns_host.proofs.Hearing.{finds, found_is_named, nothing_came, spelled, the_packet}
 use Rattle.xns_host.proofs.host.Host.sequenced.Goals as goal
 
 pub returns-in_default-clause-became : goal.returns-in_default-clause-became
-returns-in_default-clause-became c = λ b taken read. goes (each_stays c.args.self.now.guests.items c.args.self.now.guests.items refl)
+returns-in_default-clause-became c = λ b taken read.
+    nothing_came c.args.now _ b c.args.self.now.guests.items c.args.self.now.guests.items (λ k. refl)
 
 pub returns-then-ne-clause-became : goal.returns-then-ne-clause-became
-returns-then-ne-clause-became c = λ b taken read. goes (each_stays c.args.self.now.guests.items c.args.self.now.guests.items refl)
+returns-then-ne-clause-became c = λ b taken read.
+    nothing_came c.args.now _ b c.args.self.now.guests.items c.args.self.now.guests.items (λ k. refl)
 
 pub returns-in-Some-clause-became : goal.returns-in-Some-clause-became
 returns-in-Some-clause-became c = λ b taken read.
