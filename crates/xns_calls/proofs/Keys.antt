@@ -1,7 +1,9 @@
 -- One key serves both directions of a connection.
-use Rattle.std.proofs.Common.{◌≡◌, ◌∙◌, ap, sym, refl, rules, Bool, true, false, cond, ◌||◌}
-use Rattle.std.specs.Cmp.{IsTotalOrder, both_ways, tied_itself}
+use Rattle.std.proofs.Common.{◌≡◌, ◌∙◌, ap, sym, refl, rules, ℕ, ◌*◌, ◌^◌, Bool, true, false, cond, ◌||◌}
+use Rattle.std.proofs.lemmas.Map.Lookups.{exact_unsigned}
+use Rattle.std.specs.Cmp.{Equal-is, IsTotalOrder, both_ways, tied_itself}
 use Rattle.std.specs.Cmp.Rules.{comparing}
+use Rattle.std.specs.Int.Bits.{bit_xor, xor_assoc, xor_self, xor_zero_l, xor_zero_r}
 use Rattle.std.specs.Ordering.{is_eq, is_gt, nat_cmp, ordering_reverse, ordering_then}
 use Rattle.std.specs.declared.cmp.Ordering.{Ordering}
 use Rattle.std.specs.declared.cmp.Ordering.TheVariants.{Less, Equal, Greater}
@@ -21,6 +23,19 @@ places_total = search (comparing, rules)
 
 numbers_total : IsTotalOrder nat_cmp
 numbers_total = search (comparing, rules)
+
+tied_key : (key : ConnectionKey) → key_cmp key key ≡ Equal
+tied_key key =
+    ap (λ r. ordering_then r (ordering_then (nat_cmp key.lesser key.lesser) (ordering_then first second))) (tied_itself numbers_total key.mixed)
+    ∙ ap (λ r. ordering_then r (ordering_then first second)) (tied_itself numbers_total key.lesser)
+    ∙ ap (λ r. ordering_then r second) (tied_itself numbers_total key.lesser_identifier)
+    ∙ tied_itself numbers_total key.greater_identifier
+  where
+    first : Ordering
+    first = nat_cmp key.lesser_identifier key.lesser_identifier
+
+    second : Ordering
+    second = nat_cmp key.greater_identifier key.greater_identifier
 
 -- ---- a flow, or the one behind it: that from the lesser end
 
@@ -116,27 +131,64 @@ ends_ordered law a b formed formed_too =
     ap (λ r. ordering_then r (end_order a.target b.target)) (law a.source b.source formed.source formed_too.source)
     ∙ ap (λ r. ordering_then (place_cmp a.source b.source) r) (law a.target b.target formed.target formed_too.target)
 
--- what is compared first ties where the rest does
-tied_first : (r s : Ordering) → (s ≡ Equal → r ≡ Equal) → is_eq (ordering_then r s) ≡ is_eq s
-tied_first Less Less f = refl
-tied_first Less Equal f = ap is_eq (f refl)
-tied_first Less Greater f = refl
-tied_first Equal s f = refl
-tied_first Greater Less f = refl
-tied_first Greater Equal f = ap is_eq (f refl)
-tied_first Greater Greater f = refl
+-- the mixed number tells one end's host and socket by the other's and by what the identifiers are mixed into
+unmixed : (a b c : ℕ) → bit_xor a (bit_xor (bit_xor (bit_xor a b) c) c) ≡ b
+unmixed a b c =
+    ap (bit_xor a) (xor_assoc (bit_xor a b) c c ∙ ap (bit_xor (bit_xor a b)) (xor_self c) ∙ xor_zero_r (bit_xor a b))
+    ∙ sym (xor_assoc a a b) ∙ ap (λ n. bit_xor n b) (xor_self a) ∙ xor_zero_l b
 
-same_mixed : FlowsAreToldApart → PlacesAreOrderedByNumbers → (a b : Flow) → IsFlow a → IsFlow b → ends_order a b ≡ Equal
-    → nat_cmp (key_in a).mixed (key_in b).mixed ≡ Equal
-same_mixed law order a b formed formed_too e =
-    let same : a ≡ b = law.same a b (sym (law.order a b) ∙ ap is_eq (sym (ends_ordered order a b formed formed_too) ∙ e)) in
-    ap (λ f. nat_cmp (key_in f).mixed (key_in b).mixed) same ∙ tied_itself numbers_total (key_in b).mixed
+all_tied : (m l i j : Ordering) → ordering_then m (ordering_then l (ordering_then i j)) ≡ Equal → (m ≡ Equal) × (l ≡ Equal) × (i ≡ Equal) × (j ≡ Equal)
+all_tied Less l i j e = (cc)
+all_tied Greater l i j e = (cc)
+all_tied Equal Less i j e = (cc)
+all_tied Equal Greater i j e = (cc)
+all_tied Equal Equal Less j e = (cc)
+all_tied Equal Equal Greater j e = (cc)
+all_tied Equal Equal Equal j e = (refl, refl, refl, e)
+
+same_number : (a b : ℕ) → a ≡ b → nat_cmp a b ≡ Equal
+same_number a b e = ap (λ n. nat_cmp n b) e ∙ tied_itself numbers_total b
+
+-- the ends of flows whose keys are equal are in no order
+ends_tied : (a b : Flow) → key_cmp (key_in a) (key_in b) ≡ Equal → ends_order a b ≡ Equal
+unfolding end_order ends_order key_in
+ends_tied a b e =
+    ap (λ r. ordering_then (ordering_then r (nat_cmp a.source.identifier b.source.identifier)) target) tied.1
+    ∙ ap (λ r. ordering_then r target) tied.2
+    ∙ ap (λ r. ordering_then r (nat_cmp a.target.identifier b.target.identifier)) (same_number (host_and_socket a.target) (host_and_socket b.target) other)
+    ∙ tied.3
+  where
+    target : Ordering
+    target = end_order a.target b.target
+
+    ids : Flow → ℕ
+    ids f = bit_xor f.source.identifier f.target.identifier * 2 ^ 48
+
+    tied : (nat_cmp (key_in a).mixed (key_in b).mixed ≡ Equal) × (nat_cmp (host_and_socket a.source) (host_and_socket b.source) ≡ Equal)
+        × (nat_cmp a.source.identifier b.source.identifier ≡ Equal) × (nat_cmp a.target.identifier b.target.identifier ≡ Equal)
+    tied = all_tied (nat_cmp (key_in a).mixed (key_in b).mixed) (nat_cmp (host_and_socket a.source) (host_and_socket b.source))
+        (nat_cmp a.source.identifier b.source.identifier) (nat_cmp a.target.identifier b.target.identifier) e
+
+    lesser : host_and_socket a.source ≡ host_and_socket b.source
+    lesser = exact_unsigned _ _ tied.1
+
+    same_ids : ids a ≡ ids b
+    same_ids =
+        ap (λ n. bit_xor n a.target.identifier * 2 ^ 48) (exact_unsigned _ _ tied.2)
+        ∙ ap (λ n. bit_xor b.source.identifier n * 2 ^ 48) (exact_unsigned _ _ tied.3)
+
+    other : host_and_socket a.target ≡ host_and_socket b.target
+    other =
+        sym (unmixed (host_and_socket a.source) (host_and_socket a.target) (ids a))
+        ∙ ap (λ n. bit_xor n (bit_xor (key_in a).mixed (ids a))) lesser
+        ∙ ap (λ n. bit_xor (host_and_socket b.source) (bit_xor n (ids a))) (exact_unsigned _ _ tied.0)
+        ∙ ap (λ n. bit_xor (host_and_socket b.source) (bit_xor (key_in b).mixed n)) same_ids
+        ∙ unmixed (host_and_socket b.source) (host_and_socket b.target) (ids b)
 
 keys_told : FlowsAreToldApart → PlacesAreOrderedByNumbers → (a b : Flow) → IsFlow a → IsFlow b → is_eq (key_cmp (key_in a) (key_in b)) ≡ is_flow a b
-unfolding end_order ends_order key_in
-keys_told law order a b formed formed_too =
-    tied_first (nat_cmp (key_in a).mixed (key_in b).mixed) (ends_order a b) (same_mixed law order a b formed formed_too)
-    ∙ ap is_eq (ends_ordered order a b formed formed_too) ∙ law.order a b
+keys_told law order a b formed formed_too = both_ways (is_eq (key_cmp (key_in a) (key_in b))) (is_flow a b)
+    (λ e. sym (law.order a b) ∙ ap is_eq (sym (ends_ordered order a b formed formed_too) ∙ ends_tied a b ((Equal-is (key_cmp (key_in a) (key_in b))).0 e)))
+    (λ e. ap (λ f. is_eq (key_cmp (key_in f) (key_in b))) (law.same a b e) ∙ ap is_eq (tied_key (key_in b)))
 
 pub one_key : FlowsAreToldApart → PlacesAreOrderedByNumbers → OneKeyServesBothDirections
 unfolding ordered

@@ -27,7 +27,12 @@ abbrev pub mixed : EndKey → EndKey → ℕ
 mixed a b = bit_xor (bit_xor a.host_and_socket b.host_and_socket) (bit_xor a.identifier b.identifier * 2 ^ 48)
 
 abbrev pub key_of_ends : EndKey → EndKey → ConnectionKey
-key_of_ends a b = record { mixed = mixed a b; lesser = a; greater = b }
+key_of_ends a b = record {
+  mixed = mixed a b;
+  lesser = a.host_and_socket;
+  lesser_identifier = a.identifier;
+  greater_identifier = b.identifier;
+}
 
 -- two ends, the lesser first
 abbrev pub lesser_first : EndKey → EndKey → ConnectionKey

@@ -15,10 +15,12 @@ const TOP: u64 = 1 << 48;
 pub struct ConnectionKey {
     /// The numbers of both ends in one, which is compared first: it differs between nearly all connections.
     pub mixed: u64,
-    /// The end that stands first in the order of ends.
-    pub lesser: EndKey,
-    /// The other end.
-    pub greater: EndKey,
+    /// Host and socket of the end that stands first in the order of ends. With the rest they tell those of the other end.
+    pub lesser: u64,
+    /// The identifier of that end.
+    pub lesser_identifier: u16,
+    /// The identifier of the other end.
+    pub greater_identifier: u16,
 }
 
 impl ConnectionKey {
@@ -42,8 +44,9 @@ impl ConnectionKey {
     {
         ConnectionKey {
             mixed: mixed(lesser, greater),
-            lesser,
-            greater,
+            lesser: lesser.host_and_socket,
+            lesser_identifier: lesser.identifier,
+            greater_identifier: greater.identifier,
         }
     }
 }
