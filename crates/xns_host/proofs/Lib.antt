@@ -16,6 +16,7 @@ mod Listing
 mod Lives
 mod Noting
 mod Ordered
+mod Owing
 mod Peers
 mod Readable
 mod Registered

@@ -1,14 +1,19 @@
 -- A connection: what is due, why it is closed, and what is owed.
-use Rattle.std.specs.Prelude.{ℕ, Bool, true, false, ◌||◌, ◌==◌, if◌then◌else◌, Option, Some, None, Result, Ok, Err}
+use Rattle.std.specs.Prelude.{ℕ, Bool, true, false, ◌&&◌, ◌||◌, ◌==◌, nat_lt, if◌then◌else◌, List, Option, Some, None, Result, Ok, Err}
 use Rattle.courier_messages.specs.declared.fault.SessionFault.{SessionFault}
 use Rattle.courier_messages.specs.declared.fault.SessionFault.TheVariants.{NoCommonVersion, BadVersions, BadMessage, WrongTransaction}
 use Rattle.courier_messages.specs.declared.fault.SessionFault.TheVariants.{BadReply, Stream, Failed}
 use Rattle.courier_messages.specs.declared.fault.SessionFault.TheVariants as faults
 use Rattle.courier_sessions.specs.declared.feed_refusal.FeedRefusal.{FeedRefusal}
 use Rattle.courier_sessions.specs.declared.feed_refusal.FeedRefusal.TheVariants.{Stopped, Busy, TooLong, Attention, Fault, NoMemory}
+use Rattle.xns_spp.specs.Receiving.{after_receive, input_answer}
+use Rattle.xns_spp.specs.State.{State}
+use Rattle.xns_spp.specs.Telling.{unacknowledged_count}
 use Rattle.xns_spp.specs.declared.dropped.Dropped.{Dropped}
 use Rattle.xns_spp.specs.declared.dropped.Dropped.TheVariants as drops
 use Rattle.xns_host.specs.Closing.{end_stream, end_reply_stream}
+use Rattle.xns_host.specs.Telling.{is_progress}
+use Rattle.xns_host.specs.Waiting.{Waiting, after_word}
 use Rattle.xns_host.specs.declared.act.Act.{Act}
 use Rattle.xns_host.specs.declared.act.Act.TheVariants.{Nothing, Again, Ask, GiveUp, Forget}
 use Rattle.xns_host.specs.declared.closing.Closing.{Closing}
@@ -100,3 +105,15 @@ is_foreign (Some drops.AheadOfUs) = true
 is_foreign (Some drops.OutOfOrder) = false
 is_foreign (Some drops.NoRoom) = false
 is_foreign (Some drops.Repeat) = false
+
+-- the waits of a connection, and what it owes, after these bytes came to its end, before anything moves
+abbrev pub wait_heard : Waiting → State → List ℕ → (now : ℕ) → Waiting
+wait_heard w s b now = if is_foreign (input_answer s b).dropped then w else after_word w (is_progress s (after_receive s b)) now
+
+abbrev pub goes_again : Waiting → State → List ℕ → Bool
+goes_again w s b = is_progress s (after_receive s b) && (w.vain && nat_lt 0 (unacknowledged_count (after_receive s b)))
+
+abbrev pub owed_heard : Owed → Waiting → State → List ℕ → Owed
+owed_heard o w s b =
+    if is_foreign (input_answer s b).dropped then o
+    else record o { word = o.word || (input_answer s b).owes_reply; again = o.again || goes_again w s b }

@@ -1,5 +1,5 @@
 -- What a connection has done, with the closing exchange (XSIS 028112, Sequenced Packet Protocol, Termination).
-use Rattle.std.specs.Prelude.{◌≡◌, ℕ, List, [], ◌++◌, Bool, true, false, not, ◌&&◌, ◌||◌, ◌==◌, nat_lt, take, Option, None, is_ok}
+use Rattle.std.specs.Prelude.{◌≡◌, ◌<◌, ℕ, List, [], ◌++◌, Bool, true, false, not, ◌&&◌, ◌||◌, ◌==◌, nat_lt, if◌then◌else◌, take, Option, None, is_ok}
 use Rattle.std.specs.Option.{option_to_list}
 use Rattle.courier_sessions.specs.Answering.{has_items}
 use Rattle.xns_spp.specs.Ends.{is_open}
@@ -8,11 +8,12 @@ use Rattle.xns_spp.specs.Held.{Held, StandsFor}
 use Rattle.xns_spp.specs.Receiving.{after_receive}
 use Rattle.xns_spp.specs.Sending.{flush_answer, send_answer, waiting_count}
 use Rattle.xns_spp.specs.State.{State}
-use Rattle.xns_spp.specs.Telling.{unacknowledged_count}
+use Rattle.xns_spp.specs.Telling.{told_answer, unacknowledged_count}
 use Rattle.xns_host.specs.Closing.{closing_item, closing_items, drains, end_reply_stream, end_stream}
 use Rattle.xns_host.specs.Story.{Story, SideHas, GoesOn, made_on, out_of, has_call, IsMoved, IsListed}
 use Rattle.xns_host.specs.declared.closing.Closing.{Closing}
 use Rattle.xns_host.specs.declared.conversation.Conversation.{Conversation}
+use Rattle.xns_host.specs.declared.owed.Owed.{Owed}
 
 -- End is to be put out: behind all that is out, and after the answer to a call that waits
 abbrev pub owes_end : Conversation → Bool
@@ -85,6 +86,14 @@ NoneWaits endpoint = (s : State) → StandsFor endpoint s → waiting_count s �
 -- where only closing items are read, none waits
 abbrev pub ReadsAll : (old new : Conversation) → Type 0
 ReadsAll old new = (h : Story) → Tells old h → drains new.side new.closing ≡ true → NoneWaits new.endpoint
+
+-- the packet without an item that is owed
+abbrev pub word_answer : Owed → State → Option (List ℕ)
+word_answer o s = if o.asks || o.word then told_answer s o.asks else None
+
+-- where fewer items wait at the end than before, there is more room, and the peer is owed a word
+abbrev pub OwesRoom : (old new : Held) → (word : Bool) → Type 0
+OwesRoom old new word = (s v : State) → StandsFor old s → StandsFor new v → waiting_count v < waiting_count s → word ≡ true
 
 -- a packet of the peer has more acknowledged, or opens the connection
 abbrev pub is_progress : State → State → Bool

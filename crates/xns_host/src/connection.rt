@@ -12,15 +12,15 @@ ghost use Rattle.xns_spp.specs.Packet.{IsSppPacket, spp_packet_of};
 ghost use Rattle.xns_spp.specs.Receiving.{after_receive, StoresBytes};
 ghost use Rattle.xns_spp.specs.Sending.{tick_answer};
 ghost use Rattle.xns_spp.specs.State.{State, initiator_state, responder_state};
-ghost use Rattle.xns_spp.specs.Telling.{own_name, peer_name, unacknowledged_count};
+ghost use Rattle.xns_spp.specs.Telling.{own_name, peer_name, resend_answer, told_answer, unacknowledged_count};
 ghost use Rattle.xns_host.specs.Closing.{drains};
 ghost use Rattle.xns_host.specs.Connecting.{is_again, is_open_due, is_closed_due, why_over, why_given_up, is_closing, why_refused};
-ghost use Rattle.xns_host.specs.Connecting.{why_after, owed_after, is_foreign};
+ghost use Rattle.xns_host.specs.Connecting.{why_after, owed_after, owed_heard, is_foreign, wait_heard};
 ghost use Rattle.xns_host.specs.Reasons.{call_fault_of, answer_fault_of};
 ghost use Rattle.xns_host.specs.Refusing.{Answers};
 ghost use Rattle.xns_host.specs.Settings.{IsBegun, IsFit};
 ghost use Rattle.xns_host.specs.Story.{Story, GoesOn, new_story, asked_of, waiting_message, with_handed, has_message};
-ghost use Rattle.xns_host.specs.Telling.{Tells, Goes, MovesAndGives, Rested, Calm, CalmFrom, HasSaidEnd, HasSaidReply, Hears, ReadsAll, waits, is_over};
+ghost use Rattle.xns_host.specs.Telling.{Tells, Goes, MovesAndGives, Rested, Calm, CalmFrom, HasSaidEnd, HasSaidReply, Hears, OwesRoom, ReadsAll, waits, is_over};
 ghost use Rattle.xns_host.specs.Waiting.{HearsAt, IsDueAfter, StepsAt, act_at, after_act, after_step, after_word, last_time, lingering, new_waiting};
 ghost use Rattle.xns_host.specs.declared.act.Act.TheVariants.{GiveUp};
 ghost use Rattle.xns_host.specs.declared.why.Why.TheVariants.{NotServed};
@@ -173,6 +173,7 @@ fn after_moving(
     ensures lingers { closed.old ≡ None → closed.new ≢ None → wait.new ≡ lingering wait.old now }
     ensures idle { drains conversation.new.side conversation.new.closing ≡ false → conversation.new ≡ conversation.old }
     ensures stays { closed.new ≡ closed.old → conversation.new ≡ conversation.old }
+    ensures endpoint { conversation.new.endpoint ≡ conversation.old.endpoint }
 {
     if closed.is_some() {
         return;
@@ -213,6 +214,7 @@ fn settled(
     ensures lingers { closed.old ≡ None → closed.new ≢ None → wait.new ≡ lingering wait.old now }
     ensures owed { (owed.new.again ≡ owed.old.again) × (owed.new.asks ≡ owed.old.asks) × (owed.new.fresh ≡ true) }
     ensures word { owed.old.word ≡ true → owed.new.word ≡ true }
+    ensures room { OwesRoom conversation.old.endpoint conversation.new.endpoint owed.new.word }
     ensures calm { owed.new.moving ≡ false → drains conversation.new.side conversation.new.closing ≡ false
         → Calm conversation.old conversation.new }
     ensures read { owed.new.moving ≡ false → closed.new ≡ closed.old → ReadsAll conversation.old conversation.new }
@@ -344,6 +346,7 @@ impl Connection {
             (new_story None (initiator_state own id peer settings.now.window settings.now.backlog))) }
         ensures packets { IfOk result (λ t. t.conversation.packets.items ≡ []) }
         ensures open { IfOk result (λ t. (t.closed ≡ None) × (t.owed.again ≡ true)) }
+        ensures fresh { IfOk result (λ t. (t.told ≡ false) × (t.owed.fresh ≡ true)) }
         ensures begun { IfOk result (λ t. IsBegun settings.now now t.wait) }
     {
         courier_sessions::laws::a_session_is_its_conversation();
@@ -385,6 +388,7 @@ impl Connection {
             (responder_state own id peer peer_id settings.now.window settings.now.backlog))) }
         ensures packets { IfOk result (λ t. t.conversation.packets.items ≡ []) }
         ensures open { IfOk result (λ t. (t.closed ≡ None) × (t.owed.again ≡ false)) }
+        ensures fresh { IfOk result (λ t. (t.told ≡ false) × (t.owed.fresh ≡ true)) }
         ensures begun { IfOk result (λ t. IsBegun settings.now now t.wait) }
     {
         courier_sessions::laws::a_server_session_is_its_conversation();
@@ -447,6 +451,13 @@ impl Connection {
         ensures packets { self.new.conversation.packets ≡ self.old.conversation.packets }
         ensures told { self.new.told ≡ self.old.told }
         ensures steps { OnOk result (HearsAt now self.old.wait self.new.wait) }
+        ensures heard { OnOk result ((s : State) (b : List ℕ) → StandsFor self.old.conversation.endpoint s → spp_packet_of b ≡ Ok packet.now
+            → StepsAt now (wait_heard self.old.wait s b now) self.new.wait) }
+        ensures again { OnOk result ((s : State) (b : List ℕ) → StandsFor self.old.conversation.endpoint s → spp_packet_of b ≡ Ok packet.now
+            → self.new.owed.again ≡ (owed_heard self.old.owed self.old.wait s b).again) }
+        ensures asks { self.new.owed.asks ≡ self.old.owed.asks }
+        ensures word { OnOk result ((s : State) (b : List ℕ) → StandsFor self.old.conversation.endpoint s → spp_packet_of b ≡ Ok packet.now
+            → (owed_heard self.old.owed self.old.wait s b).word ≡ true → self.new.owed.word ≡ true) }
         ensures fresh { OnOk result (self.new.owed.fresh ≡ true) }
         ensures unchanged { OnErr result (self.new ≡ self.old) }
         ensures memory { OnErr result ((s : State) (b : List ℕ) → StandsFor self.old.conversation.endpoint s
@@ -476,6 +487,9 @@ impl Connection {
         ensures packets { self.new.conversation.packets ≡ self.old.conversation.packets }
         ensures closed { self.old.closed ≢ None → self.new.closed ≡ self.old.closed }
         ensures told { self.new.told ≡ self.old.told }
+        ensures owed { (self.new.owed.again ≡ self.old.owed.again) × (self.new.owed.asks ≡ self.old.owed.asks) }
+        ensures word { self.old.owed.word ≡ true → self.new.owed.word ≡ true }
+        ensures idle { self.old.owed.moving ≡ false → self.new ≡ self.old }
         ensures fresh { self.old.owed.fresh ≡ true → self.new.owed.fresh ≡ true }
         ensures steps { StepsAt now self.old.wait self.new.wait }
     {
@@ -513,6 +527,7 @@ impl Connection {
     #[tactic(auto, using(crate::proofs::Done::no_step, crate::proofs::Done::one_close))]
     pub fn not_served(&mut self, now: u64)
         ensures goes { Goes self.old.conversation self.new.conversation }
+        ensures owed { self.new.owed ≡ self.old.owed }
         ensures packets { self.new.conversation.packets ≡ self.old.conversation.packets }
         ensures closed { self.old.closed ≢ None → self.new ≡ self.old }
         ensures open { (s : State) → StandsFor self.old.conversation.endpoint s → is_open s.ends ≡ true → self.new ≡ self.old }
@@ -546,6 +561,15 @@ impl Connection {
         ensures left { self.old.owed.fresh ≡ true → self.new.owed.fresh ≡ false → (self.new.conversation.packets.items ≡ [])
             × (self.new.owed.again ≡ false) × (self.new.owed.asks ≡ false) × (self.new.owed.word ≡ false)
             × (self.new.owed.moving ≡ false) }
+        // What is owed is owed until it is given, from where the connection is when what can move has moved.
+        ensures again { self.old.owed.again ≡ true → self.new.owed.again ≡ false → (mid : Conversation) × Goes self.old.conversation mid
+            × ((s : State) (b : List ℕ) → StandsFor mid.endpoint s → resend_answer s ≡ Some b → result ≡ Ok (Some b)) }
+        ensures asks { self.old.owed.asks ≡ true → self.new.owed.asks ≡ false → (s : State) → StandsFor self.new.conversation.endpoint s
+            → result ≡ Ok (told_answer s true) }
+        ensures word { self.old.owed.word ≡ true → result ≡ Ok None → (s : State) → StandsFor self.new.conversation.endpoint s
+            → told_answer s self.old.owed.asks ≡ None }
+        ensures idle { self.old.owed.moving ≡ false → (self.new.conversation.side ≡ self.old.conversation.side)
+            × (self.new.conversation.closing ≡ self.old.conversation.closing) × (self.new.closed ≡ self.old.closed) }
         ensures closed { self.old.closed ≢ None → self.new.closed ≡ self.old.closed }
         ensures told { self.new.told ≡ self.old.told }
         ensures steps { StepsAt now self.old.wait self.new.wait }
@@ -586,6 +610,7 @@ impl Connection {
         ensures told { self.new.told ≡ self.old.told }
         ensures steps { StepsAt now self.old.wait self.new.wait }
         ensures fresh { result ≡ Ok tt → self.new.owed.fresh ≡ true }
+        ensures room { OwesRoom self.old.conversation.endpoint self.new.conversation.endpoint self.new.owed.word }
         ensures unchanged { OnErr result (self.new ≡ self.old) }
     {
         self.conversation
@@ -630,6 +655,7 @@ impl Connection {
         ensures told { self.new.told ≡ self.old.told }
         ensures steps { StepsAt now self.old.wait self.new.wait }
         ensures fresh { result ≡ Ok tt → self.new.owed.fresh ≡ true }
+        ensures room { OwesRoom self.old.conversation.endpoint self.new.conversation.endpoint self.new.owed.word }
         ensures unchanged { OnErr result (self.new ≡ self.old) }
     {
         self.conversation.answer(alloc, kind, words)?;
@@ -660,6 +686,7 @@ impl Connection {
         ensures told { self.new.told ≡ self.old.told }
         ensures steps { StepsAt now self.old.wait self.new.wait }
         ensures fresh { self.new.owed.fresh ≡ true }
+        ensures room { OwesRoom self.old.conversation.endpoint self.new.conversation.endpoint self.new.owed.word }
     {
         self.conversation.close();
         settled(
@@ -691,6 +718,10 @@ impl Connection {
         ensures packets { self.new.conversation.packets ≡ self.old.conversation.packets }
         ensures told { self.new.told ≡ self.old.told }
         ensures steps { StepsAt now self.old.wait self.new.wait }
+        ensures room { OwesRoom self.old.conversation.endpoint self.new.conversation.endpoint self.new.owed.word }
+        // Where no packet may be to go out, nothing has moved.
+        ensures fresh { self.new.owed.fresh ≡ false → (self.new.owed ≡ self.old.owed)
+            × (self.new.conversation.endpoint ≡ self.old.conversation.endpoint) }
         ensures none { result ≡ None → self.new ≡ self.old }
     {
         let message = self.conversation.take_message()?;

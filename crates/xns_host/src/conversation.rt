@@ -72,7 +72,7 @@ fn noted(closing: Closing, stream: u8) -> Closing
 impl Conversation {
     ghost use Rattle.xns_host.specs.Reasons.{call_fault_of, answer_fault_of};
     ghost use Rattle.xns_host.specs.Telling.{Tells, Goes, Gives, Rested, Calm, HasSaidEnd, HasSaidReply, NoneWaits, ReadsAll, owes_end, owes_reply};
-    ghost use Rattle.xns_host.specs.Telling.{waits, is_over};
+    ghost use Rattle.xns_host.specs.Telling.{waits, is_over, word_answer};
 
     /// One in which nothing was said.
     pub fn new(alloc: Global, endpoint: Endpoint, side: Side) -> Conversation
@@ -303,6 +303,8 @@ impl Conversation {
             → i ≡ input_answer s b) }
         ensures tells { OnOk result ((h : Story) (b : List ℕ) → Tells self.old h → spp_packet_of b ≡ Ok packet.now
             → Tells self.new (record h { state = after_receive h.state b })) }
+        ensures stands { OnOk result ((s : State) (b : List ℕ) → StandsFor self.old.endpoint s → spp_packet_of b ≡ Ok packet.now
+            → StandsFor self.new.endpoint (after_receive s b)) }
         ensures beside { (self.new.side ≡ self.old.side) × (self.new.closing ≡ self.old.closing) }
         ensures packets { self.new.packets ≡ self.old.packets }
         ensures unchanged { OnErr result (self.new ≡ self.old) }
@@ -393,6 +395,7 @@ impl Conversation {
         requires { self.old.packets.items ≡ [] }
         ensures goes { Goes self.old self.new }
         ensures gives { Gives self.old self.new None }
+        ensures side { (self.new.side ≡ self.old.side) × (self.new.closing ≡ self.old.closing) }
         ensures rested { OnOk result (Rested self.old self.new) }
         ensures packets { OnOk result ((s : State) → StandsFor self.old.endpoint s → self.new.packets.items ≡ flush_answer s) }
         ensures unchanged { OnErr result (self.new ≡ self.old) }
@@ -407,6 +410,7 @@ impl Conversation {
     fn again(&mut self, alloc: Global) -> Result<Option<Bytes>, AllocError>
         ensures goes { Goes self.old self.new }
         ensures answer { IfOk result (λ o. (s : State) → StandsFor self.old.endpoint s → o ≡ resend_answer s) }
+        ensures side { (self.new.side ≡ self.old.side) × (self.new.closing ≡ self.old.closing) }
         ensures packets { self.new.packets.items ≡ self.old.packets.items }
         ensures gives { self.old.packets.items ≡ [] → IfOk result (λ o. Gives self.old self.new o) }
         ensures unchanged { OnErr result (self.new ≡ self.old) }
@@ -432,7 +436,11 @@ impl Conversation {
         ensures goes { Goes self.old self.new }
         ensures gives { IfOk result (λ o. Gives self.old self.new o) }
         ensures given_none { OnErr result (Gives self.old self.new None) }
+        ensures side { (self.new.side ≡ self.old.side) × (self.new.closing ≡ self.old.closing) }
         ensures none { result ≡ Ok None → (self.new.packets.items ≡ []) × (owed.new.again ≡ false) }
+        ensures again { owed.old.again ≡ true → owed.new.again ≡ false → (s : State) → StandsFor self.old.endpoint s
+            → result ≡ Ok (resend_answer s) }
+        ensures word { owed.old.word ≡ true → result ≡ Ok None → owed.new.word ≡ true }
         ensures beside { (owed.new.asks ≡ owed.old.asks) × (owed.new.moving ≡ owed.old.moving) × (owed.new.fresh ≡ owed.old.fresh) }
         ensures refused { OnErr result (owed.new ≡ owed.old) }
     {
@@ -451,8 +459,7 @@ impl Conversation {
     /// The packet without an item that is owed.
     fn system_packet(&self, alloc: Global, owed: &mut Owed) -> Result<Option<Bytes>, AllocError>
         ensures done { OnOk result ((owed.new.asks ≡ false) × (owed.new.word ≡ false) × (owed.new.fresh ≡ owed.new.moving)) }
-        ensures answer { (s : State) (b : List ℕ) → StandsFor self.now.endpoint s → result ≡ Ok (Some b)
-            → told_answer s owed.old.asks ≡ Some b }
+        ensures answer { (s : State) → StandsFor self.now.endpoint s → IfOk result (λ o. o ≡ word_answer owed.old s) }
         ensures gives { self.now.packets.items ≡ [] → IfOk result (λ o. Gives self.now self.now o) }
         ensures beside { (owed.new.again ≡ owed.old.again) × (owed.new.moving ≡ owed.old.moving) }
         ensures refused { OnErr result (owed.new ≡ owed.old) }
@@ -482,10 +489,15 @@ impl Conversation {
         ensures gives { IfOk result (λ o. Gives self.old self.new o) }
         ensures given_none { OnErr result (Gives self.old self.new None) }
         ensures rested { result ≡ Ok None → Rested self.old self.new }
+        ensures side { (self.new.side ≡ self.old.side) × (self.new.closing ≡ self.old.closing) }
         ensures none { result ≡ Ok None → (owed.new.asks ≡ false) × (owed.new.word ≡ false) × (owed.new.fresh ≡ owed.new.moving) }
         ensures rests { owed.old.fresh ≡ true → owed.new.fresh ≡ false → Rested self.old self.new }
         ensures left { owed.old.fresh ≡ true → owed.new.fresh ≡ false → (self.new.packets.items ≡ []) × (owed.new.asks ≡ false)
             × (owed.new.word ≡ false) × (owed.new.moving ≡ false) }
+        ensures asks { owed.old.asks ≡ true → owed.new.asks ≡ false → (s : State) → StandsFor self.new.endpoint s
+            → result ≡ Ok (told_answer s true) }
+        ensures word { owed.old.word ≡ true → result ≡ Ok None → (s : State) → StandsFor self.new.endpoint s
+            → told_answer s owed.old.asks ≡ None }
         ensures beside { (owed.new.again ≡ owed.old.again) × (owed.new.moving ≡ owed.old.moving) }
         ensures refused { OnErr result (owed.new ≡ owed.old) }
     {
@@ -508,11 +520,18 @@ impl Conversation {
         ensures gives { IfOk result (λ o. Gives self.old self.new o) }
         ensures given_none { OnErr result (Gives self.old self.new None) }
         ensures rested { result ≡ Ok None → Rested self.old self.new }
+        ensures side { (self.new.side ≡ self.old.side) × (self.new.closing ≡ self.old.closing) }
         ensures none { result ≡ Ok None → (owed.new.again ≡ false) × (owed.new.asks ≡ false) × (owed.new.word ≡ false)
             × (owed.new.fresh ≡ owed.new.moving) }
         ensures rests { owed.old.fresh ≡ true → owed.new.fresh ≡ false → Rested self.old self.new }
         ensures left { owed.old.fresh ≡ true → owed.new.fresh ≡ false → (self.new.packets.items ≡ []) × (owed.new.again ≡ false)
             × (owed.new.asks ≡ false) × (owed.new.word ≡ false) × (owed.new.moving ≡ false) }
+        ensures again { owed.old.again ≡ true → owed.new.again ≡ false → (s : State) (b : List ℕ) → StandsFor self.old.endpoint s
+            → resend_answer s ≡ Some b → result ≡ Ok (Some b) }
+        ensures asks { owed.old.asks ≡ true → owed.new.asks ≡ false → (s : State) → StandsFor self.new.endpoint s
+            → result ≡ Ok (told_answer s true) }
+        ensures word { owed.old.word ≡ true → result ≡ Ok None → (s : State) → StandsFor self.new.endpoint s
+            → told_answer s owed.old.asks ≡ None }
         ensures moving { owed.new.moving ≡ owed.old.moving }
     {
         if let Some(packet) = self.older_packet(alloc, owed)? {

@@ -1,5 +1,8 @@
 use Rattle.xns_host.proofs.Leading.{goes_then, calm_then}
 use Rattle.xns_host.proofs.Tellings.{drains_still}
+use Rattle.std.proofs.Common.{subst}
+use Rattle.xns_spp.specs.Held.{Held}
+use Rattle.xns_host.specs.Telling.{OwesRoom}
 use Rattle.xns_host.proofs.connection.Connection.close.Goals as goal
 
 pub returns-clause-goes : goal.returns-clause-goes
@@ -16,3 +19,6 @@ returns-clause-read c = λ still same h tells yes. let x = c.close.ensures.goes.
 
 pub returns-clause-asked : goal.returns-clause-asked
 returns-clause-asked c = c.settled.ensures.goes.wanted c.close.ensures.asked
+
+pub returns-clause-room : goal.returns-clause-room
+returns-clause-room c = subst (λ (e : Held). OwesRoom e c.settled.new.conversation.endpoint c.settled.new.owed.word) c.close.ensures.endpoint c.settled.ensures.room

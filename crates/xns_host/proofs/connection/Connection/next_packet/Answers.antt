@@ -2,6 +2,8 @@ use Rattle.xns_host.proofs.Done.{steps_then}
 use Rattle.xns_host.proofs.Leading.{goes_then}
 use Rattle.xns_host.proofs.Giving.{moves_and_gives, moves_and_none}
 use Rattle.xns_host.proofs.Tellings.{rested_then}
+use Rattle.std.proofs.Common.{◌∙◌, ap, sym, Bool}
+use Rattle.xns_spp.specs.Telling.{told_answer}
 use Rattle.xns_host.proofs.connection.Connection.next_packet.Goals as goal
 
 pub returns-clause-steps : goal.returns-clause-steps
@@ -24,3 +26,17 @@ returns-clause-rests c = λ was is. rested_then c.move_owed.ensures.goes (c.next
 
 pub returns-clause-left : goal.returns-clause-left
 returns-clause-left c = λ was is. c.next_packet-packet.ensures.left (c.move_owed.ensures.fresh was) is
+
+pub returns-clause-again : goal.returns-clause-again
+returns-clause-again c = λ was is. (
+  c.move_owed.new.self.conversation,
+  c.move_owed.ensures.goes,
+  λ s b stands there. c.next_packet-packet.ensures.again (c.move_owed.ensures.owed.0 ∙ was) is s b stands there,
+)
+
+pub returns-clause-asks : goal.returns-clause-asks
+returns-clause-asks c = λ was is s stands. c.next_packet-packet.ensures.asks (c.move_owed.ensures.owed.1 ∙ was) is s stands
+
+pub returns-clause-word : goal.returns-clause-word
+returns-clause-word c = λ owed none s stands.
+    ap (λ (b : Bool). told_answer s b) (sym c.move_owed.ensures.owed.1) ∙ c.next_packet-packet.ensures.word (c.move_owed.ensures.word owed) none s stands

@@ -2,6 +2,9 @@ use Rattle.xns_host.proofs.Leading.{calm_from}
 use Rattle.xns_spp.specs.Receiving.{after_receive}
 use Rattle.xns_host.proofs.Done.{hears_at}
 use Rattle.xns_host.proofs.Tellings.{still_wanted}
+use Rattle.std.proofs.Common.{◌∙◌, ap, ℕ}
+use Rattle.std.specs.Prelude.{nat_lt}
+use Rattle.xns_host.proofs.Owing.{again_heard, progress_is, waits_heard, word_heard}
 use Rattle.xns_host.proofs.connection.Connection.receive.Goals as goal
 
 pub returns-clause-tells : goal.returns-clause-tells
@@ -15,3 +18,27 @@ returns-clause-read c = λ b read still same h tells yes. c.settled.ensures.read
 
 pub returns-clause-steps : goal.returns-clause-steps
 returns-clause-steps c = hears_at _ _ _ _ _ _ (λ yes. (c.note.ensures.foreign yes).0) c.note.ensures.wait c.settled.ensures.steps
+
+pub returns-clause-heard : goal.returns-clause-heard
+returns-clause-heard c = λ s b stands read.
+    let v = after_receive s b in
+    let after = c.in_ok-input.ensures.stands s b stands read in
+    waits_heard _ _ _ s b c.in_ok-input.input c.is_progress-more.result c.args.now (c.in_ok-input.ensures.answer s b stands read)
+    (progress_is s v _ _ _ (c.unacknowledged-before.ensures s stands) (c.is_open-was_open.ensures s stands) (c.is_progress-more.ensures v after))
+    (λ yes. (c.note.ensures.foreign yes).0) c.note.ensures.wait c.settled.ensures.steps
+
+pub returns-clause-again : goal.returns-clause-again
+returns-clause-again c = λ s b stands read.
+    let v = after_receive s b in
+    let after = c.in_ok-input.ensures.stands s b stands read in
+    c.settled.ensures.owed.0 ∙
+    again_heard c.args.self.now.owed c.note.new.owed c.args.self.now.wait s b c.in_ok-input.input c.is_progress-more.result
+    (nat_lt 0 c.unacknowledged-left.result) (c.in_ok-input.ensures.answer s b stands read)
+    (progress_is s v _ _ _ (c.unacknowledged-before.ensures s stands) (c.is_open-was_open.ensures s stands) (c.is_progress-more.ensures v after))
+    (ap (λ (n : ℕ). nat_lt 0 n) (c.unacknowledged-left.ensures v after))
+    (λ yes. (c.note.ensures.foreign yes).1) c.note.ensures.again
+
+pub returns-clause-word : goal.returns-clause-word
+returns-clause-word c = λ s b stands read owed.
+    c.settled.ensures.word (word_heard c.args.self.now.owed c.note.new.owed c.args.self.now.wait s b c.in_ok-input.input
+    (c.in_ok-input.ensures.answer s b stands read) (λ yes. (c.note.ensures.foreign yes).1) c.note.ensures.word ∙ owed)

@@ -1,5 +1,9 @@
 use Rattle.xns_host.proofs.Leading.{calm_from, stays}
 use Rattle.xns_host.specs.Story.{with_handed}
+use Rattle.std.proofs.Common.{subst}
+use Rattle.xns_spp.specs.Held.{Held}
+use Rattle.xns_host.specs.Telling.{OwesRoom}
+use Rattle.xns_host.proofs.Owing.{same_room}
 use Rattle.xns_host.proofs.connection.Connection.take_message.Goals as goal
 
 pub returns-then-is_calm-clause-handed : goal.returns-then-is_calm-clause-handed
@@ -19,3 +23,9 @@ returns-clause-calm c = λ m is still free. calm_from (λ h tells. c.in_ok-messa
 
 pub returns-clause-read : goal.returns-clause-read
 returns-clause-read c = λ m is still same h tells yes. c.settled.ensures.read still same (with_handed c.args.self.now.conversation.side h m) (c.in_ok-message.ensures.handed h m tells is) yes
+
+pub returns-clause-room : goal.returns-clause-room
+returns-clause-room c = subst (λ (e : Held). OwesRoom e c.settled.new.conversation.endpoint c.settled.new.owed.word) c.in_ok-message.ensures.endpoint c.settled.ensures.room
+
+pub returns-then-is_calm-clause-room : goal.returns-then-is_calm-clause-room
+returns-then-is_calm-clause-room c = same_room _ _ _ c.in_ok-message.ensures.endpoint

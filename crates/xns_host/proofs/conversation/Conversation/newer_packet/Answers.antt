@@ -3,6 +3,7 @@ use Rattle.xns_host.specs.declared.conversation.Conversation.{Conversation}
 use Rattle.xns_host.proofs.Tellings.{rested_same}
 use Rattle.xns_host.proofs.Leading.{goes_then}
 use Rattle.xns_host.proofs.Giving.{gives_then, then_gives, none_given}
+use Rattle.xns_host.proofs.Owing.{had_no_word, was_asked}
 use Rattle.xns_host.proofs.conversation.Conversation.newer_packet.Goals as goal
 
 pub returns-in-Some-clause-rests : goal.returns-in-Some-clause-rests
@@ -28,3 +29,9 @@ returns-clause-gives c = then_gives _ c.system_packet.result (gives_then c.flush
 
 pub returns-clause-given_none : goal.returns-clause-given_none
 returns-clause-given_none c = none_given c.system_packet.result (gives_then c.flush.ensures.gives c.in_default.ensures.gives)
+
+pub returns-clause-asks : goal.returns-clause-asks
+returns-clause-asks c = λ was is s stands. was_asked c.args.owed.now c.system_packet.new.owed s c.system_packet.result (c.system_packet.ensures.answer s stands) c.system_packet.ensures.refused was is
+
+pub returns-clause-word : goal.returns-clause-word
+returns-clause-word c = λ owed none s stands. had_no_word c.args.owed.now s c.system_packet.result (c.system_packet.ensures.answer s stands) owed none
