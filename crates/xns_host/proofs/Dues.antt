@@ -2,11 +2,11 @@
 use Rattle.std.proofs.Common.{◌≡◌, ◌≢◌, ◌∙◌, ap, refl, ℕ, Bool, true, false}
 use Rattle.std.specs.Prelude.{nat_le, ◌==◌, if◌then◌else◌}
 use Rattle.xns_host.specs.Connecting.{is_again, is_open_due, is_closed_due}
-use Rattle.xns_host.specs.Waiting.{Waiting, act_by, after_by, after_step, after_word, after_heard, later, unless_silent, waiting_on, idling}
-use Rattle.xns_host.specs.declared.act.Act.{Act}
-use Rattle.xns_host.specs.declared.act.Act.TheVariants.{Nothing, Again, Ask, GiveUp, Forget}
-use Rattle.xns_host.specs.declared.due.Due.{Due}
-use Rattle.xns_host.specs.declared.due.Due.TheVariants.{Never, AgainAt, AskAt, ForgetAt}
+use Rattle.xns_agenda.specs.Waiting.{Waiting, act_by, after_by, after_step, after_word, after_heard, later, unless_silent, waiting_on, idling}
+use Rattle.xns_agenda.specs.declared.act.Act.{Act}
+use Rattle.xns_agenda.specs.declared.act.Act.TheVariants.{Nothing, Again, Ask, GiveUp, Forget}
+use Rattle.xns_agenda.specs.declared.due.Due.{Due}
+use Rattle.xns_agenda.specs.declared.due.Due.TheVariants.{Never, AgainAt, AskAt, ForgetAt}
 
 -- ---- a step
 

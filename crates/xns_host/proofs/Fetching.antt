@@ -5,16 +5,15 @@ use Rattle.std.specs.Option.{is_some}
 use Rattle.std.proofs.lemmas.List.{length-set}
 use Rattle.std.proofs.lemmas.List.Sums.{sum_by-set}
 use Rattle.std.proofs.lemmas.Option.{slice_get-get_or}
-use Rattle.xns_host.specs.Agenda.{Plan}
+use Rattle.xns_agenda.specs.Agenda.{Plan}
 use Rattle.xns_host.specs.Events.{event_in}
 use Rattle.xns_host.specs.Hosting.{HasNoEvent, HasNoPacket, IsAllNoted, IsApart, IsNextEvent, TellsIn}
-use Rattle.xns_host.specs.Times.{HasEarliest}
-use Rattle.xns_host.specs.Turns.{Line, has_turn, with_turn}
+use Rattle.xns_agenda.specs.Turns.{HasNoTurn, Line, has_turn, with_turn}
 use Rattle.xns_host.specs.declared.connection.Connection.{Connection}
 use Rattle.xns_host.specs.declared.event.Event.{Event}
 use Rattle.xns_host.specs.declared.guest.Guest.{Guest}
 use Rattle.xns_host.specs.declared.why.Why.{Why}
-use Rattle.xns_host.proofs.Agendas.{nobody, within}
+use Rattle.xns_host.proofs.Noting.{within}
 
 abbrev Places : Type 0
 Places = List (Option Guest)
@@ -30,14 +29,10 @@ fewer line n has =
     let one : counted (get_or line.tickets n None) ≡ 1 = ap (λ (b : Bool). cond b 1 0) has in
     omega (arith, e, one)
 
-no_turn : (b : Bool) (line : Line) (k : ℕ) → HasEarliest line.tickets None → has_turn line k ≡ b → has_turn line k ≡ false
-no_turn true line k none is = absurd (nobody line k none is)
-no_turn false line k none is = is
-
 -- where nobody has a turn, nobody has anything to tell
-pub no_event : (a : Plan) (old gs : Places) → IsAllNoted a gs → ((k : ℕ) → slice_get gs k ≡ slice_get old k) → HasEarliest a.events.tickets None → HasNoEvent old
+pub no_event : (a : Plan) (old gs : Places) → IsAllNoted a gs → ((k : ℕ) → slice_get gs k ≡ slice_get old k) → HasNoTurn a.events → HasNoEvent old
 no_event a old gs all same none = λ k place there.
-    (all.each k place (same k ∙ there)).event (no_turn (has_turn a.events k) a.events k none refl)
+    (all.each k place (same k ∙ there)).event (none k)
 
 told_in : (now : ℕ) (old new : Places) (n : ℕ) (e : Event) (place : Option Guest) → slice_get old n ≡ Some place → Some e ≡ event_in n place
     → ((g : Guest) → place ≡ Some g → TellsIn now g.connection (slice_get new n)) → IsApart old new n → IsNextEvent now old new e
@@ -65,8 +60,8 @@ packet_less line next n has is =
     let f : count_by is_some (with_turn line n false).tickets < count_by is_some line.tickets = fewer line n has in
     subst (λ (l : Line). count_by is_some l.tickets < count_by is_some line.tickets) (sym is) (omega (arith, e, f))
 
-pub no_packet : (a : Plan) (gs : Places) → IsAllNoted a gs → HasEarliest a.packets.tickets None → HasNoPacket gs
-no_packet a gs all none = λ k g there. sym (all.each k (Some g) there).facts.packet ∙ no_turn (has_turn a.packets k) a.packets k none refl
+pub no_packet : (a : Plan) (gs : Places) → IsAllNoted a gs → HasNoTurn a.packets → HasNoPacket gs
+no_packet a gs all none = λ k g there. sym (all.each k (Some g) there).facts.packet ∙ none k
 
 -- ---- why it is closed
 

@@ -21,7 +21,7 @@ use Rattle.xns_host.specs.Ours.{named_in}
 use Rattle.xns_host.specs.Register.{number_by, peer_at}
 use Rattle.xns_host.specs.Registered.{IsRegistered}
 use Rattle.xns_host.specs.Telling.{Hears}
-use Rattle.xns_host.specs.Waiting.{HearsAt}
+use Rattle.xns_agenda.specs.Waiting.{HearsAt}
 use Rattle.xns_host.specs.declared.guest.Guest.{Guest}
 use Rattle.xns_host.specs.declared.peer.Peer.{Peer}
 use Rattle.xns_host.specs.declared.register.Register.{Register}

@@ -1,7 +1,5 @@
 mod Again
-mod Agendas
 mod Apart
-mod Beside
 mod Coming
 mod Done
 mod Dues
@@ -22,10 +20,7 @@ mod Readable
 mod Registered
 mod Rejecting
 mod Serving
-mod Silent
 mod Still
 mod Tellings
-mod Tree
-mod Turning
 mod Waits
 mod Waking

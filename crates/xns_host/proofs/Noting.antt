@@ -5,15 +5,15 @@ use Rattle.std.specs.Option.{is_some, is_none}
 use Rattle.std.proofs.lemmas.List.{get_or-replicate, get_or-set_other, get_or-set_same, length-replicate, length-set, set-get_or}
 use Rattle.std.proofs.lemmas.Option.{get_or_from_slice_get, slice_get-get_or, slice_get_read, slice_get_within}
 use Rattle.courier_messages.specs.declared.message.Message.{Message}
-use Rattle.xns_host.specs.Agenda.{Plan, HasNobody, IsFor, IsNoted, noted, released}
+use Rattle.xns_agenda.specs.Agenda.{Plan, HasNobody, IsFor, IsNoted, noted, released}
 use Rattle.xns_host.specs.Events.{event_by, event_for, event_in}
 use Rattle.xns_host.specs.Hosting.{IsAllNoted, IsNotedBut, IsNotedIn, facts_in}
 use Rattle.xns_host.specs.Registered.{name_in}
-use Rattle.xns_host.specs.Turns.{Line, empty_line, has_turn, with_last, with_turn}
+use Rattle.xns_agenda.specs.Turns.{Line, empty_line, has_turn, with_last, with_turn}
 use Rattle.xns_host.specs.Story.{has_message, waiting_message, listed_call}
 use Rattle.xns_host.specs.declared.connection.Connection.{Connection}
-use Rattle.xns_host.specs.declared.facts.Facts.{Facts}
-use Rattle.xns_host.specs.declared.facts.TheConstants.Facts.{NONE}
+use Rattle.xns_agenda.specs.declared.facts.Facts.{Facts}
+use Rattle.xns_agenda.specs.declared.facts.TheConstants.Facts.{NONE}
 use Rattle.xns_host.specs.declared.guest.Guest.{Guest}
 use Rattle.xns_host.specs.declared.side.Side.{Side}
 use Rattle.xns_host.specs.declared.side.Side.TheVariants.{Calls, Answers}
@@ -38,6 +38,12 @@ pub one_place : {X : Type 0} (a b : X) (o : Option X) → o ≡ Some a → o ≡
 one_place a b o left right = cc
 
 -- ---- turns
+
+-- who has a turn has a number
+pub within : (xs : List (Option ℕ)) (k : ℕ) → is_some (get_or xs k None) ≡ true → k < length xs
+within [] k has = absurd (cc)
+within (x ∷ xs) zero has = omega arith
+within (x ∷ xs) (suc k) has = let less = within xs k has in omega (arith, less)
 
 last_same : (line : Line) (n : ℕ) → n < length line.tickets → has_turn (with_last line n) n ≡ true
 last_same line n less = ap is_some (get_or-set_same line.tickets n (Some line.next) None less)
@@ -225,38 +231,6 @@ empty_noted a gs most nobody none = record {
       let here : HasNobody a k = nobody k less in
       subst (λ (q : Option Guest). IsNotedIn a k q) (sym (none_there most k p there)) (record { facts = here.facts; event = λ quiet. refl; free = here.free });
 }
-
--- each of so many numbers has a turn
-pub record AllFree (line : Line) (count most : ℕ) : Type 0 where
-  pub size : length line.tickets ≡ most
-  pub each : (k : ℕ) → k < count → has_turn line k ≡ true
-
-pub more_free : (line : Line) (n most : ℕ) → n < most → AllFree line n most → AllFree (with_last line n) (n + 1) most
-more_free line n most less all = record {
-  size = length-set line.tickets n (Some line.next) ∙ all.size;
-  each = λ k up. by k up (same_or_other k n);
-} where
-  by : (k : ℕ) → k < n + 1 → (k ≡ n) ⊎ (k ≢ n) → has_turn (with_last line n) k ≡ true
-  by k up (inl e) = subst (λ (m : ℕ). has_turn (with_last line n) m ≡ true) (sym e) (last_same line n (omega (arith, all.size, less)))
-  by k up (inr other) = last_other line n k other ∙ all.each k (omega (arith, up, other))
-
-pub nobody_yet : (a : Plan) (most k : ℕ) → k < most → a.dues ≡ replicate most None → a.packets ≡ empty_line most
-    → a.closed ≡ replicate most None → a.strangers ≡ replicate most None → has_turn a.free k ≡ true → HasNobody a k
-nobody_yet a most k less dues packets closed strangers free = record {
-  facts = record {
-    due = none dues;
-    packet = idle packets;
-    closed = none closed;
-    stranger = none strangers;
-  };
-  free = free;
-} where
-  none : {xs : List (Option ℕ)} → xs ≡ replicate most None → slice_get xs k ≡ Some None
-  none is = ap (λ (ys : List (Option ℕ)). slice_get ys k) is
-      ∙ slice_get-get_or (replicate most None) k None (omega (arith, length-replicate {A = Option ℕ} most None, less)) ∙ ap Some (get_or-replicate most k None None less)
-
-  idle : {line : Line} → line ≡ empty_line most → has_turn line k ≡ false
-  idle is = ap (λ (l : Line). has_turn l k) is ∙ ap is_some (get_or-replicate most k None None less)
 
 -- ---- as goals have them
 

@@ -10,7 +10,7 @@ use Rattle.xns_spp.specs.Telling.{told_answer, unacknowledged_count}
 use Rattle.xns_spp.specs.declared.input.Input.{Input}
 use Rattle.xns_host.specs.Connecting.{goes_again, is_foreign, owed_heard, wait_heard}
 use Rattle.xns_host.specs.Telling.{OwesRoom, is_progress, word_answer}
-use Rattle.xns_host.specs.Waiting.{StepsAt, Waiting, after_word}
+use Rattle.xns_agenda.specs.Waiting.{StepsAt, Waiting, after_word}
 use Rattle.xns_host.specs.declared.owed.Owed.{Owed}
 
 -- the packet that is given where one is owed

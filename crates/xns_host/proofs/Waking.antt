@@ -2,18 +2,18 @@
 use Rattle.std.proofs.Common.{◌≡◌, ◌≢◌, ◌∙◌, ap, refl, subst, sym, ℕ, ◌<◌, ◌≤◌, true, false, List, [], length, get_or, Option, Some, None, slice_get, arith}
 use Rattle.std.specs.Prelude.{position}
 use Rattle.std.proofs.lemmas.Option.{slice_get-get_or, slice_get_within}
-use Rattle.xns_host.specs.Agenda.{Plan, IsFor, IsWake, IsWanted, packet_waits, is_due, GivesWay, longest_closed, longest_silent}
-use Rattle.xns_host.specs.Agenda.{GetsNumber, free_number, given_way, HasNoNumber}
+use Rattle.xns_agenda.specs.Agenda.{Plan, IsFor, IsWake, IsWanted, packet_waits, is_due, GivesWay, longest_closed, longest_silent}
+use Rattle.xns_agenda.specs.Agenda.{GetsNumber, free_number, given_way, HasNoNumber}
 use Rattle.xns_host.specs.Hosting.{IsAllNoted, IsNotedIn, facts_in, lingers_since, stranger_since, Wants, for_stray, for_packet, for_due, IsFirstWant}
 use Rattle.xns_host.specs.Hosting.{IsFull, HasNoneSooner, IsPlace, free_place, of_closed, of_stranger, HasNoRoom}
 use Rattle.xns_host.specs.Identifiers.{is_free}
-use Rattle.xns_host.specs.Times.{IsBy, HasEarliest}
-use Rattle.xns_host.specs.Turns.{has_turn}
-use Rattle.xns_host.specs.Waiting.{due_time}
-use Rattle.xns_host.specs.declared.facts.Facts.{Facts}
+use Rattle.xns_agenda.specs.Times.{IsBy, HasEarliest}
+use Rattle.xns_agenda.specs.Turns.{HasNoTurn, has_turn}
+use Rattle.xns_agenda.specs.Waiting.{due_time}
+use Rattle.xns_agenda.specs.declared.facts.Facts.{Facts}
 use Rattle.xns_host.specs.declared.guest.Guest.{Guest}
 use Rattle.xns_host.specs.declared.outgoing.Outgoing.{Outgoing}
-use Rattle.xns_host.proofs.Agendas.{nobody, within}
+use Rattle.xns_host.proofs.Noting.{within}
 use Rattle.xns_host.proofs.Ordered.{place_within}
 
 abbrev Places : Type 0
@@ -94,8 +94,8 @@ stray_first gs strays some = record {
 
 -- ---- who gives way
 
-full : (a : Plan) (gs : Places) → IsAllNoted a gs → HasEarliest a.free.tickets None → IsFull gs
-full a gs all none = λ k there. nobody a.free k none (all.each k None there).free
+full : (a : Plan) (gs : Places) → IsAllNoted a gs → HasNoTurn a.free → IsFull gs
+full a gs all none = λ k there. let no = none k in let free = (all.each k None there).free in absurd (cc)
 
 none_sooner : (gs : Places) (times : List (Option ℕ)) (since : Guest → Option ℕ) (first : Option ℕ)
     → ((k : ℕ) (g : Guest) → slice_get gs k ≡ Some (Some g) → slice_get times k ≡ Some (since g)) → HasEarliest times first → HasNoneSooner since gs first
@@ -113,7 +113,7 @@ free_in : (a : Plan) (gs : Places) (k : ℕ) (p : Option Guest) → IsNotedIn a 
 free_in a gs k None noted there has = free_place k there
 free_in a gs k (Some g) noted there has = let no : has_turn a.free k ≡ false = noted.free in absurd (cc)
 
-way_in : {k : ℕ} (a : Plan) (gs : Places) → IsAllNoted a gs → IsFor a (length a.dues) → Sized a gs → HasEarliest a.free.tickets None
+way_in : {k : ℕ} (a : Plan) (gs : Places) → IsAllNoted a gs → IsFor a (length a.dues) → Sized a gs → HasNoTurn a.free
     → GivesWay a.closed a.strangers k → IsPlace gs k
 way_in a gs all for_most sized none (longest_closed k t e) =
     let here : HasTime gs k t (λ g. lingers_since g.connection)

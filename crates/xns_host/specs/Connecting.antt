@@ -13,12 +13,12 @@ use Rattle.xns_spp.specs.declared.dropped.Dropped.{Dropped}
 use Rattle.xns_spp.specs.declared.dropped.Dropped.TheVariants as drops
 use Rattle.xns_host.specs.Closing.{end_stream, end_reply_stream}
 use Rattle.xns_host.specs.Telling.{is_progress}
-use Rattle.xns_host.specs.Waiting.{Waiting, after_word}
-use Rattle.xns_host.specs.declared.act.Act.{Act}
-use Rattle.xns_host.specs.declared.act.Act.TheVariants.{Nothing, Again, Ask, GiveUp, Forget}
+use Rattle.xns_agenda.specs.Waiting.{Waiting, after_word}
+use Rattle.xns_agenda.specs.declared.act.Act.{Act}
+use Rattle.xns_agenda.specs.declared.act.Act.TheVariants.{Nothing, Again, Ask, GiveUp, Forget}
 use Rattle.xns_host.specs.declared.closing.Closing.{Closing}
-use Rattle.xns_host.specs.declared.due.Due.{Due}
-use Rattle.xns_host.specs.declared.due.Due.TheVariants.{Never, AgainAt, AskAt, ForgetAt}
+use Rattle.xns_agenda.specs.declared.due.Due.{Due}
+use Rattle.xns_agenda.specs.declared.due.Due.TheVariants.{Never, AgainAt, AskAt, ForgetAt}
 use Rattle.xns_host.specs.declared.owed.Owed.{Owed}
 use Rattle.xns_host.specs.declared.why.Why.{Why}
 use Rattle.xns_host.specs.declared.why.Why.TheVariants.{Asked, ByPeer, Silent, Refused}

@@ -13,7 +13,7 @@ use Rattle.xns_spp.specs.Held.{StandsFor}
 use Rattle.xns_spp.specs.Packet.{SppPacketModel}
 use Rattle.xns_spp.specs.Receiving.{StoresBytes}
 use Rattle.xns_spp.specs.State.{State, initiator_state, responder_state}
-use Rattle.xns_host.specs.Agenda.{Plan, IsNoted}
+use Rattle.xns_agenda.specs.Agenda.{Plan, IsNoted}
 use Rattle.xns_host.specs.Events.{event_in}
 use Rattle.xns_host.specs.Identifiers.{Ids, IsNext, is_free}
 use Rattle.courier_messages.specs.declared.message.Message.{Message}
@@ -23,14 +23,14 @@ use Rattle.xns_host.specs.Services.{programs_at}
 use Rattle.xns_host.specs.Settings.{IsBegun}
 use Rattle.xns_host.specs.Story.{Story, has_message, new_story, waiting_message, with_handed}
 use Rattle.xns_host.specs.Telling.{Tells, Goes, HasSaidEnd, HasSaidReply, Hears, Keeps, MovesAndGives}
-use Rattle.xns_host.specs.Times.{IsBy}
-use Rattle.xns_host.specs.Turns.{has_turn}
-use Rattle.xns_host.specs.Waiting.{HearsAt, IsDueAfter, StepsAt, after_act, due_time, lingering}
+use Rattle.xns_agenda.specs.Times.{IsBy}
+use Rattle.xns_agenda.specs.Turns.{has_turn}
+use Rattle.xns_agenda.specs.Waiting.{HearsAt, IsDueAfter, StepsAt, after_act, due_time, lingering}
 use Rattle.xns_host.specs.declared.connection.Connection.{Connection}
 use Rattle.xns_host.specs.declared.conversation.Conversation.{Conversation}
 use Rattle.xns_host.specs.declared.event.Event.{Event}
-use Rattle.xns_host.specs.declared.facts.Facts.{Facts}
-use Rattle.xns_host.specs.declared.facts.TheConstants.Facts.{NONE}
+use Rattle.xns_agenda.specs.declared.facts.Facts.{Facts}
+use Rattle.xns_agenda.specs.declared.facts.TheConstants.Facts.{NONE}
 use Rattle.xns_host.specs.declared.guest.Guest.{Guest}
 use Rattle.xns_host.specs.declared.opening_quote.OpeningQuote.{OpeningQuote}
 use Rattle.xns_host.specs.declared.outgoing.Outgoing.{Outgoing}

@@ -1,5 +1,4 @@
 pub mod Acting
-pub mod Agenda
 pub mod Agreeing
 pub mod Closing
 pub mod Connecting
@@ -19,6 +18,3 @@ pub mod Standing
 pub mod Story
 pub mod Strays
 pub mod Telling
-pub mod Times
-pub mod Turns
-pub mod Waiting

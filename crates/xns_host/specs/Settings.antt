@@ -1,10 +1,10 @@
 -- What a host is made with.
 use Rattle.std.specs.Prelude.{◌≡◌, ℕ, ◌≤◌, Bool, not, ◌&&◌, ◌==◌, nat_lt, nat_le, if◌then◌else◌, Option, Some, None, Result, Ok, Err}
 use Rattle.xns_spp.specs.Ends.{IsCapacity, most_pending}
-use Rattle.xns_host.specs.Waiting.{StepsAt, Waiting, new_waiting}
+use Rattle.xns_agenda.specs.Waiting.{StepsAt, Waiting, new_waiting}
 use Rattle.xns_host.specs.declared.host_fault.HostFault.{HostFault}
 use Rattle.xns_host.specs.declared.host_fault.HostFault.TheVariants.{OutOfRange}
-use Rattle.xns_host.specs.declared.pace.Pace.{Pace}
+use Rattle.xns_agenda.specs.declared.pace.Pace.{Pace}
 use Rattle.xns_host.specs.declared.setting.Setting.{Setting}
 use Rattle.xns_host.specs.declared.setting.Setting.TheVariants.{Connections, Window, Backlog, FirstWait, LongestWait, Tries, Strays}
 use Rattle.xns_host.specs.declared.settings.Settings.{Settings}

@@ -21,24 +21,21 @@ ghost use Rattle.xns_host.specs.Refusing.{Answers};
 ghost use Rattle.xns_host.specs.Settings.{IsBegun, IsFit};
 ghost use Rattle.xns_host.specs.Story.{Story, GoesOn, new_story, asked_of, waiting_message, with_handed, has_message};
 ghost use Rattle.xns_host.specs.Telling.{Tells, Goes, MovesAndGives, Rested, Calm, CalmFrom, HasSaidEnd, HasSaidReply, Hears, OwesRoom, ReadsAll, waits, is_over};
-ghost use Rattle.xns_host.specs.Waiting.{HearsAt, IsDueAfter, StepsAt, act_at, after_act, after_step, after_word, last_time, lingering, new_waiting};
-ghost use Rattle.xns_host.specs.declared.act.Act.TheVariants.{GiveUp};
+ghost use Rattle.xns_agenda.specs.Waiting.{HearsAt, IsDueAfter, StepsAt, act_at, after_act, after_step, after_word, last_time, lingering, new_waiting};
+ghost use Rattle.xns_agenda.specs.declared.act.Act.TheVariants.{GiveUp};
 ghost use Rattle.xns_host.specs.declared.why.Why.TheVariants.{NotServed};
 
-use crate::act::Act;
 use crate::closing::Closing;
 use crate::conversation::Conversation;
-use crate::due::Due;
 use crate::host_fault::HostFault;
 use crate::owed::Owed;
-use crate::pace::Pace;
 use crate::settings::Settings;
 use crate::side::Side;
-use crate::wait::Wait;
 use crate::why::Why;
 use courier_messages::{PiecedMessage, SessionFault};
 use courier_sessions::{Answer, FeedRefusal, Program, WordCaller, WordServer};
 use std::alloc::{AllocError, Global};
+use xns_agenda::{Act, Due, Pace, Wait};
 use xns_idp::Address;
 use xns_spp::{Bytes, Dropped, Endpoint, Input, SppPacket};
 

@@ -16,16 +16,16 @@ ghost use Rattle.courier_sessions.specs.Answering.{answer_message};
 ghost use Rattle.xns_host.specs.Living.{GoesFrom};
 ghost use Rattle.xns_host.specs.Story.{asked_of};
 ghost use Rattle.xns_host.specs.Telling.{Goes, HasSaidEnd, Hears};
-ghost use Rattle.xns_host.specs.Waiting.{HearsAt, StepsAt, lingering};
+ghost use Rattle.xns_agenda.specs.Waiting.{HearsAt, StepsAt, lingering};
 ghost use Rattle.xns_host.specs.declared.why.Why.TheVariants.{NotServed};
 
 use crate::connection::Connection;
-use crate::facts::Facts;
 use crate::host_fault::HostFault;
 use crate::opening_quote::OpeningQuote;
 use crate::peer::Peer;
 use courier_sessions::Answer;
 use std::alloc::{AllocError, Global};
+use xns_agenda::Facts;
 use xns_idp::Address;
 use xns_spp::SppPacket;
 

@@ -26,17 +26,15 @@ ghost use Rattle.courier_sessions.specs.Answering.{answer_message};
 ghost use Rattle.xns_host.specs.Reasons.{call_fault_of, answer_fault_of};
 ghost use Rattle.xns_host.specs.Refusing.{Answers};
 ghost use Rattle.xns_host.specs.Settings.{IsFit, most_connections, wrong_setting};
-ghost use Rattle.xns_host.specs.Turns.{with_turn};
+ghost use Rattle.xns_agenda.specs.Turns.{with_turn};
 ghost use Rattle.xns_host.specs.Hosting.{ActsIn, DoesDue, EachActs, EachSteps};
 ghost use Rattle.xns_host.specs.Services.{Serves, most_services, programs_at};
-ghost use Rattle.xns_host.specs.Waiting.{last_time};
+ghost use Rattle.xns_agenda.specs.Waiting.{last_time};
 ghost use Rattle.xns_host.specs.declared.guest.Guest.{Guest};
 ghost use Rattle.xns_host.specs.declared.outgoing.Outgoing.{Outgoing};
 ghost use Rattle.xns_host.specs.declared.host_fault.HostFault.TheVariants.{NoConnection, NoMemory, NoRoom, OutOfRange, TooManyServices};
 ghost use Rattle.xns_host.specs.declared.setting.Setting.{Setting};
 
-use crate::agenda::Agenda;
-use crate::clock::Clock;
 use crate::connection::Connection;
 use crate::event::Event;
 use crate::guest::Guest;
@@ -54,6 +52,7 @@ use crate::slots::{
 use crate::strays::Strays;
 use courier_sessions::{Answer, Program};
 use std::alloc::{AllocError, Global};
+use xns_agenda::{Agenda, Clock};
 use xns_idp::packet_type::{ECHO, ERROR, SEQUENCED_PACKET};
 use xns_idp::{Address, Packet, decode};
 use xns_spp::{SppPacket, carried_packet};

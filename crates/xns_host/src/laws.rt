@@ -1,6 +1,6 @@
 //! What the definitions imply, each as the contract of a function that does nothing.
 
-ghost use Rattle.std.specs.Prelude.{◌≡◌, ◌≢◌, ◌⊎◌, ◌≤◌, ◌+◌, ◌∷◌, ◌++◌, [], ℕ, Any, List, Option, Some, None, Ok, true, false};
+ghost use Rattle.std.specs.Prelude.{◌≡◌, ◌≢◌, ◌⊎◌, ◌≤◌, ◌∷◌, ◌++◌, [], ℕ, Any, List, Option, Some, None, Ok, true, false};
 ghost use Rattle.courier_sessions.specs.Answering.{Answering, is_busy, fed as call_fed};
 ghost use Rattle.courier_sessions.specs.Talk.{Talk, fed as answer_fed};
 ghost use Rattle.courier_sessions.specs.declared.program.Program.{Program};
@@ -15,25 +15,8 @@ ghost use Rattle.xns_host.specs.Identifiers.{IsOrder, Ids, Turn, Given, HadTurn,
 ghost use Rattle.xns_host.specs.Living.{Deeds, no_deeds, Lives, IsLived, ProgramsAgree};
 ghost use Rattle.xns_host.specs.Story.{Story, GoesOn, new_story};
 ghost use Rattle.xns_host.specs.Telling.{Tells};
-ghost use Rattle.xns_host.specs.Waiting.{Waiting, Silence, act_at, after_act, later, next_length};
-ghost use Rattle.xns_host.specs.declared.act.Act.TheVariants.{Again};
 ghost use Rattle.xns_host.specs.declared.conversation.Conversation.{Conversation};
-ghost use Rattle.xns_host.specs.declared.due.Due.TheVariants.{AgainAt};
 ghost use Rattle.xns_host.specs.declared.side.Side.TheVariants.{Calls, Answers};
-
-/// Between two words of the peer at most as many packets go out by the time alone as are borne, whatever else is done. Each
-/// counts as one miss.
-pub fn a_silent_peer_is_given_up()
-    ensures { (w v : Waiting) (n : ℕ) → w.misses ≤ w.pace.tries → Silence w n v → (w.misses + n ≡ v.misses)
-        × (w.misses + n ≤ w.pace.tries) }
-{}
-
-/// When something goes out again, the wait that begins is as long as the one before had said, and the next one is twice as long,
-/// up to the longest.
-pub fn each_wait_is_twice_the_last()
-    ensures due { (w : Waiting) (now : ℕ) → act_at w now ≡ Again → (after_act w now).due ≡ AgainAt (later now w.length) }
-    ensures next { (w : Waiting) (now : ℕ) → act_at w now ≡ Again → (after_act w now).length ≡ next_length w.pace w.length }
-{}
 
 /// Before an identifier is given again, each other one is given, or is in use when one is given, whatever is released in between.
 pub fn an_identifier_comes_again_behind_all_others()

@@ -2,8 +2,8 @@ ghost use Rattle.std.specs.Prelude.{◌≡◌, Ok, IfOk, OnOk};
 ghost use Rattle.xns_host.specs.Settings.{usual_settings, settings_answer, wrong_setting, is_within, IsFit, IsPaceOf};
 
 use crate::host_fault::HostFault;
-use crate::pace::Pace;
 use crate::setting::Setting;
+use xns_agenda::Pace;
 use xns_spp::MOST_PENDING;
 
 /// What a host is made with. Each has its range, which [`Settings::check`] asks. Times are in milliseconds.

@@ -19,16 +19,14 @@ ghost use Rattle.xns_host.specs.Telling.{Goes, Keeps};
 ghost use Rattle.courier_sessions.specs.Answering.{answer_message};
 ghost use Rattle.xns_host.specs.Reasons.{call_fault_of, answer_fault_of};
 ghost use Rattle.xns_host.specs.Refusing.{Answers};
-ghost use Rattle.xns_host.specs.Turns.{with_turn};
+ghost use Rattle.xns_agenda.specs.Turns.{with_turn};
 ghost use Rattle.xns_host.specs.Hosting.{HasActedIn, StepsIn};
-ghost use Rattle.xns_host.specs.Waiting.{last_time};
+ghost use Rattle.xns_agenda.specs.Waiting.{last_time};
 ghost use Rattle.xns_host.specs.declared.guest.Guest.{Guest};
 ghost use Rattle.xns_host.specs.declared.outgoing.Outgoing.{Outgoing};
 ghost use Rattle.xns_host.specs.declared.host_fault.HostFault.TheVariants.{NoConnection};
 
-use crate::agenda::Agenda;
 use crate::event::Event;
-use crate::facts::Facts;
 use crate::guest::Guest;
 use crate::host_fault::HostFault;
 use crate::opening_quote::OpeningQuote;
@@ -36,6 +34,7 @@ use crate::outgoing::Outgoing;
 use courier_messages::{Head, PiecedMessage};
 use courier_sessions::Answer;
 use std::alloc::{AllocError, Global};
+use xns_agenda::{Agenda, Facts};
 use xns_spp::SppPacket;
 
 /// Places for so many connections.

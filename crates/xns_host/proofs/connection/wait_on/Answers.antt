@@ -1,5 +1,5 @@
 use Rattle.std.proofs.Common.{◌∙◌, ap, Bool}
-use Rattle.xns_host.specs.Waiting.{after_step}
+use Rattle.xns_agenda.specs.Waiting.{after_step}
 use Rattle.xns_host.proofs.Dues.{step_again, step_open}
 use Rattle.xns_host.proofs.connection.wait_on.Goals as goal
 

@@ -2,7 +2,7 @@ use Rattle.std.proofs.Common.{◌≡◌, ap, refl, rules, subst, None, Some, tru
 use Rattle.xns_spp.specs.Held.{StandsFor}
 use Rattle.xns_host.specs.Quotes.{is_opened_by}
 use Rattle.xns_host.specs.declared.guest.Guest.{Guest}
-use Rattle.xns_host.specs.Waiting.{StepsAt, lingering, still as steps_still}
+use Rattle.xns_agenda.specs.Waiting.{StepsAt, lingering, still as steps_still}
 use Rattle.xns_host.proofs.Going.{by_guest, goes_by, not_open}
 use Rattle.xns_host.proofs.Leading.{goes_not}
 use Rattle.xns_host.proofs.Ends.{goes_fits}

@@ -1,5 +1,5 @@
 use Rattle.std.proofs.Common.{◌∙◌, refl, rules, arith}
-use Rattle.xns_host.specs.Times.{HasNoneBy}
+use Rattle.xns_agenda.specs.Times.{HasNoneBy}
 use Rattle.xns_host.proofs.Done.{at_first, done_early, done_last, one_more}
 use Rattle.xns_host.proofs.Going.{all_then, each_kept, each_stays, each_then, keeping}
 use Rattle.xns_host.proofs.host.Host.act_all.Goals as goal

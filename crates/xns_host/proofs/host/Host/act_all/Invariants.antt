@@ -1,7 +1,7 @@
 use Rattle.std.proofs.Common.{◌≡◌, ◌<◌}
 use Rattle.xns_host.specs.Hosting.{EachGoes, EachKeeps}
 use Rattle.xns_host.specs.Standing.{StaysSetUp}
-use Rattle.xns_host.specs.Waiting.{last_time}
+use Rattle.xns_agenda.specs.Waiting.{last_time}
 use Rattle.xns_host.proofs.Done.{SoFar}
 use Rattle.xns_host.proofs.host.Host.act_all.Given as goal
 

@@ -1,7 +1,7 @@
 use Rattle.std.proofs.Common.{◌≡◌, inl, inr, refl, rules, subst, ℕ, false, None}
 use Rattle.xns_idp.specs.declared.address.Address.{Address}
 use Rattle.xns_spp.specs.State.{initiator_state}
-use Rattle.xns_host.specs.Agenda.{HasNoNumber}
+use Rattle.xns_agenda.specs.Agenda.{HasNoNumber}
 use Rattle.xns_host.specs.Hosting.{IsPlace}
 use Rattle.xns_host.specs.Settings.{IsBegun}
 use Rattle.xns_host.specs.Story.{new_story}

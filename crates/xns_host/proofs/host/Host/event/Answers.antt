@@ -1,7 +1,7 @@
 use Rattle.std.proofs.Common.{◌≡◌, ◌∙◌, ◌<◌, ap, subst, sym, rules, ℕ, length, get_or, slice_get, Option, None, Some, arith}
 use Rattle.std.specs.Prelude.{slice_set}
 use Rattle.std.proofs.lemmas.List.{length-set}
-use Rattle.xns_host.specs.Agenda.{Plan}
+use Rattle.xns_agenda.specs.Agenda.{Plan}
 use Rattle.xns_host.specs.Events.{event_in}
 use Rattle.xns_host.specs.Hosting.{TellsIn}
 use Rattle.xns_host.specs.declared.guest.Guest.{Guest}

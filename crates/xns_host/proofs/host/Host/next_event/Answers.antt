@@ -1,7 +1,7 @@
 use Rattle.std.proofs.Common.{◌<◌, ◌∙◌, subst, sym, rules, length, slice_get, None, arith}
 use Rattle.xns_host.specs.Hosting.{TellsIn}
-use Rattle.xns_host.specs.Times.{HasEarliest}
-use Rattle.xns_host.specs.declared.clock.Clock.{Clock}
+use Rattle.xns_agenda.specs.Turns.{HasNoTurn}
+use Rattle.xns_agenda.specs.declared.clock.Clock.{Clock}
 use Rattle.xns_host.proofs.Fetching.{next_told, no_event}
 use Rattle.xns_host.proofs.host.Host.next_event.Goals as goal
 
@@ -15,5 +15,5 @@ returns-in-Some-event-clause-told c =
 
 pub returns-clause-none : goal.returns-clause-none
 returns-clause-none c = λ z.
-    let none : HasEarliest c.loop-number.self.agenda.events.tickets None = search rules in
+    let none : HasNoTurn c.loop-number.self.agenda.events = search rules in
     no_event c.loop-number.self.agenda c.args.self.now.guests.items c.loop-number.self.guests.items c.loop-number.self.noted c.loop-number.invariant.0 none

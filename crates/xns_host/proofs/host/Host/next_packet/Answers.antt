@@ -1,7 +1,7 @@
 use Rattle.std.proofs.Common.{◌≡◌, [], inl, inr, refl, rules, subst, None, Option, Some, Ok}
 use Rattle.std.specs.Prelude.{IfSome}
 use Rattle.xns_host.specs.Hosting.{IsNextPacket}
-use Rattle.xns_host.specs.Times.{HasEarliest}
+use Rattle.xns_agenda.specs.Turns.{HasNoTurn}
 use Rattle.xns_host.specs.declared.outgoing.Outgoing.{Outgoing}
 use Rattle.xns_host.proofs.Done.{at_time, due_first, due_then}
 use Rattle.xns_host.proofs.Fetching.{no_packet, packet_less}
@@ -55,7 +55,7 @@ returns-clause-stray c = λ o os is. let none : c.args.self.now.strays.waiting �
 
 pub returns-clause-none : goal.returns-clause-none
 returns-clause-none c = λ z.
-    let none : HasEarliest c.loop-number.self.agenda.packets.tickets None = search rules in
+    let none : HasNoTurn c.loop-number.self.agenda.packets = search rules in
     no_packet c.loop-number.self.agenda c.loop-number.self.guests.items c.loop-number.self.noted none
 
 pub returns-in_err-packet-clause-goes : goal.returns-in_err-packet-clause-goes

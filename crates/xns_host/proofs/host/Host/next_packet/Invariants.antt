@@ -3,7 +3,7 @@ use Rattle.std.specs.Prelude.{count_by}
 use Rattle.std.specs.Option.{is_some}
 use Rattle.xns_host.specs.Hosting.{DoesDue, EachGoes, EachKeeps}
 use Rattle.xns_host.specs.Standing.{StaysSetUpAt}
-use Rattle.xns_host.specs.Waiting.{last_time}
+use Rattle.xns_agenda.specs.Waiting.{last_time}
 use Rattle.xns_host.proofs.host.Host.next_packet.Given as goal
 
 abbrev pub invariant-loop-number : goal.invariant-loop-number

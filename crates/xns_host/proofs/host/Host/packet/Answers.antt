@@ -1,8 +1,8 @@
 use Rattle.std.proofs.Common.{◌≡◌, ◌∙◌, ap, refl, sym, rules, slice_get, false, Bool, None, Ok, Some}
 use Rattle.std.specs.Prelude.{slice_set}
-use Rattle.xns_host.specs.Agenda.{Plan}
+use Rattle.xns_agenda.specs.Agenda.{Plan}
 use Rattle.xns_host.specs.Hosting.{facts_in}
-use Rattle.xns_host.specs.Turns.{with_turn}
+use Rattle.xns_agenda.specs.Turns.{with_turn}
 use Rattle.xns_host.proofs.Apart.{set_there}
 use Rattle.xns_host.proofs.Done.{each_step}
 use Rattle.xns_host.proofs.Going.{all_set, each_set, given_there, keeping}

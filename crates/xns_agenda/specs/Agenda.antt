@@ -1,0 +1,93 @@
+-- What is to be done next, of all connections.
+use Rattle.std.specs.Prelude.{◌≡◌, ℕ, true, false, List, length, Option, Some, None, slice_get, slice_set}
+use Rattle.xns_agenda.specs.Times.{HasEarliest, IsEarliest}
+use Rattle.xns_agenda.specs.Turns.{HasNoTurn, Line, has_turn, with_turn}
+use Rattle.xns_agenda.specs.declared.facts.Facts.{Facts}
+use Rattle.xns_agenda.specs.declared.facts.TheConstants.Facts.{NONE}
+use Rattle.xns_agenda.specs.declared.way.Way.{Way}
+use Rattle.xns_agenda.specs.declared.way.Way.TheVariants.{Lingers, Stranger, Nobody}
+
+-- by number: when something is due; who may have a packet that is to go out, and who may have something to tell; since when who
+-- gives way lingers or is silent; and which numbers no connection has
+pub record Plan : Type 0 where
+  pub dues : List (Option ℕ)
+  pub packets : Line
+  pub events : Line
+  pub closed : List (Option ℕ)
+  pub strangers : List (Option ℕ)
+  pub free : Line
+
+-- it is for so many numbers
+pub record IsFor (a : Plan) (most : ℕ) : Type 0 where
+  pub dues : length a.dues ≡ most
+  pub packets : length a.packets.tickets ≡ most
+  pub events : length a.events.tickets ≡ most
+  pub closed : length a.closed ≡ most
+  pub strangers : length a.strangers ≡ most
+  pub free : length a.free.tickets ≡ most
+
+-- the connection with this number is such
+abbrev pub noted : Plan → ℕ → Facts → Plan
+noted a number f = record a {
+  dues = slice_set a.dues number f.due;
+  packets = with_turn a.packets number f.has_packet;
+  events = with_turn a.events number f.has_event;
+  closed = slice_set a.closed number f.lingers_since;
+  strangers = slice_set a.strangers number f.stranger_since;
+}
+
+-- no connection has this number any longer
+abbrev pub released : Plan → ℕ → Plan
+released a number = record {
+  dues = slice_set a.dues number None;
+  packets = with_turn a.packets number false;
+  events = with_turn a.events number false;
+  closed = slice_set a.closed number None;
+  strangers = slice_set a.strangers number None;
+  free = with_turn a.free number true;
+}
+
+-- what is to be done of the connection with this number is not forgotten
+pub record IsNoted (a : Plan) (number : ℕ) (f : Facts) : Type 0 where
+  pub due : slice_get a.dues number ≡ Some f.due
+  pub packet : has_turn a.packets number ≡ f.has_packet
+  pub closed : slice_get a.closed number ≡ Some f.lingers_since
+  pub stranger : slice_get a.strangers number ≡ Some f.stranger_since
+
+-- no connection has this number, and nothing is to be done
+pub record HasNobody (a : Plan) (number : ℕ) : Type 0 where
+  pub facts : IsNoted a number NONE
+  pub free : has_turn a.free number ≡ true
+
+-- something is to be done at this time: at once where a packet may be there, else when something is due
+pub data IsWanted (packets : Line) (dues : List (Option ℕ)) : ℕ → Type 0 where
+  packet_waits : (k : ℕ) → has_turn packets k ≡ true → IsWanted packets dues 0
+  is_due : (k t : ℕ) → slice_get dues k ≡ Some (Some t) → IsWanted packets dues t
+
+-- the time that is told is 0 where a packet may be there, and else no later than each due; and something is to be done then
+pub record IsWake (packets : Line) (dues : List (Option ℕ)) (time : Option ℕ) : Type 0 where
+  pub packet : (k : ℕ) → has_turn packets k ≡ true → time ≡ Some 0
+  pub due : HasEarliest dues time
+  pub wanted : (t : ℕ) → time ≡ Some t → IsWanted packets dues t
+
+-- who gives way to a new connection: who lingers longest; where nobody lingers, who is silent longest
+pub data GivesWay (closed strangers : List (Option ℕ)) : ℕ → Type 0 where
+  longest_closed : (k t : ℕ) → IsEarliest closed k t → GivesWay closed strangers k
+  longest_silent : (k t : ℕ) → HasEarliest closed None → IsEarliest strangers k t → GivesWay closed strangers k
+
+-- whose number a new connection gets: a free one; where there is none, that of who gives way
+pub data GetsNumber (free : Line) (closed strangers : List (Option ℕ)) : ℕ → Type 0 where
+  free_number : (k : ℕ) → has_turn free k ≡ true → GetsNumber free closed strangers k
+  given_way : (k : ℕ) → HasNoTurn free → GivesWay closed strangers k → GetsNumber free closed strangers k
+
+-- no number is free, and nobody gives way
+pub record HasNoNumber (free : Line) (closed strangers : List (Option ℕ)) : Type 0 where
+  pub nobody : HasNoTurn free
+  pub lingers : HasEarliest closed None
+  pub silent : HasEarliest strangers None
+
+-- who gives way
+abbrev pub number_in : Way → Option ℕ
+number_in (Lingers number since) = Some number
+number_in (Stranger number since) = Some number
+number_in Nobody = None

@@ -1,0 +1,4 @@
+pub mod Agenda
+pub mod Times
+pub mod Turns
+pub mod Waiting

@@ -1,0 +1,153 @@
+-- When a connection says something again, asks its peer for a word, and is given up. Times are in milliseconds.
+use Rattle.std.specs.Prelude.{◌≡◌, ℕ, ◌+◌, ◌-◌, ◌*◌, ◌^◌, ◌<◌, ◌≤◌, Bool, true, false, ◌==◌, nat_le, min, if◌then◌else◌, Option, Some, None}
+use Rattle.xns_agenda.specs.declared.act.Act.{Act}
+use Rattle.xns_agenda.specs.declared.act.Act.TheVariants.{Nothing, Again, Ask, GiveUp, Forget}
+use Rattle.xns_agenda.specs.declared.due.Due.{Due}
+use Rattle.xns_agenda.specs.declared.due.Due.TheVariants.{Never, AgainAt, AskAt, ForgetAt}
+use Rattle.xns_agenda.specs.declared.pace.Pace.{Pace}
+
+pub record Waiting : Type 0 where
+  pub pace : Pace
+  pub due : Due
+  -- how long the next wait is
+  pub length : ℕ
+  -- whether a wait was in vain since the peer acknowledged more
+  pub vain : Bool
+  -- how many packets went out again or asked since the last word of the peer
+  pub misses : ℕ
+  -- when that came
+  pub heard_at : ℕ
+
+-- no more misses than are borne; no wait is shorter than the first or longer than the longest
+pub record IsWaiting (pace : Pace) (length misses : ℕ) : Type 0 where
+  pub patient : misses ≤ pace.tries
+  pub first : pace.first ≤ length
+  pub longest : length ≤ pace.longest
+
+abbrev pub last_time : ℕ
+last_time = 2 ^ 64 - 1
+
+-- so long after a time; what would be after the end of time is at its end
+abbrev pub later : ℕ → ℕ → ℕ
+later now span = min (now + span) last_time
+
+-- the next wait is twice as long, up to the longest
+abbrev pub next_length : Pace → ℕ → ℕ
+next_length pace length = min (length * 2) pace.longest
+
+abbrev pub new_waiting : Pace → ℕ → Waiting
+new_waiting pace now = record { pace = pace; due = Never; length = pace.first; vain = false; misses = 0; heard_at = now }
+
+-- nothing is waited for, and the next wait is the first
+abbrev pub rested : Waiting → Waiting
+rested w = record w { due = Never; length = w.pace.first; vain = false }
+
+-- a wait begins, at whose end something is done
+abbrev pub begun : (ℕ → Due) → Waiting → ℕ → Waiting
+begun at w now = record w { due = at (later now w.length); length = next_length w.pace w.length }
+
+-- ---- after a step of an open connection
+
+abbrev pub idle_due : Pace → ℕ → Due
+idle_due pace heard_at = if pace.idle == 0 then Never else AskAt (later heard_at pace.idle)
+
+-- something waits for the peer
+abbrev pub waiting_on : Waiting → Due → ℕ → Waiting
+waiting_on w Never now = begun AgainAt (rested w) now
+waiting_on w (AgainAt t) now = w
+waiting_on w (AskAt t) now = begun AgainAt (rested w) now
+waiting_on w (ForgetAt t) now = w
+
+-- nothing waits for the peer, which is asked when it has been silent for so long
+abbrev pub idling : Waiting → Due → Waiting
+idling w Never = record (rested w) { due = idle_due w.pace w.heard_at }
+idling w (AgainAt t) = record (rested w) { due = idle_due w.pace w.heard_at }
+idling w (AskAt t) = w
+idling w (ForgetAt t) = w
+
+abbrev pub after_step : Waiting → Bool → ℕ → Waiting
+after_step w true now = waiting_on w w.due now
+after_step w false now = idling w w.due
+
+-- ---- after a word of the peer, which acknowledges more or opens the connection, or does not
+
+abbrev pub after_heard : Waiting → Due → Bool → Waiting
+after_heard w Never more = rested w
+after_heard w (AgainAt t) true = rested w
+after_heard w (AgainAt t) false = w
+after_heard w (AskAt t) more = rested w
+after_heard w (ForgetAt t) more = w
+
+abbrev pub after_word : Waiting → Bool → ℕ → Waiting
+after_word w more now = after_heard (record w { misses = 0; heard_at = now }) w.due more
+
+-- ---- when a wait is over
+
+abbrev pub due_time : Due → Option ℕ
+due_time Never = None
+due_time (AgainAt t) = Some t
+due_time (AskAt t) = Some t
+due_time (ForgetAt t) = Some t
+
+-- a packet goes out, unless as many did as are borne
+abbrev pub unless_silent : Waiting → Act → Act
+unless_silent w act = if nat_le w.pace.tries w.misses then GiveUp else act
+
+abbrev pub act_by : Waiting → Due → ℕ → Act
+act_by w Never now = Nothing
+act_by w (AgainAt t) now = if nat_le t now then unless_silent w Again else Nothing
+act_by w (AskAt t) now = if nat_le t now then unless_silent w Ask else Nothing
+act_by w (ForgetAt t) now = if nat_le t now then Forget else Nothing
+
+abbrev pub act_at : Waiting → ℕ → Act
+act_at w now = act_by w w.due now
+
+-- a closed connection is there for the longest wait
+abbrev pub lingering : Waiting → ℕ → Waiting
+lingering w now = record w { due = ForgetAt (later now w.pace.longest) }
+
+abbrev pub missed : (ℕ → Due) → Waiting → ℕ → Waiting
+missed at w now = record (begun at w now) { vain = true; misses = w.misses + 1 }
+
+abbrev pub after_by : Waiting → Act → ℕ → Waiting
+after_by w Nothing now = w
+after_by w Again now = missed AgainAt w now
+after_by w Ask now = missed AskAt w now
+after_by w GiveUp now = lingering w now
+after_by w Forget now = record w { due = Never }
+
+abbrev pub after_act : Waiting → ℕ → Waiting
+after_act w now = after_by w (act_at w now) now
+
+-- it is due after this time, or never
+abbrev pub IsDueAfter : ℕ → Due → Type 0
+IsDueAfter now due = (t : ℕ) → due_time due ≡ Some t → now < t
+
+-- ---- at one moment
+
+-- the one leads to the other by steps of this moment, or the connection was closed at it
+pub data StepsAt (now : ℕ) (w : Waiting) : Waiting → Type 0 where
+  still : StepsAt now w w
+  step : {v : Waiting} → StepsAt now w v → (waits : Bool) → StepsAt now w (after_step v waits now)
+  close : {v : Waiting} → StepsAt now w v → StepsAt now w (lingering v now)
+
+-- the same, where a word of the peer may have come first
+pub data HearsAt (now : ℕ) (w v : Waiting) : Type 0 where
+  no_word : StepsAt now w v → HearsAt now w v
+  word : (more : Bool) → StepsAt now (after_word w more now) v → HearsAt now w v
+
+-- ---- a silent peer
+
+-- a packet goes out by the time alone
+abbrev pub is_sent : Act → Bool
+is_sent Nothing = false
+is_sent Again = true
+is_sent Ask = true
+is_sent GiveUp = false
+is_sent Forget = false
+
+-- from one moment to another there is no word of the peer, and so many packets go out by the time alone
+pub data Silence (w : Waiting) : ℕ → Waiting → Type 0 where
+  here : Silence w 0 w
+  steps : {n : ℕ} {v : Waiting} → Silence w n v → (waits : Bool) (now : ℕ) → Silence w n (after_step v waits now)
+  sends : {n : ℕ} {v : Waiting} → Silence w n v → (now : ℕ) → is_sent (act_at v now) ≡ true → Silence w (n + 1) (after_act v now)

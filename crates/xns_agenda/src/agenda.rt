@@ -1,0 +1,235 @@
+//! What is to be done next, of all connections.
+
+ghost use Rattle.std.specs.Prelude.{◌≡◌, ◌<◌, ℕ, length, true, false, IfOk, IfSome, Some, None, slice_get};
+ghost use Rattle.xns_agenda.specs.Agenda.{GetsNumber, GivesWay, HasNobody, HasNoNumber, IsFor, IsWake, noted, released};
+ghost use Rattle.xns_agenda.specs.Times.{HasEarliest, HasNoneBy, IsFirstBy};
+ghost use Rattle.xns_agenda.specs.Turns.{HasNoTurn, IsFirst, has_turn, with_turn};
+
+use crate::facts::Facts;
+use crate::places::Places;
+use crate::times::Times;
+use crate::turns::Turns;
+use std::alloc::{AllocError, Global};
+use std::marker::Model;
+
+/// What is to be done next, found without a walk over all connections. Its room is made once: nothing that is to be done is lost.
+#[derive(Drop)]
+pub struct Agenda {
+    /// When something is due by the time alone.
+    dues: Times,
+    /// Who may have a packet that is to go out.
+    packets: Turns,
+    /// Who may have something to tell the program.
+    events: Turns,
+    /// Who gives way to a new connection.
+    places: Places,
+    /// The numbers that no connection has.
+    free: Turns,
+}
+
+impl Model for Agenda {
+    ghost use Rattle.std.specs.Prelude.{length};
+    ghost use Rattle.xns_agenda.specs.Agenda.{Plan, IsFor};
+
+    ghost Value = { Plan };
+
+    ghost view = { λ a. record {
+      dues = a.dues;
+      packets = a.packets;
+      events = a.events;
+      closed = a.places.closed;
+      strangers = a.places.strangers;
+      free = a.free;
+    } };
+
+    ghost invariant = { λ a. IsFor (record {
+      dues = a.dues;
+      packets = a.packets;
+      events = a.events;
+      closed = a.places.closed;
+      strangers = a.places.strangers;
+      free = a.free;
+    }) (length a.dues) };
+}
+
+/// So many numbers, each free.
+fn all_free(alloc: Global, most: usize) -> Result<Turns, AllocError>
+    ensures sized { IfOk result (λ t. length t.tickets ≡ most) }
+    ensures free { IfOk result (λ t. (k : ℕ) → k < most → has_turn t k ≡ true) }
+{
+    let mut free = Turns::new(alloc, most)?;
+    for number in 0..most {
+        free.put_last(number);
+    }
+    Ok(free)
+}
+
+/// Who gives way to a new connection.
+#[tactic(auto, using(crate::proofs::Agendas::giver_gives, crate::proofs::Agendas::no_giver))]
+fn giver(places: &Places) -> Option<usize>
+    requires { length places.now.strangers ≡ length places.now.closed }
+    ensures within { IfSome result (λ k. k < length places.now.closed) }
+    ensures some { (k : ℕ) → result ≡ Some k → GivesWay places.now.closed places.now.strangers k }
+    ensures none { result ≡ None → HasEarliest places.now.closed None × HasEarliest places.now.strangers None }
+{
+    places.way().number()
+}
+
+/// The number of a new connection.
+fn place_of(free: &Turns, places: &Places) -> Option<usize>
+    requires free { length free.now.tickets ≡ length places.now.closed }
+    requires strangers { length places.now.strangers ≡ length places.now.closed }
+    ensures within { IfSome result (λ k. k < length places.now.closed) }
+    ensures some { (k : ℕ) → result ≡ Some k → GetsNumber free.now places.now.closed places.now.strangers k }
+    ensures none { result ≡ None → HasNoNumber free.now places.now.closed places.now.strangers }
+{
+    if let Some(number) = free.first() {
+        return Some(number);
+    }
+    giver(places)
+}
+
+/// A number whose time is at or before this one.
+fn first_by(dues: &Times, now: u64) -> Option<usize>
+    ensures some { IfSome result (λ k. IsFirstBy dues.now now k) }
+    ensures within { IfSome result (λ k. k < length dues.now) }
+    ensures none { result ≡ None → HasNoneBy dues.now now }
+{
+    let (number, _) = dues.first_by(now)?;
+    Some(number)
+}
+
+/// The earliest time.
+fn first_time(dues: &Times) -> Option<u64>
+    ensures earliest { HasEarliest dues.now result }
+    ensures there { (t : ℕ) → result ≡ Some t → (k : ℕ) × (slice_get dues.now k ≡ Some (Some t)) }
+{
+    let (_, time) = dues.first()?;
+    Some(time)
+}
+
+/// When something is to be done at the latest.
+#[tactic(auto, using(crate::proofs::Agendas::nobody, crate::proofs::Agendas::packet_wanted, crate::proofs::Agendas::due_wanted))]
+fn wake(packets: &Turns, dues: &Times) -> Option<u64>
+    ensures { IsWake packets.now dues.now result }
+{
+    if packets.first().is_some() {
+        return Some(0);
+    }
+    first_time(dues)
+}
+
+impl Agenda {
+    /// No connections, with room for so many. The only error is want of memory.
+    pub fn new(alloc: Global, most: usize) -> Result<Agenda, AllocError>
+        ensures room { IfOk result (λ a. IsFor a most) }
+        ensures nobody { IfOk result (λ a. (k : ℕ) → k < most → HasNobody a k) }
+    {
+        let free = all_free(alloc, most)?;
+        Ok(Agenda {
+            dues: Times::new(alloc, most)?,
+            packets: Turns::new(alloc, most)?,
+            events: Turns::new(alloc, most)?,
+            places: Places::new(alloc, most)?,
+            free,
+        })
+    }
+
+    /// The connection with this number is such.
+    #[inline(always)]
+    pub fn note(&mut self, number: usize, facts: Facts)
+        requires { number < length self.old.dues }
+        ensures noted { self.new ≡ noted self.old number facts }
+        ensures room { IsFor self.old (length self.old.dues) }
+    {
+        self.dues.set(number, facts.due);
+        self.packets.set(number, facts.has_packet);
+        self.events.set(number, facts.has_event);
+        self.places.set_closed(number, facts.lingers_since);
+        self.places.set_stranger(number, facts.stranger_since);
+    }
+
+    /// A connection has this number.
+    pub fn take(&mut self, number: usize)
+        requires { number < length self.old.dues }
+        ensures taken { self.new ≡ record self.old { free = with_turn self.old.free number false } }
+        ensures room { IsFor self.old (length self.old.dues) }
+    {
+        self.free.set(number, false);
+    }
+
+    /// No connection has this number any longer.
+    pub fn release(&mut self, number: usize)
+        requires { number < length self.old.dues }
+        ensures released { self.new ≡ released self.old number }
+        ensures room { IsFor self.old (length self.old.dues) }
+    {
+        self.note(number, Facts::NONE);
+        self.free.set(number, true);
+    }
+
+    /// The number of a new connection: a free one; where there is none, that of a connection that gives way. `None`: none does.
+    pub fn place(&self) -> Option<usize>
+        ensures within { IfSome result (λ k. k < length self.now.dues) }
+        ensures some { (k : ℕ) → result ≡ Some k → GetsNumber self.now.free self.now.closed self.now.strangers k }
+        ensures room { IsFor self.now (length self.now.dues) }
+        ensures none { result ≡ None → HasNoNumber self.now.free self.now.closed self.now.strangers }
+    {
+        place_of(&self.free, &self.places)
+    }
+
+    /// A connection of which something is due at this time: none is due earlier. `None`: nothing is due.
+    pub fn first_due(&self, now: u64) -> Option<usize>
+        ensures some { IfSome result (λ k. IsFirstBy self.now.dues now k) }
+        ensures within { IfSome result (λ k. k < length self.now.dues) }
+        ensures none { result ≡ None → HasNoneBy self.now.dues now }
+    {
+        first_by(&self.dues, now)
+    }
+
+    /// Who may have a packet that is to go out, and has the first turn. `None`: nobody.
+    pub fn first_packet(&self) -> Option<usize>
+        ensures some { IfSome result (λ k. IsFirst self.now.packets k) }
+        ensures within { IfSome result (λ k. k < length self.now.dues) }
+        ensures none { result ≡ None → HasNoTurn self.now.packets }
+    {
+        self.packets.first()
+    }
+
+    /// The connection with this number has had its turn to give a packet.
+    #[inline(always)]
+    pub fn pass_packet(&mut self, number: usize)
+        requires { number < length self.old.dues }
+        ensures passed { self.new ≡ record self.old { packets = with_turn self.old.packets number false } }
+        ensures room { IsFor self.old (length self.old.dues) }
+    {
+        self.packets.set(number, false);
+    }
+
+    /// Who may have something to tell the program, and has the first turn. `None`: nobody.
+    pub fn first_event(&self) -> Option<usize>
+        ensures some { IfSome result (λ k. IsFirst self.now.events k) }
+        ensures within { IfSome result (λ k. k < length self.now.dues) }
+        ensures none { result ≡ None → HasNoTurn self.now.events }
+    {
+        self.events.first()
+    }
+
+    /// The connection with this number has had its turn to tell something.
+    #[inline(always)]
+    pub fn pass_event(&mut self, number: usize)
+        requires { number < length self.old.dues }
+        ensures passed { self.new ≡ record self.old { events = with_turn self.old.events number false } }
+        ensures room { IsFor self.old (length self.old.dues) }
+    {
+        self.events.set(number, false);
+    }
+
+    /// When something is to be done at the latest: at once, which is 0, where a packet may be there. `None`: never.
+    pub fn wake(&self) -> Option<u64>
+        ensures wake { IsWake self.now.packets self.now.dues result }
+        ensures room { IsFor self.now (length self.now.dues) }
+    {
+        wake(&self.packets, &self.dues)
+    }
+}

@@ -1,0 +1,30 @@
+//! What is to be done next of many connections, found without a walk over all: what is due and when, whose turn it is, and who gives way
+//! to a new one; and how long one connection waits.
+#![tactic(auto)]
+
+mod act;
+mod agenda;
+mod clock;
+mod due;
+mod facts;
+pub mod laws;
+mod pace;
+mod places;
+mod time_tree;
+mod times;
+mod turns;
+mod wait;
+mod way;
+
+pub use act::Act;
+pub use agenda::Agenda;
+pub use clock::Clock;
+pub use due::Due;
+pub use facts::Facts;
+pub use pace::Pace;
+pub use places::Places;
+pub use time_tree::TimeTree;
+pub use times::Times;
+pub use turns::Turns;
+pub use wait::Wait;
+pub use way::Way;

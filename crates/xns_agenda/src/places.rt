@@ -1,0 +1,64 @@
+//! Which connection gives way to a new one.
+
+ghost use Rattle.std.specs.Prelude.{◌≡◌, ◌<◌, ℕ, length, replicate, IfOk, Some, None, slice_set};
+ghost use Rattle.xns_agenda.specs.Times.{HasEarliest, IsEarliest};
+ghost use Rattle.xns_agenda.specs.declared.way.Way.TheVariants.{Lingers, Stranger, Nobody};
+
+use crate::times::Times;
+use crate::way::Way;
+use std::alloc::{AllocError, Global};
+
+/// By the number of each connection, what decides which one gives way to a new one. Its room is made once.
+#[derive(Drop)]
+pub struct Places {
+    /// Since when those linger that are closed.
+    closed: Times,
+    /// Since when those are silent that a peer opened and never confirmed.
+    strangers: Times,
+}
+
+impl Places {
+    /// No connections, with room for so many.
+    pub fn new(alloc: Global, most: usize) -> Result<Places, AllocError>
+        ensures closed { IfOk result (λ p. p.closed ≡ replicate most None) }
+        ensures strangers { IfOk result (λ p. p.strangers ≡ replicate most None) }
+    {
+        let closed = Times::new(alloc, most)?;
+        let strangers = Times::new(alloc, most)?;
+        Ok(Places { closed, strangers })
+    }
+
+    /// The connection with this number lingers since this time, or it does not linger.
+    #[inline(always)]
+    pub fn set_closed(&mut self, number: usize, since: Option<u64>)
+        requires { number < length self.old.closed }
+        ensures { self.new ≡ record self.old { closed = slice_set self.old.closed number since } }
+    {
+        self.closed.set(number, since);
+    }
+
+    /// The peer of the connection with this number opened it, never confirmed it, and is silent since this time; or not.
+    #[inline(always)]
+    pub fn set_stranger(&mut self, number: usize, since: Option<u64>)
+        requires { number < length self.old.strangers }
+        ensures { self.new ≡ record self.old { strangers = slice_set self.old.strangers number since } }
+    {
+        self.strangers.set(number, since);
+    }
+
+    /// Who gives way to a new connection, where there is no room: the closed one that lingers longest; else, of those that their
+    /// peer opened and never confirmed, the one longest silent; else none.
+    pub fn way(&self) -> Way
+        ensures lingers { (k t : ℕ) → result ≡ Lingers k t → IsEarliest self.now.closed k t }
+        ensures stranger { (k t : ℕ) → result ≡ Stranger k t → HasEarliest self.now.closed None × IsEarliest self.now.strangers k t }
+        ensures nobody { result ≡ Nobody → HasEarliest self.now.closed None × HasEarliest self.now.strangers None }
+    {
+        if let Some((number, since)) = self.closed.first() {
+            return Way::Lingers(number, since);
+        }
+        match self.strangers.first() {
+            Some((number, since)) => Way::Stranger(number, since),
+            None => Way::Nobody,
+        }
+    }
+}

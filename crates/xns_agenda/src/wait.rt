@@ -1,0 +1,249 @@
+//! The waits of a connection.
+
+ghost use Rattle.std.specs.Prelude.{◌≡◌, ◌<◌, ◌≤◌};
+ghost use Rattle.xns_agenda.specs.Waiting.{later, next_length, idle_due};
+ghost use Rattle.xns_agenda.specs.declared.act.Act.TheVariants.{Again, Ask};
+ghost use Rattle.xns_agenda.specs.declared.due.Due.TheVariants.{AgainAt, AskAt};
+
+use crate::act::Act;
+use crate::due::Due;
+use crate::pace::Pace;
+use std::marker::Model;
+
+/// What a connection waits for, how long, and how often in vain. Times are in milliseconds, of any clock.
+///
+/// Its owner tells it each word of the peer (`hear`), and, after each step of an open connection, whether something waits for the
+/// peer (`step`); asks it when something is due (`due`); and then what is to be done (`act`).
+#[derive(Drop)]
+pub struct Wait {
+    pace: Pace,
+    due: Due,
+    /// How long the next wait is.
+    length: u32,
+    /// Whether a wait was in vain since the peer acknowledged more.
+    vain: bool,
+    /// How many packets went out again or asked since the last word of the peer.
+    misses: u8,
+    /// When the last word of the peer came.
+    heard_at: u64,
+}
+
+impl Model for Wait {
+    ghost use Rattle.xns_agenda.specs.Waiting.{Waiting, IsWaiting};
+
+    ghost Value = { Waiting };
+
+    ghost view = { λ w. record { pace = w.pace; due = w.due; length = w.length; vain = w.vain; misses = w.misses; heard_at = w.heard_at } };
+
+    ghost invariant = { λ w. IsWaiting w.pace w.length w.misses };
+}
+
+/// The time so long after this one; at the end of time the last one.
+fn later(now: u64, span: u32) -> u64
+    ensures { result ≡ later now span }
+{
+    now.saturating_add(u64::from(span))
+}
+
+/// How long is waited after a wait of this length.
+fn next_length(length: u32, pace: &Pace) -> u32
+    requires { length ≤ pace.now.longest }
+    ensures value { result ≡ next_length pace.now length }
+    ensures least { length ≤ result }
+    ensures most { result ≤ pace.now.longest }
+{
+    if length > pace.longest / 2 {
+        pace.longest
+    } else {
+        length * 2
+    }
+}
+
+/// When a peer is asked for which nothing waits.
+fn idle_due(pace: &Pace, heard_at: u64) -> Due
+    ensures { result ≡ idle_due pace.now heard_at }
+{
+    if pace.idle == 0 {
+        Due::Never
+    } else {
+        Due::AskAt(later(heard_at, pace.idle))
+    }
+}
+
+impl Wait {
+    ghost use Rattle.xns_agenda.specs.Waiting.{new_waiting, act_at, after_act, after_step, after_word, begun, missed, rested, lingering};
+    ghost use Rattle.xns_agenda.specs.Waiting.{IsDueAfter, last_time, waiting_on, idling};
+
+    /// The waits of a connection that is made at this time.
+    pub fn new(pace: Pace, now: u64) -> Wait
+        ensures { result ≡ new_waiting pace now }
+    {
+        Wait {
+            pace,
+            due: Due::Never,
+            length: pace.first,
+            vain: false,
+            misses: 0,
+            heard_at: now,
+        }
+    }
+
+    /// What is due.
+    pub fn due(&self) -> Due
+        ensures { result ≡ self.now.due }
+    {
+        self.due
+    }
+
+    /// Whether a wait was in vain since the peer acknowledged more.
+    pub fn was_vain(&self) -> bool
+        ensures { result ≡ self.now.vain }
+    {
+        self.vain
+    }
+
+    /// When the last word of the peer came.
+    pub fn heard_at(&self) -> u64
+        ensures value { result ≡ self.now.heard_at }
+        // No more packets than are borne have gone out since.
+        ensures patient { self.now.misses ≤ self.now.pace.tries }
+    {
+        self.heard_at
+    }
+
+    /// Nothing is waited for any longer, and the next wait is the first.
+    fn rest(&mut self)
+        ensures { self.new ≡ rested self.old }
+    {
+        self.due = Due::Never;
+        self.length = self.pace.first;
+        self.vain = false;
+    }
+
+    /// Begins a wait for the peer.
+    fn begin(&mut self, now: u64)
+        ensures { self.new ≡ begun AgainAt self.old now }
+    {
+        self.due = Due::AgainAt(later(now, self.length));
+        self.length = next_length(self.length, &self.pace);
+    }
+
+    /// After a step after which something waits for the peer.
+    fn wait_on(&mut self, now: u64)
+        ensures { self.new ≡ waiting_on self.old self.old.due now }
+    {
+        match self.due {
+            Due::AgainAt(_) | Due::ForgetAt(_) => {}
+            Due::Never | Due::AskAt(_) => {
+                self.rest();
+                self.begin(now);
+            }
+        }
+    }
+
+    /// After a step after which nothing waits for the peer.
+    fn idle(&mut self)
+        ensures { self.new ≡ idling self.old self.old.due }
+    {
+        match self.due {
+            Due::AskAt(_) | Due::ForgetAt(_) => {}
+            Due::Never | Due::AgainAt(_) => {
+                self.rest();
+                self.due = idle_due(&self.pace, self.heard_at);
+            }
+        }
+    }
+
+    /// After a step of an open connection, where `waits` says whether something waits for the peer. What is due stays so.
+    pub fn step(&mut self, waits: bool, now: u64)
+        ensures { self.new ≡ after_step self.old waits now }
+    {
+        if waits {
+            self.wait_on(now);
+        } else {
+            self.idle();
+        }
+    }
+
+    /// Takes in a word of the peer, where `more` says whether it acknowledges more, or opens the connection.
+    pub fn hear(&mut self, more: bool, now: u64)
+        ensures { self.new ≡ after_word self.old more now }
+    {
+        self.heard_at = now;
+        self.misses = 0;
+        match self.due {
+            Due::ForgetAt(_) => {}
+            Due::AgainAt(_) if !more => {}
+            Due::Never | Due::AgainAt(_) | Due::AskAt(_) => self.rest(),
+        }
+    }
+
+    /// The connection is closed at this time: it is forgotten after the longest wait.
+    pub fn linger(&mut self, now: u64)
+        ensures { self.new ≡ lingering self.old now }
+    {
+        self.due = Due::ForgetAt(later(now, self.pace.longest));
+    }
+
+    /// What is to be done at this time.
+    fn next_act(&self, now: u64) -> Act
+        ensures value { result ≡ act_at self.now now }
+        ensures again { result ≡ Again → self.now.misses < self.now.pace.tries }
+        ensures ask { result ≡ Ask → self.now.misses < self.now.pace.tries }
+    {
+        let Some(time) = self.due.time() else {
+            return Act::Nothing;
+        };
+        if now < time {
+            return Act::Nothing;
+        }
+        match self.due {
+            Due::Never => Act::Nothing,
+            Due::ForgetAt(_) => Act::Forget,
+            Due::AgainAt(_) | Due::AskAt(_) if self.misses >= self.pace.tries => Act::GiveUp,
+            Due::AgainAt(_) => Act::Again,
+            Due::AskAt(_) => Act::Ask,
+        }
+    }
+
+    /// A packet goes out again, and the next wait begins.
+    fn miss_again(&mut self, now: u64)
+        requires { self.old.misses < self.old.pace.tries }
+        ensures { self.new ≡ missed AgainAt self.old now }
+    {
+        self.misses += 1;
+        self.vain = true;
+        self.due = Due::AgainAt(later(now, self.length));
+        self.length = next_length(self.length, &self.pace);
+    }
+
+    /// A packet asks the peer, and the next wait begins.
+    fn miss_ask(&mut self, now: u64)
+        requires { self.old.misses < self.old.pace.tries }
+        ensures { self.new ≡ missed AskAt self.old now }
+    {
+        self.misses += 1;
+        self.vain = true;
+        self.due = Due::AskAt(later(now, self.length));
+        self.length = next_length(self.length, &self.pace);
+    }
+
+    /// What is to be done at this time: it counts as done. Before its time nothing is.
+    #[tactic(auto, using(crate::proofs::Later::due_later))]
+    pub fn act(&mut self, now: u64) -> Act
+        ensures act { result ≡ act_at self.old now }
+        ensures after { self.new ≡ after_act self.old now }
+        // Nothing is due then, but at the end of time.
+        ensures later { now < last_time → IsDueAfter now self.new.due }
+    {
+        let act = self.next_act(now);
+        match act {
+            Act::Nothing => {}
+            Act::Again => self.miss_again(now),
+            Act::Ask => self.miss_ask(now),
+            Act::GiveUp => self.linger(now),
+            Act::Forget => self.due = Due::Never,
+        }
+        act
+    }
+}

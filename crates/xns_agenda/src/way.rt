@@ -1,0 +1,26 @@
+ghost use Rattle.std.specs.Prelude.{◌≡◌};
+
+/// Who gives way to a new connection.
+#[derive(Clone, Copy, Debug, PartialEq, Eq)]
+pub enum Way {
+    /// The connection with this number, which is closed and lingers since this time.
+    Lingers(usize, u64),
+    /// The connection with this number, which its peer opened and never confirmed, and which is silent since this time.
+    Stranger(usize, u64),
+    /// None.
+    Nobody,
+}
+
+impl Way {
+    ghost use Rattle.xns_agenda.specs.Agenda.{number_in};
+
+    /// The number of the connection that gives way. `None`: none does.
+    pub fn number(self) -> Option<usize>
+        ensures { result ≡ number_in self }
+    {
+        match self {
+            Way::Lingers(number, _) | Way::Stranger(number, _) => Some(number),
+            Way::Nobody => None,
+        }
+    }
+}
