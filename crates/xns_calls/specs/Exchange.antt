@@ -20,6 +20,10 @@ use Rattle.xns_calls.specs.Queue.{last_number}
 use Rattle.xns_calls.specs.Reading.{Told, brought, item_taken}
 use Rattle.xns_calls.specs.Texts.{flow_line}
 
+-- a flow that has not begun
+abbrev pub no_side : Side
+no_side = record { track = None; call = None }
+
 -- a flow and the one behind it, the text of the input's line, and whether something was refused
 pub record Scene : Type 0 where
   pub own : Side

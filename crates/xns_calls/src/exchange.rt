@@ -11,7 +11,6 @@ ghost use Rattle.xns_calls.specs.Numbers.{most_numbers};
 use crate::bringing::{bring, read_or_keep};
 use crate::early_items::EarlyItems;
 use crate::heading::Heading;
-use crate::kept_track::KeptTrack;
 use crate::near::near;
 use crate::scratch::Scratch;
 use crate::side::Side;
@@ -46,7 +45,7 @@ fn advance(
         own: own.call,
         asked: other.call,
     };
-    bring(scratch, page, heading, track.get_mut(), &mut calls, number)?;
+    bring(scratch, page, heading, track, &mut calls, number)?;
     own.call = calls.own;
     other.call = calls.asked;
     Ok(())
@@ -56,7 +55,7 @@ fn advance(
 fn acknowledged(side: &Side, field: u16) -> Option<u64>
     ensures value { result ≡ acknowledged_of side.now field }
 {
-    let track = side.track.as_ref()?.get();
+    let track = side.track.as_ref()?;
     let last = track.early.last_number()?;
     let number = near(track.next, field)?;
     Some(number.min(last + 1))
@@ -98,7 +97,7 @@ fn begin(
 {
     if own.track.is_none() {
         append_flow_line(&mut page.text, heading, packet, header)?;
-        own.track = Some(KeptTrack::new(alloc, begun(alloc, header.sequence))?);
+        own.track = Some(begun(alloc, header.sequence));
     }
     Ok(())
 }
@@ -121,7 +120,7 @@ fn new_number(side: &Side, field: u16) -> Option<u64>
     ensures bound { IfSome result (λ number. number < most_numbers) }
 {
     let track = side.track.as_ref()?;
-    new_number_in(track.get(), field)
+    new_number_in(track, field)
 }
 
 /// Takes the item of a packet, of a number that is no repeat, if its flow has begun.
@@ -149,14 +148,7 @@ fn take_new(
         asked: other.call,
     };
     read_or_keep(
-        scratch,
-        page,
-        heading,
-        track.get_mut(),
-        &mut calls,
-        number,
-        header,
-        content,
+        scratch, page, heading, track, &mut calls, number, header, content,
     )?;
     own.call = calls.own;
     other.call = calls.asked;
@@ -236,7 +228,7 @@ pub fn take_packet(
 fn behind_last(side: &Side) -> Option<u64>
     ensures { result ≡ behind_last_of side.now.track }
 {
-    let track = side.track.as_ref()?.get();
+    let track = side.track.as_ref()?;
     let last = track.early.last_number()?;
     Some(last + 1)
 }

@@ -14,7 +14,7 @@ mod flow_place;
 mod heading;
 mod heard;
 mod item_number;
-mod kept_track;
+mod kept_side;
 pub mod laws;
 mod near;
 mod packet_lines;

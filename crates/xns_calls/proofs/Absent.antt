@@ -1,0 +1,176 @@
+-- A flow that has not begun stays so, where no packet of its own begins it.
+use Rattle.std.proofs.Common.{◌≡◌, ◌∙◌, ap, sym, ℕ, ◌==◌, Bool, true, false, cond, List, [], ◌∷◌, Option, Some, None}
+use Rattle.std.specs.Prelude.{nat_lt, ◌-◌}
+use Rattle.courier_messages.specs.declared.message.Message.{Message}
+use Rattle.courier_messages.specs.declared.message.Message.TheVariants.{Call, Reject, Return, Abort}
+use Rattle.xns_idp.specs.Packet.{PacketModel}
+use Rattle.xns_lines.specs.declared.page.Page.{Page}
+use Rattle.xns_spp.specs.Header.{is_system}
+use Rattle.xns_spp.specs.Item.{item_with}
+use Rattle.xns_spp.specs.declared.header.Header.{Header}
+use Rattle.xns_spp.specs.declared.item.Item.{Item}
+use Rattle.xns_calls.specs.declared.early.Early.{Early}
+use Rattle.xns_calls.specs.declared.heading.Heading.{Heading}
+use Rattle.xns_calls.specs.declared.heard.Heard.{Heard}
+use Rattle.xns_calls.specs.declared.heard.Heard.TheVariants as heard
+use Rattle.xns_calls.specs.declared.side.Side.{Side}
+use Rattle.xns_calls.specs.declared.track.Track.{Track}
+use Rattle.xns_calls.specs.declared.unanswered.Calls.{Calls}
+use Rattle.xns_calls.specs.declared.waiting.Waiting.{Waiting}
+use Rattle.xns_calls.specs.Exchange.{Scene, acknowledged, advance_other, advance_own, advance_track, advanced, after_acknowledge, after_data, after_new, after_number, after_packet, begin_track, begun, behind_last, ended, new_number, no_side, of_other, scene, seen_from_other, take_in_track, told_of}
+use Rattle.xns_calls.specs.Numbers.{most_early}
+use Rattle.xns_calls.specs.Reading.{Told, after_heard, brought, brought_over, is_due, item_read, item_taken, passed, past, read_next, said_item, with_kept_item}
+use Rattle.xns_calls.specs.Speech.{heard_of}
+use Rattle.xns_calls.specs.Telling.{after_message, call_left, calls_after}
+
+-- ---- where no call of the flow behind waits, none waits later
+
+message_asked : (h : Heading) (calls : Calls) (m : Message) → calls.asked ≡ None → (after_message h calls m).asked ≡ None
+message_asked h calls (Call transaction program version procedure words) e = e
+message_asked h calls (Reject transaction reason words) e = ap (λ o. call_left o transaction) e
+message_asked h calls (Return transaction words) e = ap (λ o. call_left o transaction) e
+message_asked h calls (Abort transaction error words) e = ap (λ o. call_left o transaction) e
+
+heard_asked : (h : Heading) (calls : Calls) (x : Heard) → calls.asked ≡ None → (calls_after h calls x).asked ≡ None
+heard_asked h calls heard.Nothing e = e
+heard_asked h calls (heard.Message message) e = message_asked h calls message e
+heard_asked h calls (heard.Fault fault) e = e
+
+said_asked : (h : Heading) (item : Item) (t : Told) → t.calls.asked ≡ None → (said_item h item t).calls.asked ≡ None
+unfolding said_item after_heard
+said_asked h item t e = heard_asked h t.calls (heard_of t.track.speech item) e
+
+next_asked : (h : Heading) (next : ℕ) (item : Item) (t : Told) → t.calls.asked ≡ None → (read_next h next item t).calls.asked ≡ None
+next_asked h next item t e = over (item.stream == 0)
+  where
+    onwards : Told
+    onwards = record t { track = record t.track { next = next } }
+
+    over : (p : Bool) → (cond p (said_item h item onwards) onwards).calls.asked ≡ None
+    over true = said_asked h item onwards e
+    over false = e
+
+passed_asked : (h : Heading) (n : ℕ) (t : Told) → t.calls.asked ≡ None → (passed h n t).calls.asked ≡ None
+unfolding passed
+passed_asked h n t e = over (nat_lt t.track.next n)
+  where
+    over : (p : Bool) → (cond p (past h n t) t).calls.asked ≡ None
+    over true = e
+    over false = e
+
+item_asked : (h : Heading) (early : Early) (t : Told) → t.calls.asked ≡ None → (item_read h early t).calls.asked ≡ None
+unfolding item_read
+item_asked h early t e = next_asked h _ early.item (passed h early.number t) (passed_asked h early.number t e)
+
+over_asked : (h : Heading) (n : ℕ) (kept : List Early) (t : Told) → t.calls.asked ≡ None → (brought_over h n kept t).calls.asked ≡ None
+over_asked h n [] t e = passed_asked h n t e
+over_asked h n (early ∷ rest) t e = by_due (is_due n early t) (over_asked h n rest read (item_asked h early left e))
+  where
+    left : Told
+    left = record t { track = record t.track { early = rest } }
+
+    read : Told
+    read = item_read h early left
+
+    by_due : (p : Bool) → (brought_over h n rest read).calls.asked ≡ None → (cond p (brought_over h n rest read) (passed h n t)).calls.asked ≡ None
+    by_due true more = more
+    by_due false more = passed_asked h n t e
+
+brought_asked : (h : Heading) (n : ℕ) (t : Told) → t.calls.asked ≡ None → (brought h n t).calls.asked ≡ None
+unfolding brought
+brought_asked h n t e = over_asked h n t.track.early t e
+
+taken_asked : (h : Heading) (n : ℕ) (item : Item) (t : Told) → t.calls.asked ≡ None → (item_taken h n item t).calls.asked ≡ None
+taken_asked h n item t e =
+    brought_asked h 0 (with_kept_item n item (brought h (n - most_early) t)) (brought_asked h (n - most_early) t e)
+
+-- ---- where the flow behind has not begun
+
+left_none : (side : Side) (call : Option Waiting) → side ≡ no_side → call ≡ None → record side { call = call } ≡ no_side
+left_none side call none e = ap (λ (s : Side). record s { call = call }) none ∙ ap (λ o. record { track = None; call = o }) e
+
+advanced_none : (h : Heading) (n : ℕ) (s : Scene) → s.other ≡ no_side → (advanced h n s).other ≡ no_side
+unfolding advanced
+advanced_none h n s none = by_track s.own.track
+  where
+    by_track : (o : Option Track) → (advance_track h n o s).other ≡ no_side
+    by_track None = none
+    by_track (Some track) =
+        left_none s.other (brought h n (told_of track s)).calls.asked none (brought_asked h n (told_of track s) (ap (λ (x : Side). x.call) none))
+
+acknowledge_none : (h : Heading) (field : ℕ) (s : Scene) → s.other ≡ no_side → (after_acknowledge h field s).other ≡ no_side
+unfolding after_acknowledge
+acknowledge_none h field s none = ap (λ x. (advance_other h (acknowledged x field) s).other) none ∙ none
+
+begun_none : (h : Heading) (packet : PacketModel) (f : Header) (s : Scene) → s.other ≡ no_side → (begun h packet f s).other ≡ no_side
+unfolding begun
+begun_none h packet f s none = by_track s.own.track
+  where
+    by_track : (o : Option Track) → (begin_track h packet f o s).other ≡ no_side
+    by_track None = none
+    by_track (Some track) = none
+
+new_none : (h : Heading) (n : ℕ) (item : Item) (s : Scene) → s.other ≡ no_side → (after_new h n item s).other ≡ no_side
+unfolding after_new
+new_none h n item s none = by_track s.own.track
+  where
+    by_track : (o : Option Track) → (take_in_track h n item o s).other ≡ no_side
+    by_track None = none
+    by_track (Some track) =
+        left_none s.other (item_taken h n item (told_of track s)).calls.asked none (taken_asked h n item (told_of track s) (ap (λ (x : Side). x.call) none))
+
+number_none : (h : Heading) (o : Option ℕ) (item : Item) (s : Scene) → s.other ≡ no_side → (after_number h o item s).other ≡ no_side
+number_none h None item s none = none
+number_none h (Some n) item s none = new_none h n item s none
+
+data_none : (h : Heading) (packet : PacketModel) (f : Header) (content : List ℕ) (s : Scene) → s.other ≡ no_side → (after_data h packet f content s).other ≡ no_side
+unfolding after_data
+data_none h packet f content s none =
+    number_none h (new_number (begun h packet f s).own.track f.sequence) (item_with f content) (begun h packet f s) (begun_none h packet f s none)
+
+packet_none : (h : Heading) (packet : PacketModel) (f : Header) (content : List ℕ) (s : Scene) → s.other ≡ no_side → (after_packet h packet f content s).other ≡ no_side
+unfolding after_packet
+packet_none h packet f content s none = over (is_system f)
+  where
+    known : Scene
+    known = after_acknowledge h f.acknowledge s
+
+    stays : known.other ≡ no_side
+    stays = acknowledge_none h f.acknowledge s none
+
+    over : (p : Bool) → (cond p known (after_data h packet f content known)).other ≡ no_side
+    over true = stays
+    over false = data_none h packet f content known stays
+
+pub alone : (h : Heading) (packet : PacketModel) (f : Header) (content : List ℕ) (own other own' other' : Side) (page page' : Page) → other ≡ no_side
+    → scene own' other' page' ≡ after_packet h packet f content (scene own other page) → scene own' no_side page' ≡ after_packet h packet f content (scene own no_side page)
+alone h packet f content own other own' other' page page' is e =
+    let none : other' ≡ no_side = ap (λ (s : Scene). s.other) e ∙ packet_none h packet f content (scene own other page) is in
+    ap (λ x. scene own' x page') (sym none) ∙ e ∙ ap (λ x. after_packet h packet f content (scene own x page)) is
+
+pub ended_alone : (h : Heading) (own other own' other' : Side) (page page' : Page) → other ≡ no_side
+    → scene own' other' page' ≡ ended h (scene own other page) → scene own' no_side page' ≡ ended h (scene own no_side page)
+unfolding ended
+ended_alone h own other own' other' page page' is e =
+    let none : other' ≡ no_side = ap (λ (s : Scene). s.other) e ∙ by_last (behind_last own.track) in
+    ap (λ x. scene own' x page') (sym none) ∙ e ∙ ap (λ x. ended h (scene own x page)) is
+  where
+    by_last : (o : Option ℕ) → (advance_own h o (scene own other page)).other ≡ no_side
+    by_last None = is
+    by_last (Some n) = advanced_none h n (scene own other page) is
+
+-- ---- where a flow has not begun itself
+
+other_none : (h : Heading) (o : Option ℕ) (s : Scene) → s.own ≡ no_side → (advance_other h o s).own ≡ no_side
+other_none h None s none = none
+other_none h (Some n) s none = advanced_none (of_other h) n (seen_from_other s) none
+
+pub before : (h : Heading) (packet : PacketModel) (f : Header) (content : List ℕ) (own other own' other' : Side) (page page' : Page) → own ≡ no_side → is_system f ≡ true
+    → scene own' other' page' ≡ after_packet h packet f content (scene own other page) → scene no_side other' page' ≡ after_packet h packet f content (scene no_side other page)
+unfolding after_packet after_acknowledge
+before h packet f content own other own' other' page page' is system e =
+    let s : Scene = scene own other page in
+    let known : Scene = after_acknowledge h f.acknowledge s in
+    let stays : known.own ≡ no_side = other_none h (acknowledged other f.acknowledge) s is in
+    let none : own' ≡ no_side = ap (λ (x : Scene). x.own) (e ∙ ap (λ p. cond p known (after_data h packet f content known)) system) ∙ stays in
+    ap (λ x. scene x other' page') (sym none) ∙ e ∙ ap (λ x. after_packet h packet f content (scene x other page)) is

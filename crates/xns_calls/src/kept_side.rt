@@ -1,0 +1,238 @@
+//! The flow of a connection that begins behind the other.
+ghost use Rattle.std.specs.Prelude.{◌≡◌, IfOk, OnErr, OnOk, true};
+ghost use Rattle.std.specs.Option.{is_some};
+ghost use Rattle.xns_idp.specs.Packet.{packet_model};
+ghost use Rattle.xns_spp.specs.Header.{is_system};
+ghost use Rattle.xns_calls.specs.Capture.{begins_flow};
+ghost use Rattle.xns_calls.specs.Exchange.{after_packet, behind_last, ended, no_side, scene, wants_memory};
+
+use crate::exchange::{end_flow, take_packet};
+use crate::heading::Heading;
+use crate::scratch::Scratch;
+use crate::side::Side;
+use std::alloc::{AllocError, Global};
+use std::marker::Model;
+use xns_idp::Packet;
+use xns_lines::Page;
+use xns_spp::Header;
+use xns_spp::control::SYSTEM;
+
+/// The flow of a connection that begins behind the other, in memory that is taken when it begins. Contracts see it as a side.
+#[derive(Drop)]
+pub struct KeptSide {
+    side: Option<Box<Side>>,
+}
+
+impl Model for KeptSide {
+    ghost use Rattle.std.specs.Prelude.{option_map};
+    ghost use Rattle.std.specs.Option.{unwrap_or};
+    ghost use Rattle.xns_calls.specs.Exchange.{no_side};
+    ghost use Rattle.xns_calls.specs.declared.side.Side.{Side as SideModel};
+
+    ghost Value = { SideModel };
+
+    ghost view = { λ k. unwrap_or (option_map (λ b. b.value) k.side) no_side };
+}
+
+/// A flow that has not begun, in memory of its own. The only error is want of memory.
+fn boxed_none(alloc: Global) -> Result<Box<Side>, AllocError>
+    ensures { IfOk result (λ side. side.value ≡ no_side) }
+{
+    match Box::new(alloc, Side::none()) {
+        Ok(side) => Ok(side),
+        Err(_) => Err(AllocError),
+    }
+}
+
+/// Takes a packet of a flow where the one behind it has not begun.
+fn take_alone(
+    scratch: &mut Scratch,
+    page: &mut Page,
+    heading: Heading,
+    own: &mut Side,
+    packet: &Packet<'_>,
+    header: &Header,
+    content: &[u8],
+) -> Result<(), AllocError>
+    ensures front { page.new.text.front ≡ page.old.text.front }
+    ensures memory { OnErr result (wants_memory header.now (scene own.old no_side page.old) ≡ true) }
+    ensures scene { OnOk result (scene own.new no_side page.new
+        ≡ after_packet heading (packet_model packet.now) header.now content.now (scene own.old no_side page.old)) }
+{
+    let mut other = Side::none();
+    take_packet(
+        scratch, page, heading, own, &mut other, packet, header, content,
+    )
+}
+
+/// Takes a system packet of a flow that has not begun, which may say what has come of the one behind it.
+fn take_before(
+    scratch: &mut Scratch,
+    page: &mut Page,
+    heading: Heading,
+    other: &mut Side,
+    packet: &Packet<'_>,
+    header: &Header,
+    content: &[u8],
+) -> Result<(), AllocError>
+    requires { is_system header.now ≡ true }
+    ensures front { page.new.text.front ≡ page.old.text.front }
+    ensures memory { OnErr result (wants_memory header.now (scene no_side other.old page.old) ≡ true) }
+    ensures scene { OnOk result (scene no_side other.new page.new
+        ≡ after_packet heading (packet_model packet.now) header.now content.now (scene no_side other.old page.old)) }
+{
+    let mut own = Side::none();
+    take_packet(
+        scratch, page, heading, &mut own, other, packet, header, content,
+    )
+}
+
+/// Brings a flow behind the last item that it keeps, where the one behind it has not begun.
+fn end_alone(
+    scratch: &mut Scratch,
+    page: &mut Page,
+    heading: Heading,
+    own: &mut Side,
+) -> Result<(), AllocError>
+    ensures front { page.new.text.front ≡ page.old.text.front }
+    ensures memory { OnErr result (is_some (behind_last own.old.track) ≡ true) }
+    ensures scene { OnOk result (scene own.new no_side page.new ≡ ended heading (scene own.old no_side page.old)) }
+{
+    let mut other = Side::none();
+    end_flow(scratch, page, heading, own, &mut other)
+}
+
+impl KeptSide {
+    /// A flow that has not begun.
+    pub fn none() -> KeptSide
+        ensures { result ≡ no_side }
+    {
+        KeptSide { side: None }
+    }
+
+    /// Whether a packet of the flow begins it.
+    pub fn begins(&self, header: &Header) -> bool
+        ensures { result ≡ begins_flow header.now self.now.track }
+    {
+        match &self.side {
+            None => header.control & SYSTEM == 0,
+            Some(side) => side.as_ref().begins(header),
+        }
+    }
+
+    /// Takes a packet of this flow, beside the one that began before. Memory is refused only where [`take_packet`] may refuse it.
+    pub fn take(
+        &mut self,
+        scratch: &mut Scratch,
+        page: &mut Page,
+        heading: Heading,
+        first: &mut Side,
+        packet: &Packet<'_>,
+        header: &Header,
+        content: &[u8],
+    ) -> Result<(), AllocError>
+        ensures front { page.new.text.front ≡ page.old.text.front }
+        ensures memory { OnErr result (wants_memory header.now (scene self.old first.old page.old) ≡ true) }
+        ensures scene { OnOk result (scene self.new first.new page.new
+            ≡ after_packet heading (packet_model packet.now) header.now content.now (scene self.old first.old page.old)) }
+    {
+        match &mut self.side {
+            Some(side) => take_packet(
+                scratch,
+                page,
+                heading,
+                side.as_mut(),
+                first,
+                packet,
+                header,
+                content,
+            ),
+            None if header.control & SYSTEM != 0 => {
+                take_before(scratch, page, heading, first, packet, header, content)
+            }
+            None => {
+                let mut side = boxed_none(scratch.alloc)?;
+                take_packet(
+                    scratch,
+                    page,
+                    heading,
+                    side.as_mut(),
+                    first,
+                    packet,
+                    header,
+                    content,
+                )?;
+                self.side = Some(side);
+                Ok(())
+            }
+        }
+    }
+
+    /// Takes a packet of the flow that began before. Memory is refused only where [`take_packet`] may refuse it.
+    pub fn take_first(
+        &mut self,
+        scratch: &mut Scratch,
+        page: &mut Page,
+        heading: Heading,
+        first: &mut Side,
+        packet: &Packet<'_>,
+        header: &Header,
+        content: &[u8],
+    ) -> Result<(), AllocError>
+        ensures front { page.new.text.front ≡ page.old.text.front }
+        ensures memory { OnErr result (wants_memory header.now (scene first.old self.old page.old) ≡ true) }
+        ensures scene { OnOk result (scene first.new self.new page.new
+            ≡ after_packet heading (packet_model packet.now) header.now content.now (scene first.old self.old page.old)) }
+    {
+        match &mut self.side {
+            Some(side) => take_packet(
+                scratch,
+                page,
+                heading,
+                first,
+                side.as_mut(),
+                packet,
+                header,
+                content,
+            ),
+            None => take_alone(scratch, page, heading, first, packet, header, content),
+        }
+    }
+
+    /// Brings this flow behind the last item that it keeps. Memory is refused only where it keeps one.
+    #[tactic(auto, unfolding(crate::specs::Exchange::ended))]
+    pub fn end(
+        &mut self,
+        scratch: &mut Scratch,
+        page: &mut Page,
+        heading: Heading,
+        first: &mut Side,
+    ) -> Result<(), AllocError>
+        ensures front { page.new.text.front ≡ page.old.text.front }
+        ensures memory { OnErr result (is_some (behind_last self.old.track) ≡ true) }
+        ensures scene { OnOk result (scene self.new first.new page.new ≡ ended heading (scene self.old first.old page.old)) }
+    {
+        match &mut self.side {
+            Some(side) => end_flow(scratch, page, heading, side.as_mut(), first),
+            None => Ok(()),
+        }
+    }
+
+    /// Brings the flow that began before behind the last item that it keeps. Memory is refused only where it keeps one.
+    pub fn end_first(
+        &mut self,
+        scratch: &mut Scratch,
+        page: &mut Page,
+        heading: Heading,
+        first: &mut Side,
+    ) -> Result<(), AllocError>
+        ensures front { page.new.text.front ≡ page.old.text.front }
+        ensures memory { OnErr result (is_some (behind_last first.old.track) ≡ true) }
+        ensures scene { OnOk result (scene first.new self.new page.new ≡ ended heading (scene first.old self.old page.old)) }
+    {
+        match &mut self.side {
+            Some(side) => end_flow(scratch, page, heading, first, side.as_mut()),
+            None => end_alone(scratch, page, heading, first),
+        }
+    }
+}
