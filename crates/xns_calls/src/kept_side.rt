@@ -17,8 +17,7 @@ use xns_lines::Page;
 use xns_spp::Header;
 use xns_spp::control::SYSTEM;
 
-/// The flow of a connection that begins behind the other, in memory that is taken when it begins: in many captures none does.
-/// Contracts see it as a side.
+/// The flow of a connection that begins behind the other, in memory that is taken when it begins. Contracts see it as a side.
 #[derive(Drop)]
 pub struct KeptSide {
     side: Option<Box<Side>>,
