@@ -1,9 +1,11 @@
 -- Whatever steps led there, the connections are peers.
-use Rattle.std.proofs.Common.{◌≡◌, ◌∙◌, ap, sym, refl, subst, ℕ, zero, suc, Bool, true, false, List, [], ◌∷◌, ◌++◌, append-nil, append_assoc, map, take, length, Option, Some, None, arith}
-use Rattle.std.specs.Prelude.{slice_get, slice_set, All, if◌then◌else◌}
-use Rattle.std.specs.Option.{option_to_list}
+use Rattle.std.proofs.Common.{◌≡◌, ◌∙◌, ◌≤◌, ◌-◌, ◌||◌, ap, sym, refl, subst, ℕ, zero, suc, Bool, true, false, List, [], ◌∷◌, ◌++◌, append-nil, append_assoc, map, take, length, Option, Some, None, arith}
+use Rattle.std.specs.Prelude.{slice_get, slice_set, All, Contains, nat_lt, if◌then◌else◌}
+use Rattle.std.specs.Option.{option_map, option_to_list}
 use Rattle.std.proofs.Math.Seq.{take-append_seam}
-use Rattle.std.proofs.lemmas.List.Elements.{All-nil, All-cons, All-append, All-weaker, All-take}
+use Rattle.std.proofs.lemmas.Bool.{le-ltb}
+use Rattle.std.proofs.lemmas.List.Elements.{All-nil, All-cons, All-append, All-weaker, All-take, All-contains}
+use Rattle.std.proofs.lemmas.Option.{slice_get-map}
 use Rattle.courier_sessions.specs.declared.program.Program.{Program}
 use Rattle.xns_spp.specs.Fronts.{last_of}
 use Rattle.xns_spp.specs.Growth.{Begins}
@@ -15,7 +17,7 @@ use Rattle.item_world.specs.Invariant.{Holds, Stands}
 use Rattle.item_world.specs.Landing.{answered, landed, landing}
 use Rattle.item_world.specs.Laws.{EachStepKeepsTheOrder}
 use Rattle.item_world.specs.Side.{other}
-use Rattle.item_world.specs.World.{World, end_of, marked, has_passed, packets_of, sender_and_bytes}
+use Rattle.item_world.specs.World.{World, end_of, lifetime, marked, has_passed, packets_of, sender_and_bytes}
 use Rattle.item_world.specs.declared.emitted.Emitted.{Emitted}
 use Rattle.item_world.specs.declared.side.Side.{Side}
 use Rattle.item_world.specs.declared.side.Side.TheVariants.{A, B}
@@ -29,7 +31,9 @@ use Rattle.xns_host.specs.declared.side.Side.{Side as Kind}
 use Rattle.xns_host.specs.declared.side.Side.TheVariants.{Calls, Answers}
 use Rattle.host_world.specs.Meeting.{Meeting, at, new_meeting, led, Next, went_on, IsMade}
 use Rattle.host_world.specs.Meets.{heard, Meets, opens, acts, gives, arrives, strays, IsMet}
-use Rattle.host_world.specs.Station.{Station, IsStation, calling_end, called_end}
+use Rattle.host_world.specs.Pairing.{MayCome, made as comes}
+use Rattle.host_world.specs.Station.{IsStation, calling_end, called_end}
+use Rattle.host_world.specs.declared.station.Station.{Station}
 use Rattle.host_world.proofs.Led.{same_end, same_other, moved_bag, led_end, led_other, led_bag, led_holds, are_items, in_both, by}
 
 -- ---- the laws of the crates below
@@ -222,7 +226,7 @@ new_holds : EndLaws → (a b : Station) → IsStation a → IsStation b → Hold
 new_holds laws a b here there = record {
   ends = λ side. elim side as (λ s. Stands (end_of (record { a = calling_end a b; b = called_end b a; bag = [] }) s) (end_of (record { a = calling_end a b; b = called_end b a; bag = [] }) (other s))) [
     | A ↦ record {
-      fits = laws.bounds.initiator a.address b.address a.id a.window a.backlog here.address there.address here.id_least here.id_most here.window_least here.window_most here.backlog_least here.backlog_most;
+      fits = laws.bounds.initiator a.address b.address a.id a.settings.window a.settings.backlog here.address there.address here.id_least here.id_most here.settings.window.0 here.settings.window.1 here.settings.backlog.0 here.settings.backlog.1;
       taken = ([], refl);
       went_out = omega arith;
       early = λ k x e. absurd (cc);
@@ -230,7 +234,7 @@ new_holds laws a b here there = record {
       reached = omega arith;
     }
     | B ↦ record {
-      fits = laws.bounds.responder b.address a.address b.id a.id b.window b.backlog there.address here.address there.id_least there.id_most here.id_least here.id_most there.window_least there.window_most there.backlog_least there.backlog_most;
+      fits = laws.bounds.responder b.address a.address b.id a.id b.settings.window b.settings.backlog there.address here.address there.id_least there.id_most here.id_least here.id_most there.settings.window.0 there.settings.window.1 there.settings.backlog.0 there.settings.backlog.1;
       taken = ([], refl);
       went_out = omega arith;
       early = λ k x e. absurd (cc);
@@ -287,3 +291,26 @@ is_met laws keeps stories a b programs m here there meets =
           let p = at m side in
           subst (All (IsMade m.world side)) (take-append_seam p.given p.conversation.packets.items) (All-take (IsMade m.world side) (length p.given) (p.given ++ p.conversation.packets.items) (k.made side));
     }
+
+-- ---- a packet that was given may come
+
+made_there : (w : World) (side : Side) (bytes : List ℕ) → IsMade w side bytes → (k : ℕ) × (x : Emitted) × (slice_get w.bag k ≡ Some x) × (sender_and_bytes x ≡ (side, bytes))
+made_there w side bytes made = there (slice_get w.bag made.0) refl (sym (slice_get-map sender_and_bytes w.bag made.0) ∙ made.1) where
+  there : (o : Option Emitted) → slice_get w.bag made.0 ≡ o → option_map sender_and_bytes o ≡ Some (side, bytes) → (k : ℕ) × (x : Emitted) × (slice_get w.bag k ≡ Some x) × (sender_and_bytes x ≡ (side, bytes))
+  there None is e = absurd (cc)
+  there (Some x) is e = (made.0, x, is, cc)
+
+still_lives : (n k : ℕ) → n ≤ lifetime → nat_lt lifetime (n - k) ≡ false
+still_lives n k few = le-ltb lifetime (n - k) (omega arith)
+
+not_passed : (w : World) (x : Emitted) → ((s : Side) → length (end_of w s).taken ≤ lifetime) → has_passed w x ≡ false
+not_passed w x few = ap (λ (b : Bool). b || nat_lt lifetime (length (end_of w (other x.side)).taken - x.at.receiver)) (still_lives (length (end_of w x.side).taken) x.at.sender (few x.side)) ∙ still_lives (length (end_of w (other x.side)).taken) x.at.receiver (few (other x.side))
+
+pub given_may_come : EndLaws → EachStepKeepsTheOrder → StoryLaws → (a b : Station) (programs : List Program) (m : Meeting) (side : Side) (bytes : List ℕ) → IsStation a → IsStation b → Meets a b programs m
+    → ((s : Side) → length (at m s).story.state.taken ≤ lifetime) → Contains (at m side).given bytes → MayCome m (other side) bytes
+given_may_come laws keeps stories a b programs m side bytes here there meets few given =
+    let k : Keeps a b programs m = kept laws keeps stories a b programs here there meets in
+    let met : IsMet programs m = is_met laws keeps stories a b programs m here there meets in
+    let x = made_there m.world side bytes (All-contains (IsMade m.world side) (at m side).given bytes (met.given side) given) in
+    comes x.0 x.1 x.2 (not_passed m.world x.1 (λ s. subst (λ (e : State). length e.taken ≤ lifetime) (sym (k.ends s)) (few s)))
+    (ap (λ (y : Side × List ℕ). other y.0) x.3) (ap (λ (y : Side × List ℕ). y.1) x.3)

@@ -1,3 +1,4 @@
 pub mod Station
 pub mod Meeting
 pub mod Meets
+pub mod Pairing

@@ -10,7 +10,8 @@ use Rattle.xns_host.specs.Living.{Deeds, no_deeds}
 use Rattle.xns_host.specs.Story.{Story, Runs, start, sends, takes, flushes, resends, tells, GoesOn, new_story}
 use Rattle.xns_host.specs.Telling.{Tells}
 use Rattle.xns_host.specs.declared.conversation.Conversation.{Conversation}
-use Rattle.host_world.specs.Station.{Station, calling_end, called_end}
+use Rattle.host_world.specs.Station.{calling_end, called_end}
+use Rattle.host_world.specs.declared.station.Station.{Station}
 
 -- a connection, with its story, what its program did, and the packets that it gave
 pub record Party : Type 0 where

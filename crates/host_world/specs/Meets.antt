@@ -15,7 +15,8 @@ use Rattle.xns_host.specs.Story.{Story, made_on, new_story}
 use Rattle.xns_host.specs.Telling.{Tells}
 use Rattle.xns_host.specs.declared.conversation.Conversation.{Conversation}
 use Rattle.host_world.specs.Meeting.{Party, Meeting, at, new_meeting, Next, went_on, IsMade}
-use Rattle.host_world.specs.Station.{Station, calling_end, called_end}
+use Rattle.host_world.specs.Station.{calling_end, called_end}
+use Rattle.host_world.specs.declared.station.Station.{Station}
 
 -- the story from where it is after these bytes came
 abbrev pub heard : Party → List ℕ → Story

@@ -1,21 +1,38 @@
 //! What the definitions imply, each as the contract of a function that does nothing.
 
-ghost use Rattle.std.specs.Prelude.{List};
+ghost use Rattle.std.specs.Prelude.{◌≤◌, ℕ, List, Contains, length};
 ghost use Rattle.courier_sessions.specs.declared.program.Program.{Program};
-ghost use Rattle.host_world.specs.Meeting.{Meeting};
+ghost use Rattle.item_world.specs.Side.{other};
+ghost use Rattle.item_world.specs.World.{lifetime};
+ghost use Rattle.item_world.specs.declared.side.Side.{Side};
+ghost use Rattle.host_world.specs.Meeting.{Meeting, at};
 ghost use Rattle.host_world.specs.Meets.{Meets, IsMet};
-ghost use Rattle.host_world.specs.Station.{Station, IsStation};
+ghost use Rattle.host_world.specs.Pairing.{MayCome};
+ghost use Rattle.host_world.specs.Station.{IsStation};
+ghost use Rattle.host_world.specs.declared.station.Station.{Station};
 
 /// Two connections over a network that loses, repeats and reorders packets, where packets that come to one were made by the other, or are
 /// no packets of the connection, and none comes once either end has taken more than 30,000 further items since it was made: what each end
 /// hands up begins what the other's accepted, and the two programs agree. Each packet that a connection gives was made by its end.
 ///
-/// The steps are those that the clauses of `Connection` name. `calling` and `answering` begin: `tells`, `packets`. `receive` takes in a
-/// packet that comes: `tells`, `packets`. `next_packet` moves what can move, which is an act, and gives a packet: `gives`, or `given_none`
-/// where memory was refused. All other calls are acts: `packets`, with `called`, `answered`, `handed` or `goes`.
+/// The steps are those that the calls of a [`crate::Pair`] make of the clauses of `Connection`: `new` begins; `receive` takes in what comes;
+/// `next_packet` moves what can move, which is an act, and gives a packet or none; all other calls are acts.
 pub fn two_connections_over_a_network_agree()
     ensures { (a b : Station) (programs : List Program) (m : Meeting) → IsStation a → IsStation b → Meets a b programs m
         → IsMet programs m }
+{
+    item_world::laws::end_laws_are_given();
+    item_world::laws::each_step_keeps_the_order();
+    xns_host::laws::one_story_goes_on();
+    xns_host::laws::two_programs_agree();
+}
+
+/// As long as neither end has taken more than 30,000 items, each packet that a connection gave may come to the other, now or later, once or
+/// again.
+pub fn a_given_packet_may_come()
+    ensures { (a b : Station) (programs : List Program) (m : Meeting) (side : Side) (bytes : List ℕ) → IsStation a → IsStation b
+        → Meets a b programs m → ((s : Side) → length (at m s).story.state.taken ≤ lifetime) → Contains (at m side).given bytes
+        → MayCome m (other side) bytes }
 {
     item_world::laws::end_laws_are_given();
     item_world::laws::each_step_keeps_the_order();

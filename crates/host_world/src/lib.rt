@@ -3,3 +3,8 @@
 #![tactic(auto)]
 
 pub mod laws;
+mod pair;
+mod station;
+
+pub use pair::Pair;
+pub use station::Station;

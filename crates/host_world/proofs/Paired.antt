@@ -1,0 +1,262 @@
+-- What a call on the pair comes to.
+use Rattle.std.proofs.Common.{◌≡◌, ◌∙◌, ap, sym, refl, subst, ℕ, false, List, [], ◌∷◌, ◌++◌, append-nil, Bool, true, Option, Some, None, Result, Ok, Err, OnOk, OnErr, IfOk, IfSome}
+use Rattle.std.specs.Prelude.{if◌then◌else◌}
+use Rattle.std.specs.Option.{option_to_list}
+use Rattle.courier_messages.specs.RawCalls.{RawCall}
+use Rattle.courier_messages.specs.declared.message.Message.{Message}
+use Rattle.courier_sessions.specs.Answering.{answer_message, answer_refusal}
+use Rattle.courier_sessions.specs.declared.answer.Answer.{Answer}
+use Rattle.courier_sessions.specs.declared.program.Program.{Program}
+use Rattle.item_world.specs.Landing.{answered}
+use Rattle.item_world.specs.Side.{other}
+use Rattle.item_world.specs.World.{World}
+use Rattle.item_world.specs.declared.side.Side.{Side}
+use Rattle.item_world.specs.declared.side.Side.TheVariants.{A, B}
+use Rattle.xns_spp.specs.Packet.{SppPacketModel, spp_packet_of}
+use Rattle.xns_host.specs.Acting.{Acts, idling, calling, handing, answering}
+use Rattle.xns_host.specs.Closing.{drains}
+use Rattle.xns_host.specs.Living.{Deeds, GoesFrom}
+use Rattle.xns_host.specs.Reasons.{answer_fault_of}
+use Rattle.xns_host.specs.Refusing.{answer_fault, side_answer_fault, Answers as Refusals}
+use Rattle.xns_host.specs.Story.{Story, GoesOn, asked_of, waiting_message, with_handed}
+use Rattle.xns_host.specs.Telling.{Tells, Goes, Gives, MovesAndGives, Hears}
+use Rattle.xns_host.specs.declared.connection.Connection.{Connection}
+use Rattle.xns_host.specs.declared.conversation.Conversation.{Conversation}
+use Rattle.xns_host.specs.declared.host_fault.HostFault.{HostFault}
+use Rattle.xns_host.specs.declared.host_fault.HostFault.TheVariants.{Closing}
+use Rattle.xns_host.specs.declared.side.Side.{Side as Kind}
+use Rattle.xns_host.specs.declared.side.Side.TheVariants.{Calls, Answers}
+use Rattle.host_world.specs.Meeting.{Meeting, at, Next, went_on}
+use Rattle.host_world.specs.Meets.{heard, Meets, opens, acts, gives, arrives, strays}
+use Rattle.host_world.specs.Pairing.{connection_at, with_connection, Does, Steps, TakesIn, MayCome, made, foreign, no_more, one_call_more, one_message_more, one_answer_more}
+use Rattle.host_world.specs.declared.pair.Pair.{Pair}
+use Rattle.host_world.specs.declared.station.Station.{Station}
+
+-- ---- each connection of a meeting has its story
+
+abbrev AreTold : Meeting → Type 0
+AreTold m = (side : Side) → Tells (at m side).conversation (at m side).story
+
+went_told : (m : Meeting) (u : World) (side : Side) {base : Story} (n : Next base) (l : Deeds) (given : List (List ℕ)) → AreTold m → AreTold (went_on m u side n l given)
+went_told m u A n l given k A = n.tells
+went_told m u A n l given k B = k B
+went_told m u B n l given k A = k A
+went_told m u B n l given k B = n.tells
+
+told : {a b : Station} {programs : List Program} {m : Meeting} → Meets a b programs m → AreTold m
+told (opens c d calls answers none empty) A = calls
+told (opens c d calls answers none empty) B = answers
+told (acts {m = m} before side {l = l} act n same) s = went_told m m.world side n l (at m side).given (told before) s
+told (gives {m = m} before side packet n out) s = went_told m m.world side n (at m side).deeds ((at m side).given ++ option_to_list packet) (told before) s
+told (arrives {m = m} before k x is lives n same) s = went_told m (answered m.world k x) (other x.side) n (at m (other x.side)).deeds (at m (other x.side)).given (told before) s
+told (strays {m = m} before side bytes strange n same) s = went_told m m.world side n (at m side).deeds (at m side).given (told before) s
+
+-- ---- one step more
+
+-- steps led on, to this conversation at this side
+pub record Onward (a b : Station) (programs : List Program) (m : Meeting) (side : Side) (d : Conversation) (did : Deeds → Deeds) (gave : List (List ℕ)) : Type 0 where
+  pub next : Meeting
+  pub meets : Meets a b programs next
+  pub conversation : (at next side).conversation ≡ d
+  pub does : Does m next side did gave
+
+went_there : (m : Meeting) (u : World) (side : Side) {base : Story} (n : Next base) (l : Deeds) (given : List (List ℕ)) → (at (went_on m u side n l given) side).conversation ≡ n.conversation
+went_there m u A n l given = refl
+went_there m u B n l given = refl
+
+went_does : (m : Meeting) (u : World) (side : Side) {base : Story} (n : Next base) (did : Deeds → Deeds) (more : List (List ℕ)) → Does m (went_on m u side n (did (at m side).deeds) ((at m side).given ++ more)) side did more
+went_does m u A n did more = record { deeds = refl; given = refl; other = refl }
+went_does m u B n did more = record { deeds = refl; given = refl; other = refl }
+
+went_idly : (m : Meeting) (u : World) (side : Side) {base : Story} (n : Next base) (did : Deeds → Deeds) → Does m (went_on m u side n (did (at m side).deeds) (at m side).given) side did []
+went_idly m u side n did = subst (λ (given : List (List ℕ)). Does m (went_on m u side n (did (at m side).deeds) given) side did []) (append-nil (at m side).given) (went_does m u side n did [])
+
+acts_on : {a b : Station} {programs : List Program} (m : Meeting) → Meets a b programs m → (side : Side) (base : Story) (did : Deeds → Deeds) (d : Conversation) → Acts (at m side).conversation (at m side).story (at m side).deeds base (did (at m side).deeds)
+    → d.packets ≡ (at m side).conversation.packets → (n : Story) → Tells d n → GoesOn base n → Onward a b programs m side d did []
+acts_on m meets side base did d act same n tells on =
+    let next : Next base = record { conversation = d; story = n; tells = tells; on = on } in
+    record {
+      next = went_on m m.world side next (did (at m side).deeds) (at m side).given;
+      meets = acts meets side act next same;
+      conversation = went_there m m.world side next (did (at m side).deeds) (at m side).given;
+      does = went_idly m m.world side next did;
+    }
+
+gives_on : {a b : Station} {programs : List Program} (m : Meeting) → Meets a b programs m → (side : Side) (packet : Option (List ℕ)) (d : Conversation) → Gives (at m side).conversation d packet → Onward a b programs m side d no_more (option_to_list packet)
+gives_on m meets side packet d gave =
+    let on = gave.on (at m side).story (told meets side) in
+    let next : Next (at m side).story = record { conversation = d; story = on.0; tells = on.1; on = on.2 } in
+    record {
+      next = went_on m m.world side next (at m side).deeds ((at m side).given ++ option_to_list packet);
+      meets = gives meets side packet next on.3;
+      conversation = went_there m m.world side next (at m side).deeds ((at m side).given ++ option_to_list packet);
+      does = went_does m m.world side next no_more (option_to_list packet);
+    }
+
+hears_on : {a b : Station} {programs : List Program} (m : Meeting) → Meets a b programs m → (side : Side) (bytes : List ℕ) (d : Conversation) → Hears (at m side).conversation d bytes → d.packets ≡ (at m side).conversation.packets → MayCome m side bytes
+    → Onward a b programs m side d no_more []
+hears_on m meets side bytes d hears same (foreign strange) =
+    let on = hears.on (at m side).story (told meets side) in
+    let next : Next (heard (at m side) bytes) = record { conversation = d; story = on.0; tells = on.1; on = on.2 } in
+    record {
+      next = went_on m m.world side next (at m side).deeds (at m side).given;
+      meets = strays meets side bytes strange next same;
+      conversation = went_there m m.world side next (at m side).deeds (at m side).given;
+      does = went_idly m m.world side next no_more;
+    }
+hears_on {a} {b} {programs} m meets side bytes d hears same (made k x is lives here alike) = subst (λ (s : Side). Hears (at m s).conversation d bytes → d.packets ≡ (at m s).conversation.packets → Onward a b programs m s d no_more []) here there hears same where
+  there : Hears (at m (other x.side)).conversation d bytes → d.packets ≡ (at m (other x.side)).conversation.packets → Onward a b programs m (other x.side) d no_more []
+  there hears same =
+      let on = subst (λ (bs : List ℕ). Hears (at m (other x.side)).conversation d bs) (sym alike) hears in
+      let goes = on.on (at m (other x.side)).story (told meets (other x.side)) in
+      let next : Next (heard (at m (other x.side)) x.bytes) = record { conversation = d; story = goes.0; tells = goes.1; on = goes.2 } in
+      record {
+        next = went_on m (answered m.world k x) (other x.side) next (at m (other x.side)).deeds (at m (other x.side)).given;
+        meets = arrives meets k x is lives next same;
+        conversation = went_there m (answered m.world k x) (other x.side) next (at m (other x.side)).deeds (at m (other x.side)).given;
+        does = went_idly m (answered m.world k x) (other x.side) next no_more;
+      }
+
+-- one step after the other
+then_on : {a b : Station} {programs : List Program} {m : Meeting} {side : Side} {c d : Conversation} {given : List (List ℕ)} → (one : Onward a b programs m side c no_more []) → Onward a b programs one.next side d no_more given → Onward a b programs m side d no_more given
+then_on {m = m} {side = side} {given = given} one two = record {
+  next = two.next;
+  meets = two.meets;
+  conversation = two.conversation;
+  does = record {
+    deeds = two.does.deeds ∙ one.does.deeds;
+    given = two.does.given ∙ ap (λ (l : List (List ℕ)). l ++ given) (one.does.given ∙ append-nil (at m side).given);
+    other = two.does.other ∙ one.does.other;
+  };
+}
+
+-- ---- the pair
+
+same_after : (p : Pair) (d : Connection) (side : Side) (m n : Meeting) → ((s : Side) → (at m s).conversation ≡ (connection_at p s).conversation) → (at n side).conversation ≡ d.conversation → at n (other side) ≡ at m (other side)
+    → (s : Side) → (at n s).conversation ≡ (connection_at (with_connection p side d) s).conversation
+same_after p d A m n before here there A = here
+same_after p d A m n before here there B = ap (λ (q : _). q.conversation) there ∙ before B
+same_after p d B m n before here there A = ap (λ (q : _). q.conversation) there ∙ before A
+same_after p d B m n before here there B = here
+
+beside : (p : Pair) (side : Side) (d : Connection) → connection_at (with_connection p side d) (other side) ≡ connection_at p (other side)
+beside p A d = refl
+beside p B d = refl
+
+-- where a connection goes on from each meeting, the pair steps
+steps : (p : Pair) (c d : Connection) (side : Side) (did : Deeds → Deeds) (given : List (List ℕ)) → c ≡ connection_at p side
+    → ((a b : Station) (programs : List Program) (m : Meeting) → Meets a b programs m → (at m side).conversation ≡ c.conversation → Onward a b programs m side d.conversation did given)
+    → Steps p (with_connection p side d) side did given
+steps p c d side did given is onward = record {
+  on = λ a b programs m stands.
+      let on = onward a b programs m stands.meets (stands.same side ∙ ap (λ (k : Connection). k.conversation) (sym is)) in
+      (on.next, record { calls = stands.calls; called = stands.called; meets = on.meets; same = same_after p d side m on.next stands.same on.conversation on.does.other }, on.does);
+  beside = beside p side d;
+}
+
+pub pair_acts : (p : Pair) (c d : Connection) (side : Side) (did : Deeds → Deeds) (base : Story → Story) → c ≡ connection_at p side → d.conversation.packets ≡ c.conversation.packets
+    → ((h : Story) (l : Deeds) → Acts c.conversation h l (base h) (did l)) → GoesFrom c.conversation d.conversation base → Steps p (with_connection p side d) side did []
+pair_acts p c d side did base is same act on = steps p c d side did [] is
+    (λ a b programs m meets here.
+    let goes = subst (λ (k : Conversation). GoesFrom k d.conversation base) (sym here) on (at m side).story (told meets side) in
+    acts_on m meets side (base (at m side).story) did d.conversation
+    (subst (λ (k : Conversation). Acts k (at m side).story (at m side).deeds (base (at m side).story) (did (at m side).deeds)) (sym here) (act (at m side).story (at m side).deeds))
+    (subst (λ (k : Conversation). d.conversation.packets ≡ k.packets) (sym here) same)
+    goes.0 goes.1 goes.2)
+
+pub pair_goes : (p : Pair) (c d : Connection) (side : Side) → c ≡ connection_at p side → d.conversation.packets ≡ c.conversation.packets → Goes c.conversation d.conversation → Steps p (with_connection p side d) side no_more []
+pair_goes p c d side is same goes = pair_acts p c d side no_more (λ h. h) is same (λ h l. idling) goes.on
+
+pub pair_gives : (p : Pair) (c d : Connection) (side : Side) (packet : Option (List ℕ)) → c ≡ connection_at p side → MovesAndGives c.conversation d.conversation packet → Steps p (with_connection p side d) side no_more (option_to_list packet)
+pair_gives p c d side packet is moves = steps p c d side no_more (option_to_list packet) is
+    (λ a b programs m meets here.
+    let goes = subst (λ (k : Conversation). Goes k moves.0) (sym here) moves.1 in
+    let on = goes.on (at m side).story (told meets side) in
+    let one = acts_on m meets side (at m side).story no_more moves.0 idling (subst (λ (k : Conversation). moves.0.packets ≡ k.packets) (sym here) moves.2) on.0 on.1 on.2 in
+    then_on one (gives_on one.next one.meets side packet d.conversation (subst (λ (k : Conversation). Gives k d.conversation packet) (sym one.conversation) moves.3)))
+
+pub pair_hears : (p : Pair) (c d : Connection) (side : Side) (bytes : List ℕ) → c ≡ connection_at p side → d.conversation.packets ≡ c.conversation.packets → Hears c.conversation d.conversation bytes → TakesIn p (with_connection p side d) side bytes
+pair_hears p c d side bytes is same hears = record {
+  on = λ a b programs m stands comes.
+      let here = stands.same side ∙ ap (λ (k : Connection). k.conversation) (sym is) in
+      let on = hears_on m stands.meets side bytes d.conversation (subst (λ (k : Conversation). Hears k d.conversation bytes) (sym here) hears) (subst (λ (k : Conversation). d.conversation.packets ≡ k.packets) (sym here) same) comes in
+      (on.next, record { calls = stands.calls; called = stands.called; meets = on.meets; same = same_after p d side m on.next stands.same on.conversation on.does.other }, on.does);
+  beside = beside p side d;
+}
+
+-- where nothing is done, a meeting is as it was
+stays_so : (m : Meeting) (side : Side) → Does m m side no_more []
+stays_so m side = record { deeds = refl; given = sym (append-nil (at m side).given); other = refl }
+
+-- ---- what each call's clauses make of that
+
+-- what is there is what was put there
+pub put : (p : Pair) (side : Side) (d : Connection) → connection_at (with_connection p side d) side ≡ d
+put p A d = refl
+put p B d = refl
+
+put_back : (p : Pair) (side : Side) (d : Connection) → d ≡ connection_at p side → with_connection p side d ≡ p
+put_back p A d e = ap (λ (k : Connection). record p { a = k }) e
+put_back p B d e = ap (λ (k : Connection). record p { b = k }) e
+
+pub pair_unchanged : {X E : Type 0} (p : Pair) (c d : Connection) (side : Side) (r : Result X E) → c ≡ connection_at p side → OnErr r (d ≡ c) → OnErr r (with_connection p side d ≡ p)
+pair_unchanged p c d side (Ok x) is same = tt
+pair_unchanged p c d side (Err e) is same = put_back p side d (same ∙ is)
+
+pub pair_calls : (p : Pair) (c d : Connection) (side : Side) (call : RawCall) (r : Result (Unit {0}) HostFault) → c ≡ connection_at p side → d.conversation.packets ≡ c.conversation.packets
+    → ((h : Story) → Tells c.conversation h → r ≡ Ok tt → (m : Story) × Tells d.conversation m × GoesOn (record h { made = h.made ++ call ∷ [] }) m)
+    → OnOk r (Steps p (with_connection p side d) side (one_call_more call) [])
+pair_calls p c d side call (Ok u) is same on = pair_acts p c d side (one_call_more call) (λ h. record h { made = h.made ++ call ∷ [] }) is same (λ h l. calling call) (λ h tells. on h tells refl)
+pair_calls p c d side call (Err e) is same on = tt
+
+asked_in : (o : Option ℕ) (kind : Answer) (words : List ℕ) → answer_fault (answer_refusal o kind words) ≡ None → (k : ℕ) × (o ≡ Some k)
+asked_in None kind words e = absurd (cc)
+asked_in (Some k) kind words e = (k, refl)
+
+side_asked : (s : Kind) (kind : Answer) (words : List ℕ) → side_answer_fault s kind words ≡ None → (k : ℕ) × (asked_of s ≡ Some k)
+side_asked (Calls t) kind words e = absurd (cc)
+side_asked (Answers a) kind words e = asked_in a.asked kind words e
+
+asked : (c : Conversation) (kind : Answer) (words : List ℕ) → answer_fault_of c kind words ≡ None → (k : ℕ) × (asked_of c.side ≡ Some k)
+asked c kind words e = by (drains c.side c.closing) e where
+  by : (b : Bool) → (if b then Some Closing else side_answer_fault c.side kind words) ≡ None → (k : ℕ) × (asked_of c.side ≡ Some k)
+  by true e = absurd (cc)
+  by false e = side_asked c.side kind words e
+
+pub pair_answers : (p : Pair) (c d : Connection) (side : Side) (kind : Answer) (words : List ℕ) (r : Result (Unit {0}) HostFault) → c ≡ connection_at p side → d.conversation.packets ≡ c.conversation.packets → Refusals (answer_fault_of c.conversation kind words) r
+    → ((h : Story) (k : ℕ) → Tells c.conversation h → asked_of c.conversation.side ≡ Some k → r ≡ Ok tt → (m : Story) × Tells d.conversation m × GoesOn (record h { answers = h.answers ++ answer_message kind k words ∷ [] }) m)
+    → OnOk r ((k : ℕ) × (asked_of (connection_at p side).conversation.side ≡ Some k) × Steps p (with_connection p side d) side (one_answer_more (answer_message kind k words)) [])
+pair_answers p c d side kind words (Ok u) is same none on =
+    let some = asked c.conversation kind words none in (
+      some.0,
+      subst (λ (k : Connection). asked_of k.conversation.side ≡ Some some.0) is some.1,
+      pair_acts p c d side (one_answer_more (answer_message kind some.0 words)) (λ h. record h { answers = h.answers ++ answer_message kind some.0 words ∷ [] }) is same (λ h l. answering kind some.0 words some.1) (λ h tells. on h some.0 tells some.1 refl),
+    )
+pair_answers p c d side kind words (Err e) is same none on = tt
+
+pub pair_hands : (p : Pair) (c d : Connection) (side : Side) (r : Option Message) → c ≡ connection_at p side → d.conversation.packets ≡ c.conversation.packets → r ≡ waiting_message c.conversation.side
+    → ((h : Story) (m : Message) → Tells c.conversation h → r ≡ Some m → (n : Story) × Tells d.conversation n × GoesOn (with_handed c.conversation.side h m) n)
+    → IfSome r (λ m. Steps p (with_connection p side d) side (one_message_more m) [])
+pair_hands p c d side None is same waits on = tt
+pair_hands p c d side (Some m) is same waits on = pair_acts p c d side (one_message_more m) (λ h. with_handed c.conversation.side h m) is same (λ h l. handing m (sym waits)) (λ h tells. on h m tells refl)
+
+pub pair_gives_ok : {E : Type 0} (p : Pair) (c d : Connection) (side : Side) (r : Result (Option (List ℕ)) E) → c ≡ connection_at p side → IfOk r (λ o. MovesAndGives c.conversation d.conversation o) → IfOk r (λ o. Steps p (with_connection p side d) side no_more (option_to_list o))
+pair_gives_ok p c d side (Ok o) is gave = pair_gives p c d side o is gave
+pair_gives_ok p c d side (Err e) is gave = tt
+
+pub pair_gives_none : {X E : Type 0} (p : Pair) (c d : Connection) (side : Side) (r : Result X E) → c ≡ connection_at p side → OnErr r (MovesAndGives c.conversation d.conversation None) → OnErr r (Steps p (with_connection p side d) side no_more [])
+pair_gives_none p c d side (Ok x) is gave = tt
+pair_gives_none p c d side (Err e) is gave = pair_gives p c d side None is gave
+
+pub pair_takes_in : {E : Type 0} (p : Pair) (c d : Connection) (side : Side) (bytes : List ℕ) (packet : SppPacketModel) (r : Result (Unit {0}) E) → c ≡ connection_at p side → d.conversation.packets ≡ c.conversation.packets → spp_packet_of bytes ≡ Ok packet
+    → OnOk r ((b : List ℕ) → spp_packet_of b ≡ Ok packet → Hears c.conversation d.conversation b) → OnOk r (TakesIn p (with_connection p side d) side bytes)
+pair_takes_in p c d side bytes packet (Ok u) is same reads hears = pair_hears p c d side bytes is same (hears bytes reads)
+pair_takes_in p c d side bytes packet (Err e) is same reads hears = tt
+
+pub pair_rests : (p : Pair) (c d : Connection) (side : Side) → c ≡ connection_at p side → d.conversation ≡ c.conversation → Steps p (with_connection p side d) side no_more []
+pair_rests p c d side is same = record {
+  on = λ a b programs m stands.
+      let here : (at m side).conversation ≡ d.conversation = stands.same side ∙ ap (λ (k : Connection). k.conversation) (sym is) ∙ sym same in
+      (m, record { calls = stands.calls; called = stands.called; meets = stands.meets; same = same_after p d side m m stands.same here refl }, stays_so m side);
+  beside = beside p side d;
+}

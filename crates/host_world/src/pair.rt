@@ -1,0 +1,221 @@
+//! Two connections, and what is done at either of them.
+
+ghost use Rattle.std.specs.Prelude.{◌≡◌, ◌≢◌, ◌<◌, ◌||◌, ℕ, List, [], IfOk, IfSome, OnOk, OnErr, Ok, Some, None, true, false, if◌then◌else◌};
+ghost use Rattle.std.specs.Borrow.{sem};
+ghost use Rattle.std.specs.Option.{is_some, option_to_list};
+ghost use Rattle.courier_messages.specs.RawCalls.{words_call};
+ghost use Rattle.courier_sessions.specs.Answering.{answer_message};
+ghost use Rattle.courier_sessions.specs.declared.program.Program.{Program};
+ghost use Rattle.item_world.specs.Side.{other};
+ghost use Rattle.xns_spp.specs.Held.{StandsFor};
+ghost use Rattle.xns_spp.specs.Packet.{SppPacketModel, spp_packet_of};
+ghost use Rattle.xns_spp.specs.Receiving.{StoresBytes};
+ghost use Rattle.xns_spp.specs.State.{State};
+ghost use Rattle.xns_host.specs.Reasons.{call_fault_of, answer_fault_of};
+ghost use Rattle.xns_host.specs.Refusing.{Answers};
+ghost use Rattle.xns_host.specs.Settings.{IsFit};
+ghost use Rattle.xns_host.specs.Story.{asked_of, waiting_message};
+ghost use Rattle.xns_host.specs.Telling.{Hears, Rested};
+ghost use Rattle.xns_agenda.specs.Waiting.{act_at, after_act};
+ghost use Rattle.host_world.specs.Meeting.{Meeting, new_meeting};
+ghost use Rattle.host_world.specs.declared.station.Station.{Station};
+ghost use Rattle.host_world.specs.Meets.{IsMet};
+ghost use Rattle.host_world.specs.Pairing.{connection_at, LendsConnection, PairStandsFor, Steps, TakesIn};
+ghost use Rattle.host_world.specs.Pairing.{no_more, one_call_more, one_message_more, one_answer_more};
+
+use crate::laws::two_connections_over_a_network_agree;
+use crate::station::Station;
+use courier_messages::PiecedMessage;
+use courier_sessions::{Answer, Program};
+use item_world::Side;
+use std::alloc::{AllocError, Global};
+use xns_host::{Act, Connection, Due, HostFault, Why};
+use xns_spp::{Bytes, read_packet};
+
+/// Two connections: the one at `A` calls, and the one at `B` is called.
+#[derive(Drop)]
+pub struct Pair {
+    a: Connection,
+    b: Connection,
+}
+
+impl Pair {
+    /// Both connections, new. These programs can be called.
+    pub fn new(
+        alloc: Global,
+        calls: &Station,
+        called: &Station,
+        programs: Vec<Program>,
+        now: u64,
+    ) -> Result<Pair, AllocError>
+        requires calls_id { 0 < calls.now.id }
+        requires calls_settings { IsFit calls.now.settings }
+        requires called_id { 0 < called.now.id }
+        requires called_settings { IsFit called.now.settings }
+        ensures { IfOk result (λ p. PairStandsFor p calls.now called.now programs.items
+            (new_meeting calls.now called.now programs.items p.a.conversation p.b.conversation)) }
+    {
+        calls.known();
+        called.known();
+        let a = Connection::calling(
+            alloc,
+            &calls.settings,
+            calls.address,
+            calls.id,
+            called.address,
+            now,
+        )?;
+        let b = Connection::answering(
+            alloc,
+            &called.settings,
+            called.address,
+            called.id,
+            calls.address,
+            calls.id,
+            programs,
+            now,
+        )?;
+        Ok(Pair { a, b })
+    }
+
+    /// The connection at this side.
+    fn at(&mut self, side: Side) -> &mut Connection
+        ensures* lends { sem 𝓛 (LendsConnection self.entry side result) }
+        ensures value { result.now ≡ connection_at self.old side }
+    {
+        match side {
+            Side::A => &mut self.a,
+            Side::B => &mut self.b,
+        }
+    }
+
+    /// Puts out a call at this side. It is refused, and nothing is changed, as by [`Connection::call`].
+    pub fn call(
+        &mut self,
+        alloc: Global,
+        now: u64,
+        side: Side,
+        program: u32,
+        version: u16,
+        procedure: u16,
+        words: &[u16],
+    ) -> Result<(), HostFault>
+        ensures answer { Answers (call_fault_of (connection_at self.old side).conversation
+            (words_call program version procedure words.now)) result }
+        ensures steps { OnOk result (Steps self.old self.new side
+            (one_call_more (words_call program version procedure words.now)) []) }
+        ensures unchanged { OnErr result (self.new ≡ self.old) }
+    {
+        self.at(side)
+            .call(alloc, now, program, version, procedure, words)
+    }
+
+    /// Answers the call that was handed at this side. It is refused, and nothing is changed, as by [`Connection::answer`].
+    pub fn answer(
+        &mut self,
+        alloc: Global,
+        now: u64,
+        side: Side,
+        kind: Answer,
+        words: &[u16],
+    ) -> Result<(), HostFault>
+        ensures answer { Answers (answer_fault_of (connection_at self.old side).conversation kind words.now) result }
+        ensures steps { OnOk result ((k : ℕ) × (asked_of (connection_at self.old side).conversation.side ≡ Some k)
+            × Steps self.old self.new side (one_answer_more (answer_message kind k words.now)) []) }
+        ensures unchanged { OnErr result (self.new ≡ self.old) }
+    {
+        self.at(side).answer(alloc, now, kind, words)
+    }
+
+    /// Closes the connection at this side once all that it has to say is said.
+    pub fn close(&mut self, alloc: Global, now: u64, side: Side)
+        ensures steps { Steps self.old self.new side no_more [] }
+        ensures asked { (connection_at self.new side).conversation.closing.wanted ≡ true }
+    {
+        self.at(side).close(alloc, now);
+    }
+
+    /// The message that waits for the program at this side, once: an answer, or a call. `None` where none waits.
+    pub fn take_message(&mut self, alloc: Global, now: u64, side: Side) -> Option<PiecedMessage>
+        ensures message { result ≡ waiting_message (connection_at self.old side).conversation.side }
+        ensures steps { IfSome result (λ m. Steps self.old self.new side (one_message_more m) []) }
+        ensures none { result ≡ None → self.new ≡ self.old }
+    {
+        self.at(side).take_message(alloc, now)
+    }
+
+    /// Why the connection at this side is closed, once.
+    pub fn take_why(&mut self, side: Side) -> Option<Why>
+        ensures steps { Steps self.old self.new side no_more [] }
+        ensures why { result ≡ (if (connection_at self.old side).told then None else (connection_at self.old side).closed) }
+        ensures told { (connection_at self.new side).told ≡ (connection_at self.old side).told
+            || is_some (connection_at self.old side).closed }
+    {
+        self.at(side).take_why()
+    }
+
+    /// What is due at this side, and when.
+    pub fn due(&self, side: Side) -> Due
+        ensures { result ≡ (connection_at self.now side).wait.due }
+    {
+        match side {
+            Side::A => self.a.due(),
+            Side::B => self.b.due(),
+        }
+    }
+
+    /// Does what is due at this side at this time, and says what that is.
+    pub fn act(&mut self, now: u64, side: Side) -> Act
+        ensures steps { Steps self.old self.new side no_more [] }
+        ensures act { result ≡ act_at (connection_at self.old side).wait now }
+        ensures wait { (connection_at self.new side).wait ≡ after_act (connection_at self.old side).wait now }
+    {
+        self.at(side).act(now)
+    }
+
+    /// The next packet that is to go out at this side. `None` where there is none, until something is done again. The only error is want
+    /// of memory: what is to go out stays so.
+    pub fn next_packet(
+        &mut self,
+        alloc: Global,
+        now: u64,
+        side: Side,
+    ) -> Result<Option<Bytes>, AllocError>
+        ensures gives { IfOk result (λ o. Steps self.old self.new side no_more (option_to_list o)) }
+        ensures given_none { OnErr result (Steps self.old self.new side no_more []) }
+        ensures rested { result ≡ Ok None → Rested (connection_at self.old side).conversation (connection_at self.new side).conversation }
+        ensures none { result ≡ Ok None → ((connection_at self.new side).owed.again ≡ false)
+            × ((connection_at self.new side).owed.asks ≡ false) × ((connection_at self.new side).owed.word ≡ false) }
+    {
+        self.at(side).next_packet(alloc, now)
+    }
+
+    /// Takes in bytes that came to this side. Where memory is refused it is as if they were lost.
+    pub fn receive(
+        &mut self,
+        alloc: Global,
+        now: u64,
+        side: Side,
+        bytes: &[u8],
+    ) -> Result<(), AllocError>
+        ensures takes_in { OnOk result (TakesIn self.old self.new side bytes.now) }
+        ensures hears { OnOk result ((p : SppPacketModel) → spp_packet_of bytes.now ≡ Ok p
+            → Hears (connection_at self.old side).conversation (connection_at self.new side).conversation bytes.now) }
+        ensures unchanged { OnErr result (self.new ≡ self.old) }
+        ensures memory { OnErr result ((s : State) → StandsFor (connection_at self.old side).conversation.endpoint s
+            → StoresBytes s bytes.now) }
+    {
+        let Ok(packet) = read_packet(bytes) else {
+            return Ok(());
+        };
+        self.at(side).receive(alloc, now, &packet)
+    }
+
+    /// Whatever was done at either side, in whatever order, and whatever came of what may come: at every moment what each end handed up
+    /// begins what the other's accepted, the two programs agree, and each packet that a connection gave was made by its end.
+    pub fn agrees(&self)
+        ensures { (a b : Station) (programs : List Program) (m : Meeting) → PairStandsFor self.now a b programs m → IsMet programs m }
+    {
+        two_connections_over_a_network_agree();
+    }
+}
