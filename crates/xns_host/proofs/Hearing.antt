@@ -78,6 +78,14 @@ pub there_in : (P : Guest → Type 0) (a : Places) (n : ℕ) (old : Option Guest
 there_in P a n old less read one =
     record { guest = one.guest; there = slice_get_read a (length a) n old refl less read ∙ one.there; is = one.is }
 
+-- what is said of what was put into a place is said of what is there
+pub put_there : (P : Option Guest → Type 0) (a : Places) (n : ℕ) (p place : Option Guest) → n < length a → slice_get (slice_set a n p) n ≡ Some place
+    → P p → P place
+put_there P a n p place less here said =
+    let both : Some p ≡ Some place = sym (set_there a (slice_set a n p) n p less refl) ∙ here in
+    let same : p ≡ place = cc in
+    subst P same said
+
 -- nothing came of them
 pub nothing_came : (now : ℕ) (opened : Guest → Type 0) (bytes : List ℕ) (a b : Places) → ((k : ℕ) → slice_get b k ≡ slice_get a k)
     → Receives now opened bytes a b
@@ -113,13 +121,18 @@ pub the_packet : (bytes : List ℕ) (carrier : PacketModel) (taken : ℕ) (p : S
     → packet_of bytes ≡ Ok (carrier, taken) → spp_packet_of bytes ≡ Ok p → r ≡ carried_by carrier → r ≡ Ok p
 the_packet bytes carrier taken p r read is value = value ∙ carries bytes carrier taken p read is
 
+-- what was read is what the bytes spell
+pub one_spelled : (bytes : List ℕ) (carrier : PacketModel) (taken : ℕ) (p q : SppPacketModel) (r : Result SppPacketModel Dropped)
+    → packet_of bytes ≡ Ok (carrier, taken) → spp_packet_of bytes ≡ Ok p → r ≡ carried_by carrier → r ≡ Ok q → p ≡ q
+one_spelled bytes carrier taken p q r read is value found = let both = sym (the_packet bytes carrier taken p r read is value) ∙ found in cc
+
 -- the connection that it is of is found
-pub finds : (host : List ℕ) (r : Register) (p q : SppPacketModel) (n : ℕ) (g : Guest) (peer : Peer) → p ≡ q
-    → peer ≡ peer_at q.source q.header.source_id q.target.socket → IsRegistered r n g → IsPacketOf host p g
-    → number_by r.identifiers r.peers q.header.target_id peer ≡ Some n
-finds host r p q n g peer same at is of =
+pub finds : (host : List ℕ) (r : Register) (p q : SppPacketModel) (n : ℕ) (g : Guest) (peer : Peer) (found : Option ℕ) → p ≡ q
+    → peer ≡ peer_at q.source q.header.source_id q.target.socket → found ≡ number_by r.identifiers r.peers q.header.target_id peer
+    → IsRegistered r n g → IsPacketOf host p g → found ≡ Some n
+finds host r p q n g peer found same at looked is of =
     let by : IsPacketOf host q g = subst (λ (x : SppPacketModel). IsPacketOf host x g) same of in
-    ap (λ (x : Peer). number_by r.identifiers r.peers q.header.target_id x) at ∙ leads_to r n g by.state q is by.stands by.ours
+    looked ∙ ap (λ (x : Peer). number_by r.identifiers r.peers q.header.target_id x) at ∙ leads_to r n g by.state q is by.stands by.ours
 
 -- what is found is what it names
 pub found_is_named : (register : Register) (q : SppPacketModel) (peer : Peer) (found : Option ℕ)

@@ -1,11 +1,11 @@
-use Rattle.std.proofs.Common.{◌≡◌, ◌∙◌, ◌<◌, refl, rules, subst, sym, arith, length, Option, Some, slice_get}
+use Rattle.std.proofs.Common.{◌≡◌, ◌<◌, refl, rules, arith, length, Option, Some}
 use Rattle.std.specs.Prelude.{slice_set}
 use Rattle.xns_host.specs.Hosting.{IsNotServed}
 use Rattle.xns_host.specs.declared.guest.Guest.{Guest}
-use Rattle.xns_host.proofs.Apart.{set_apart, set_there}
+use Rattle.xns_host.proofs.Apart.{set_apart}
 use Rattle.xns_host.proofs.Done.{each_step, each_still}
 use Rattle.xns_host.proofs.Going.{each_set}
-use Rattle.xns_host.proofs.Hearing.{there_in}
+use Rattle.xns_host.proofs.Hearing.{put_there, there_in}
 use Rattle.xns_host.proofs.Noting.{kept_but, same_place}
 use Rattle.xns_host.proofs.host.Host.not_served.Goals as goal
 
@@ -19,14 +19,11 @@ returns-clause-closed c = λ g s place there stands opened unclosed here.
     let less : c.args.number < length c.args.self.now.guests.items = omega arith in
     let old : c.index_mut.result.now ≡ Some g
     = same_place c.args.self.now.guests.items c.args.number c.index_mut.result.now (Some g) less (search rules) there in
-    let new : slice_get (slice_set c.args.self.now.guests.items c.args.number c.not_served_in-closed.new.slot) c.args.number
-    ≡ Some c.not_served_in-closed.new.slot
-    = set_there c.args.self.now.guests.items (slice_set c.args.self.now.guests.items c.args.number c.not_served_in-closed.new.slot) c.args.number
-    c.not_served_in-closed.new.slot less refl in
-    let both : Some c.not_served_in-closed.new.slot ≡ Some place = sym new ∙ here in
-    let same : c.not_served_in-closed.new.slot ≡ place = cc in
-    let k = c.not_served_in-closed.ensures.closed g s old stands opened unclosed in
-    (k.0, subst (λ (p : Option Guest). IsNotServed c.args.now g.connection p) same k.1)
+    let k = c.not_served_in-closed.ensures.closed g s old stands opened unclosed in (
+      k.0,
+      put_there (λ (p : Option Guest). IsNotServed c.args.now g.connection p) c.args.self.now.guests.items c.args.number
+          c.not_served_in-closed.new.slot place less here k.1,
+    )
 
 pub returns-clause-goes : goal.returns-clause-goes
 returns-clause-goes c =

@@ -4,8 +4,7 @@ use Rattle.xns_spp.specs.Ends.{is_ours_at}
 use Rattle.xns_spp.specs.Packet.{SppPacketModel}
 use Rattle.xns_host.specs.Hosting.{IsThere, hears}
 use Rattle.xns_host.specs.Ours.{IsOf, IsOpener, named_in, names, opens}
-use Rattle.xns_host.specs.Register.{number_by, peer_at}
-use Rattle.xns_host.proofs.Hearing.{finds, found_is_named, nothing_came, spelled, the_packet}
+use Rattle.xns_host.proofs.Hearing.{finds, found_is_named, nothing_came, one_spelled, spelled, the_packet}
 use Rattle.xns_host.proofs.host.Host.sequenced.Goals as goal
 
 pub returns-in_default-clause-became : goal.returns-in_default-clause-became
@@ -31,22 +30,17 @@ returns-in_default-clause-heard c = λ b taken n p g place read is by there here
 
 pub returns-then-ne-clause-heard : goal.returns-then-ne-clause-heard
 returns-then-ne-clause-heard c = λ b taken n p g place read is by there here.
-    let one = sym c.in-Ok.is
-    ∙ the_packet b (packet_model c.args.carrier.now) taken p c.carried_packet.result read is c.carried_packet.ensures.value in
-    let same : p ≡ c.in-Ok.packet = cc in
+    let same : p ≡ c.in-Ok.packet
+    = one_spelled b (packet_model c.args.carrier.now) taken p c.in-Ok.packet c.carried_packet.result read is c.carried_packet.ensures.value c.in-Ok.is in
     let ours : c.in-Ok.packet.target.host ≡ c.args.self.now.host = ap (λ (q : SppPacketModel). q.target.host) (sym same) ∙ by.here in
     absurd (search rules)
 
 pub returns-in-Some-clause-heard : goal.returns-in-Some-clause-heard
 returns-in-Some-clause-heard c = λ b taken n p g place read is by there here.
-    let one = sym c.in-Ok.is
-    ∙ the_packet b (packet_model c.args.carrier.now) taken p c.carried_packet.result read is c.carried_packet.ensures.value in
-    let same : p ≡ c.in-Ok.packet = cc in
-    let peer : c.at-peer.result ≡ peer_at c.in-Ok.packet.source c.in-Ok.packet.header.source_id c.in-Ok.packet.target.socket = search rules in
-    let find : c.find.result
-    ≡ number_by c.args.self.now.register.identifiers c.args.self.now.register.peers c.in-Ok.packet.header.target_id c.at-peer.result = search rules in
-    let found = sym c.in-Some.is ∙ find ∙ finds c.args.self.now.host c.args.self.now.register p c.in-Ok.packet n g c.at-peer.result same peer
-    (c.args.self.now.registered.each n g there) by in
+    let same : p ≡ c.in-Ok.packet
+    = one_spelled b (packet_model c.args.carrier.now) taken p c.in-Ok.packet c.carried_packet.result read is c.carried_packet.ensures.value c.in-Ok.is in
+    let found = sym c.in-Some.is ∙ finds c.args.self.now.host c.args.self.now.register p c.in-Ok.packet n g c.at-peer.result c.find.result same
+    (search rules) (search rules) (c.args.self.now.registered.each n g there) by in
     let number : n ≡ c.from.result = let e : n ≡ c.in-Some.number = cc in e ∙ sym c.from.ensures in
     c.hear.ensures.heard b g by.state place (is ∙ ap Ok same) (subst (λ (m : ℕ). slice_get c.args.self.now.guests.items m ≡ Some (Some g)) number there)
     by.stands (subst (λ (q : SppPacketModel). is_ours_at by.state.ends q ≡ true) same by.ours)
@@ -54,14 +48,10 @@ returns-in-Some-clause-heard c = λ b taken n p g place read is by there here.
 
 pub returns-in-None-clause-heard : goal.returns-in-None-clause-heard
 returns-in-None-clause-heard c = λ b taken n p g place read is by there here.
-    let one = sym c.in-Ok.is
-    ∙ the_packet b (packet_model c.args.carrier.now) taken p c.carried_packet.result read is c.carried_packet.ensures.value in
-    let same : p ≡ c.in-Ok.packet = cc in
-    let peer : c.at-peer.result ≡ peer_at c.in-Ok.packet.source c.in-Ok.packet.header.source_id c.in-Ok.packet.target.socket = search rules in
-    let find : c.find.result
-    ≡ number_by c.args.self.now.register.identifiers c.args.self.now.register.peers c.in-Ok.packet.header.target_id c.at-peer.result = search rules in
-    let found = sym c.in-None.is ∙ find ∙ finds c.args.self.now.host c.args.self.now.register p c.in-Ok.packet n g c.at-peer.result same peer
-    (c.args.self.now.registered.each n g there) by in
+    let same : p ≡ c.in-Ok.packet
+    = one_spelled b (packet_model c.args.carrier.now) taken p c.in-Ok.packet c.carried_packet.result read is c.carried_packet.ensures.value c.in-Ok.is in
+    let found = sym c.in-None.is ∙ finds c.args.self.now.host c.args.self.now.register p c.in-Ok.packet n g c.at-peer.result c.find.result same
+    (search rules) (search rules) (c.args.self.now.registered.each n g there) by in
     absurd (cc)
 
 pub returns-in-Some-clause-ours : goal.returns-in-Some-clause-ours
@@ -91,25 +81,22 @@ returns-in_default-clause-opener c = λ b taken p read is opens.
 
 pub returns-then-ne-clause-opener : goal.returns-then-ne-clause-opener
 returns-then-ne-clause-opener c = λ b taken p read is opens.
-    let one = sym c.in-Ok.is
-    ∙ the_packet b (packet_model c.args.carrier.now) taken p c.carried_packet.result read is c.carried_packet.ensures.value in
-    let same : p ≡ c.in-Ok.packet = cc in
+    let same : p ≡ c.in-Ok.packet
+    = one_spelled b (packet_model c.args.carrier.now) taken p c.in-Ok.packet c.carried_packet.result read is c.carried_packet.ensures.value c.in-Ok.is in
     let ours : c.in-Ok.packet.target.host ≡ c.args.self.now.host = ap (λ (q : SppPacketModel). q.target.host) (sym same) ∙ opens.here in
     absurd (search rules)
 
 pub returns-in-Some-clause-opener : goal.returns-in-Some-clause-opener
 returns-in-Some-clause-opener c = λ b taken p read is opens.
-    let one = sym c.in-Ok.is
-    ∙ the_packet b (packet_model c.args.carrier.now) taken p c.carried_packet.result read is c.carried_packet.ensures.value in
-    let same : p ≡ c.in-Ok.packet = cc in
+    let same : p ≡ c.in-Ok.packet
+    = one_spelled b (packet_model c.args.carrier.now) taken p c.in-Ok.packet c.carried_packet.result read is c.carried_packet.ensures.value c.in-Ok.is in
     let named = found_is_named c.args.self.now.register c.in-Ok.packet c.at-peer.result c.find.result (search rules) (search rules) ∙ c.in-Some.is in
     let none = subst (λ (q : SppPacketModel). named_in c.args.self.now.register q ≡ None) same opens.unnamed in
     absurd (cc)
 
 pub returns-in-None-clause-opener : goal.returns-in-None-clause-opener
 returns-in-None-clause-opener c = λ b taken p read is opens.
-    let one = sym c.in-Ok.is
-    ∙ the_packet b (packet_model c.args.carrier.now) taken p c.carried_packet.result read is c.carried_packet.ensures.value in
-    let same : p ≡ c.in-Ok.packet = cc in
+    let same : p ≡ c.in-Ok.packet
+    = one_spelled b (packet_model c.args.carrier.now) taken p c.in-Ok.packet c.carried_packet.result read is c.carried_packet.ensures.value c.in-Ok.is in
     let by = subst (λ (q : SppPacketModel). IsOpener c.args.self.now q) same opens in
     c.opening.ensures.answer by.opener by.served
