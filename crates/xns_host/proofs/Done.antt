@@ -307,6 +307,12 @@ each_step now a b n old p less read is steps = λ k g there. by k g there (same_
   by k g there (inr other) =
       steps_same now g (slice_get b k) (ap (λ (xs : Places). slice_get xs k) is ∙ place_other a n k p other ∙ there)
 
+-- the same, where this time was told
+pub told_step : (told now : ℕ) (a b : Places) (n : ℕ) (old p : Option Guest) → told ≡ now → n < length a → old ≡ get_or a n old → b ≡ slice_set a n p
+    → ((g : Guest) → old ≡ Some g → StepsIn told g.connection (Some p)) → EachSteps now a b
+told_step told now a b n old p same less read is steps =
+    subst (λ (t : ℕ). EachSteps t a b) same (each_step told a b n old p less read is steps)
+
 steps_more : (now : ℕ) (a b : Places) (k : ℕ) (c : Connection) (q : Option (Option Guest)) → slice_get a k ≡ q → StepsIn now c q → EachSteps now a b
     → StepsIn now c (slice_get b k)
 steps_more now a b k c None is steps each = absurd steps

@@ -8,6 +8,7 @@ use Rattle.std.specs.declared.vec.Vec.{Vec}
 use Rattle.courier_sessions.specs.declared.program.Program.{Program}
 use Rattle.xns_idp.specs.Packet.{PacketModel}
 use Rattle.xns_idp.specs.declared.address.Address.{Address}
+use Rattle.xns_idp.specs.declared.packet_type.TheConstants.{ERROR}
 use Rattle.xns_spp.specs.Ends.{is_ours_at}
 use Rattle.xns_spp.specs.Held.{StandsFor}
 use Rattle.xns_spp.specs.Packet.{SppPacketModel}
@@ -315,7 +316,7 @@ pub record ChangesOne (old new : List (Option Guest)) : Type 0 where
 
 -- it quotes the packet that was to open this connection of ours, which is not closed
 pub record IsRefusedBy (host : List ℕ) (p : PacketModel) (guest : Guest) : Type 0 where
-  pub kind : p.kind ≡ 3
+  pub kind : p.kind ≡ ERROR
   pub here : p.target.host ≡ host
   pub quote : OpeningQuote
   pub quoted : quoted_opening p.body ≡ Some quote

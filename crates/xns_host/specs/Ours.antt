@@ -2,6 +2,7 @@
 use Rattle.std.specs.Prelude.{◌≡◌, ◌≢◌, ℕ, List, true, Option, Some, None, Ok, slice_get}
 use Rattle.xns_idp.specs.Packet.{PacketModel}
 use Rattle.xns_idp.specs.Reading.{packet_of}
+use Rattle.xns_idp.specs.declared.packet_type.TheConstants.{ERROR}
 use Rattle.xns_small.specs.Echo.{IsAnswered}
 use Rattle.xns_spp.specs.Ends.{is_ours_at}
 use Rattle.xns_spp.specs.Held.{StandsFor}
@@ -45,7 +46,7 @@ pub record IsOpener (h : Host) (p : SppPacketModel) : Type 0 where
 
 -- an Error packet to this host quotes the packet that was to open a connection of it, which is not open yet
 pub record QuotesOurs (h : Host) (p : PacketModel) : Type 0 where
-  pub kind : p.kind ≡ 3
+  pub kind : p.kind ≡ ERROR
   pub here : p.target.host ≡ h.host
   pub quote : OpeningQuote
   pub quoted : quoted_opening p.body ≡ Some quote

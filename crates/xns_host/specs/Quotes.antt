@@ -4,6 +4,7 @@ use Rattle.std.specs.Prelude.{slice_index_or}
 use Rattle.std.specs.Option.{is_none}
 use Rattle.xns_idp.specs.Packet.{same_place}
 use Rattle.xns_idp.specs.Reading.{word_at, address_at}
+use Rattle.xns_idp.specs.declared.packet_type.TheConstants.{SEQUENCED_PACKET}
 use Rattle.xns_small.specs.ErrorReport.{ErrorReportModel, error_of, most_quoted}
 use Rattle.xns_small.specs.declared.fault.SmallFault.{SmallFault}
 use Rattle.xns_spp.specs.Ends.{is_open}
@@ -14,7 +15,7 @@ use Rattle.xns_host.specs.declared.opening_quote.OpeningQuote.{OpeningQuote}
 
 -- what is quoted is too short, or of another packet type, or of a packet whose sender knows the identifier of its peer
 abbrev pub opens_nothing : List ℕ → Bool
-opens_nothing quoted = nat_lt (length quoted) most_quoted || (not (slice_index_or quoted 5 0 == 5) || not (word_at quoted 34 == 0))
+opens_nothing quoted = nat_lt (length quoted) most_quoted || (not (slice_index_or quoted 5 0 == SEQUENCED_PACKET) || not (word_at quoted 34 == 0))
 
 abbrev pub opening_in : List ℕ → Option OpeningQuote
 opening_in quoted =

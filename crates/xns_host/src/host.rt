@@ -447,7 +447,7 @@ impl Host {
             → IsRefusedBy self.old.host (packet_model packet.now) g
             → slice_get self.old.guests.items n ≡ Some (Some g) → slice_get self.new.guests.items n ≡ Some place
             → (result ≡ true) × IsNotServed now g.connection place }
-        ensures ours { packet.now.kind ≡ 3 → result ≡ true → QuotesOurs self.old (packet_model packet.now) }
+        ensures ours { packet.now.kind ≡ ERROR → result ≡ true → QuotesOurs self.old (packet_model packet.now) }
         ensures goes { EachGoes self.old.guests.items self.new.guests.items }
         ensures steps { EachSteps now self.old.guests.items self.new.guests.items }
         ensures one { ChangesOne self.old.guests.items self.new.guests.items }

@@ -1,7 +1,6 @@
-use Rattle.std.proofs.Common.{refl, rules, subst, arith, ℕ}
+use Rattle.std.proofs.Common.{refl, rules, arith}
 use Rattle.std.specs.Prelude.{slice_set}
-use Rattle.xns_host.specs.Hosting.{EachSteps}
-use Rattle.xns_host.proofs.Done.{each_step, each_still}
+use Rattle.xns_host.proofs.Done.{each_still, told_step}
 use Rattle.xns_host.proofs.Noting.{kept_but}
 use Rattle.xns_host.proofs.host.Host.close.Goals as goal
 
@@ -15,14 +14,10 @@ returns-then-number-len-clause-steps c = each_still _ c.args.self.now.guests.ite
 
 pub returns-clause-steps : goal.returns-clause-steps
 returns-clause-steps c =
-    subst (λ (t : ℕ). EachSteps t c.args.self.now.guests.items (slice_set c.args.self.now.guests.items c.args.number c.close_in.new.slot))
-    c.tell-now.ensures.result
-    (each_step c.tell-now.result c.args.self.now.guests.items (slice_set c.args.self.now.guests.items c.args.number c.close_in.new.slot) c.args.number
-    c.index_mut.result.now c.close_in.new.slot (omega arith) (search rules) refl c.close_in.ensures.steps)
+    told_step c.tell-now.result _ c.args.self.now.guests.items (slice_set c.args.self.now.guests.items c.args.number c.close_in.new.slot) c.args.number
+    c.index_mut.result.now c.close_in.new.slot c.tell-now.ensures.result (omega arith) (search rules) refl c.close_in.ensures.steps
 
 pub returns-in_err-close_in-clause-steps : goal.returns-in_err-close_in-clause-steps
 returns-in_err-close_in-clause-steps c =
-    subst (λ (t : ℕ). EachSteps t c.args.self.now.guests.items (slice_set c.args.self.now.guests.items c.args.number c.close_in.new.slot))
-    c.tell-now.ensures.result
-    (each_step c.tell-now.result c.args.self.now.guests.items (slice_set c.args.self.now.guests.items c.args.number c.close_in.new.slot) c.args.number
-    c.index_mut.result.now c.close_in.new.slot (omega arith) (search rules) refl c.close_in.ensures.steps)
+    told_step c.tell-now.result _ c.args.self.now.guests.items (slice_set c.args.self.now.guests.items c.args.number c.close_in.new.slot) c.args.number
+    c.index_mut.result.now c.close_in.new.slot c.tell-now.ensures.result (omega arith) (search rules) refl c.close_in.ensures.steps
