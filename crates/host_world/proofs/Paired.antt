@@ -20,6 +20,7 @@ use Rattle.xns_host.specs.Reasons.{answer_fault_of}
 use Rattle.xns_host.specs.Refusing.{answer_fault, side_answer_fault, Answers as Refusals}
 use Rattle.xns_host.specs.Story.{Story, GoesOn, asked_of, waiting_message, with_handed}
 use Rattle.xns_host.specs.Telling.{Tells, Goes, Gives, MovesAndGives, Hears}
+use Rattle.xns_agenda.specs.Waiting.{HearsAt}
 use Rattle.xns_host.specs.declared.connection.Connection.{Connection}
 use Rattle.xns_host.specs.declared.conversation.Conversation.{Conversation}
 use Rattle.xns_host.specs.declared.host_fault.HostFault.{HostFault}
@@ -260,3 +261,10 @@ pair_rests p c d side is same = record {
       (m, record { calls = stands.calls; called = stands.called; meets = stands.meets; same = same_after p d side m m stands.same here refl }, stays_so m side);
   beside = beside p side d;
 }
+
+pub pair_waits : {E : Type 0} (p : Pair) (c d : Connection) (side : Side) (now : ℕ) (bytes : List ℕ) (r : Result (Unit {0}) E) → c ≡ connection_at p side → OnOk r (HearsAt now c.wait d.wait)
+    → OnOk r ((q : SppPacketModel) → spp_packet_of bytes ≡ Ok q → HearsAt now (connection_at p side).wait (connection_at (with_connection p side d) side).wait)
+pair_waits p c d side now bytes (Ok u) is hears = λ q reads.
+    subst (λ (k : Connection). HearsAt now (connection_at p side).wait k.wait) (sym (put p side d))
+    (subst (λ (k : Connection). HearsAt now k.wait d.wait) is hears)
+pair_waits p c d side now bytes (Err e) is hears = tt

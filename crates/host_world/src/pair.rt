@@ -1,6 +1,6 @@
 //! Two connections, and what is done at either of them.
 
-ghost use Rattle.std.specs.Prelude.{◌≡◌, ◌≢◌, ◌<◌, ◌||◌, ℕ, List, [], IfOk, IfSome, OnOk, OnErr, Ok, Some, None, true, false, if◌then◌else◌};
+ghost use Rattle.std.specs.Prelude.{◌≡◌, ◌≢◌, ◌<◌, ◌||◌, ℕ, List, [], IfOk, IfSome, OnOk, OnErr, Ok, Err, Some, None, true, false, if◌then◌else◌};
 ghost use Rattle.std.specs.Borrow.{sem};
 ghost use Rattle.std.specs.Option.{is_some, option_to_list};
 ghost use Rattle.courier_messages.specs.RawCalls.{words_call};
@@ -11,12 +11,14 @@ ghost use Rattle.xns_spp.specs.Held.{StandsFor};
 ghost use Rattle.xns_spp.specs.Packet.{SppPacketModel, spp_packet_of};
 ghost use Rattle.xns_spp.specs.Receiving.{StoresBytes};
 ghost use Rattle.xns_spp.specs.State.{State};
+ghost use Rattle.xns_spp.specs.declared.dropped.Dropped.{Dropped};
+ghost use Rattle.xns_host.specs.Connecting.{owed_after};
 ghost use Rattle.xns_host.specs.Reasons.{call_fault_of, answer_fault_of};
 ghost use Rattle.xns_host.specs.Refusing.{Answers};
-ghost use Rattle.xns_host.specs.Settings.{IsFit};
+ghost use Rattle.xns_host.specs.Settings.{IsBegun, IsFit};
 ghost use Rattle.xns_host.specs.Story.{asked_of, waiting_message};
 ghost use Rattle.xns_host.specs.Telling.{Hears, Rested};
-ghost use Rattle.xns_agenda.specs.Waiting.{act_at, after_act};
+ghost use Rattle.xns_agenda.specs.Waiting.{HearsAt, StepsAt, act_at, after_act};
 ghost use Rattle.host_world.specs.Meeting.{Meeting, new_meeting};
 ghost use Rattle.host_world.specs.declared.station.Station.{Station};
 ghost use Rattle.host_world.specs.Meets.{IsMet};
@@ -52,8 +54,9 @@ impl Pair {
         requires calls_settings { IsFit calls.now.settings }
         requires called_id { 0 < called.now.id }
         requires called_settings { IsFit called.now.settings }
-        ensures { IfOk result (λ p. PairStandsFor p calls.now called.now programs.items
+        ensures stands { IfOk result (λ p. PairStandsFor p calls.now called.now programs.items
             (new_meeting calls.now called.now programs.items p.a.conversation p.b.conversation)) }
+        ensures begun { IfOk result (λ p. IsBegun calls.now.settings now p.a.wait × IsBegun called.now.settings now p.b.wait) }
     {
         calls.known();
         called.known();
@@ -104,6 +107,7 @@ impl Pair {
             (words_call program version procedure words.now)) result }
         ensures steps { OnOk result (Steps self.old self.new side
             (one_call_more (words_call program version procedure words.now)) []) }
+        ensures waits { StepsAt now (connection_at self.old side).wait (connection_at self.new side).wait }
         ensures unchanged { OnErr result (self.new ≡ self.old) }
     {
         self.at(side)
@@ -122,6 +126,7 @@ impl Pair {
         ensures answer { Answers (answer_fault_of (connection_at self.old side).conversation kind words.now) result }
         ensures steps { OnOk result ((k : ℕ) × (asked_of (connection_at self.old side).conversation.side ≡ Some k)
             × Steps self.old self.new side (one_answer_more (answer_message kind k words.now)) []) }
+        ensures waits { StepsAt now (connection_at self.old side).wait (connection_at self.new side).wait }
         ensures unchanged { OnErr result (self.new ≡ self.old) }
     {
         self.at(side).answer(alloc, now, kind, words)
@@ -131,6 +136,7 @@ impl Pair {
     pub fn close(&mut self, alloc: Global, now: u64, side: Side)
         ensures steps { Steps self.old self.new side no_more [] }
         ensures asked { (connection_at self.new side).conversation.closing.wanted ≡ true }
+        ensures waits { StepsAt now (connection_at self.old side).wait (connection_at self.new side).wait }
     {
         self.at(side).close(alloc, now);
     }
@@ -139,6 +145,7 @@ impl Pair {
     pub fn take_message(&mut self, alloc: Global, now: u64, side: Side) -> Option<PiecedMessage>
         ensures message { result ≡ waiting_message (connection_at self.old side).conversation.side }
         ensures steps { IfSome result (λ m. Steps self.old self.new side (one_message_more m) []) }
+        ensures waits { StepsAt now (connection_at self.old side).wait (connection_at self.new side).wait }
         ensures none { result ≡ None → self.new ≡ self.old }
     {
         self.at(side).take_message(alloc, now)
@@ -169,6 +176,7 @@ impl Pair {
         ensures steps { Steps self.old self.new side no_more [] }
         ensures act { result ≡ act_at (connection_at self.old side).wait now }
         ensures wait { (connection_at self.new side).wait ≡ after_act (connection_at self.old side).wait now }
+        ensures owed { (connection_at self.new side).owed ≡ owed_after (connection_at self.old side).owed result }
     {
         self.at(side).act(now)
     }
@@ -183,6 +191,7 @@ impl Pair {
     ) -> Result<Option<Bytes>, AllocError>
         ensures gives { IfOk result (λ o. Steps self.old self.new side no_more (option_to_list o)) }
         ensures given_none { OnErr result (Steps self.old self.new side no_more []) }
+        ensures waits { StepsAt now (connection_at self.old side).wait (connection_at self.new side).wait }
         ensures rested { result ≡ Ok None → Rested (connection_at self.old side).conversation (connection_at self.new side).conversation }
         ensures none { result ≡ Ok None → ((connection_at self.new side).owed.again ≡ false)
             × ((connection_at self.new side).owed.asks ≡ false) × ((connection_at self.new side).owed.word ≡ false) }
@@ -201,6 +210,9 @@ impl Pair {
         ensures takes_in { OnOk result (TakesIn self.old self.new side bytes.now) }
         ensures hears { OnOk result ((p : SppPacketModel) → spp_packet_of bytes.now ≡ Ok p
             → Hears (connection_at self.old side).conversation (connection_at self.new side).conversation bytes.now) }
+        ensures waits { OnOk result ((p : SppPacketModel) → spp_packet_of bytes.now ≡ Ok p
+            → HearsAt now (connection_at self.old side).wait (connection_at self.new side).wait) }
+        ensures nothing { (why : Dropped) → spp_packet_of bytes.now ≡ Err why → self.new ≡ self.old }
         ensures unchanged { OnErr result (self.new ≡ self.old) }
         ensures memory { OnErr result ((s : State) → StandsFor (connection_at self.old side).conversation.endpoint s
             → StoresBytes s bytes.now) }

@@ -6,8 +6,8 @@ use Rattle.host_world.specs.Pairing.{connection_at}
 use Rattle.host_world.specs.declared.pair.Pair.{Pair}
 use Rattle.host_world.proofs.pair.Pair.new.Goals as goal
 
-pub returns : goal.returns
-returns c =
+pub returns-clause-stands : goal.returns-clause-stands
+returns-clause-stands c =
     let p : Pair = record { a = c.in_ok-a.a; b = c.in_ok-b.b } in
     let m : Meeting = new_meeting c.args.calls.now c.args.called.now c.args.programs.items c.in_ok-a.a.conversation c.in_ok-b.b.conversation in
     record {
