@@ -14,8 +14,7 @@ ghost use Rattle.xns_spp.specs.Sending.{tick_answer};
 ghost use Rattle.xns_spp.specs.State.{State, initiator_state, responder_state};
 ghost use Rattle.xns_spp.specs.Telling.{own_name, peer_name, resend_answer, told_answer, unacknowledged_count};
 ghost use Rattle.xns_host.specs.Closing.{drains};
-ghost use Rattle.xns_host.specs.Connecting.{is_again, is_open_due, is_closed_due, why_over, why_given_up, is_closing, why_refused};
-ghost use Rattle.xns_host.specs.Connecting.{why_after, owed_after, owed_heard, is_foreign, wait_heard};
+ghost use Rattle.xns_host.specs.Connecting.{is_again, is_open_due, is_closed_due, why_given_up, why_after, owed_after, owed_heard, is_foreign, wait_heard};
 ghost use Rattle.xns_host.specs.Reasons.{call_fault_of, answer_fault_of};
 ghost use Rattle.xns_host.specs.Refusing.{Answers};
 ghost use Rattle.xns_host.specs.Settings.{IsBegun, IsFit};
@@ -32,7 +31,8 @@ use crate::owed::Owed;
 use crate::settings::Settings;
 use crate::side::Side;
 use crate::why::Why;
-use courier_messages::{PiecedMessage, SessionFault};
+use crate::why_closed::{why_after, why_given_up};
+use courier_messages::PiecedMessage;
 use courier_sessions::{Answer, FeedRefusal, Program, WordCaller, WordServer};
 use std::alloc::{AllocError, Global};
 use xns_agenda::{Act, Due, Pace, Wait};
@@ -63,71 +63,6 @@ fn is_foreign(dropped: Option<Dropped>) -> bool
         dropped,
         Some(Dropped::NotIdp | Dropped::NotSpp | Dropped::NotOurs | Dropped::AheadOfUs)
     )
-}
-
-/// Why a closing exchange is over.
-fn why_over(closing: Closing) -> Why
-    ensures { result ≡ why_over closing }
-{
-    if closing.end_sent {
-        Why::Asked
-    } else {
-        Why::ByPeer
-    }
-}
-
-/// Why a connection whose peer is silent is closed: where the closing exchange lacks but the last word, it counts as over.
-fn why_given_up(closing: Closing) -> Why
-    ensures { result ≡ why_given_up closing }
-{
-    if closing.reply_sent {
-        why_over(closing)
-    } else {
-        Why::Silent
-    }
-}
-
-/// Whether an item of this datastream closes a connection.
-fn is_closing(stream: u8) -> bool
-    ensures { result ≡ is_closing stream }
-{
-    stream == 254 || stream == 255
-}
-
-/// Why a connection is closed whose side refused an item, if it is: an item that closes it, and one for which no memory was there, close
-/// none.
-fn why_refused(refusal: FeedRefusal) -> Option<Why>
-    ensures { result ≡ why_refused refusal }
-{
-    match refusal {
-        FeedRefusal::Stopped | FeedRefusal::Busy | FeedRefusal::NoMemory => None,
-        FeedRefusal::TooLong | FeedRefusal::Attention => Some(Why::Refused(refusal)),
-        FeedRefusal::Fault(SessionFault::Stream { kind }) => {
-            if is_closing(kind) {
-                None
-            } else {
-                Some(Why::Refused(refusal))
-            }
-        }
-        FeedRefusal::Fault(_) => Some(Why::Refused(refusal)),
-    }
-}
-
-/// Why a connection is closed after its items moved, if it is.
-fn why_after(conversation: &Conversation, moved: Result<(), FeedRefusal>) -> Option<Why>
-    ensures { (s : State) → StandsFor conversation.now.endpoint s
-        → result ≡ why_after conversation.now.closing (is_over conversation.now.closing s) moved }
-{
-    match moved {
-        Err(refusal) => why_refused(refusal),
-        Ok(()) => {
-            if conversation.is_over() {
-                Some(why_over(conversation.closing))
-            } else {
-                None
-            }
-        }
-    }
 }
 
 /// What a connection that is not closed waits for after a step.

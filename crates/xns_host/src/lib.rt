@@ -22,6 +22,7 @@ mod side;
 mod slots;
 mod strays;
 mod why;
+mod why_closed;
 
 pub use connection::Connection;
 pub use event::Event;

@@ -1,0 +1,78 @@
+//! Why a connection is closed.
+
+ghost use Rattle.std.specs.Prelude.{◌≡◌};
+ghost use Rattle.xns_spp.specs.Held.{StandsFor};
+ghost use Rattle.xns_spp.specs.State.{State};
+ghost use Rattle.xns_host.specs.Connecting.{why_over, why_given_up, is_closing, why_refused, why_after};
+ghost use Rattle.xns_host.specs.Telling.{is_over};
+
+use crate::closing::Closing;
+use crate::conversation::Conversation;
+use crate::why::Why;
+use courier_messages::SessionFault;
+use courier_sessions::FeedRefusal;
+
+/// Why a closing exchange is over.
+fn why_over(closing: Closing) -> Why
+    ensures { result ≡ why_over closing }
+{
+    if closing.end_sent {
+        Why::Asked
+    } else {
+        Why::ByPeer
+    }
+}
+
+/// Why a connection whose peer is silent is closed: where the closing exchange lacks but the last word, it counts as over.
+pub fn why_given_up(closing: Closing) -> Why
+    ensures { result ≡ why_given_up closing }
+{
+    if closing.reply_sent {
+        why_over(closing)
+    } else {
+        Why::Silent
+    }
+}
+
+/// Whether an item of this datastream closes a connection.
+fn is_closing(stream: u8) -> bool
+    ensures { result ≡ is_closing stream }
+{
+    stream == 254 || stream == 255
+}
+
+/// Why a connection is closed whose side refused an item, if it is: an item that closes it, and one for which no memory was there, close
+/// none.
+fn why_refused(refusal: FeedRefusal) -> Option<Why>
+    ensures { result ≡ why_refused refusal }
+{
+    match refusal {
+        FeedRefusal::Stopped | FeedRefusal::Busy | FeedRefusal::NoMemory => None,
+        FeedRefusal::TooLong | FeedRefusal::Attention => Some(Why::Refused(refusal)),
+        FeedRefusal::Fault(SessionFault::Stream { kind }) => {
+            if is_closing(kind) {
+                None
+            } else {
+                Some(Why::Refused(refusal))
+            }
+        }
+        FeedRefusal::Fault(_) => Some(Why::Refused(refusal)),
+    }
+}
+
+/// Why a connection is closed after its items moved, if it is.
+pub fn why_after(conversation: &Conversation, moved: Result<(), FeedRefusal>) -> Option<Why>
+    ensures { (s : State) → StandsFor conversation.now.endpoint s
+        → result ≡ why_after conversation.now.closing (is_over conversation.now.closing s) moved }
+{
+    match moved {
+        Err(refusal) => why_refused(refusal),
+        Ok(()) => {
+            if conversation.is_over() {
+                Some(why_over(conversation.closing))
+            } else {
+                None
+            }
+        }
+    }
+}
