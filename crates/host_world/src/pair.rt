@@ -1,12 +1,11 @@
 //! Two connections, and what is done at either of them.
 
-ghost use Rattle.std.specs.Prelude.{◌≡◌, ◌≢◌, ◌<◌, ◌||◌, ℕ, List, [], IfOk, IfSome, OnOk, OnErr, Ok, Err, Some, None, true, false, if◌then◌else◌};
+ghost use Rattle.std.specs.Prelude.{◌≡◌, ◌<◌, ◌||◌, ℕ, List, [], IfOk, IfSome, OnOk, OnErr, Ok, Err, Some, None, true, false, if◌then◌else◌};
 ghost use Rattle.std.specs.Borrow.{sem};
 ghost use Rattle.std.specs.Option.{is_some, option_to_list};
 ghost use Rattle.courier_messages.specs.RawCalls.{words_call};
 ghost use Rattle.courier_sessions.specs.Answering.{answer_message};
 ghost use Rattle.courier_sessions.specs.declared.program.Program.{Program};
-ghost use Rattle.item_world.specs.Side.{other};
 ghost use Rattle.xns_spp.specs.Held.{StandsFor};
 ghost use Rattle.xns_spp.specs.Packet.{SppPacketModel, spp_packet_of};
 ghost use Rattle.xns_spp.specs.Receiving.{StoresBytes};
