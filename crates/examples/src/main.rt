@@ -11,6 +11,7 @@ mod dumping;
 mod echo_server;
 mod hex_lines;
 mod hosts;
+mod losing;
 mod network;
 mod packet;
 mod scripting;
@@ -29,6 +30,7 @@ fn main(rt: HostRuntime) -> Result<(), anyhow::Error> {
     calls::converse(&rt)?;
     words::call(&rt)?;
     two_hosts::talk(&rt)?;
+    losing::talk(&rt)?;
     network::play(&rt)?;
     counting_lines::count(&rt)?;
     scripting::read(&rt)?;
