@@ -110,6 +110,7 @@ is_foreign (Some drops.Repeat) = false
 abbrev pub wait_heard : Waiting → State → List ℕ → (now : ℕ) → Waiting
 wait_heard w s b now = if is_foreign (input_answer s b).dropped then w else after_word w (is_progress s (after_receive s b)) now
 
+-- its first item goes out again: these bytes have more acknowledged after a wait that was in vain, and some item still is not
 abbrev pub goes_again : Waiting → State → List ℕ → Bool
 goes_again w s b = is_progress s (after_receive s b) && (w.vain && nat_lt 0 (unacknowledged_count (after_receive s b)))
 
