@@ -30,7 +30,7 @@ use Rattle.xns_host.specs.Living.{GoesFrom}
 use Rattle.xns_host.specs.Reasons.{answer_fault_of}
 use Rattle.xns_host.specs.Refusing.{answer_fault, side_answer_fault}
 use Rattle.xns_host.specs.Register.{number_by, owner_in, peer_at, peer_cmp}
-use Rattle.xns_host.specs.Registered.{FitsEnd, IsRegistered, name_of, opener_at}
+use Rattle.xns_host.specs.Registered.{FitsEnd, IsRegistered, Known, known_of, opener_at}
 use Rattle.xns_host.specs.Story.{Runs, Story, asked_of, with_handed, start, sends, takes, flushes, resends, tells}
 use Rattle.xns_host.specs.Telling.{Goes, Hears, Tells}
 use Rattle.xns_host.specs.declared.side.Side.{Side}
@@ -100,11 +100,11 @@ received_end s bytes is = decided_end s (decided s bytes) is
 -- ---- the end of a connection
 
 -- its story went on
-went : (g h : Guest) → name_of h ≡ name_of g → (e : FitsEnd g) → (m : Story) → Tells h.connection.conversation m → IsSameEnd e.story.state.ends m.state.ends
+went : (g h : Guest) → known_of h ≡ known_of g → (e : FitsEnd g) → (m : Story) → Tells h.connection.conversation m → IsSameEnd e.story.state.ends m.state.ends
     → FitsEnd h
 went g h same e m told end =
-    let id : h.id ≡ g.id = ap (λ (k : ℕ × Option Peer). k.0) same in
-    let opener : h.opener ≡ g.opener = ap (λ (k : ℕ × Option Peer). k.1) same in
+    let id : h.id ≡ g.id = ap (λ (k : Known). k.id) same in
+    let opener : h.opener ≡ g.opener = ap (λ (k : Known). k.opener) same in
     record {
       story = m;
       tells = told;
@@ -114,7 +114,7 @@ went g h same e m told end =
           opener ∙ e.opener was ∙ ap (λ (x : Ends). Some (opener_at x)) (sym (end.opened was));
     }
 
-went_from : (g h : Guest) (base : Story → Story) → ((s : Story) → (base s).state ≡ s.state) → name_of h ≡ name_of g
+went_from : (g h : Guest) (base : Story → Story) → ((s : Story) → (base s).state ≡ s.state) → known_of h ≡ known_of g
     → GoesFrom g.connection.conversation h.connection.conversation base → FitsEnd g → FitsEnd h
 went_from g h base still same goes e =
     let next = goes e.story e.tells in
@@ -130,14 +130,14 @@ pub same_fits : (place : Option Guest) (g f h : Guest) → place ≡ Some f → 
 same_fits place g f h there is same fits = subst FitsEnd (sym same) (one place g f there is fits)
 
 pub from_fits : (place : Option Guest) (g f h : Guest) (base : Story → Story) → ((s : Story) → (base s).state ≡ s.state) → place ≡ Some f → place ≡ Some g
-    → name_of h ≡ name_of f → GoesFrom f.connection.conversation h.connection.conversation base → FitsEnd g → FitsEnd h
+    → known_of h ≡ known_of f → GoesFrom f.connection.conversation h.connection.conversation base → FitsEnd g → FitsEnd h
 from_fits place g f h base still there is same goes fits = went_from f h base still same goes (one place g f there is fits)
 
-pub goes_fits : (place : Option Guest) (g f h : Guest) → place ≡ Some f → place ≡ Some g → name_of h ≡ name_of f
+pub goes_fits : (place : Option Guest) (g f h : Guest) → place ≡ Some f → place ≡ Some g → known_of h ≡ known_of f
     → Goes f.connection.conversation h.connection.conversation → FitsEnd g → FitsEnd h
 goes_fits place g f h there is same goes fits = from_fits place g f h (λ s. s) (λ s. refl) there is same goes.on fits
 
-hears_fits : (place : Option Guest) (g f h : Guest) (bytes : List ℕ) → place ≡ Some f → place ≡ Some g → name_of h ≡ name_of f
+hears_fits : (place : Option Guest) (g f h : Guest) (bytes : List ℕ) → place ≡ Some f → place ≡ Some g → known_of h ≡ known_of f
     → Hears f.connection.conversation h.connection.conversation bytes → FitsEnd g → FitsEnd h
 hears_fits place g f h bytes there is same hears fits =
     let e = one place g f there is fits in
@@ -147,7 +147,7 @@ hears_fits place g f h bytes there is same hears fits =
     went f h same e next.0 next.1 (subst (λ (x : Ends). IsSameEnd e.story.state.ends x) (sym ends) here)
 
 pub received_fits : (place : Option Guest) (g f h : Guest) (m : SppPacketModel) (r : Result (Unit {0}) AllocError) (bytes : List ℕ) → place ≡ Some f
-    → place ≡ Some g → spp_packet_of bytes ≡ Ok m → name_of h ≡ name_of f
+    → place ≡ Some g → spp_packet_of bytes ≡ Ok m → known_of h ≡ known_of f
     → OnOk r ((b : List ℕ) → spp_packet_of b ≡ Ok m → Hears f.connection.conversation h.connection.conversation b) → OnErr r (h ≡ f)
     → FitsEnd g → FitsEnd h
 received_fits place g f h m (Ok u) bytes there is read same ok err fits = hears_fits place g f h bytes there is same (ok bytes read) fits

@@ -10,7 +10,7 @@ use Rattle.xns_spp.specs.Telling.{own_name}
 use Rattle.xns_host.specs.Hosting.{Each, EachGoes, EachKeeps, HasReplied, HasToldIn, IsApart, IsGiven, IsNextPacket, LedIn, LedTo, StaysIn, TellsIn}
 use Rattle.xns_host.specs.Hosting.{forgotten, is_done, may_go, stays}
 use Rattle.xns_host.specs.Quotes.{is_opened_by}
-use Rattle.xns_host.specs.Registered.{name_in}
+use Rattle.xns_host.specs.Registered.{known_in}
 use Rattle.xns_host.specs.Telling.{Goes, Keeps, MovesAndGives, makes, moves, rests}
 use Rattle.xns_host.specs.declared.connection.Connection.{Connection}
 use Rattle.xns_host.specs.declared.conversation.Conversation.{Conversation}
@@ -131,13 +131,13 @@ led c (Some g) place goes is = record {
 one_there : (o : Option (Option Guest)) (p q : Option Guest) → o ≡ Some p → o ≡ Some q → p ≡ q
 one_there o p q left right = cc
 
-still_none : (p q : Option Guest) → p ≡ None → name_in q ≡ name_in p → q ≡ None
+still_none : (p q : Option Guest) → p ≡ None → known_in q ≡ known_in p → q ≡ None
 still_none p None none same = refl
-still_none p (Some g) none same = let nobody : name_in p ≡ None = ap name_in none in absurd (cc)
+still_none p (Some g) none same = let nobody : known_in p ≡ None = ap known_in none in absurd (cc)
 
 -- the connection in one place went on
 pub all_set : {Steps : Conversation → Conversation → Type 0} → AreSteps Steps → (a b : Places) (n : ℕ) (old p : Option Guest) → n < length a
-    → old ≡ get_or a n old → b ≡ slice_set a n p → name_in p ≡ name_in old → ((g : Guest) → old ≡ Some g → LedTo Steps g.connection p)
+    → old ≡ get_or a n old → b ≡ slice_set a n p → known_in p ≡ known_in old → ((g : Guest) → old ≡ Some g → LedTo Steps g.connection p)
     → Each Steps a b
 all_set all a b n old p less read is same goes =
     let there : slice_get a n ≡ Some old = slice_get_read a (length a) n old refl less read in
@@ -146,7 +146,7 @@ all_set all a b n old p less read is same goes =
     (λ g at. led g.connection p (slice_get b n) (goes g (one_there (slice_get a n) old (Some g) there at)) here)
     (λ none. here ∙ ap Some (still_none old p (one_there (slice_get a n) old None there none) same))
 
-pub each_set : (a b : Places) (n : ℕ) (old p : Option Guest) → n < length a → old ≡ get_or a n old → b ≡ slice_set a n p → name_in p ≡ name_in old
+pub each_set : (a b : Places) (n : ℕ) (old p : Option Guest) → n < length a → old ≡ get_or a n old → b ≡ slice_set a n p → known_in p ≡ known_in old
     → ((g : Guest) → old ≡ Some g → LedTo Goes g.connection p) → EachGoes a b
 each_set a b n old p less read is same goes = all_set going a b n old p less read is same goes
 

@@ -8,7 +8,7 @@ use Rattle.courier_messages.specs.declared.message.Message.{Message}
 use Rattle.xns_agenda.specs.Agenda.{Plan, HasNobody, IsFor, IsNoted, noted, released}
 use Rattle.xns_host.specs.Events.{event_by, event_for, event_in}
 use Rattle.xns_host.specs.Hosting.{IsAllNoted, IsNotedBut, IsNotedIn, facts_in}
-use Rattle.xns_host.specs.Registered.{name_in}
+use Rattle.xns_host.specs.Registered.{known_in}
 use Rattle.xns_agenda.specs.Turns.{Line, empty_line, has_turn, with_last, with_turn}
 use Rattle.xns_host.specs.Story.{has_message, waiting_message, listed_call}
 use Rattle.xns_host.specs.declared.connection.Connection.{Connection}
@@ -135,15 +135,15 @@ free_other a n k b p other is = other_noted a (record a { free = with_turn a.fre
 abbrev Places : Type 0
 Places = List (Option Guest)
 
-none_named : (p : Option Guest) → is_none (name_in p) ≡ is_none p
+none_named : (p : Option Guest) → is_none (known_in p) ≡ is_none p
 none_named None = refl
 none_named (Some g) = refl
 
-same_none : (p q : Option Guest) → name_in q ≡ name_in p → is_none q ≡ is_none p
+same_none : (p q : Option Guest) → known_in q ≡ known_in p → is_none q ≡ is_none p
 same_none p q same = sym (none_named q) ∙ ap is_none same ∙ none_named p
 
 -- a connection that is there changed
-pub changed : (a : Plan) (gs : Places) (n : ℕ) (old v : Option Guest) → IsAllNoted a gs → slice_get gs n ≡ Some old → name_in v ≡ name_in old
+pub changed : (a : Plan) (gs : Places) (n : ℕ) (old v : Option Guest) → IsAllNoted a gs → slice_get gs n ≡ Some old → known_in v ≡ known_in old
     → IsNotedBut a (slice_set gs n v) n
 changed a gs n old v all there same =
     let less : n < length gs = slice_get_within gs n old there in record {
@@ -235,7 +235,7 @@ empty_noted a gs most nobody none = record {
 -- ---- as goals have them
 
 pub kept_but : (a : Plan) (gs hs : Places) (n : ℕ) (old v : Option Guest) → IsAllNoted a gs → n < length gs → old ≡ get_or gs n old → hs ≡ slice_set gs n v
-    → name_in v ≡ name_in old → IsNotedBut a hs n
+    → known_in v ≡ known_in old → IsNotedBut a hs n
 kept_but a gs hs n old v all less read is same =
     subst (λ (xs : Places). IsNotedBut a xs n) (sym is) (changed a gs n old v all (slice_get_read gs (length gs) n old refl less read) same)
 

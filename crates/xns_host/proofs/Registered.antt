@@ -15,7 +15,7 @@ use Rattle.std.proofs.lemmas.Map.Lookups.{exact_bytes, exact_unsigned}
 use Rattle.std.proofs.lemmas.Option.{get_or_from_slice_get, same_Some, slice_get_read}
 use Rattle.xns_host.specs.Identifiers.{Gives, Ids, IsNext, is_free}
 use Rattle.xns_host.specs.Register.{owner_in, peer_cmp}
-use Rattle.xns_host.specs.Registered.{FitsEnd, FitsEndIn, HasLeft, IsAllRegistered, IsAnother, IsRegistered, name_in, name_of}
+use Rattle.xns_host.specs.Registered.{FitsEnd, FitsEndIn, HasLeft, IsAllRegistered, IsAnother, IsRegistered, Known, known_in, known_of}
 use Rattle.xns_host.specs.declared.guest.Guest.{Guest}
 use Rattle.xns_host.specs.declared.peer.Peer.{Peer}
 use Rattle.xns_host.specs.declared.register.Register.{Register}
@@ -59,10 +59,10 @@ stays m n o p w u other = u.2 p (not_at o p (is_eq (peer_cmp o p)) refl other)
 
 -- ---- one that is there changes
 
-renamed : (r : Register) (n : ℕ) (g h : Guest) → name_of h ≡ name_of g → ∥ FitsEnd h ∥₁ → IsRegistered r n g → IsRegistered r n h
+renamed : (r : Register) (n : ℕ) (g h : Guest) → known_of h ≡ known_of g → ∥ FitsEnd h ∥₁ → IsRegistered r n g → IsRegistered r n h
 renamed r n g h same fits is =
-    let id : h.id ≡ g.id = ap (λ (k : ℕ × Option Peer). k.0) same in
-    let opener : h.opener ≡ g.opener = ap (λ (k : ℕ × Option Peer). k.1) same in
+    let id : h.id ≡ g.id = ap (λ (k : Known). k.id) same in
+    let opener : h.opener ≡ g.opener = ap (λ (k : Known). k.opener) same in
     record {
       fits = fits;
       known = subst (λ (i : ℕ). 0 < i) (sym id) is.known;
@@ -70,15 +70,15 @@ renamed r n g h same fits is =
       opener = λ o opened. is.opener o (sym opener ∙ opened);
     }
 
-renamed_in : (r : Register) (n : ℕ) (p : Option Guest) (h : Guest) → name_in (Some h) ≡ name_in p → ((g : Guest) → p ≡ Some g → FitsEnd g → FitsEnd h)
+renamed_in : (r : Register) (n : ℕ) (p : Option Guest) (h : Guest) → known_in (Some h) ≡ known_in p → ((g : Guest) → p ≡ Some g → FitsEnd g → FitsEnd h)
     → ((g : Guest) → p ≡ Some g → IsRegistered r n g) → IsRegistered r n h
 renamed_in r n None h same fits is = absurd (cc)
 renamed_in r n (Some g) h same fits is =
-    let names : name_of h ≡ name_of g = cc in
+    let names : known_of h ≡ known_of g = cc in
     let at = is g refl in
     renamed r n g h names (∥∥₁_map at.fits (fits g refl)) at
 
-pub still_registered : (r : Register) (gs : Places) (n : ℕ) (old v : Option Guest) → IsAllRegistered r gs → name_in v ≡ name_in old
+pub still_registered : (r : Register) (gs : Places) (n : ℕ) (old v : Option Guest) → IsAllRegistered r gs → known_in v ≡ known_in old
     → ((g : Guest) → old ≡ Some g → FitsEnd g → FitsEndIn v) → old ≡ get_or gs n old → n < length gs → IsAllRegistered r (slice_set gs n v)
 still_registered r gs n old v all same fits read less = record { each = λ k g is. by k g is (same_or_other k n) } where
   there : slice_get gs n ≡ Some old
@@ -89,7 +89,7 @@ still_registered r gs n old v all same fits read less = record { each = λ k g i
       let here : slice_get (slice_set gs n v) n ≡ Some (Some g) = subst (λ (m : ℕ). slice_get (slice_set gs n v) m ≡ Some (Some g)) e is in
       let one : v ≡ Some g = one_place v (Some g) (slice_get (slice_set gs n v) n) (place_set gs n v less) here in
       subst (λ (m : ℕ). IsRegistered r m g) (sym e)
-      (renamed_in r n old g (sym (ap name_in one) ∙ same) (λ h was fit. subst (λ (p : Option Guest). FitsEndIn p) one (fits h was fit))
+      (renamed_in r n old g (sym (ap known_in one) ∙ same) (λ h was fit. subst (λ (p : Option Guest). FitsEndIn p) one (fits h was fit))
       (λ h was. all.each n h (there ∙ ap Some was)))
   by k g is (inr other) = all.each k g (sym (place_other gs n k v other) ∙ is)
 

@@ -244,7 +244,7 @@ pub record IsGiven (old new : Option (Option Guest)) (o : Outgoing) : Type 0 whe
   pub was : old ≡ Some (Some guest)
   pub is : new ≡ Some (Some next)
   pub gave : MovesAndGives guest.connection.conversation next.connection.conversation (Some o.packet)
-  pub via : o.via ≡ next.via
+  pub via : o.via ≡ guest.via
 
 -- each connection went on by itself and gave none, and then one of them gave this packet
 pub record IsNextPacket (old new : List (Option Guest)) (o : Outgoing) : Type 0 where
@@ -302,6 +302,8 @@ pub record IsConnected (guests : List (Option Guest)) (number : ℕ) (settings :
   pub via : guest.via ≡ way
   pub peer : guest.peer ≡ to
   pub opener : guest.opener ≡ None
+  pub confirmed : guest.confirmed ≡ false
+  pub heard_of : guest.heard_of ≡ false
 
 -- each identifier is some connection's
 abbrev pub IsAllInUse : Ids → Type 0
@@ -368,6 +370,8 @@ pub record IsAnswering (settings : Settings) (ids : Ids) (own opener : Address) 
   pub unclosed : guest.connection.closed ≡ None
   pub via : guest.via ≡ way
   pub peer : guest.peer ≡ opener
+  pub confirmed : guest.confirmed ≡ false
+  pub heard_of : guest.heard_of ≡ false
 
 -- it did at a socket that is served, and the programs are those that are served there
 pub record IsOpened (services : BTreeMap ℕ (Vec Program Global)) (settings : Settings) (ids : Ids) (network : ℕ) (host : List ℕ)

@@ -1,6 +1,6 @@
 //! A connection in its place at a host.
 
-ghost use Rattle.std.specs.Prelude.{◌≡◌, ℕ, List, [], ◌∷◌, ◌++◌, OnErr, OnOk, Ok, None, Some, true, false};
+ghost use Rattle.std.specs.Prelude.{◌≡◌, ℕ, List, [], ◌∷◌, ◌++◌, ◌||◌, OnErr, OnOk, Ok, None, Some, true, false};
 ghost use Rattle.xns_host.specs.Hosting.{HasReplied, StaysAsked, facts_of, lingers_since, may_go, stranger_since};
 ghost use Rattle.courier_messages.specs.RawCalls.{words_call};
 ghost use Rattle.xns_spp.specs.Ends.{is_open};
@@ -9,7 +9,7 @@ ghost use Rattle.xns_spp.specs.Packet.{IsSppPacket, spp_packet_of};
 ghost use Rattle.xns_spp.specs.Receiving.{StoresBytes};
 ghost use Rattle.xns_spp.specs.State.{State};
 ghost use Rattle.xns_host.specs.Quotes.{is_opened_by};
-ghost use Rattle.xns_host.specs.Registered.{name_of};
+ghost use Rattle.xns_host.specs.Registered.{known_of, news_of};
 ghost use Rattle.xns_host.specs.Reasons.{call_fault_of, answer_fault_of};
 ghost use Rattle.xns_host.specs.Refusing.{Answers};
 ghost use Rattle.courier_sessions.specs.Answering.{answer_message};
@@ -64,7 +64,9 @@ impl Guest {
             → spp_packet_of b ≡ Ok packet.now → StoresBytes s b) }
         ensures replied { OnOk result (HasReplied self.old.connection self.new.connection) }
         ensures steps { OnOk result (HearsAt now self.old.connection.wait self.new.connection.wait) }
-        ensures name { name_of self.new ≡ name_of self.old }
+        ensures known { known_of self.new ≡ known_of self.old }
+        ensures confirmed { OnOk result (self.new.confirmed ≡ (confirms || self.old.confirmed)) }
+        ensures heard_of { self.new.heard_of ≡ self.old.heard_of }
     {
         self.connection.receive(alloc, now, packet)?;
         if confirms {
@@ -90,7 +92,8 @@ impl Guest {
         ensures steps { StepsAt now self.old.connection.wait self.new.connection.wait }
         ensures replied { result ≡ Ok tt → HasReplied self.old.connection self.new.connection }
         ensures unchanged { OnErr result (self.new ≡ self.old) }
-        ensures name { name_of self.new ≡ name_of self.old }
+        ensures known { known_of self.new ≡ known_of self.old }
+        ensures news { news_of self.new ≡ news_of self.old }
     {
         self.connection
             .call(alloc, now, program, version, procedure, words)?;
@@ -113,7 +116,8 @@ impl Guest {
         ensures steps { StepsAt now self.old.connection.wait self.new.connection.wait }
         ensures replied { result ≡ Ok tt → HasReplied self.old.connection self.new.connection }
         ensures unchanged { OnErr result (self.new ≡ self.old) }
-        ensures name { name_of self.new ≡ name_of self.old }
+        ensures known { known_of self.new ≡ known_of self.old }
+        ensures news { news_of self.new ≡ news_of self.old }
     {
         self.connection.answer(alloc, now, answer, words)?;
         Ok(())
@@ -125,7 +129,8 @@ impl Guest {
         ensures asked { self.new.connection.conversation.closing.wanted ≡ true }
         ensures said { self.new.connection.owed.moving ≡ false → HasSaidEnd self.new.connection.conversation }
         ensures replied { HasReplied self.old.connection self.new.connection }
-        ensures name { name_of self.new ≡ name_of self.old }
+        ensures known { known_of self.new ≡ known_of self.old }
+        ensures news { news_of self.new ≡ news_of self.old }
         ensures steps { StepsAt now self.old.connection.wait self.new.connection.wait }
     {
         self.connection.close(alloc, now);
@@ -138,7 +143,8 @@ impl Guest {
             → self.old.connection.closed ≡ None → (self.new.connection.closed ≡ Some NotServed)
             × (self.new.connection.wait ≡ lingering self.old.connection.wait now) }
         ensures steps { StepsAt now self.old.connection.wait self.new.connection.wait }
-        ensures name { name_of self.new ≡ name_of self.old }
+        ensures known { known_of self.new ≡ known_of self.old }
+        ensures news { news_of self.new ≡ news_of self.old }
     {
         self.connection.not_served(now);
     }

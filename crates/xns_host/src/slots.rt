@@ -13,7 +13,7 @@ ghost use Rattle.xns_spp.specs.Held.{StandsFor};
 ghost use Rattle.xns_spp.specs.State.{State};
 ghost use Rattle.xns_host.specs.Ours.{IsOf, IsToOpen};
 ghost use Rattle.xns_host.specs.Quotes.{is_opened_by};
-ghost use Rattle.xns_host.specs.Registered.{FitsEnd, FitsEndIn, name_in};
+ghost use Rattle.xns_host.specs.Registered.{FitsEnd, FitsEndIn, known_in, news_in};
 ghost use Rattle.xns_host.specs.Story.{asked_of};
 ghost use Rattle.xns_host.specs.Telling.{Goes, Keeps};
 ghost use Rattle.courier_sessions.specs.Answering.{answer_message};
@@ -138,7 +138,8 @@ pub fn call_in(
         (λ h. record h { made = h.made ++ words_call program version procedure words.now ∷ [] }) slot.new }
     ensures steps { (g : Guest) → slot.old ≡ Some g → StepsIn now g.connection (Some slot.new) }
     ensures unchanged { OnErr result (slot.new ≡ slot.old) }
-    ensures kept { name_in slot.new ≡ name_in slot.old }
+    ensures known { known_in slot.new ≡ known_in slot.old }
+    ensures news { news_in slot.new ≡ news_in slot.old }
     ensures fits { (g : Guest) → slot.old ≡ Some g → FitsEnd g → FitsEndIn slot.new }
 {
     let Some(guest) = slot else {
@@ -163,7 +164,8 @@ pub fn answer_in(
         → WentOn g.connection (λ h. record h { answers = h.answers ++ answer_message answer k words.now ∷ [] }) slot.new }
     ensures steps { (g : Guest) → slot.old ≡ Some g → StepsIn now g.connection (Some slot.new) }
     ensures unchanged { OnErr result (slot.new ≡ slot.old) }
-    ensures kept { name_in slot.new ≡ name_in slot.old }
+    ensures known { known_in slot.new ≡ known_in slot.old }
+    ensures news { news_in slot.new ≡ news_in slot.old }
     ensures fits { (g : Guest) → slot.old ≡ Some g → FitsEnd g → FitsEndIn slot.new }
 {
     let Some(guest) = slot else {
@@ -178,7 +180,8 @@ pub fn act_in(slot: &mut Option<Guest>, now: u64) -> bool
     ensures done { result ≡ is_done slot.new }
     ensures goes { (g : Guest) → slot.old ≡ Some g → LedTo Goes g.connection slot.new }
     ensures keeps { (g : Guest) → slot.old ≡ Some g → LedTo Keeps g.connection slot.new }
-    ensures kept { name_in slot.new ≡ name_in slot.old }
+    ensures known { known_in slot.new ≡ known_in slot.old }
+    ensures news { news_in slot.new ≡ news_in slot.old }
     ensures fits { (g : Guest) → slot.old ≡ Some g → FitsEnd g → FitsEndIn slot.new }
     ensures acts { now < last_time → (g : Guest) → slot.old ≡ Some g → HasActedIn now g.connection slot.new }
 {
@@ -197,7 +200,8 @@ pub fn not_served_in(slot: &mut Option<Guest>, now: u64, quote: &OpeningQuote) -
     ensures goes { (g : Guest) → slot.old ≡ Some g → LedTo Goes g.connection slot.new }
     ensures steps { (g : Guest) → slot.old ≡ Some g → StepsIn now g.connection (Some slot.new) }
     ensures unchanged { result ≡ false → slot.new ≡ slot.old }
-    ensures kept { name_in slot.new ≡ name_in slot.old }
+    ensures known { known_in slot.new ≡ known_in slot.old }
+    ensures news { news_in slot.new ≡ news_in slot.old }
     ensures fits { (g : Guest) → slot.old ≡ Some g → FitsEnd g → FitsEndIn slot.new }
 {
     let Some(guest) = slot else {
@@ -225,7 +229,7 @@ pub fn hear_in(
         → (result ≡ true) × HasHeard b g slot.new }
     ensures ours { result ≡ true → IsThere (IsOf packet.now) (Some slot.old) }
     ensures unchanged { result ≡ false → slot.new ≡ slot.old }
-    ensures kept { name_in slot.new ≡ name_in slot.old }
+    ensures known { known_in slot.new ≡ known_in slot.old }
     ensures fits { (g : Guest) → slot.old ≡ Some g → FitsEnd g → FitsEndIn slot.new }
 {
     let Some(guest) = slot else {
@@ -244,7 +248,7 @@ pub fn event_in(slot: &mut Option<Guest>, alloc: Global, now: u64, number: usize
     ensures event { result ≡ event_in number slot.old }
     ensures told { (g : Guest) → slot.old ≡ Some g → result ≢ None → HasToldIn now g.connection slot.new }
     ensures none { result ≡ None → slot.new ≡ slot.old }
-    ensures kept { name_in slot.new ≡ name_in slot.old }
+    ensures known { known_in slot.new ≡ known_in slot.old }
     ensures fits { (g : Guest) → slot.old ≡ Some g → FitsEnd g → FitsEndIn slot.new }
 {
     let Some(guest) = slot else {
@@ -279,7 +283,8 @@ pub fn packet_in(
     ensures given { IfOk result (λ made. IfSome made (λ o. IsGiven (Some slot.old) (Some slot.new) o)) }
     ensures goes { (g : Guest) → slot.old ≡ Some g → LedTo Goes g.connection slot.new }
     ensures keeps { ((o : Outgoing) → result ≢ Ok (Some o)) → (g : Guest) → slot.old ≡ Some g → LedTo Keeps g.connection slot.new }
-    ensures kept { name_in slot.new ≡ name_in slot.old }
+    ensures known { known_in slot.new ≡ known_in slot.old }
+    ensures news { news_in slot.new ≡ news_in slot.old }
     ensures fits { (g : Guest) → slot.old ≡ Some g → FitsEnd g → FitsEndIn slot.new }
     ensures steps { (g : Guest) → slot.old ≡ Some g → StepsIn now g.connection (Some slot.new) }
 {
@@ -307,7 +312,8 @@ pub fn close_in(
     ensures closed { (g : Guest) → slot.old ≡ Some g → IsAsked g.connection slot.new }
     ensures steps { (g : Guest) → slot.old ≡ Some g → StepsIn now g.connection (Some slot.new) }
     ensures unchanged { OnErr result (slot.new ≡ slot.old) }
-    ensures kept { name_in slot.new ≡ name_in slot.old }
+    ensures known { known_in slot.new ≡ known_in slot.old }
+    ensures news { news_in slot.new ≡ news_in slot.old }
     ensures fits { (g : Guest) → slot.old ≡ Some g → FitsEnd g → FitsEndIn slot.new }
 {
     let Some(guest) = slot else {

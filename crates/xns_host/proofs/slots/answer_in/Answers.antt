@@ -13,4 +13,4 @@ returns-clause-fits c = λ g is fits.
     c.answer.ensures.answer in
     let asked = asked_of_one c.in-Some.guest.connection.conversation c.args.answer c.args.words.now free in
     from_fits c.args.slot.now g c.in-Some.guest _ (λ h. record h { answers = h.answers ++ answer_message c.args.answer asked.0 c.args.words.now ∷ [] })
-    (λ s. refl) c.in-Some.is is c.answer.ensures.name (c.answer.ensures.answered asked.0 asked.1 good) fits
+    (λ s. refl) c.in-Some.is is c.answer.ensures.known (c.answer.ensures.answered asked.0 asked.1 good) fits

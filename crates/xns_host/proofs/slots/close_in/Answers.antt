@@ -6,4 +6,4 @@ pub returns-clause-closed : goal.returns-clause-closed
 returns-clause-closed c = λ g is. (goes_by c.args.slot.now g c.in-Some.guest c.in-Some.is is c.close.ensures.goes, c.close.ensures.asked, c.close.ensures.said, replied_by c.close.new.self.connection c.args.slot.now g c.in-Some.guest c.in-Some.is is c.close.ensures.replied)
 
 pub returns-clause-fits : goal.returns-clause-fits
-returns-clause-fits c = λ g is fits. goes_fits c.args.slot.now g c.in-Some.guest _ c.in-Some.is is c.close.ensures.name c.close.ensures.goes fits
+returns-clause-fits c = λ g is fits. goes_fits c.args.slot.now g c.in-Some.guest _ c.in-Some.is is c.close.ensures.known c.close.ensures.goes fits

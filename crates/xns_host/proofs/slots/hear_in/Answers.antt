@@ -32,7 +32,7 @@ returns-clause-heard c = λ b g s read is stands ours.
 pub returns-clause-fits : goal.returns-clause-fits
 returns-clause-fits c = λ g is fits.
     received_fits c.args.slot.now g c.in-Some.guest _ c.args.packet.now c.receive.result (spp_packet_spelling c.args.packet.now ++ []) c.in-Some.is is
-    (c.written_packet_is_read_again.ensures.again c.args.packet.now [] c.requires) c.receive.ensures.name c.receive.ensures.hears
+    (c.written_packet_is_read_again.ensures.again c.args.packet.now [] c.requires) c.receive.ensures.known c.receive.ensures.hears
     c.receive.ensures.unchanged fits
 
 pub returns-clause-ours : goal.returns-clause-ours

@@ -43,7 +43,7 @@ pub returns-clause-goes : goal.returns-clause-goes
 returns-clause-goes c = λ g is. goes_by c.args.slot.now g c.in-Some.guest c.in-Some.is is c.not_served.ensures.goes
 
 pub returns-clause-fits : goal.returns-clause-fits
-returns-clause-fits c = λ g is fits. goes_fits c.args.slot.now g c.in-Some.guest _ c.in-Some.is is c.not_served.ensures.name c.not_served.ensures.goes fits
+returns-clause-fits c = λ g is fits. goes_fits c.args.slot.now g c.in-Some.guest _ c.in-Some.is is c.not_served.ensures.known c.not_served.ensures.goes fits
 
 pub returns-clause-ours : goal.returns-clause-ours
 returns-clause-ours c = λ yes. record {

@@ -36,7 +36,7 @@ returns-clause-goes c =
     = set_there c.args.self.now.guests.items c.as_slice.result.now c.args.number c.act_in-done.new.slot less items in
     each_then c.args.self.now.guests.items c.as_slice.result.now c.settle.new.self.guests.items
     (each_set c.args.self.now.guests.items c.as_slice.result.now c.args.number c.index_mut.result.now c.act_in-done.new.slot less (search rules) items
-    c.act_in-done.ensures.kept (search rules))
+    c.act_in-done.ensures.known (search rules))
     (each_settled c.as_slice.result.now c.settle.new.self.guests.items c.args.number c.act_in-done.new.slot c.act_in-done.result there
     c.act_in-done.ensures.done (search rules) (search rules) (search rules))
 
@@ -48,6 +48,6 @@ returns-clause-keeps c =
     = set_there c.args.self.now.guests.items c.as_slice.result.now c.args.number c.act_in-done.new.slot less items in
     all_then keeping c.args.self.now.guests.items c.as_slice.result.now c.settle.new.self.guests.items
     (all_set keeping c.args.self.now.guests.items c.as_slice.result.now c.args.number c.index_mut.result.now c.act_in-done.new.slot less (search rules) items
-    c.act_in-done.ensures.kept c.act_in-done.ensures.keeps)
+    c.act_in-done.ensures.known c.act_in-done.ensures.keeps)
     (all_settled keeping c.as_slice.result.now c.settle.new.self.guests.items c.args.number c.act_in-done.new.slot c.act_in-done.result there
     c.act_in-done.ensures.done (search rules) (search rules) (search rules))

@@ -71,6 +71,8 @@ returns-clause-connected c = record {
   via = refl;
   peer = refl;
   opener = refl;
+  confirmed = refl;
+  heard_of = refl;
 }
 
 pub returns-clause-place : goal.returns-clause-place

@@ -26,7 +26,7 @@ invariant_of-self c =
       noted = rw c.pass_event.ensures.passed (told_nothing c.args.self.now.agenda c.args.self.now.guests.items c.args.number (length c.args.self.now.agenda.dues)
           c.index_mut.result.now c.event_in-event.new.slot c.args.self.now.noted c.pass_event.ensures.room less c.requires old same quiet);
       registered = still_registered c.args.self.now.register c.args.self.now.guests.items c.args.number c.index_mut.result.now c.event_in-event.new.slot
-          c.args.self.now.registered c.event_in-event.ensures.kept c.event_in-event.ensures.fits old c.requires;
+          c.args.self.now.registered c.event_in-event.ensures.known c.event_in-event.ensures.fits old c.requires;
     }
 
 pub note-requires-clause-others : goal.note-requires-clause-others

@@ -28,7 +28,7 @@ returns-clause-closed c = λ g s place there stands opened unclosed here.
 pub returns-clause-goes : goal.returns-clause-goes
 returns-clause-goes c =
     each_set c.args.self.now.guests.items (slice_set c.args.self.now.guests.items c.args.number c.not_served_in-closed.new.slot) c.args.number
-    c.index_mut.result.now c.not_served_in-closed.new.slot (omega arith) (search rules) refl c.not_served_in-closed.ensures.kept
+    c.index_mut.result.now c.not_served_in-closed.new.slot (omega arith) (search rules) refl c.not_served_in-closed.ensures.known
     c.not_served_in-closed.ensures.goes
 
 pub returns-then-number-len-clause-steps : goal.returns-then-number-len-clause-steps

@@ -88,5 +88,7 @@ returns-clause-opened c = record {
     unclosed = c.in-Ok.ensures.open.0;
     via = refl;
     peer = refl;
+    confirmed = refl;
+    heard_of = refl;
   };
 }

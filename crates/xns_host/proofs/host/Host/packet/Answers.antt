@@ -28,7 +28,7 @@ returns-in-Err-clause-steps c =
 pub returns-in-Ok-clause-goes : goal.returns-in-Ok-clause-goes
 returns-in-Ok-clause-goes c =
     each_set c.args.self.now.guests.items (slice_set c.args.self.now.guests.items c.args.number c.packet_in-made.new.slot) c.args.number
-    c.index_mut.result.now c.packet_in-made.new.slot c.requires (search rules) refl c.packet_in-made.ensures.kept c.packet_in-made.ensures.goes
+    c.index_mut.result.now c.packet_in-made.new.slot c.requires (search rules) refl c.packet_in-made.ensures.known c.packet_in-made.ensures.goes
 
 pub returns-in-Ok-clause-given : goal.returns-in-Ok-clause-given
 returns-in-Ok-clause-given c =
@@ -38,13 +38,13 @@ returns-in-Ok-clause-given c =
 pub returns-in-Ok-clause-keeps : goal.returns-in-Ok-clause-keeps
 returns-in-Ok-clause-keeps c = λ none.
     all_set keeping c.args.self.now.guests.items (slice_set c.args.self.now.guests.items c.args.number c.packet_in-made.new.slot) c.args.number
-    c.index_mut.result.now c.packet_in-made.new.slot c.requires (search rules) refl c.packet_in-made.ensures.kept
+    c.index_mut.result.now c.packet_in-made.new.slot c.requires (search rules) refl c.packet_in-made.ensures.known
     (c.packet_in-made.ensures.keeps (λ o made. let some : c.in-Ok.packet ≡ Some o = (let e = sym c.in-Ok.is ∙ made in cc) in none o (ap Ok some)))
 
 pub returns-in-Err-clause-keeps : goal.returns-in-Err-clause-keeps
 returns-in-Err-clause-keeps c = λ none.
     all_set keeping c.args.self.now.guests.items (slice_set c.args.self.now.guests.items c.args.number c.packet_in-made.new.slot) c.args.number
-    c.index_mut.result.now c.packet_in-made.new.slot c.requires (search rules) refl c.packet_in-made.ensures.kept
+    c.index_mut.result.now c.packet_in-made.new.slot c.requires (search rules) refl c.packet_in-made.ensures.known
     (c.packet_in-made.ensures.keeps (λ o made. absurd (search rules)))
 
 pub returns-in-Ok-clause-rested : goal.returns-in-Ok-clause-rested
@@ -60,4 +60,4 @@ returns-in-Ok-clause-rested c = λ none.
 pub returns-in-Err-clause-goes : goal.returns-in-Err-clause-goes
 returns-in-Err-clause-goes c =
     each_set c.args.self.now.guests.items (slice_set c.args.self.now.guests.items c.args.number c.packet_in-made.new.slot) c.args.number
-    c.index_mut.result.now c.packet_in-made.new.slot c.requires (search rules) refl c.packet_in-made.ensures.kept c.packet_in-made.ensures.goes
+    c.index_mut.result.now c.packet_in-made.new.slot c.requires (search rules) refl c.packet_in-made.ensures.known c.packet_in-made.ensures.goes
