@@ -1,5 +1,5 @@
 -- The register leads to each connection what names it.
-use Rattle.std.proofs.Common.{◌≡◌, ◌≢◌, ◌∙◌, ◌⊎◌, inl, inr, ap, refl, subst, sym, ℕ, ◌<◌, Bool, true, false, List, length, replicate, Option, Some, None, slice_get, get_or}
+use Rattle.std.proofs.Common.{◌≡◌, ◌≢◌, ◌∙◌, ◌⊎◌, inl, inr, ap, refl, subst, sym, ℕ, zero, suc, ◌<◌, Bool, true, false, List, [], ◌∷◌, length, replicate, Option, Some, None, slice_get, get_or}
 use Rattle.std.specs.Prelude.{IfSome, position, slice_set}
 use Rattle.std.specs.BTreeMap.{BTreeMap, IsUnchanged, Updates, get, is_at}
 use Rattle.std.specs.Map.{lookup}
@@ -114,10 +114,32 @@ left_own : (r s : Register) (g h : Guest) (n : ℕ) → s.identifiers ≡ record
 left_own r s g h n released other is =
     ap (λ (ids : Ids). owner_in ids h.id) released ∙ get_or-set_other r.identifiers.owners g.id h.id None None other.own ∙ is
 
+-- where nobody has an identifier, it is nobody's
+cleared : (owners : List (Option ℕ)) (id : ℕ) → get_or (slice_set owners id None) id None ≡ None
+cleared [] id = refl
+cleared (x ∷ xs) zero = refl
+cleared (x ∷ xs) (suc id) = cleared xs id
+
+gone_own : (r s : Register) (g h : Guest) → s.identifiers ≡ record r.identifiers { owners = slice_set r.identifiers.owners g.id None } → g ≡ h
+    → owner_in s.identifiers h.id ≡ None
+gone_own r s g h released same =
+    ap (λ (ids : Ids). owner_in ids h.id) released ∙ ap (λ (x : Guest). get_or (slice_set r.identifiers.owners g.id None) x.id None) (sym same)
+    ∙ cleared r.identifiers.owners g.id
+
+-- the one that was in the place is this
+same_guest : (place : Option (Option Guest)) (p : Option Guest) (g h : Guest) → place ≡ Some p → p ≡ Some g → place ≡ Some (Some h) → g ≡ h
+same_guest place p g h there is was = same_Some g h (sym is ∙ one_place p (Some h) place there was)
+
 pub left : (r s : Register) (place : Option (Option Guest)) (p : Option Guest) (g : Guest) → place ≡ Some p → p ≡ Some g
     → s.identifiers ≡ record r.identifiers { owners = slice_set r.identifiers.owners g.id None } → g.opener ≡ None → s.peers ≡ r.peers
     → HasLeft r s place
 left r s place p g there is released none same = record {
+  gone = λ h was.
+      let one : g ≡ h = same_guest place p g h there is was in
+      record {
+        own = gone_own r s g h released one;
+        opener = λ o opened. let both = sym none ∙ ap (λ (x : Guest). x.opener) one ∙ opened in absurd (cc);
+      };
   others = λ n h at other. record {
     fits = at.fits;
     known = at.known;
@@ -130,6 +152,15 @@ pub left_opened : (r t s : Register) (place : Option (Option Guest)) (p : Option
     → t.identifiers ≡ record r.identifiers { owners = slice_set r.identifiers.owners g.id None } → t.peers ≡ r.peers → g.opener ≡ Some opener
     → s.identifiers ≡ t.identifiers → Updates peer_cmp t.peers s.peers opener None → HasLeft r s place
 left_opened r t s place p g opener there is released peers opened same u = record {
+  gone = λ h was.
+      let one : g ≡ h = same_guest place p g h there is was in
+      record {
+        own = gone_own r s g h (same ∙ released) one;
+        opener = λ o by.
+            let both : Some opener ≡ Some o = sym opened ∙ ap (λ (x : Guest). x.opener) one ∙ by in
+            let who : opener ≡ o = same_Some opener o both in
+            ap (λ (x : Peer). get peer_cmp s.peers x) (sym who) ∙ u.1;
+      };
   others = λ n h at other.
       let apart = other g (there ∙ ap Some is) in
       record {
@@ -142,8 +173,11 @@ left_opened r t s place p g opener there is released peers opened same u = recor
 }
 
 -- where there is none, nothing leaves
-pub none_left : (r : Register) (place : Option (Option Guest)) → HasLeft r r place
-none_left r place = record { others = λ n g is other. is }
+pub none_left : (r : Register) (place : Option (Option Guest)) (p : Option Guest) → place ≡ Some p → p ≡ None → HasLeft r r place
+none_left r place p there is = record {
+  gone = λ g was. let both = sym is ∙ one_place p (Some g) place there was in absurd (cc);
+  others = λ n g at other. at;
+}
 
 pub forgotten : (r s : Register) (gs hs : Places) (n : ℕ) → IsAllRegistered r gs → n < length gs → hs ≡ slice_set gs n None
     → HasLeft r s (slice_get gs n) → IsAllRegistered s hs

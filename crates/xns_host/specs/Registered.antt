@@ -68,6 +68,12 @@ pub record IsAnother (g h : Guest) : Type 0 where
   pub own : h.id ≢ g.id
   pub opener : (o : Peer) → g.opener ≡ Some o → h.opener ≢ Some o
 
--- the connection in this place left the register: to each other one it leads still
+-- the register leads to none what names this connection
+pub record IsUnregistered (r : Register) (g : Guest) : Type 0 where
+  pub own : owner_in r.identifiers g.id ≡ None
+  pub opener : (o : Peer) → g.opener ≡ Some o → get peer_cmp r.peers o ≡ None
+
+-- the connection in this place left the register: nothing leads to it any longer, and to each other one it leads still
 pub record HasLeft (old new : Register) (place : Option (Option Guest)) : Type 0 where
+  pub gone : (g : Guest) → place ≡ Some (Some g) → IsUnregistered new g
   pub others : (n : ℕ) (g : Guest) → IsRegistered old n g → ((h : Guest) → place ≡ Some (Some h) → IsAnother h g) → IsRegistered new n g

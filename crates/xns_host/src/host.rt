@@ -196,7 +196,9 @@ impl Host {
         requires { number < length self.old.guests.items }
         ensures apart { IsApart self.old.guests.items self.new.guests.items number }
         ensures gone { done ≡ true → slice_get self.new.guests.items number ≡ Some None }
+        ensures left { done ≡ true → HasLeft self.old.register self.new.register (slice_get self.old.guests.items number) }
         ensures kept { done ≡ false → self.new.guests.items ≡ self.old.guests.items }
+        ensures register { done ≡ false → self.new.register ≡ self.old.register }
         ensures strays { self.new.strays ≡ self.old.strays }
         ensures set_up { StaysSetUp self.old self.new }
     {

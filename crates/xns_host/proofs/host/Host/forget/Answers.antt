@@ -7,7 +7,12 @@ use Rattle.xns_host.proofs.host.Host.forget.Goals as goal
 pub invariant_of-self-clause-registered : goal.invariant_of-self-clause-registered
 invariant_of-self-clause-registered c =
     forgotten c.args.self.now.register c.args.self.now.register c.args.self.now.guests.items c.vacate.new.guests.items c.args.number c.args.self.now.registered c.requires
-    c.vacate.ensures.gone (none_left c.args.self.now.register (slice_get c.args.self.now.guests.items c.args.number))
+    c.vacate.ensures.gone (none_left c.args.self.now.register (slice_get c.args.self.now.guests.items c.args.number) c.vacate.result
+    c.vacate.ensures.taken (search rules))
+
+pub returns-in_default-clause-left : goal.returns-in_default-clause-left
+returns-in_default-clause-left c =
+    none_left c.args.self.now.register (slice_get c.args.self.now.guests.items c.args.number) c.vacate.result c.vacate.ensures.taken (search rules)
 
 pub returns-in_default-clause-apart : goal.returns-in_default-clause-apart
 returns-in_default-clause-apart c = set_apart c.args.self.now.guests.items c.vacate.new.guests.items c.args.number None c.vacate.ensures.gone
