@@ -142,11 +142,12 @@ abbrev pub HasActedIn : ℕ → Connection → Option Guest → Type 0
 HasActedIn now c None = ⊥
 HasActedIn now c (Some g) = HasActed now c g.connection
 
--- and it is in this place or forgotten
+-- and it is in this place or forgotten: one that may be forgotten now, and could not be before, is
 pub record ActsIn (now : ℕ) (c : Connection) (place : Option (Option Guest)) : Type 0 where
   pub next : Connection
   pub acts : HasActed now c next
   pub stays : StaysIn next place
+  pub gone : may_go c ≡ false → may_go next ≡ true → place ≡ Some None
 
 -- so it was of each connection
 abbrev pub EachActs : ℕ → (old new : List (Option Guest)) → Type 0
@@ -181,11 +182,12 @@ abbrev pub HasToldIn : ℕ → Connection → Option Guest → Type 0
 HasToldIn now c None = ⊥
 HasToldIn now c (Some g) = HasTold now c g.connection
 
--- and it is in this place or forgotten
+-- and it is in this place or forgotten: one that may be forgotten is
 pub record TellsIn (now : ℕ) (c : Connection) (place : Option (Option Guest)) : Type 0 where
   pub next : Connection
   pub told : HasTold now c next
   pub stays : StaysIn next place
+  pub gone : may_go next ≡ true → place ≡ Some None
 
 -- the event is what one of the connections had to tell, once, at this time, and the others are as they were
 pub record IsNextEvent (now : ℕ) (old new : List (Option Guest)) (event : Event) : Type 0 where
