@@ -5,16 +5,18 @@ use Rattle.std.specs.Option.{is_none, is_some}
 use Rattle.std.proofs.lemmas.Bool.{le-leb, leb-false, lt-leb}
 use Rattle.std.proofs.Math.Nat.{le-min}
 use Rattle.xns_agenda.specs.Agenda.{Plan}
+use Rattle.xns_host.specs.Connecting.{owed_after}
 use Rattle.xns_host.specs.Hosting.{ActsIn, DoesDue, EachActs, EachSteps, StepsIn, HasActed, HasActedIn, IsAllNoted, IsApart, StaysIn, facts_in, forgotten, is_done, may_go, stays}
 use Rattle.xns_agenda.specs.Times.{HasNoneBy, IsFirstBy}
 use Rattle.xns_agenda.specs.Waiting.{StepsAt, still, step, close, HearsAt, no_word, word, after_step, after_word, lingering}
-use Rattle.xns_agenda.specs.Waiting.{Waiting, IsWaiting, IsDueAfter, act_by, after_act, after_by, due_time, last_time, later, unless_silent}
+use Rattle.xns_agenda.specs.Waiting.{Waiting, IsWaiting, IsDueAfter, act_at, act_by, after_act, after_by, due_time, last_time, later, unless_silent}
 use Rattle.xns_agenda.specs.declared.act.Act.{Act}
 use Rattle.xns_agenda.specs.declared.act.Act.TheVariants.{Nothing, Again, Ask, GiveUp, Forget}
 use Rattle.xns_host.specs.declared.connection.Connection.{Connection}
 use Rattle.xns_agenda.specs.declared.due.Due.{Due}
 use Rattle.xns_agenda.specs.declared.due.Due.TheVariants.{Never, AgainAt, AskAt, ForgetAt}
 use Rattle.xns_host.specs.declared.guest.Guest.{Guest}
+use Rattle.xns_host.specs.declared.owed.Owed.{Owed}
 use Rattle.xns_host.proofs.Going.{settled}
 use Rattle.xns_host.proofs.Apart.{set_there}
 use Rattle.xns_host.proofs.Noting.{place_other, same_or_other, same_place}
@@ -33,6 +35,7 @@ act_settled a b n now c (Some g) done there acted is gone kept = record {
   next = g.connection;
   acts = acted;
   stays = settled a b n g done there is gone kept;
+  gone = λ was go. gone (is ∙ go);
 }
 
 -- ---- doing what is due again does nothing
@@ -60,6 +63,20 @@ idle_by w Never now after = refl
 idle_by w (AgainAt t) now after = still_by (nat_le t now) w (unless_silent w Again) now (lt-leb t now (after t refl))
 idle_by w (AskAt t) now after = still_by (nat_le t now) w (unless_silent w Ask) now (lt-leb t now (after t refl))
 idle_by w (ForgetAt t) now after = still_by (nat_le t now) w Forget now (lt-leb t now (after t refl))
+
+not_by : (b : Bool) (a : Act) → b ≡ false → (if b then a else Nothing) ≡ Nothing
+not_by true a is = absurd (cc)
+not_by false a is = refl
+
+no_act : (w : Waiting) (d : Due) (now : ℕ) → IsDueAfter now d → act_by w d now ≡ Nothing
+no_act w Never now after = refl
+no_act w (AgainAt t) now after = not_by (nat_le t now) (unless_silent w Again) (lt-leb t now (after t refl))
+no_act w (AskAt t) now after = not_by (nat_le t now) (unless_silent w Ask) (lt-leb t now (after t refl))
+no_act w (ForgetAt t) now after = not_by (nat_le t now) Forget (lt-leb t now (after t refl))
+
+-- and nothing more is owed
+owes_on : (o : Owed) (w : Waiting) (now : ℕ) → IsDueAfter now w.due → owed_after o (act_at w now) ≡ o
+owes_on o w now after = ap (λ (a : Act). owed_after o a) (no_act w w.due now after)
 
 nothing_acts : (w : Waiting) (now : ℕ) → IsDueAfter now w.due → after_act w now ≡ w
 nothing_acts w now after = idle_by w w.due now after
@@ -153,11 +170,16 @@ none_due now (g ∷ gs) none (suc k) p there = none_due now gs (omega (arith, no
 
 -- ---- round after round
 
+-- what is due of the one connection now leads to what it leads to of the other
+abbrev Leads : ℕ → (c d : Connection) → Type 0
+Leads now c d = (after_act d.wait now ≡ after_act c.wait now) × (owed_after d.owed (act_at d.wait now) ≡ owed_after c.owed (act_at c.wait now))
+
 -- what is due of the connection in this place now leads to what it led to at first
 record WillAct (now : ℕ) (c : Connection) (place : Option (Option Guest)) : Type 0 where
   next : Connection
-  will : after_act next.wait now ≡ after_act c.wait now
+  will : Leads now c next
   stays : StaysIn next place
+  gone : may_go c ≡ false → may_go next ≡ true → place ≡ Some None
 
 -- and each round leaves one place fewer in which something is due
 pub record SoFar (now : ℕ) (first gs : Places) (rounds : ℕ) : Type 0 where
@@ -166,7 +188,12 @@ pub record SoFar (now : ℕ) (first gs : Places) (rounds : ℕ) : Type 0 where
 
 pub at_first : (now : ℕ) (first : Places) → SoFar now first first 0
 at_first now first = record {
-  will = λ k g there. record { next = g.connection; will = refl; stays = subst (λ (q : Option (Option Guest)). StaysIn g.connection q) (sym there) (stays g refl) };
+  will = λ k g there. record {
+    next = g.connection;
+    will = (refl, refl);
+    stays = subst (λ (q : Option (Option Guest)). StaysIn g.connection q) (sym there) (stays g refl);
+    gone = λ was go. absurd (cc);
+  };
   few = let most = dues_few now first in omega (arith, most);
 }
 
@@ -191,20 +218,35 @@ one_at o a b left right = cc
 not_both : {X : Type 0} (o : Option (Option X)) (a : X) → o ≡ Some (Some a) → o ≡ Some None → ⊥
 not_both o a left right = cc
 
+-- who is in a place is not gone
+not_gone : (b : Bool) (place : Option (Option Guest)) (g : Guest) → place ≡ Some (Some g) → (b ≡ true → place ≡ Some None) → b ≡ false
+not_gone true place g there gone = absurd (not_both place g there (gone refl))
+not_gone false place g there gone = refl
+
 then_will : (now : ℕ) (c : Connection) (g : Guest) (place next_place : Option (Option Guest)) → WillAct now c place → place ≡ Some (Some g)
     → ActsIn now g.connection next_place → WillAct now c next_place
-then_will now c g place next_place will there acted = by will.next place will.will refl will.stays where
-  after : (d : Connection) → g.connection ≡ d → after_act d.wait now ≡ after_act c.wait now → WillAct now c next_place
-  after d here leads = record {
-    next = acted.next;
-    will = nothing_acts acted.next.wait now acted.acts.later ∙ acted.acts.wait ∙ ap (λ (x : Connection). after_act x.wait now) here ∙ leads;
-    stays = acted.stays;
-  }
+then_will now c g place next_place will there acted =
+    by will.next place will.will refl will.stays (λ was. not_gone (may_go will.next) place g there (will.gone was)) where
+      after : (d : Connection) → g.connection ≡ d → Leads now c d → (may_go c ≡ false → may_go d ≡ false)
+          → WillAct now c next_place
+      after d here leads kept =
+          let next_wait : after_act acted.next.wait now ≡ after_act c.wait now
+          = nothing_acts acted.next.wait now acted.acts.later ∙ acted.acts.wait ∙ ap (λ (x : Connection). after_act x.wait now) here ∙ leads.0 in
+          let next_owed : owed_after acted.next.owed (act_at acted.next.wait now) ≡ owed_after c.owed (act_at c.wait now)
+          = owes_on acted.next.owed acted.next.wait now acted.acts.later ∙ acted.acts.owed
+          ∙ ap (λ (x : Connection). owed_after x.owed (act_at x.wait now)) here ∙ leads.1 in
+          record {
+            next = acted.next;
+            will = (next_wait, next_owed);
+            stays = acted.stays;
+            gone = λ was go. acted.gone (ap may_go here ∙ kept was) go;
+          }
 
-  by : (d : Connection) (q : Option (Option Guest)) → after_act d.wait now ≡ after_act c.wait now → place ≡ q → StaysIn d q → WillAct now c next_place
-  by d (Some (Some _)) leads is (stays h same) = after d (ap (λ (x : Guest). x.connection) (one_at place g h there is) ∙ same) leads
-  by d (Some None) leads is (forgotten gone) = absurd (not_both place g there is)
-  by d None leads is at = elim at [ ]
+      by : (d : Connection) (q : Option (Option Guest)) → Leads now c d → place ≡ q → StaysIn d q
+          → (may_go c ≡ false → may_go d ≡ false) → WillAct now c next_place
+      by d (Some (Some _)) leads is (stays h same) kept = after d (ap (λ (x : Guest). x.connection) (one_at place g h there is) ∙ same) leads kept
+      by d (Some None) leads is (forgotten gone) kept = absurd (not_both place g there is)
+      by d None leads is at kept = elim at [ ]
 
 pub one_more : (now : ℕ) (first gs hs : Places) (a : Plan) (n rounds : ℕ) → SoFar now first gs rounds → IsAllNoted a gs → length gs ≡ length a.dues
     → IsFirstBy a.dues now n → ((g : Guest) → slice_get gs n ≡ Some (Some g) → ActsIn now g.connection (slice_get hs n)) → IsApart gs hs n
@@ -232,25 +274,32 @@ one_more now first gs hs a n rounds before all sized due acts apart =
 
 at_last : (now : ℕ) (first gs : Places) (rounds : ℕ) → SoFar now first gs rounds
     → ((k : ℕ) (p : Option Guest) → slice_get gs k ≡ Some p → is_due_in now p ≡ false) → EachActs now first gs
-at_last now first gs rounds before none = λ k g there. let w = before.will k g there in by k g w.next w.will _ refl w.stays where
-  acted : (c d : Connection) → after_act d.wait now ≡ after_act c.wait now → IsDueAfter now d.wait.due → HasActed now c d
-  acted c d leads after = record { wait = sym (nothing_acts d.wait now after) ∙ leads; later = after }
+at_last now first gs rounds before none = λ k g there. let w = before.will k g there in by k g w.next w.will _ refl w.stays w.gone where
+  acted : (c d : Connection) → Leads now c d → IsDueAfter now d.wait.due → HasActed now c d
+  acted c d leads after = record {
+    wait = sym (nothing_acts d.wait now after) ∙ leads.0;
+    owed = sym (owes_on d.owed d.wait now after) ∙ leads.1;
+    later = after;
+  }
 
-  by : (k : ℕ) (g : Guest) (d : Connection) → after_act d.wait now ≡ after_act g.connection.wait now → (q : Option (Option Guest))
-      → slice_get gs k ≡ q → StaysIn d q → ActsIn now g.connection (slice_get gs k)
-  by k g d leads (Some (Some _)) is (stays h same) =
+  by : (k : ℕ) (g : Guest) (d : Connection) → Leads now g.connection d → (q : Option (Option Guest))
+      → slice_get gs k ≡ q → StaysIn d q → (may_go g.connection ≡ false → may_go d ≡ true → slice_get gs k ≡ Some None)
+      → ActsIn now g.connection (slice_get gs k)
+  by k g d leads (Some (Some _)) is (stays h same) left =
       let after : IsDueAfter now h.connection.wait.due = not_due now (due_time h.connection.wait.due) (none k (Some h) is) in
       record {
         next = d;
         acts = acted g.connection d leads (subst (λ (x : Connection). IsDueAfter now x.wait.due) same after);
         stays = subst (λ (r : Option (Option Guest)). StaysIn d r) (sym is) (stays h same);
+        gone = left;
       }
-  by k g d leads (Some None) is (forgotten gone) = record {
+  by k g d leads (Some None) is (forgotten gone) left = record {
     next = d;
     acts = acted g.connection d leads (gone_due now d gone);
     stays = subst (λ (r : Option (Option Guest)). StaysIn d r) (sym is) (forgotten gone);
+    gone = left;
   }
-  by k g d leads None is at = elim at [ ]
+  by k g d leads None is at left = elim at [ ]
 
 -- nothing is due any longer
 pub done_early : (now : ℕ) (first gs : Places) (a : Plan) (rounds : ℕ) → SoFar now first gs rounds → IsAllNoted a gs → HasNoneBy a.dues now

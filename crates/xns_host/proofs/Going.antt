@@ -223,6 +223,7 @@ told_settled now a b n c (Some g) done there told is gone kept = record {
   next = g.connection;
   told = told;
   stays = settled a b n g done there is gone kept;
+  gone = λ go. gone (is ∙ go);
 }
 
 -- ---- one that is not served

@@ -15,6 +15,7 @@ use Rattle.xns_spp.specs.Packet.{SppPacketModel}
 use Rattle.xns_spp.specs.Receiving.{StoresBytes}
 use Rattle.xns_spp.specs.State.{State, initiator_state, responder_state}
 use Rattle.xns_agenda.specs.Agenda.{Plan, IsNoted}
+use Rattle.xns_host.specs.Connecting.{owed_after}
 use Rattle.xns_host.specs.Events.{event_in}
 use Rattle.xns_host.specs.Identifiers.{Ids, IsNext, is_free}
 use Rattle.courier_messages.specs.declared.message.Message.{Message}
@@ -26,7 +27,7 @@ use Rattle.xns_host.specs.Story.{Story, has_message, new_story, waiting_message,
 use Rattle.xns_host.specs.Telling.{Tells, Goes, HasSaidEnd, HasSaidReply, Hears, Keeps, MovesAndGives}
 use Rattle.xns_agenda.specs.Times.{IsBy}
 use Rattle.xns_agenda.specs.Turns.{has_turn}
-use Rattle.xns_agenda.specs.Waiting.{HearsAt, IsDueAfter, StepsAt, after_act, due_time, lingering}
+use Rattle.xns_agenda.specs.Waiting.{HearsAt, IsDueAfter, StepsAt, act_at, after_act, due_time, lingering}
 use Rattle.xns_host.specs.declared.connection.Connection.{Connection}
 use Rattle.xns_host.specs.declared.conversation.Conversation.{Conversation}
 use Rattle.xns_host.specs.declared.event.Event.{Event}
@@ -132,9 +133,10 @@ EachGoes old new = Each Goes old new
 abbrev pub EachKeeps : (old new : List (Option Guest)) → Type 0
 EachKeeps old new = Each Keeps old new
 
--- what was due of the connection at this time was done, and nothing of it is due then
+-- what was due of the connection at this time was done, it owes what that says, and nothing of it is due then
 pub record HasActed (now : ℕ) (c next : Connection) : Type 0 where
   pub wait : next.wait ≡ after_act c.wait now
+  pub owed : next.owed ≡ owed_after c.owed (act_at c.wait now)
   pub later : IsDueAfter now next.wait.due
 
 -- it is the one in this place
@@ -142,11 +144,12 @@ abbrev pub HasActedIn : ℕ → Connection → Option Guest → Type 0
 HasActedIn now c None = ⊥
 HasActedIn now c (Some g) = HasActed now c g.connection
 
--- and it is in this place or forgotten
+-- and it is in this place or forgotten: one that may be forgotten now, and could not be before, is
 pub record ActsIn (now : ℕ) (c : Connection) (place : Option (Option Guest)) : Type 0 where
   pub next : Connection
   pub acts : HasActed now c next
   pub stays : StaysIn next place
+  pub gone : may_go c ≡ false → may_go next ≡ true → place ≡ Some None
 
 -- so it was of each connection
 abbrev pub EachActs : ℕ → (old new : List (Option Guest)) → Type 0
@@ -181,11 +184,12 @@ abbrev pub HasToldIn : ℕ → Connection → Option Guest → Type 0
 HasToldIn now c None = ⊥
 HasToldIn now c (Some g) = HasTold now c g.connection
 
--- and it is in this place or forgotten
+-- and it is in this place or forgotten: one that may be forgotten is
 pub record TellsIn (now : ℕ) (c : Connection) (place : Option (Option Guest)) : Type 0 where
   pub next : Connection
   pub told : HasTold now c next
   pub stays : StaysIn next place
+  pub gone : may_go next ≡ true → place ≡ Some None
 
 -- the event is what one of the connections had to tell, once, at this time, and the others are as they were
 pub record IsNextEvent (now : ℕ) (old new : List (Option Guest)) (event : Event) : Type 0 where
@@ -290,7 +294,7 @@ abbrev pub address_in : ℕ → List ℕ → ℕ → Address
 address_in network host socket = record { network = network; host = host; socket = socket }
 
 -- with this number there is a connection of ours to the peer, which was made at this time and has done nothing yet: it has the identifier
--- that came next of these, and its packets go out by this way
+-- that came next of these, and its packets go out by this way; it owes its opening packet, and the program was told nothing of it
 pub record IsConnected (guests : List (Option Guest)) (number : ℕ) (settings : Settings) (ids : Ids) (own to : Address) (way now : ℕ)
     : Type 0 where
   pub guest : Guest
@@ -299,6 +303,9 @@ pub record IsConnected (guests : List (Option Guest)) (number : ℕ) (settings :
   pub tells : Tells guest.connection.conversation (new_story None (initiator_state own guest.id to settings.window settings.backlog))
   pub begun : IsBegun settings now guest.connection.wait
   pub unclosed : guest.connection.closed ≡ None
+  pub owes : guest.connection.owed.again ≡ true
+  pub fresh : guest.connection.owed.fresh ≡ true
+  pub untold : guest.connection.told ≡ false
   pub via : guest.via ≡ way
   pub peer : guest.peer ≡ to
   pub opener : guest.opener ≡ None
@@ -360,7 +367,7 @@ pub data HasHeard (bytes : List ℕ) (g : Guest) : Option Guest → Type 0 where
   loses : ((s : State) → StandsFor g.connection.conversation.endpoint s → StoresBytes s bytes) → HasHeard bytes g (Some g)
 
 -- a peer, with this identifier, opened this connection at an address of ours at this time, and nothing was said in it: it has the
--- identifier that came next of these, and its packets go out by this way
+-- identifier that came next of these, and its packets go out by this way; one may be to go out, and the program was told nothing of it
 pub record IsAnswering (settings : Settings) (ids : Ids) (own opener : Address) (id way now : ℕ) (programs : List Program) (guest : Guest)
     : Type 0 where
   pub next : IsNext ids guest.id
@@ -368,6 +375,8 @@ pub record IsAnswering (settings : Settings) (ids : Ids) (own opener : Address) 
       (new_story (Some programs) (responder_state own guest.id opener id settings.window settings.backlog))
   pub begun : IsBegun settings now guest.connection.wait
   pub unclosed : guest.connection.closed ≡ None
+  pub fresh : guest.connection.owed.fresh ≡ true
+  pub untold : guest.connection.told ≡ false
   pub via : guest.via ≡ way
   pub peer : guest.peer ≡ opener
   pub confirmed : guest.confirmed ≡ false

@@ -68,6 +68,9 @@ returns-clause-connected c = record {
       c.address-own.ensures c.in-Ok.ensures.tells;
   begun = subst (λ (t : ℕ). IsBegun c.args.self.now.settings t c.in-Ok.connection.wait) c.tell-now.ensures.result c.in-Ok.ensures.begun;
   unclosed = c.in-Ok.ensures.open.0;
+  owes = c.in-Ok.ensures.open.1;
+  fresh = c.in-Ok.ensures.fresh.1;
+  untold = c.in-Ok.ensures.fresh.0;
   via = refl;
   peer = refl;
   opener = refl;

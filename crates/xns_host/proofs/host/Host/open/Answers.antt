@@ -86,6 +86,8 @@ returns-clause-opened c = record {
         c.address-own.ensures c.in-Ok.ensures.tells;
     begun = c.in-Ok.ensures.begun;
     unclosed = c.in-Ok.ensures.open.0;
+    fresh = c.in-Ok.ensures.fresh.1;
+    untold = c.in-Ok.ensures.fresh.0;
     via = refl;
     peer = refl;
     confirmed = refl;
