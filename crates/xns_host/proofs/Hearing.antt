@@ -1,6 +1,6 @@
 -- What became of connections by a packet.
 use Rattle.std.proofs.Common.{◌≡◌, ◌≢◌, ◌∙◌, ◌⊎◌, inl, inr, ap, refl, subst, sym, ℕ, ◌<◌, Bool, true, false, List, length, Option, Some, Result, Ok, Err, slice_get, get_or}
-use Rattle.std.specs.Prelude.{OnErr, OnOk, option_map, slice_set, ◌==◌, if◌then◌else◌}
+use Rattle.std.specs.Prelude.{OnErr, OnOk, option_map, slice_set, ◌==◌, ◌||◌, if◌then◌else◌}
 use Rattle.std.specs.declared.alloc.AllocError.{AllocError}
 use Rattle.std.proofs.lemmas.Bool.{eqb-true}
 use Rattle.std.proofs.lemmas.Option.{slice_get_read}
@@ -19,7 +19,7 @@ use Rattle.xns_spp.specs.declared.dropped.Dropped.TheVariants.{NotSpp}
 use Rattle.xns_host.specs.Hosting.{EachHears, HasHeard, HasReplied, HearsIn, IsPacketOf, IsThere, Receives, nothing, heard, goes, listens, loses}
 use Rattle.xns_host.specs.Ours.{named_in}
 use Rattle.xns_host.specs.Register.{number_by, peer_at}
-use Rattle.xns_host.specs.Registered.{IsRegistered}
+use Rattle.xns_host.specs.Registered.{IsRegistered, news_of}
 use Rattle.xns_host.specs.Telling.{Hears}
 use Rattle.xns_agenda.specs.Waiting.{HearsAt}
 use Rattle.xns_host.specs.declared.guest.Guest.{Guest}
@@ -51,14 +51,15 @@ heard_or_not now bytes m place g h (Err e) read is ok steps err =
     subst (λ (p : Option Guest). HearsIn now bytes (Some p) (Some (Some h))) (sym is)
     (subst (λ (x : Guest). HearsIn now bytes (Some (Some g)) (Some (Some x))) (sym err) nothing)
 
-pub has_heard : (bytes : List ℕ) (m : SppPacketModel) (g h : Guest) (r : Result (Unit {0}) AllocError) → spp_packet_of bytes ≡ Ok m
+pub has_heard : (bytes : List ℕ) (m : SppPacketModel) (confirming : Bool) (g h : Guest) (r : Result (Unit {0}) AllocError)
+    → spp_packet_of bytes ≡ Ok m
     → OnOk r ((b : List ℕ) → spp_packet_of b ≡ Ok m → Hears g.connection.conversation h.connection.conversation b) → OnErr r (h ≡ g)
-    → OnOk r (HasReplied g.connection h.connection)
+    → OnOk r (HasReplied g.connection h.connection) → OnOk r (news_of h ≡ (confirming || g.confirmed, g.heard_of))
     → OnErr r ((s : State) (b : List ℕ) → StandsFor g.connection.conversation.endpoint s → spp_packet_of b ≡ Ok m → StoresBytes s b)
-    → HasHeard bytes g (Some h)
-has_heard bytes m g h (Ok u) read ok err replied memory = listens h (ok bytes read) replied
-has_heard bytes m g h (Err e) read ok err replied memory =
-    subst (λ (x : Guest). HasHeard bytes g (Some x)) (sym err) (loses (λ s stands. memory s bytes stands read))
+    → HasHeard bytes confirming g (Some h)
+has_heard bytes m confirming g h (Ok u) read ok err replied news memory = listens h (ok bytes read) replied news
+has_heard bytes m confirming g h (Err e) read ok err replied news memory =
+    subst (λ (x : Guest). HasHeard bytes confirming g (Some x)) (sym err) (loses (λ s stands. memory s bytes stands read))
 
 -- the connection in one place heard them
 pub hears_set : (now : ℕ) (bytes : List ℕ) (a b : Places) (n : ℕ) (old p : Option Guest) → n < length a → old ≡ get_or a n old

@@ -1,5 +1,5 @@
 -- Many connections behind one address.
-use Rattle.std.specs.Prelude.{◌≡◌, ◌≢◌, ℕ, Bool, true, false, not, ◌&&◌, ◌||◌, List, [], if◌then◌else◌, Option, Some, None, position}
+use Rattle.std.specs.Prelude.{◌≡◌, ◌≢◌, ℕ, Bool, true, false, not, ◌&&◌, ◌||◌, ◌==◌, List, [], if◌then◌else◌, Option, Some, None, position}
 use Rattle.std.specs.Prelude.{slice_get}
 use Rattle.std.specs.Option.{is_some, is_none}
 use Rattle.std.specs.BTreeMap.{BTreeMap}
@@ -21,6 +21,7 @@ use Rattle.xns_host.specs.Identifiers.{Ids, IsNext, is_free}
 use Rattle.courier_messages.specs.declared.message.Message.{Message}
 use Rattle.xns_host.specs.Living.{GoesFrom}
 use Rattle.xns_host.specs.Quotes.{is_opened_by, quoted_opening}
+use Rattle.xns_host.specs.Registered.{news_of}
 use Rattle.xns_host.specs.Services.{programs_at}
 use Rattle.xns_host.specs.Settings.{IsBegun}
 use Rattle.xns_host.specs.Story.{Story, has_message, new_story, waiting_message, with_handed}
@@ -360,11 +361,16 @@ pub record IsPacketOf (host : List ℕ) (p : SppPacketModel) (guest : Guest) : T
   pub stands : StandsFor guest.connection.conversation.endpoint state
   pub ours : is_ours_at state.ends p ≡ true
 
--- the connection in this place has heard these bytes; or they bring bytes of an item that memory was refused for, and are as if lost
-pub data HasHeard (bytes : List ℕ) (g : Guest) : Option Guest → Type 0 where
+-- the packet names the connection that it is to by our identifier: so the peer has heard of us
+abbrev pub confirms : SppPacketModel → Bool
+confirms p = not (p.header.target_id == 0)
+
+-- the connection in this place has heard these bytes, and is confirmed where they confirm it; or they bring bytes of an item that memory
+-- was refused for, and are as if lost
+pub data HasHeard (bytes : List ℕ) (confirming : Bool) (g : Guest) : Option Guest → Type 0 where
   listens : (h : Guest) → Hears g.connection.conversation h.connection.conversation bytes → HasReplied g.connection h.connection
-      → HasHeard bytes g (Some h)
-  loses : ((s : State) → StandsFor g.connection.conversation.endpoint s → StoresBytes s bytes) → HasHeard bytes g (Some g)
+      → news_of h ≡ (confirming || g.confirmed, g.heard_of) → HasHeard bytes confirming g (Some h)
+  loses : ((s : State) → StandsFor g.connection.conversation.endpoint s → StoresBytes s bytes) → HasHeard bytes confirming g (Some g)
 
 -- a peer, with this identifier, opened this connection at an address of ours at this time, and nothing was said in it: it has the
 -- identifier that came next of these, and its packets go out by this way; one may be to go out, and the program was told nothing of it

@@ -65,8 +65,7 @@ impl Guest {
         ensures replied { OnOk result (HasReplied self.old.connection self.new.connection) }
         ensures steps { OnOk result (HearsAt now self.old.connection.wait self.new.connection.wait) }
         ensures known { known_of self.new ≡ known_of self.old }
-        ensures confirmed { OnOk result (self.new.confirmed ≡ (confirms || self.old.confirmed)) }
-        ensures heard_of { self.new.heard_of ≡ self.old.heard_of }
+        ensures news { OnOk result (news_of self.new ≡ (confirms || self.old.confirmed, self.old.heard_of)) }
     {
         self.connection.receive(alloc, now, packet)?;
         if confirms {

@@ -17,7 +17,7 @@ ghost use Rattle.xns_host.specs.Events.{event_in};
 ghost use Rattle.xns_host.specs.Hosting.{ChangesOne, EachGoes, EachHears, EachKeeps, HasHeard, HasNoEvent, HasNoPacket, HasNoRoom};
 ghost use Rattle.xns_host.specs.Hosting.{IsAllInUse, IsAllNoted, IsAnswering, IsApart, IsAsked, IsConnected, IsFirstWant, IsPacketOf};
 ghost use Rattle.xns_host.specs.Hosting.{IsNextEvent, IsNextPacket, IsNotServed, IsOpened, IsPlace, IsRefusedBy, IsThere, Receives};
-ghost use Rattle.xns_host.specs.Hosting.{TellsIn, WentOn, address_in, has_guest};
+ghost use Rattle.xns_host.specs.Hosting.{TellsIn, WentOn, address_in, confirms, has_guest};
 ghost use Rattle.xns_host.specs.Quotes.{is_opened_by};
 ghost use Rattle.xns_host.specs.Register.{number_by, peer_at, peer_cmp};
 ghost use Rattle.xns_host.specs.Registered.{HasLeft, IsAllRegistered, IsAnother, IsRegistered};
@@ -407,7 +407,7 @@ impl Host {
             → (result ≡ true) × IsNotServed (max self.old.clock.latest now) g.connection place }
         ensures heard { (p : SppPacketModel) (n : ℕ) (g : Guest) (place : Option Guest) → spp_packet_of bytes.now ≡ Ok p
             → IsPacketOf self.old.host p g → slice_get self.old.guests.items n ≡ Some (Some g)
-            → slice_get self.new.guests.items n ≡ Some place → (result ≡ true) × HasHeard bytes.now g place }
+            → slice_get self.new.guests.items n ≡ Some place → (result ≡ true) × HasHeard bytes.now (confirms p) g place }
         ensures ours { result ≡ true → IsOurs self.old bytes.now }
         ensures opener { (p : SppPacketModel) → spp_packet_of bytes.now ≡ Ok p → IsOpener self.old p → result ≡ true }
         ensures set_up { StaysSetUpAt now self.old self.new }
@@ -500,7 +500,7 @@ impl Host {
         ensures heard { (b : List ℕ) (taken n : ℕ) (p : SppPacketModel) (g : Guest) (place : Option Guest)
             → packet_of b ≡ Ok (packet_model carrier.now, taken) → spp_packet_of b ≡ Ok p
             → IsPacketOf self.old.host p g → slice_get self.old.guests.items n ≡ Some (Some g)
-            → slice_get self.new.guests.items n ≡ Some place → (result ≡ true) × HasHeard b g place }
+            → slice_get self.new.guests.items n ≡ Some place → (result ≡ true) × HasHeard b (confirms p) g place }
         ensures ours { (b : List ℕ) (taken : ℕ) → packet_of b ≡ Ok (packet_model carrier.now, taken) → result ≡ true → IsOurs self.old b }
         ensures opener { (b : List ℕ) (taken : ℕ) (p : SppPacketModel) → packet_of b ≡ Ok (packet_model carrier.now, taken)
             → spp_packet_of b ≡ Ok p → IsOpener self.old p → result ≡ true }
@@ -534,7 +534,7 @@ impl Host {
         ensures heard { (b : List ℕ) (g : Guest) (s : State) (place : Option Guest) → spp_packet_of b ≡ Ok packet.now
             → slice_get self.old.guests.items number ≡ Some (Some g) → StandsFor g.connection.conversation.endpoint s
             → is_ours_at s.ends packet.now ≡ true → slice_get self.new.guests.items number ≡ Some place
-            → (result ≡ true) × HasHeard b g place }
+            → (result ≡ true) × HasHeard b confirms g place }
         ensures ours { result ≡ true → IsThere (IsOf packet.now) (slice_get self.old.guests.items number) }
         ensures apart { IsApart self.old.guests.items self.new.guests.items number }
         ensures unchanged { result ≡ false → (k : ℕ) → slice_get self.new.guests.items k ≡ slice_get self.old.guests.items k }

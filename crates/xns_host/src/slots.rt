@@ -1,6 +1,6 @@
 //! What is done of one of a host's connections, in its place.
 
-ghost use Rattle.std.specs.Prelude.{◌≡◌, ◌≢◌, ◌<◌, ◌∷◌, ◌++◌, ℕ, List, [], Option, length, false, IfOk, IfSome, OnErr, Some, None, Ok, Err};
+ghost use Rattle.std.specs.Prelude.{◌≡◌, ◌≢◌, ◌<◌, ◌∷◌, ◌++◌, ◌||◌, ℕ, List, [], Option, length, false, IfOk, IfSome, OnErr, Some, None, Ok, Err};
 ghost use Rattle.std.specs.Prelude.{count_by, replicate, slice_get, slice_set, true};
 ghost use Rattle.std.specs.Option.{is_some};
 ghost use Rattle.courier_messages.specs.RawCalls.{words_call};
@@ -14,7 +14,7 @@ ghost use Rattle.xns_spp.specs.State.{State};
 ghost use Rattle.xns_host.specs.Ours.{IsOf, IsToOpen};
 ghost use Rattle.xns_host.specs.Quotes.{is_opened_by};
 ghost use Rattle.xns_host.specs.Registered.{FitsEnd, FitsEndIn, known_in, news_in};
-ghost use Rattle.xns_host.specs.Story.{asked_of};
+ghost use Rattle.xns_host.specs.Story.{asked_of, waiting_message};
 ghost use Rattle.xns_host.specs.Telling.{Goes, Keeps};
 ghost use Rattle.courier_sessions.specs.Answering.{answer_message};
 ghost use Rattle.xns_host.specs.Reasons.{call_fault_of, answer_fault_of};
@@ -226,7 +226,7 @@ pub fn hear_in(
     ensures hears { (b : List ℕ) → spp_packet_of b ≡ Ok packet.now → HearsIn now b (Some slot.old) (Some slot.new) }
     ensures heard { (b : List ℕ) (g : Guest) (s : State) → spp_packet_of b ≡ Ok packet.now → slot.old ≡ Some g
         → StandsFor g.connection.conversation.endpoint s → is_ours_at s.ends packet.now ≡ true
-        → (result ≡ true) × HasHeard b g slot.new }
+        → (result ≡ true) × HasHeard b confirms g slot.new }
     ensures ours { result ≡ true → IsThere (IsOf packet.now) (Some slot.old) }
     ensures unchanged { result ≡ false → slot.new ≡ slot.old }
     ensures known { known_in slot.new ≡ known_in slot.old }
@@ -247,6 +247,8 @@ pub fn hear_in(
 pub fn event_in(slot: &mut Option<Guest>, alloc: Global, now: u64, number: usize) -> Option<Event>
     ensures event { result ≡ event_in number slot.old }
     ensures told { (g : Guest) → slot.old ≡ Some g → result ≢ None → HasToldIn now g.connection slot.new }
+    ensures news { (g : Guest) → slot.old ≡ Some g → result ≢ None
+        → news_in slot.new ≡ Some (g.confirmed, is_some (waiting_message g.connection.conversation.side) || g.heard_of) }
     ensures none { result ≡ None → slot.new ≡ slot.old }
     ensures known { known_in slot.new ≡ known_in slot.old }
     ensures fits { (g : Guest) → slot.old ≡ Some g → FitsEnd g → FitsEndIn slot.new }

@@ -24,9 +24,9 @@ returns-clause-heard c = λ b g s read is stands ours.
     let there = c.in-Some.is in
     let same : c.in-Some.guest ≡ g = cc in (
       refl,
-      subst (λ (x : Guest). HasHeard b x (Some c.receive.new.self)) same
-          (has_heard b c.args.packet.now c.in-Some.guest c.receive.new.self c.receive.result read c.receive.ensures.hears c.receive.ensures.unchanged
-          c.receive.ensures.replied c.receive.ensures.memory),
+      subst (λ (x : Guest). HasHeard b c.args.confirms x (Some c.receive.new.self)) same
+          (has_heard b c.args.packet.now c.args.confirms c.in-Some.guest c.receive.new.self c.receive.result read c.receive.ensures.hears c.receive.ensures.unchanged
+          c.receive.ensures.replied c.receive.ensures.news c.receive.ensures.memory),
     )
 
 pub returns-clause-fits : goal.returns-clause-fits

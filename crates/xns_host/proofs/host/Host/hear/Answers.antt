@@ -28,7 +28,7 @@ returns-clause-heard c = λ b g s place read there stands ours here.
     let old : c.index_mut.result.now ≡ Some g
     = same_place c.args.self.now.guests.items c.args.number c.index_mut.result.now (Some g) less (search rules) there in
     let k = c.hear_in-heard.ensures.heard b g s read old stands ours in
-    (k.0, put_there (λ (p : Option Guest). HasHeard b g p) c.args.self.now.guests.items c.args.number c.hear_in-heard.new.slot place less here k.1)
+    (k.0, put_there (λ (p : Option Guest). HasHeard b c.args.confirms g p) c.args.self.now.guests.items c.args.number c.hear_in-heard.new.slot place less here k.1)
 
 pub returns-clause-ours : goal.returns-clause-ours
 returns-clause-ours c = λ yes.

@@ -1,8 +1,9 @@
 use Rattle.std.proofs.Common.{◌≡◌, ◌∙◌, ap, refl, rules, subst, sym, ℕ, None, Ok, Some, slice_get, true}
+use Rattle.std.specs.Prelude.{◌==◌, not}
 use Rattle.xns_idp.specs.Packet.{packet_model}
 use Rattle.xns_spp.specs.Ends.{is_ours_at}
 use Rattle.xns_spp.specs.Packet.{SppPacketModel}
-use Rattle.xns_host.specs.Hosting.{IsThere, hears}
+use Rattle.xns_host.specs.Hosting.{HasHeard, IsThere, confirms, hears}
 use Rattle.xns_host.specs.Ours.{IsOf, IsOpener, named_in, names, opens}
 use Rattle.xns_host.proofs.Hearing.{finds, found_is_named, nothing_came, one_spelled, spelled, the_packet}
 use Rattle.xns_host.proofs.host.Host.sequenced.Goals as goal
@@ -42,9 +43,13 @@ returns-in-Some-clause-heard c = λ b taken n p g place read is by there here.
     let found = sym c.in-Some.is ∙ finds c.args.self.now.host c.args.self.now.register p c.in-Ok.packet n g c.at-peer.result c.find.result same
     (search rules) (search rules) (c.args.self.now.registered.each n g there) by in
     let number : n ≡ c.from.result = let e : n ≡ c.in-Some.number = cc in e ∙ sym c.from.ensures in
-    c.hear.ensures.heard b g by.state place (is ∙ ap Ok same) (subst (λ (m : ℕ). slice_get c.args.self.now.guests.items m ≡ Some (Some g)) number there)
-    by.stands (subst (λ (q : SppPacketModel). is_ours_at by.state.ends q ≡ true) same by.ours)
-    (subst (λ (m : ℕ). slice_get c.hear.new.self.guests.items m ≡ Some place) number here)
+    let k = c.hear.ensures.heard b g by.state place (is ∙ ap Ok same)
+    (subst (λ (m : ℕ). slice_get c.args.self.now.guests.items m ≡ Some (Some g)) number there) by.stands
+    (subst (λ (q : SppPacketModel). is_ours_at by.state.ends q ≡ true) same by.ours)
+    (subst (λ (m : ℕ). slice_get c.hear.new.self.guests.items m ≡ Some place) number here) in
+    let id : c.packet.inside.header.target_id ≡ c.in-Ok.packet.header.target_id = search rules in
+    let heard : HasHeard b (confirms c.in-Ok.packet) g place = subst (λ (m : ℕ). HasHeard b (not (m == 0)) g place) id k.1 in
+    (k.0, subst (λ (q : SppPacketModel). HasHeard b (confirms q) g place) (sym same) heard)
 
 pub returns-in-None-clause-heard : goal.returns-in-None-clause-heard
 returns-in-None-clause-heard c = λ b taken n p g place read is by there here.
