@@ -1,22 +1,26 @@
 -- What became of connections by a packet.
 use Rattle.std.proofs.Common.{◌≡◌, ◌≢◌, ◌∙◌, ◌⊎◌, inl, inr, ap, refl, subst, sym, ℕ, ◌<◌, Bool, true, false, List, length, Option, Some, Result, Ok, Err, slice_get, get_or}
-use Rattle.std.specs.Prelude.{OnErr, OnOk, option_map, slice_set, ◌==◌, ◌||◌, if◌then◌else◌}
+use Rattle.std.specs.Prelude.{OnErr, OnOk, None, option_map, slice_set, not, ◌&&◌, ◌||◌, ◌==◌, if◌then◌else◌}
+use Rattle.std.specs.Cmp.Lexicographic.{bytes_decides}
+use Rattle.std.specs.Str.{bytes_eq}
 use Rattle.std.specs.declared.alloc.AllocError.{AllocError}
-use Rattle.std.proofs.lemmas.Bool.{eqb-true}
+use Rattle.std.proofs.lemmas.Bool.{and_parts, eq-eqb, eqb-true}
 use Rattle.std.proofs.lemmas.Option.{slice_get_read}
 use Rattle.courier_sessions.specs.declared.program.Program.{Program}
-use Rattle.xns_idp.specs.Packet.{PacketModel}
+use Rattle.xns_idp.specs.Packet.{PacketModel, same_place}
 use Rattle.xns_idp.specs.Reading.{decode_model, packet_of}
+use Rattle.xns_idp.specs.declared.address.Address.{Address}
+use Rattle.xns_spp.specs.Ends.{is_from, is_ours_at, to_responder}
 use Rattle.xns_spp.specs.Held.{StandsFor}
-use Rattle.xns_spp.specs.Packet.{SppPacketModel, carried_by, carried_in, spp_packet_of, with_header}
+use Rattle.xns_spp.specs.Packet.{SppPacketModel, carried_by, carried_in, opener_of, spp_packet_of, with_header}
 use Rattle.xns_spp.specs.Receiving.{StoresBytes}
-use Rattle.xns_spp.specs.State.{State}
+use Rattle.xns_spp.specs.State.{State, responder_state}
 use Rattle.xns_idp.specs.declared.fault.IdpFault.{IdpFault}
 use Rattle.xns_idp.specs.declared.packet.Packet.{Packet}
 use Rattle.xns_spp.specs.Header.{header_of}
 use Rattle.xns_spp.specs.declared.dropped.Dropped.{Dropped}
 use Rattle.xns_spp.specs.declared.dropped.Dropped.TheVariants.{NotSpp}
-use Rattle.xns_host.specs.Hosting.{EachHears, HasHeard, HasReplied, HearsIn, IsPacketOf, IsThere, Receives, nothing, heard, goes, listens, loses}
+use Rattle.xns_host.specs.Hosting.{EachHears, HasHeard, HasReplied, HearsIn, IsPacketOf, IsThere, Receives, address_in, nothing, heard, goes, listens, loses}
 use Rattle.xns_host.specs.Ours.{named_in}
 use Rattle.xns_host.specs.Register.{number_by, peer_at}
 use Rattle.xns_host.specs.Registered.{IsRegistered, news_of}
@@ -91,6 +95,48 @@ put_there P a n p place less here said =
 pub nothing_came : (now : ℕ) (opened : Guest → Type 0) (bytes : List ℕ) (a b : Places) → ((k : ℕ) → slice_get b k ≡ slice_get a k)
     → Receives now opened bytes a b
 nothing_came now opened bytes a b same = goes (each_same a b same) (each_still now a b same)
+
+-- ---- the packet that opens a connection
+
+and_true : (p q : Bool) → p ≡ true → q ≡ true → (p && q) ≡ true
+and_true true true left right = refl
+and_true true false left right = absurd (cc)
+and_true false q left right = absurd (cc)
+
+or_true : (p q : Bool) → q ≡ true → (p || q) ≡ true
+or_true true q is = refl
+or_true false q is = is
+
+one_place : (a b : Address) → a.host ≡ b.host → a.socket ≡ b.socket → same_place a b ≡ true
+one_place a b host socket =
+    and_true (bytes_eq a.host b.host) (a.socket == b.socket) ((bytes_decides a.host b.host).1 host) (eq-eqb a.socket b.socket socket)
+
+opened_by : (b : Bool) (x y : Address × ℕ) → (if b then Some x else None) ≡ Some y → (b ≡ true) × (x ≡ y)
+opened_by true x y is = let same : x ≡ y = cc in (refl, same)
+opened_by false x y is = absurd (cc)
+
+-- it is one of the end that it opens
+pub of_opened : (network : ℕ) (host : List ℕ) (p : SppPacketModel) (opener : Address) (opener_id id window backlog : ℕ) → p.target.host ≡ host
+    → opener_of p ≡ Some (opener, opener_id)
+    → is_ours_at (responder_state (address_in network host p.target.socket) id opener opener_id window backlog).ends p ≡ true
+of_opened network host p opener opener_id id window backlog here opens =
+    let by = opened_by (p.header.target_id == 0 && not (p.header.source_id == 0)) (p.source, p.header.source_id) (opener, opener_id) opens in
+    let source : p.source ≡ opener = ap (λ (x : Address × ℕ). x.0) by.1 in
+    let source_id : p.header.source_id ≡ opener_id = ap (λ (x : Address × ℕ). x.1) by.1 in
+    let unnamed : (p.header.target_id == 0) ≡ true = (and_parts (p.header.target_id == 0) (not (p.header.source_id == 0)) by.0).0 in
+    let from : is_from opener opener_id p ≡ true
+    = and_true (same_place p.source opener) (p.header.source_id == opener_id)
+    (one_place p.source opener (ap (λ (a : Address). a.host) source) (ap (λ (a : Address). a.socket) source))
+    (eq-eqb p.header.source_id opener_id source_id) in
+    and_true (same_place p.target (address_in network host p.target.socket)) (to_responder id p && is_from opener opener_id p)
+    (one_place p.target (address_in network host p.target.socket) here refl)
+    (and_true (to_responder id p) (is_from opener opener_id p) (or_true (p.header.target_id == id) (p.header.target_id == 0) unnamed) from)
+
+-- the connection that was made is the one in its place
+pub stands_there : (o : Option (Option Guest)) (f g : Guest) (s : State) → o ≡ Some (Some f) → o ≡ Some (Some g)
+    → StandsFor f.connection.conversation.endpoint s → StandsFor g.connection.conversation.endpoint s
+stands_there o f g s left right stands =
+    let same : f ≡ g = cc in subst (λ (x : Guest). StandsFor x.connection.conversation.endpoint s) same stands
 
 -- ---- what was read
 

@@ -372,6 +372,10 @@ pub data HasHeard (bytes : List ℕ) (confirming : Bool) (g : Guest) : Option Gu
       → news_of h ≡ (confirming || g.confirmed, g.heard_of) → HasHeard bytes confirming g (Some h)
   loses : ((s : State) → StandsFor g.connection.conversation.endpoint s → StoresBytes s bytes) → HasHeard bytes confirming g (Some g)
 
+-- the connection in the old place has heard these bytes, which do not confirm it, and is in the new one
+abbrev pub HasHeardIn : List ℕ → (old new : Option (Option Guest)) → Type 0
+HasHeardIn bytes old new = (g : Guest) (place : Option Guest) → old ≡ Some (Some g) → new ≡ Some place → HasHeard bytes false g place
+
 -- a peer, with this identifier, opened this connection at an address of ours at this time, and nothing was said in it: it has the
 -- identifier that came next of these, and its packets go out by this way; one may be to go out, and the program was told nothing of it
 pub record IsAnswering (settings : Settings) (ids : Ids) (own opener : Address) (id way now : ℕ) (programs : List Program) (guest : Guest)
@@ -405,9 +409,9 @@ pub record IsThere (P : Guest → Type 0) (place : Option (Option Guest)) : Type
   pub is : P guest
 
 -- what became of the connections by these bytes at this time: each went on by itself, its waits by steps of this moment; or heard them; or
--- a new one was opened first and heard them
+-- a new one was opened first and has heard them
 pub data Receives (now : ℕ) (opened : Guest → Type 0) (bytes : List ℕ) (old new : List (Option Guest)) : Type 0 where
   goes : EachGoes old new → EachSteps now old new → Receives now opened bytes old new
   hears : EachHears now bytes old new → Receives now opened bytes old new
   opens : (mid : List (Option Guest)) (n : ℕ) → IsPlace old n → IsApart old mid n → IsThere opened (slice_get mid n)
-      → EachHears now bytes mid new → Receives now opened bytes old new
+      → EachHears now bytes mid new → HasHeardIn bytes (slice_get mid n) (slice_get new n) → Receives now opened bytes old new

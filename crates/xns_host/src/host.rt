@@ -553,6 +553,7 @@ impl Host {
     #[tactic(auto, using(crate::proofs::Apart::one_changed, crate::proofs::Apart::none_changed, crate::proofs::Apart::apart_then))]
     fn opening(&mut self, now: u64, via: u32, opener: Peer, packet: &SppPacket) -> bool
         requires packet { IsSppPacket packet.now }
+        requires here { packet.now.target.host ≡ self.old.host }
         requires opener { opener ≡ peer_at packet.now.source packet.now.header.source_id packet.now.target.socket }
         requires unknown { number_by self.old.register.identifiers self.old.register.peers packet.now.header.target_id opener ≡ None }
         ensures became { (b : List ℕ) → spp_packet_of b ≡ Ok packet.now
