@@ -1,17 +1,16 @@
 -- What is due is done, once: it is then due later.
 use Rattle.std.proofs.Common.{◌≡◌, ◌≢◌, ◌∙◌, ◌⊎◌, inl, inr, ap, refl, subst, sym, ℕ, zero, suc, ◌+◌, ◌<◌, ◌≤◌, Bool, true, false, List, [], ◌∷◌, length, Option, Some, None, slice_get, get_or, arith}
-use Rattle.std.specs.Prelude.{◌&&◌, min, nat_le, slice_set, if◌then◌else◌}
+use Rattle.std.specs.Prelude.{◌&&◌, nat_le, slice_set, if◌then◌else◌}
 use Rattle.std.specs.Option.{is_none, is_some}
 use Rattle.std.proofs.lemmas.Bool.{le-leb, leb-false, lt-leb}
-use Rattle.std.proofs.Math.Nat.{le-min}
 use Rattle.xns_agenda.specs.Agenda.{Plan}
 use Rattle.xns_host.specs.Connecting.{owed_after}
 use Rattle.xns_host.specs.Hosting.{ActsIn, DoesDue, EachActs, EachSteps, StepsIn, HasActed, HasActedIn, IsAllNoted, IsApart, StaysIn, facts_in, forgotten, is_done, may_go, stays}
 use Rattle.xns_agenda.specs.Times.{HasNoneBy, IsFirstBy}
 use Rattle.xns_agenda.specs.Waiting.{StepsAt, still, step, close, HearsAt, no_word, word, after_step, after_word, lingering}
-use Rattle.xns_agenda.specs.Waiting.{Waiting, IsWaiting, IsDueAfter, act_at, act_by, after_act, after_by, due_time, last_time, later, unless_silent}
+use Rattle.xns_agenda.specs.Waiting.{Waiting, IsDueAfter, act_at, act_by, after_act, after_by, due_time, last_time, unless_silent}
 use Rattle.xns_agenda.specs.declared.act.Act.{Act}
-use Rattle.xns_agenda.specs.declared.act.Act.TheVariants.{Nothing, Again, Ask, GiveUp, Forget}
+use Rattle.xns_agenda.specs.declared.act.Act.TheVariants.{Nothing, Again, Ask, Forget}
 use Rattle.xns_host.specs.declared.connection.Connection.{Connection}
 use Rattle.xns_agenda.specs.declared.due.Due.{Due}
 use Rattle.xns_agenda.specs.declared.due.Due.TheVariants.{Never, AgainAt, AskAt, ForgetAt}

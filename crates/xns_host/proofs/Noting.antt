@@ -1,5 +1,5 @@
 -- The agenda says of each place what the connection in it says.
-use Rattle.std.proofs.Common.{◌≡◌, ◌≢◌, ◌∙◌, ◌⊎◌, inl, inr, ap, refl, subst, sym, ℕ, zero, suc, ◌+◌, ◌<◌, Bool, true, false, List, [], ◌∷◌, length, replicate, Option, Some, None, slice_get, get_or, arith}
+use Rattle.std.proofs.Common.{◌≡◌, ◌≢◌, ◌∙◌, ◌⊎◌, inl, inr, ap, refl, subst, sym, ℕ, zero, suc, ◌<◌, Bool, true, false, List, [], ◌∷◌, length, replicate, Option, Some, None, slice_get, get_or, arith}
 use Rattle.std.specs.Prelude.{not, ◌&&◌, ◌||◌, slice_set, if◌then◌else◌}
 use Rattle.std.specs.Option.{is_some, is_none}
 use Rattle.std.proofs.lemmas.List.{get_or-replicate, get_or-set_other, get_or-set_same, length-replicate, length-set, set-get_or}
@@ -9,7 +9,7 @@ use Rattle.xns_agenda.specs.Agenda.{Plan, HasNobody, IsFor, IsNoted, noted, rele
 use Rattle.xns_host.specs.Events.{event_by, event_for, event_in}
 use Rattle.xns_host.specs.Hosting.{IsAllNoted, IsNotedBut, IsNotedIn, facts_in}
 use Rattle.xns_host.specs.Registered.{known_in}
-use Rattle.xns_agenda.specs.Turns.{Line, empty_line, has_turn, with_last, with_turn}
+use Rattle.xns_agenda.specs.Turns.{Line, has_turn, with_last, with_turn}
 use Rattle.xns_host.specs.Story.{has_message, waiting_message, listed_call}
 use Rattle.xns_host.specs.declared.connection.Connection.{Connection}
 use Rattle.xns_agenda.specs.declared.facts.Facts.{Facts}

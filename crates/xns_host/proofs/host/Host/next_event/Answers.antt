@@ -1,4 +1,4 @@
-use Rattle.std.proofs.Common.{◌<◌, ◌∙◌, subst, sym, rules, length, slice_get, None, arith}
+use Rattle.std.proofs.Common.{◌<◌, ◌∙◌, subst, sym, rules, length, slice_get, arith}
 use Rattle.xns_host.specs.Hosting.{TellsIn}
 use Rattle.xns_agenda.specs.Turns.{HasNoTurn}
 use Rattle.xns_agenda.specs.declared.clock.Clock.{Clock}
