@@ -30,7 +30,8 @@ use Rattle.xns_host.specs.Living.{GoesFrom}
 use Rattle.xns_host.specs.Reasons.{answer_fault_of}
 use Rattle.xns_host.specs.Refusing.{answer_fault, side_answer_fault}
 use Rattle.xns_host.specs.Register.{number_by, owner_in, peer_at, peer_cmp}
-use Rattle.xns_host.specs.Registered.{FitsEnd, IsRegistered, Known, known_of, opener_at}
+use Rattle.xns_host.specs.Knowing.{Known, known_of}
+use Rattle.xns_host.specs.Registered.{FitsEnd, IsRegistered, opener_at}
 use Rattle.xns_host.specs.Story.{Runs, Story, asked_of, with_handed, start, sends, takes, flushes, resends, tells}
 use Rattle.xns_host.specs.Telling.{Goes, Hears, Tells}
 use Rattle.xns_host.specs.declared.side.Side.{Side}

@@ -10,7 +10,7 @@ use Rattle.xns_spp.specs.Telling.{own_name}
 use Rattle.xns_host.specs.Hosting.{Each, EachGoes, EachKeeps, HasReplied, HasToldIn, IsApart, IsGiven, IsNextPacket, LedIn, LedTo, StaysIn, TellsIn}
 use Rattle.xns_host.specs.Hosting.{forgotten, is_done, may_go, stays}
 use Rattle.xns_host.specs.Quotes.{is_opened_by}
-use Rattle.xns_host.specs.Registered.{known_in}
+use Rattle.xns_host.specs.Knowing.{known_in}
 use Rattle.xns_host.specs.Telling.{Goes, Keeps, MovesAndGives, makes, moves, rests}
 use Rattle.xns_host.specs.declared.connection.Connection.{Connection}
 use Rattle.xns_host.specs.declared.conversation.Conversation.{Conversation}

@@ -23,7 +23,8 @@ use Rattle.xns_spp.specs.declared.dropped.Dropped.TheVariants.{NotSpp}
 use Rattle.xns_host.specs.Hosting.{EachHears, HasHeard, HasReplied, HearsIn, IsPacketOf, IsThere, Receives, address_in, nothing, heard, goes, listens, loses}
 use Rattle.xns_host.specs.Ours.{named_in}
 use Rattle.xns_host.specs.Register.{number_by, peer_at}
-use Rattle.xns_host.specs.Registered.{IsRegistered, news_of}
+use Rattle.xns_host.specs.Knowing.{news_of}
+use Rattle.xns_host.specs.Registered.{IsRegistered}
 use Rattle.xns_host.specs.Telling.{Hears}
 use Rattle.xns_agenda.specs.Waiting.{HearsAt}
 use Rattle.xns_host.specs.declared.guest.Guest.{Guest}

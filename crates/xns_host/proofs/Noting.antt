@@ -8,7 +8,7 @@ use Rattle.courier_messages.specs.declared.message.Message.{Message}
 use Rattle.xns_agenda.specs.Agenda.{Plan, HasNobody, IsFor, IsNoted, noted, released}
 use Rattle.xns_host.specs.Events.{event_by, event_for, event_in}
 use Rattle.xns_host.specs.Hosting.{IsAllNoted, IsNotedBut, IsNotedIn, facts_in}
-use Rattle.xns_host.specs.Registered.{known_in}
+use Rattle.xns_host.specs.Knowing.{known_in}
 use Rattle.xns_agenda.specs.Turns.{Line, has_turn, with_last, with_turn}
 use Rattle.xns_host.specs.Story.{has_message, waiting_message, listed_call}
 use Rattle.xns_host.specs.declared.connection.Connection.{Connection}

@@ -15,7 +15,8 @@ use Rattle.std.proofs.lemmas.Map.Lookups.{exact_bytes, exact_unsigned}
 use Rattle.std.proofs.lemmas.Option.{get_or_from_slice_get, same_Some, slice_get_read}
 use Rattle.xns_host.specs.Identifiers.{Gives, Ids, IsNext, is_free}
 use Rattle.xns_host.specs.Register.{owner_in, peer_cmp}
-use Rattle.xns_host.specs.Registered.{FitsEnd, FitsEndIn, HasLeft, IsAllRegistered, IsAnother, IsRegistered, Known, known_in, known_of}
+use Rattle.xns_host.specs.Knowing.{Known, known_in, known_of}
+use Rattle.xns_host.specs.Registered.{FitsEnd, FitsEndIn, HasLeft, IsAllRegistered, IsAnother, IsRegistered}
 use Rattle.xns_host.specs.declared.guest.Guest.{Guest}
 use Rattle.xns_host.specs.declared.peer.Peer.{Peer}
 use Rattle.xns_host.specs.declared.register.Register.{Register}

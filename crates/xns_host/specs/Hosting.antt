@@ -21,7 +21,7 @@ use Rattle.xns_host.specs.Identifiers.{Ids, IsNext, is_free}
 use Rattle.courier_messages.specs.declared.message.Message.{Message}
 use Rattle.xns_host.specs.Living.{GoesFrom}
 use Rattle.xns_host.specs.Quotes.{is_opened_by, quoted_opening}
-use Rattle.xns_host.specs.Registered.{news_of}
+use Rattle.xns_host.specs.Knowing.{news_of}
 use Rattle.xns_host.specs.Services.{programs_at}
 use Rattle.xns_host.specs.Settings.{IsBegun}
 use Rattle.xns_host.specs.Story.{Story, has_message, new_story, waiting_message, with_handed}

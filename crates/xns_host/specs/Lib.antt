@@ -5,6 +5,7 @@ pub mod Connecting
 pub mod Events
 pub mod Hosting
 pub mod Identifiers
+pub mod Knowing
 pub mod Living
 pub mod Ours
 pub mod Quotes

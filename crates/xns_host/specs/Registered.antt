@@ -1,7 +1,6 @@
 -- Where the register leads the packets of connections.
-use Rattle.std.specs.Prelude.{◌≡◌, ◌≢◌, ℕ, ◌<◌, Bool, List, Option, Some, None, slice_get}
+use Rattle.std.specs.Prelude.{◌≡◌, ◌≢◌, ℕ, ◌<◌, List, Option, Some, None, slice_get}
 use Rattle.std.specs.BTreeMap.{get}
-use Rattle.xns_idp.specs.declared.address.Address.{Address}
 use Rattle.xns_spp.specs.declared.ends.Ends.{Ends}
 use Rattle.xns_spp.specs.declared.role.Role.TheVariants.{Responder}
 use Rattle.xns_host.specs.Register.{owner_in, peer_at, peer_cmp}
@@ -10,31 +9,6 @@ use Rattle.xns_host.specs.Telling.{Tells}
 use Rattle.xns_host.specs.declared.guest.Guest.{Guest}
 use Rattle.xns_host.specs.declared.peer.Peer.{Peer}
 use Rattle.xns_host.specs.declared.register.Register.{Register}
-
--- what a host knows of a connection as long as it is there: what a packet names it by, which is its identifier or who opened it, by which
--- way its packets go out, and its peer
-pub record Known : Type 0 where
-  pub id : ℕ
-  pub opener : Option Peer
-  pub via : ℕ
-  pub peer : Address
-
-abbrev pub known_of : Guest → Known
-known_of g = record { id = g.id; opener = g.opener; via = g.via; peer = g.peer }
-
--- of the one in this place
-abbrev pub known_in : Option Guest → Option Known
-known_in None = None
-known_in (Some g) = Some (known_of g)
-
--- what came of a connection: whether a packet with our identifier did, and whether the program was told of a call of it
-abbrev pub news_of : Guest → Bool × Bool
-news_of g = (g.confirmed, g.heard_of)
-
--- of the one in this place
-abbrev pub news_in : Option Guest → Option (Bool × Bool)
-news_in None = None
-news_in (Some g) = Some (news_of g)
 
 -- who opened a connection, as the end knows it that answers
 abbrev pub opener_at : Ends → Peer

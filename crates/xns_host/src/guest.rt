@@ -9,7 +9,7 @@ ghost use Rattle.xns_spp.specs.Packet.{IsSppPacket, spp_packet_of};
 ghost use Rattle.xns_spp.specs.Receiving.{StoresBytes};
 ghost use Rattle.xns_spp.specs.State.{State};
 ghost use Rattle.xns_host.specs.Quotes.{is_opened_by};
-ghost use Rattle.xns_host.specs.Registered.{known_of, news_of};
+ghost use Rattle.xns_host.specs.Knowing.{known_of, news_of};
 ghost use Rattle.xns_host.specs.Reasons.{call_fault_of, answer_fault_of};
 ghost use Rattle.xns_host.specs.Refusing.{Answers};
 ghost use Rattle.courier_sessions.specs.Answering.{answer_message};
