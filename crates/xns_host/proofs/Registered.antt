@@ -1,7 +1,7 @@
 -- The register leads to each connection what names it.
-use Rattle.std.proofs.Common.{◌≡◌, ◌≢◌, ◌∙◌, ◌⊎◌, inl, inr, ap, refl, subst, sym, ℕ, zero, suc, ◌<◌, Bool, true, false, List, [], ◌∷◌, length, replicate, Option, Some, None, slice_get, get_or}
+use Rattle.std.proofs.Common.{◌≡◌, ◌≢◌, ◌∙◌, ◌⊎◌, inl, inr, ap, refl, subst, sym, ℕ, zero, suc, ◌<◌, Bool, true, false, List, [], ◌∷◌, length, replicate, Option, Some, None, slice_get, get_or, arith}
 use Rattle.std.specs.Prelude.{IfSome, position, slice_set}
-use Rattle.std.specs.BTreeMap.{BTreeMap, IsUnchanged, Updates, get, is_at}
+use Rattle.std.specs.BTreeMap.{BTreeMap, IsEmpty, IsUnchanged, Updates, get, is_at}
 use Rattle.std.specs.Map.{lookup}
 use Rattle.std.specs.Cmp.Lexicographic.{slice_cmp}
 use Rattle.std.specs.Option.{is_none}
@@ -9,14 +9,15 @@ use Rattle.std.specs.Ordering.{is_eq, nat_cmp, ordering_then}
 use Rattle.std.specs.declared.cmp.Ordering.{Ordering}
 use Rattle.std.specs.declared.cmp.Ordering.TheVariants.{Less, Equal, Greater}
 use Rattle.std.proofs.Math.Logic.{∥∥₁_map}
-use Rattle.std.proofs.lemmas.List.{get_or-set_other}
+use Rattle.std.proofs.lemmas.List.{get_or-set_other, length-set}
 use Rattle.std.proofs.lemmas.List.Quantifiers.{position-Some}
 use Rattle.std.proofs.lemmas.Map.Lookups.{exact_bytes, exact_unsigned}
 use Rattle.std.proofs.lemmas.Option.{get_or_from_slice_get, same_Some, slice_get_read}
 use Rattle.xns_host.specs.Identifiers.{Gives, Ids, IsNext, is_free}
 use Rattle.xns_host.specs.Register.{owner_in, peer_cmp}
+use Rattle.xns_host.specs.Hosting.{IsThere}
 use Rattle.xns_host.specs.Knowing.{Known, known_in, known_of}
-use Rattle.xns_host.specs.Registered.{FitsEnd, FitsEndIn, HasLeft, IsAllRegistered, IsAnother, IsRegistered}
+use Rattle.xns_host.specs.Registered.{FitsEnd, FitsEndIn, HasLeft, HasRegistered, IsAllRegistered, IsAnother, IsRegistered, IsUnregistered}
 use Rattle.xns_host.specs.declared.guest.Guest.{Guest}
 use Rattle.xns_host.specs.declared.peer.Peer.{Peer}
 use Rattle.xns_host.specs.declared.register.Register.{Register}
@@ -79,9 +80,35 @@ renamed_in r n (Some g) h same fits is =
     let at = is g refl in
     renamed r n g h names (∥∥₁_map at.fits (fits g refl)) at
 
+-- it is there still, with what names it
+still_in : (P : Known → Type 0) (old v : Option Guest) (g : Guest) → known_in v ≡ known_in old → old ≡ Some g → P (known_of g)
+    → IsThere (λ h. P (known_of h)) (Some v)
+still_in P old None g same is has = let both = same ∙ ap known_in is in absurd (cc)
+still_in P old (Some h) g same is has =
+    let both : Some (known_of h) ≡ Some (known_of g) = same ∙ ap known_in is in
+    let names : known_of h ≡ known_of g = same_Some (known_of h) (known_of g) both in
+    record { guest = h; there = refl; is = subst P (sym names) has }
+
+kept_there : (gs : Places) (n k : ℕ) (old v : Option Guest) (P : Known → Type 0) → known_in v ≡ known_in old → slice_get gs n ≡ Some old
+    → n < length gs → IsThere (λ h. P (known_of h)) (slice_get gs k) → (k ≡ n) ⊎ (k ≢ n)
+    → IsThere (λ h. P (known_of h)) (slice_get (slice_set gs n v) k)
+kept_there gs n k old v P same there less at (inl e) =
+    let here : slice_get gs n ≡ Some (Some at.guest) = subst (λ (m : ℕ). slice_get gs m ≡ Some (Some at.guest)) e at.there in
+    let was : old ≡ Some at.guest = one_place old (Some at.guest) (slice_get gs n) there here in
+    let new : IsThere (λ h. P (known_of h)) (Some v) = still_in P old v at.guest same was at.is in
+    subst (λ (p : Option (Option Guest)). IsThere (λ h. P (known_of h)) p)
+    (sym (ap (λ (m : ℕ). slice_get (slice_set gs n v) m) e ∙ place_set gs n v less)) new
+kept_there gs n k old v P same there less at (inr other) =
+    subst (λ (p : Option (Option Guest)). IsThere (λ h. P (known_of h)) p) (sym (place_other gs n k v other)) at
+
 pub still_registered : (r : Register) (gs : Places) (n : ℕ) (old v : Option Guest) → IsAllRegistered r gs → known_in v ≡ known_in old
     → ((g : Guest) → old ≡ Some g → FitsEnd g → FitsEndIn v) → old ≡ get_or gs n old → n < length gs → IsAllRegistered r (slice_set gs n v)
-still_registered r gs n old v all same fits read less = record { each = λ k g is. by k g is (same_or_other k n) } where
+still_registered r gs n old v all same fits read less = record {
+  each = λ k g is. by k g is (same_or_other k n);
+  ids = λ id k is. ∥∥₁_map (all.ids id k is) (λ at. kept_there gs n k old v (λ (m : Known). m.id ≡ id) same there less at (same_or_other k n));
+  peers = λ o k is. ∥∥₁_map (all.peers o k is)
+      (λ at. kept_there gs n k old v (λ (m : Known). m.opener ≡ Some o) same there less at (same_or_other k n));
+} where
   there : slice_get gs n ≡ Some old
   there = slice_get_read gs (length gs) n old refl less read
 
@@ -131,6 +158,25 @@ gone_own r s g h released same =
 same_guest : (place : Option (Option Guest)) (p : Option Guest) (g h : Guest) → place ≡ Some p → p ≡ Some g → place ≡ Some (Some h) → g ≡ h
 same_guest place p g h there is was = same_Some g h (sym is ∙ one_place p (Some h) place there was)
 
+-- an identifier that is in use then was in use
+left_ids : (r s : Register) (g : Guest) (id n : ℕ) → s.identifiers ≡ record r.identifiers { owners = slice_set r.identifiers.owners g.id None }
+    → owner_in s.identifiers id ≡ Some n → (id ≡ g.id) ⊎ (id ≢ g.id) → owner_in r.identifiers id ≡ Some n
+left_ids r s g id n released is (inl e) =
+    let none = sym (cleared r.identifiers.owners g.id) ∙ ap (λ (i : ℕ). get_or (slice_set r.identifiers.owners g.id None) i None) (sym e)
+    ∙ sym (ap (λ (ids : Ids). owner_in ids id) released) ∙ is in
+    absurd (cc)
+left_ids r s g id n released is (inr other) =
+    sym (get_or-set_other r.identifiers.owners g.id id None None other) ∙ sym (ap (λ (ids : Ids). owner_in ids id) released) ∙ is
+
+-- and a peer that opened one had opened it
+left_peers : (m n : BTreeMap Peer ℕ) (opener o : Peer) (k : ℕ) (b : Bool) → Updates peer_cmp m n opener None → is_eq (peer_cmp opener o) ≡ b
+    → get peer_cmp n o ≡ Some k → get peer_cmp m o ≡ Some k
+left_peers m n opener o k true u eq is =
+    let same : opener ≡ o = same_peer opener o (is_equal (peer_cmp opener o) eq) in
+    let none = sym u.1 ∙ ap (λ (p : Peer). get peer_cmp n p) same ∙ is in
+    absurd (cc)
+left_peers m n opener o k false u eq is = sym (u.2 o eq) ∙ is
+
 pub left : (r s : Register) (place : Option (Option Guest)) (p : Option Guest) (g : Guest) → place ≡ Some p → p ≡ Some g
     → s.identifiers ≡ record r.identifiers { owners = slice_set r.identifiers.owners g.id None } → g.opener ≡ None → s.peers ≡ r.peers
     → HasLeft r s place
@@ -141,6 +187,8 @@ left r s place p g there is released none same = record {
         own = gone_own r s g h released one;
         opener = λ o opened. let both = sym none ∙ ap (λ (x : Guest). x.opener) one ∙ opened in absurd (cc);
       };
+  ids = λ id n is. left_ids r s g id n released is (same_or_other id g.id);
+  peers = λ o n is. sym (ap (λ (m : BTreeMap Peer ℕ). get peer_cmp m o) same) ∙ is;
   others = λ n h at other. record {
     fits = at.fits;
     known = at.known;
@@ -162,6 +210,9 @@ left_opened r t s place p g opener there is released peers opened same u = recor
             let who : opener ≡ o = same_Some opener o both in
             ap (λ (x : Peer). get peer_cmp s.peers x) (sym who) ∙ u.1;
       };
+  ids = λ id n at. left_ids r s g id n (same ∙ released) at (same_or_other id g.id);
+  peers = λ o n at. sym (ap (λ (m : BTreeMap Peer ℕ). get peer_cmp m o) peers)
+      ∙ left_peers t.peers s.peers opener o n (is_eq (peer_cmp opener o)) u refl at;
   others = λ n h at other.
       let apart = other g (there ∙ ap Some is) in
       record {
@@ -177,12 +228,33 @@ left_opened r t s place p g opener there is released peers opened same u = recor
 pub none_left : (r : Register) (place : Option (Option Guest)) (p : Option Guest) → place ≡ Some p → p ≡ None → HasLeft r r place
 none_left r place p there is = record {
   gone = λ g was. let both = sym is ∙ one_place p (Some g) place there was in absurd (cc);
+  ids = λ id n at. at;
+  peers = λ o n at. at;
   others = λ n g at other. at;
 }
 
+-- it is another's, who stays
+stays_there : (gs : Places) (n k : ℕ) (v : Option Guest) (P : Guest → Type 0) → IsThere P (slice_get gs k)
+    → ((g : Guest) → slice_get gs n ≡ Some (Some g) → P g → ⊥) → (k ≡ n) ⊎ (k ≢ n) → IsThere P (slice_get (slice_set gs n v) k)
+stays_there gs n k v P at not (inl e) =
+    absurd (not at.guest (subst (λ (m : ℕ). slice_get gs m ≡ Some (Some at.guest)) e at.there) at.is)
+stays_there gs n k v P at not (inr other) = subst (λ (p : Option (Option Guest)). IsThere P p) (sym (place_other gs n k v other)) at
+
+not_id : (s : Register) (g : Guest) (id k : ℕ) → IsUnregistered s g → owner_in s.identifiers id ≡ Some k → g.id ≡ id → ⊥
+not_id s g id k gone is same = let none = sym gone.own ∙ ap (λ (i : ℕ). owner_in s.identifiers i) same ∙ is in absurd (cc)
+
+not_opener : (s : Register) (g : Guest) (o : Peer) (k : ℕ) → IsUnregistered s g → get peer_cmp s.peers o ≡ Some k → g.opener ≡ Some o → ⊥
+not_opener s g o k gone is opened = let none = sym (gone.opener o opened) ∙ is in absurd (cc)
+
 pub forgotten : (r s : Register) (gs hs : Places) (n : ℕ) → IsAllRegistered r gs → n < length gs → hs ≡ slice_set gs n None
     → HasLeft r s (slice_get gs n) → IsAllRegistered s hs
-forgotten r s gs hs n all less set has = subst (λ (xs : Places). IsAllRegistered s xs) (sym set) (record { each = λ k g is. by k g is (same_or_other k n) }) where
+forgotten r s gs hs n all less set has = subst (λ (xs : Places). IsAllRegistered s xs) (sym set) (record {
+  each = λ k g is. by k g is (same_or_other k n);
+  ids = λ id k is. ∥∥₁_map (all.ids id k (has.ids id k is)) (λ at. stays_there gs n k None (λ g. g.id ≡ id) at
+      (λ g there same. not_id s g id k (has.gone g there) is same) (same_or_other k n));
+  peers = λ o k is. ∥∥₁_map (all.peers o k (has.peers o k is)) (λ at. stays_there gs n k None (λ g. g.opener ≡ Some o) at
+      (λ g there opened. not_opener s g o k (has.gone g there) is opened) (same_or_other k n));
+}) where
   by : (k : ℕ) (g : Guest) → slice_get (slice_set gs n None) k ≡ Some (Some g) → (k ≡ n) ⊎ (k ≢ n) → IsRegistered s k g
   by k g is (inl e) =
       let here : slice_get (slice_set gs n None) n ≡ Some (Some g) = subst (λ (m : ℕ). slice_get (slice_set gs n None) m ≡ Some (Some g)) e is in
@@ -194,17 +266,61 @@ forgotten r s gs hs n all less set has = subst (λ (xs : Places). IsAllRegistere
 
 -- ---- one is put into its place
 
-pub seated : (r : Register) (gs hs : Places) (n : ℕ) (g : Guest) → IsAllRegistered r gs → n < length gs → hs ≡ slice_set gs n (Some g)
-    → IsRegistered r n g → IsAllRegistered r hs
-seated r gs hs n g all less set is = subst (λ (xs : Places). IsAllRegistered r xs) (sym set)
-    (record { each = λ k h at. by k h at (same_or_other k n) }) where
-      by : (k : ℕ) (h : Guest) → slice_get (slice_set gs n (Some g)) k ≡ Some (Some h) → (k ≡ n) ⊎ (k ≢ n) → IsRegistered r k h
-      by k h at (inl e) =
-          let here : slice_get (slice_set gs n (Some g)) n ≡ Some (Some h) = subst (λ (m : ℕ). slice_get (slice_set gs n (Some g)) m ≡ Some (Some h)) e at in
-          let one : Some g ≡ Some h = one_place (Some g) (Some h) (slice_get (slice_set gs n (Some g)) n) (place_set gs n (Some g) less) here in
-          let same : g ≡ h = same_Some g h one in
-          subst (λ (m : ℕ). IsRegistered r m h) (sym e) (subst (λ (x : Guest). IsRegistered r n x) same is)
-      by k h at (inr other) = all.each k h (sym (place_other gs n k (Some g) other) ∙ at)
+twice : (gs : Places) (n k : ℕ) (v w : Option Guest) → k ≢ n → slice_get (slice_set (slice_set gs n v) n w) k ≡ slice_get gs k
+twice gs n k v w other = place_other (slice_set gs n v) n k w other ∙ place_other gs n k v other
+
+pub seated : (r s : Register) (gs xs hs : Places) (n : ℕ) (g : Guest) → HasRegistered r gs n g → n < length gs → HasLeft r s (slice_get gs n)
+    → xs ≡ slice_set gs n None → hs ≡ slice_set xs n (Some g) → IsAllRegistered s hs
+seated r s gs xs hs n g joined less has gone set = record {
+  each = λ k h at. by k h at (same_or_other k n);
+  ids = λ id k is. id_by id k is (joined.ids id k (has.ids id k is)) (same_or_other k n);
+  peers = λ o k is. peer_by o k is (joined.peers o k (has.peers o k is)) (same_or_other k n);
+} where
+  both : hs ≡ slice_set (slice_set gs n None) n (Some g)
+  both = set ∙ ap (λ (ys : Places). slice_set ys n (Some g)) gone
+
+  long : n < length (slice_set gs n None)
+  long = omega (arith, length-set gs n None, less)
+
+  here : slice_get hs n ≡ Some (Some g)
+  here = ap (λ (ys : Places). slice_get ys n) both ∙ place_set (slice_set gs n None) n (Some g) long
+
+  apart : (k : ℕ) → k ≢ n → slice_get hs k ≡ slice_get gs k
+  apart k other = ap (λ (ys : Places). slice_get ys k) both ∙ twice gs n k None (Some g) other
+
+  is_new : IsRegistered s n g
+  is_new = has.others n g joined.is (λ h there. (joined.each n h there).1)
+
+  by : (k : ℕ) (h : Guest) → slice_get hs k ≡ Some (Some h) → (k ≡ n) ⊎ (k ≢ n) → IsRegistered s k h
+  by k h at (inl e) =
+      let there : slice_get hs n ≡ Some (Some h) = subst (λ (m : ℕ). slice_get hs m ≡ Some (Some h)) e at in
+      let same : g ≡ h = same_Some g h (one_place (Some g) (Some h) (slice_get hs n) here there) in
+      subst (λ (m : ℕ). IsRegistered s m h) (sym e) (subst (λ (x : Guest). IsRegistered s n x) same is_new)
+  by k h at (inr other) =
+      let was : IsRegistered r k h = (joined.each k h (sym (apart k other) ∙ at)).0 in
+      has.others k h was (λ x there. another r n k x h (λ e. other (sym e)) (joined.each n x there).0 was)
+
+  old_by : (k : ℕ) (P : Guest → Type 0) → IsThere P (slice_get gs k) → ((x : Guest) → slice_get gs n ≡ Some (Some x) → P x → ⊥)
+      → (k ≡ n) ⊎ (k ≢ n) → IsThere P (slice_get hs k)
+  old_by k P at not (inl e) =
+      absurd (not at.guest (subst (λ (m : ℕ). slice_get gs m ≡ Some (Some at.guest)) e at.there) at.is)
+  old_by k P at not (inr other) = subst (λ (p : Option (Option Guest)). IsThere P p) (sym (apart k other)) at
+
+  new_by : (k : ℕ) (P : Guest → Type 0) → P g → n ≡ k → IsThere P (slice_get hs k)
+  new_by k P has_it e = record { guest = g; there = ap (λ (m : ℕ). slice_get hs m) (sym e) ∙ here; is = has_it }
+
+  id_by : (id k : ℕ) → owner_in s.identifiers id ≡ Some k → (g.id ≡ id) ⊎ ∥ IsThere (λ x. x.id ≡ id) (slice_get gs k) ∥₁
+      → (k ≡ n) ⊎ (k ≢ n) → ∥ IsThere (λ x. x.id ≡ id) (slice_get hs k) ∥₁
+  id_by id k is (inl same) or =
+      ∣ new_by k (λ x. x.id ≡ id) same (same_Some n k (sym is_new.own ∙ ap (λ (i : ℕ). owner_in s.identifiers i) same ∙ is)) ∣₁
+  id_by id k is (inr was) or =
+      ∥∥₁_map was (λ at. old_by k (λ x. x.id ≡ id) at (λ x there same. not_id s x id k (has.gone x there) is same) or)
+
+  peer_by : (o : Peer) (k : ℕ) → get peer_cmp s.peers o ≡ Some k → (g.opener ≡ Some o) ⊎ ∥ IsThere (λ x. x.opener ≡ Some o) (slice_get gs k) ∥₁
+      → (k ≡ n) ⊎ (k ≢ n) → ∥ IsThere (λ x. x.opener ≡ Some o) (slice_get hs k) ∥₁
+  peer_by o k is (inl same) or = ∣ new_by k (λ x. x.opener ≡ Some o) same (same_Some n k (sym (is_new.opener o same) ∙ is)) ∣₁
+  peer_by o k is (inr was) or =
+      ∥∥₁_map was (λ at. old_by k (λ x. x.opener ≡ Some o) at (λ x there opened. not_opener s x o k (has.gone x there) is opened) or)
 
 -- ---- an identifier is taken
 
@@ -225,6 +341,10 @@ pub record HasJoined (old new : Register) (number id : ℕ) : Type 0 where
   pub free : owner_in old.identifiers id ≡ None
   pub others : (k : ℕ) → k ≢ id → owner_in new.identifiers k ≡ owner_in old.identifiers k
   pub peers : (o : Peer) (n : ℕ) → get peer_cmp old.peers o ≡ Some n → get peer_cmp new.peers o ≡ Some n
+
+-- who opened one then is this opener, or had opened it
+abbrev pub OpenedBy : (old new : Register) → Option Peer → Type 0
+OpenedBy old new opener = (o : Peer) (n : ℕ) → get peer_cmp new.peers o ≡ Some n → (opener ≡ Some o) ⊎ (get peer_cmp old.peers o ≡ Some n)
 
 abbrev IsGiven : (a b : Ids) (number : ℕ) → Option ℕ → Type 0
 IsGiven a b number x = (place : ℕ) → position (is_free a.owners) a.ahead ≡ Some place → IfSome x (Gives a b place number)
@@ -268,27 +388,56 @@ joined_opened r t s number id opener x same u none next given some owner peers =
     took r s number id x next (subst (λ (a : Ids). IsGiven a s.identifiers number x) same given) (subst (λ (a : Ids). IsSome a x) same some) owner
     (λ o n is. ap (λ (m : BTreeMap Peer ℕ). get peer_cmp m o) peers ∙ entered r.peers t.peers opener o number n u none is)
 
-pub all_after : (r s : Register) (gs : Places) (number id : ℕ) → IsAllRegistered r gs → HasJoined r s number id → IsAllRegistered s gs
-all_after r s gs number id all has = record {
-  each = λ n g there.
+joined_peers : (m n : BTreeMap Peer ℕ) (opener o : Peer) (number k : ℕ) (b : Bool) → Updates peer_cmp m n opener (Some number)
+    → is_eq (peer_cmp opener o) ≡ b → get peer_cmp n o ≡ Some k → (Some opener ≡ Some o) ⊎ (get peer_cmp m o ≡ Some k)
+joined_peers m n opener o number k true u eq is = inl (ap Some (same_peer opener o (is_equal (peer_cmp opener o) eq)))
+joined_peers m n opener o number k false u eq is = inr (sym (u.2 o eq) ∙ is)
+
+pub opened_by : (r t s : Register) (number : ℕ) (opener : Peer) → Updates peer_cmp r.peers t.peers opener (Some number) → s.peers ≡ t.peers
+    → OpenedBy r s (Some opener)
+opened_by r t s number opener u peers = λ o n is.
+    joined_peers r.peers t.peers opener o number n (is_eq (peer_cmp opener o)) u refl (sym (ap (λ (m : BTreeMap Peer ℕ). get peer_cmp m o) peers) ∙ is)
+
+pub opened_by_none : (r s : Register) → s.peers ≡ r.peers → OpenedBy r s None
+opened_by_none r s peers = λ o n is. inr (sym (ap (λ (m : BTreeMap Peer ℕ). get peer_cmp m o) peers) ∙ is)
+
+-- the one that is there already is another
+is_another : (r s : Register) (gs : Places) (number n : ℕ) (g h : Guest) → IsAllRegistered r gs → HasJoined r s number h.id
+    → ((o : Peer) → h.opener ≡ Some o → get peer_cmp r.peers o ≡ None) → slice_get gs n ≡ Some (Some g) → IsAnother g h
+is_another r s gs number n g h all has unknown there =
+    let is = all.each n g there in
+    record {
+      own = λ same. let none = sym has.free ∙ ap (λ (i : ℕ). owner_in r.identifiers i) same ∙ is.own in absurd (cc);
+      opener = λ o opened was. let none = sym (unknown o was) ∙ is.opener o opened in absurd (cc);
+    }
+
+pub all_joined : (r s : Register) (gs : Places) (number : ℕ) (h : Guest) → IsAllRegistered r gs → HasJoined r s number h.id
+    → ((o : Peer) → h.opener ≡ Some o → get peer_cmp r.peers o ≡ None) → OpenedBy r s h.opener → IsRegistered s number h
+    → HasRegistered s gs number h
+all_joined r s gs number h all has unknown opened new = record {
+  each = λ n g there. (after n g there, is_another r s gs number n g h all has unknown there);
+  is = new;
+  ids = λ id n is. id_by id n is (same_or_other id h.id);
+  peers = λ o n is. peer_by o n (opened o n is);
+} where
+  after : (n : ℕ) (g : Guest) → slice_get gs n ≡ Some (Some g) → IsRegistered s n g
+  after n g there =
       let is = all.each n g there in
       record {
         fits = is.fits;
         known = is.known;
         own = has.others g.id (λ same. let none = sym has.free ∙ ap (λ (i : ℕ). owner_in r.identifiers i) (sym same) ∙ is.own in absurd (cc)) ∙ is.own;
         opener = λ o opened. has.peers o n (is.opener o opened);
-      };
-}
+      }
 
--- the one that gave way is another
-pub gave_way : (r s : Register) (gs : Places) (number n : ℕ) (g h : Guest) → IsAllRegistered r gs → HasJoined r s number h.id
-    → ((o : Peer) → h.opener ≡ Some o → get peer_cmp r.peers o ≡ None) → slice_get gs n ≡ Some (Some g) → IsAnother g h
-gave_way r s gs number n g h all has unknown there =
-    let is = all.each n g there in
-    record {
-      own = λ same. let none = sym has.free ∙ ap (λ (i : ℕ). owner_in r.identifiers i) same ∙ is.own in absurd (cc);
-      opener = λ o opened was. let none = sym (unknown o was) ∙ is.opener o opened in absurd (cc);
-    }
+  id_by : (id n : ℕ) → owner_in s.identifiers id ≡ Some n → (id ≡ h.id) ⊎ (id ≢ h.id) → (h.id ≡ id) ⊎ ∥ IsThere (λ g. g.id ≡ id) (slice_get gs n) ∥₁
+  id_by id n is (inl e) = inl (sym e)
+  id_by id n is (inr other) = inr (all.ids id n (sym (has.others id other) ∙ is))
+
+  peer_by : (o : Peer) (n : ℕ) → (h.opener ≡ Some o) ⊎ (get peer_cmp r.peers o ≡ Some n)
+      → (h.opener ≡ Some o) ⊎ ∥ IsThere (λ g. g.opener ≡ Some o) (slice_get gs n) ∥₁
+  peer_by o n (inl by) = inl by
+  peer_by o n (inr was) = inr (all.peers o n was)
 
 -- memory was refused for the peer
 pub unentered : (r t : Register) (gs : Places) → t.identifiers ≡ r.identifiers → IsUnchanged r.peers t.peers → IsAllRegistered r gs → IsAllRegistered t gs
@@ -301,13 +450,18 @@ unentered r t gs same unchanged all = record {
         own = ap (λ (a : Ids). owner_in a g.id) same ∙ is.own;
         opener = λ o opened. ap (λ (es : List (Peer × ℕ)). lookup (is_at (peer_cmp o)) es) unchanged ∙ is.opener o opened;
       };
+  ids = λ id n is. all.ids id n (sym (ap (λ (a : Ids). owner_in a id) same) ∙ is);
+  peers = λ o n is. all.peers o n (sym (ap (λ (es : List (Peer × ℕ)). lookup (is_at (peer_cmp o)) es) unchanged) ∙ is);
 }
 
 -- ---- no connection
 
-pub nobody_registered : (r : Register) (gs : Places) (most : ℕ) → gs ≡ replicate most None → IsAllRegistered r gs
-nobody_registered r gs most is = record {
+pub nobody_registered : (r : Register) (gs : Places) (most : ℕ) → gs ≡ replicate most None
+    → ((id : ℕ) → is_free r.identifiers.owners id ≡ true) → IsEmpty r.peers → IsAllRegistered r gs
+nobody_registered r gs most is free empty = record {
   each = λ n g there.
       let none : Some g ≡ None = none_there most n (Some g) (sym (ap (λ (xs : Places). slice_get xs n) is) ∙ there) in
       absurd (cc);
+  ids = λ id n owned. let none = sym (free_owner (owner_in r.identifiers id) (free id)) ∙ owned in absurd (cc);
+  peers = λ o n opened. let none = ap (λ (es : List (Peer × ℕ)). lookup (is_at (peer_cmp o)) es) (sym empty) ∙ opened in absurd (cc);
 }

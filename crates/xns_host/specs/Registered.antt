@@ -1,8 +1,9 @@
 -- Where the register leads the packets of connections.
-use Rattle.std.specs.Prelude.{◌≡◌, ◌≢◌, ℕ, ◌<◌, List, Option, Some, None, slice_get}
+use Rattle.std.specs.Prelude.{◌≡◌, ◌≢◌, ◌⊎◌, ℕ, ◌<◌, List, Option, Some, None, slice_get}
 use Rattle.std.specs.BTreeMap.{get}
 use Rattle.xns_spp.specs.declared.ends.Ends.{Ends}
 use Rattle.xns_spp.specs.declared.role.Role.TheVariants.{Responder}
+use Rattle.xns_host.specs.Hosting.{IsThere}
 use Rattle.xns_host.specs.Register.{owner_in, peer_at, peer_cmp}
 use Rattle.xns_host.specs.Story.{Story}
 use Rattle.xns_host.specs.Telling.{Tells}
@@ -33,9 +34,11 @@ pub record IsRegistered (r : Register) (number : ℕ) (g : Guest) : Type 0 where
   pub own : owner_in r.identifiers g.id ≡ Some number
   pub opener : (o : Peer) → g.opener ≡ Some o → get peer_cmp r.peers o ≡ Some number
 
--- it does so of each connection
+-- it does so of each connection, and leads to nothing else
 pub record IsAllRegistered (r : Register) (guests : List (Option Guest)) : Type 0 where
   pub each : (n : ℕ) (g : Guest) → slice_get guests n ≡ Some (Some g) → IsRegistered r n g
+  pub ids : (id n : ℕ) → owner_in r.identifiers id ≡ Some n → ∥ IsThere (λ g. g.id ≡ id) (slice_get guests n) ∥₁
+  pub peers : (o : Peer) (n : ℕ) → get peer_cmp r.peers o ≡ Some n → ∥ IsThere (λ g. g.opener ≡ Some o) (slice_get guests n) ∥₁
 
 -- nothing names both of these connections
 pub record IsAnother (g h : Guest) : Type 0 where
@@ -47,7 +50,18 @@ pub record IsUnregistered (r : Register) (g : Guest) : Type 0 where
   pub own : owner_in r.identifiers g.id ≡ None
   pub opener : (o : Peer) → g.opener ≡ Some o → get peer_cmp r.peers o ≡ None
 
--- the connection in this place left the register: nothing leads to it any longer, and to each other one it leads still
+-- the register leads to each connection and to a new one with this number, which shares no name with them, and to nothing else
+pub record HasRegistered (r : Register) (guests : List (Option Guest)) (number : ℕ) (new : Guest) : Type 0 where
+  pub each : (n : ℕ) (g : Guest) → slice_get guests n ≡ Some (Some g) → IsRegistered r n g × IsAnother g new
+  pub is : IsRegistered r number new
+  pub ids : (id n : ℕ) → owner_in r.identifiers id ≡ Some n → (new.id ≡ id) ⊎ ∥ IsThere (λ g. g.id ≡ id) (slice_get guests n) ∥₁
+  pub peers : (o : Peer) (n : ℕ) → get peer_cmp r.peers o ≡ Some n
+      → (new.opener ≡ Some o) ⊎ ∥ IsThere (λ g. g.opener ≡ Some o) (slice_get guests n) ∥₁
+
+-- the connection in this place left the register: nothing leads to it any longer, to each other one it leads still, and nothing new leads
+-- to any
 pub record HasLeft (old new : Register) (place : Option (Option Guest)) : Type 0 where
   pub gone : (g : Guest) → place ≡ Some (Some g) → IsUnregistered new g
+  pub ids : (id n : ℕ) → owner_in new.identifiers id ≡ Some n → owner_in old.identifiers id ≡ Some n
+  pub peers : (o : Peer) (n : ℕ) → get peer_cmp new.peers o ≡ Some n → get peer_cmp old.peers o ≡ Some n
   pub others : (n : ℕ) (g : Guest) → IsRegistered old n g → ((h : Guest) → place ≡ Some (Some h) → IsAnother h g) → IsRegistered new n g

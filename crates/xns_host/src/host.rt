@@ -20,7 +20,7 @@ ghost use Rattle.xns_host.specs.Hosting.{IsNextEvent, IsNextPacket, IsNotServed,
 ghost use Rattle.xns_host.specs.Hosting.{TellsIn, WentOn, address_in, confirms, has_guest};
 ghost use Rattle.xns_host.specs.Quotes.{is_opened_by};
 ghost use Rattle.xns_host.specs.Register.{number_by, peer_at, peer_cmp};
-ghost use Rattle.xns_host.specs.Registered.{HasLeft, IsAllRegistered, IsAnother, IsRegistered};
+ghost use Rattle.xns_host.specs.Registered.{HasLeft, IsAllRegistered};
 ghost use Rattle.xns_host.specs.Story.{asked_of};
 ghost use Rattle.courier_sessions.specs.Answering.{answer_message};
 ghost use Rattle.xns_host.specs.Reasons.{call_fault_of, answer_fault_of};
@@ -46,8 +46,8 @@ use crate::register::Register;
 use crate::services::Services;
 use crate::settings::Settings;
 use crate::slots::{
-    act_in, answer_in, call_in, close_in, count, event_in, fill, hear_in, is_done_in, no_guests,
-    not_served_in, note, packet_in, vacate,
+    act_in, answer_in, call_in, close_in, count, event_in, forget_in, hear_in, is_done_in,
+    no_guests, not_served_in, note, packet_in, put_in,
 };
 use crate::strays::Strays;
 use courier_sessions::{Answer, Program};
@@ -182,13 +182,12 @@ impl Host {
         ensures strays { self.new.strays ≡ self.old.strays }
         ensures set_up { StaysSetUp self.old self.new }
     {
-        let Some(guest) = vacate(&mut self.guests, &mut self.agenda, number) else {
-            return;
-        };
-        self.register.release(guest.id);
-        if let Some(opener) = &guest.opener {
-            self.register.leave(opener);
-        }
+        forget_in(
+            &mut self.register,
+            &mut self.guests,
+            &mut self.agenda,
+            number,
+        );
     }
 
     /// Forgets the connection with this number, if it is done.
@@ -205,30 +204,6 @@ impl Host {
         if done {
             self.forget(number);
         }
-    }
-
-    /// Puts a new connection into its place, which is free.
-    fn seat(&mut self, number: usize, guest: Guest)
-        requires within { number < length self.old.guests.items }
-        requires registered { IsRegistered self.old.register number guest }
-        ensures apart { IsApart self.old.guests.items self.new.guests.items number }
-        ensures there { slice_get self.new.guests.items number ≡ Some (Some guest) }
-        ensures set_up { StaysSetUp self.old self.new }
-    {
-        fill(&mut self.guests, &mut self.agenda, number, guest);
-    }
-
-    /// Puts a new connection into its place, whose old one gives way.
-    fn put(&mut self, number: usize, guest: Guest)
-        requires within { number < length self.old.guests.items }
-        requires registered { IsRegistered self.old.register number guest }
-        requires another { (g : Guest) → slice_get self.old.guests.items number ≡ Some (Some g) → IsAnother g guest }
-        ensures apart { IsApart self.old.guests.items self.new.guests.items number }
-        ensures there { slice_get self.new.guests.items number ≡ Some (Some guest) }
-        ensures set_up { StaysSetUp self.old self.new }
-    {
-        self.forget(number);
-        self.seat(number, guest);
     }
 
     /// Opens a connection from this socket of ours to the peer, whose side calls; its number. Its packets go out by this `via`.
@@ -276,7 +251,13 @@ impl Host {
             confirmed: false,
             heard_of: false,
         };
-        self.put(number, guest);
+        put_in(
+            &mut self.register,
+            &mut self.guests,
+            &mut self.agenda,
+            number,
+            guest,
+        );
         Ok(number)
     }
 
@@ -633,7 +614,13 @@ impl Host {
             confirmed: false,
             heard_of: false,
         };
-        self.put(number, guest);
+        put_in(
+            &mut self.register,
+            &mut self.guests,
+            &mut self.agenda,
+            number,
+            guest,
+        );
         Some(number)
     }
 

@@ -7,14 +7,14 @@ ghost use Rattle.courier_messages.specs.RawCalls.{words_call};
 ghost use Rattle.xns_spp.specs.Ends.{is_ours_at};
 ghost use Rattle.xns_spp.specs.Packet.{IsSppPacket, spp_packet_of};
 ghost use Rattle.xns_host.specs.Events.{event_in, event_of};
-ghost use Rattle.xns_host.specs.Hosting.{HasHeard, HasToldIn, HearsIn, IsAllNoted, IsAsked, IsGiven, IsNotServed, IsNotedBut, IsThere, LedTo};
-ghost use Rattle.xns_host.specs.Hosting.{WentOn, facts_in, is_done};
+ghost use Rattle.xns_host.specs.Hosting.{HasHeard, HasToldIn, HearsIn, IsAllNoted, IsApart, IsAsked, IsGiven, IsNotServed, IsNotedBut};
+ghost use Rattle.xns_host.specs.Hosting.{IsThere, LedTo, WentOn, facts_in, is_done};
 ghost use Rattle.xns_spp.specs.Held.{StandsFor};
 ghost use Rattle.xns_spp.specs.State.{State};
 ghost use Rattle.xns_host.specs.Ours.{IsOf, IsToOpen};
 ghost use Rattle.xns_host.specs.Quotes.{is_opened_by};
 ghost use Rattle.xns_host.specs.Knowing.{known_in, news_in};
-ghost use Rattle.xns_host.specs.Registered.{FitsEnd, FitsEndIn};
+ghost use Rattle.xns_host.specs.Registered.{FitsEnd, FitsEndIn, HasLeft, HasRegistered, IsAllRegistered};
 ghost use Rattle.xns_host.specs.Story.{asked_of, waiting_message};
 ghost use Rattle.xns_host.specs.Telling.{Goes, Keeps};
 ghost use Rattle.courier_sessions.specs.Answering.{answer_message};
@@ -32,6 +32,7 @@ use crate::guest::Guest;
 use crate::host_fault::HostFault;
 use crate::opening_quote::OpeningQuote;
 use crate::outgoing::Outgoing;
+use crate::register::Register;
 use courier_messages::{Head, PiecedMessage};
 use courier_sessions::Answer;
 use std::alloc::{AllocError, Global};
@@ -119,6 +120,53 @@ pub fn fill(guests: &mut Vec<Option<Guest>>, agenda: &mut Agenda, number: usize,
     std::mem::swap(&mut guests[number], &mut filling);
     agenda.take(number);
     note(guests.as_slice(), agenda, number);
+}
+
+/// Forgets the connection with this number: the register leads to it no longer.
+pub fn forget_in(
+    register: &mut Register,
+    guests: &mut Vec<Option<Guest>>,
+    agenda: &mut Agenda,
+    number: usize,
+)
+    requires within { number < length guests.old.items }
+    requires sized { length guests.old.items ≡ length agenda.old.dues }
+    requires noted { IsAllNoted agenda.old guests.old.items }
+    ensures noted { IsAllNoted agenda.new guests.new.items }
+    ensures sized { length agenda.new.dues ≡ length agenda.old.dues }
+    ensures gone { guests.new.items ≡ slice_set guests.old.items number None }
+    ensures left { HasLeft register.old register.new (slice_get guests.old.items number) }
+{
+    let Some(guest) = vacate(guests, agenda, number) else {
+        return;
+    };
+    register.release(guest.id);
+    if let Some(opener) = &guest.opener {
+        register.leave(opener);
+    }
+}
+
+/// Puts a new connection, which the register knows, into its place, whose old one gives way.
+pub fn put_in(
+    register: &mut Register,
+    guests: &mut Vec<Option<Guest>>,
+    agenda: &mut Agenda,
+    number: usize,
+    guest: Guest,
+)
+    requires within { number < length guests.old.items }
+    requires sized { length guests.old.items ≡ length agenda.old.dues }
+    requires noted { IsAllNoted agenda.old guests.old.items }
+    requires registered { HasRegistered register.old guests.old.items number guest }
+    ensures noted { IsAllNoted agenda.new guests.new.items }
+    ensures sized { length agenda.new.dues ≡ length agenda.old.dues }
+    ensures room { length guests.new.items ≡ length guests.old.items }
+    ensures apart { IsApart guests.old.items guests.new.items number }
+    ensures there { slice_get guests.new.items number ≡ Some (Some guest) }
+    ensures registered { IsAllRegistered register.new guests.new.items }
+{
+    forget_in(register, guests, agenda, number);
+    fill(guests, agenda, number, guest);
 }
 
 /// Puts out a call on the connection of a place.

@@ -7,31 +7,21 @@ use Rattle.xns_host.specs.Settings.{IsBegun}
 use Rattle.xns_host.specs.Story.{new_story}
 use Rattle.xns_host.specs.Telling.{Tells}
 use Rattle.xns_host.proofs.Waking.{all_in_use, gets_place, no_room, not_both}
-use Rattle.xns_host.proofs.Registered.{all_after, gave_way, joined}
+use Rattle.xns_host.proofs.Registered.{all_joined, joined, opened_by_none}
 use Rattle.xns_host.proofs.host.Host.connect.Goals as goal
 
-pub invariant_of-self-2-clause-registered : goal.invariant_of-self-2-clause-registered
-invariant_of-self-2-clause-registered c =
-    all_after c.args.self.now.register c.take.new.self c.args.self.now.guests.items _ c.in-Some-next.id c.args.self.now.registered
-    (joined c.args.self.now.register c.take.new.self _ c.in-Some-next.id c.take.result c.in-Some-next.ensures.next c.take.ensures.given
-    c.take.ensures.some c.take.ensures.owner c.take.ensures.peers)
-
-pub put-requires-clause-registered : goal.put-requires-clause-registered
-put-requires-clause-registered c =
+pub put_in-requires-clause-registered : goal.put_in-requires-clause-registered
+put_in-requires-clause-registered c =
     let has = joined c.args.self.now.register c.take.new.self _ c.in-Some-next.id c.take.result c.in-Some-next.ensures.next
     c.take.ensures.given c.take.ensures.some c.take.ensures.owner c.take.ensures.peers in
-    record {
+    all_joined c.args.self.now.register c.take.new.self c.args.self.now.guests.items _ _ c.args.self.now.registered has (λ o opened. absurd (cc))
+    (opened_by_none c.args.self.now.register c.take.new.self c.take.ensures.peers)
+    (record {
       fits = ∣ record { story = _; tells = c.in-Ok.ensures.tells; id = refl; opener = λ responds. absurd (cc) } ∣₁;
       known = c.in-Some-next.ensures.known;
       own = has.own;
       opener = λ o opened. absurd (cc);
-    }
-
-pub put-requires-clause-another : goal.put-requires-clause-another
-put-requires-clause-another c = λ g there.
-    gave_way c.args.self.now.register c.take.new.self c.args.self.now.guests.items _ c.in-Some.number g _ c.args.self.now.registered
-    (joined c.args.self.now.register c.take.new.self _ c.in-Some-next.id c.take.result c.in-Some-next.ensures.next c.take.ensures.given
-    c.take.ensures.some c.take.ensures.owner c.take.ensures.peers) (λ o opened. absurd (cc)) there
+    })
 
 pub returns-in_default-clause-room : goal.returns-in_default-clause-room
 returns-in_default-clause-room c = λ z.
@@ -61,7 +51,7 @@ returns-clause-connected c = record {
     confirmed = false;
     heard_of = false;
   };
-  there = c.put.ensures.there;
+  there = c.put_in.ensures.there;
   next = c.in-Some-next.ensures.next;
   tells = subst (λ (own : Address). Tells c.in-Ok.connection.conversation
       (new_story None (initiator_state own c.in-Some-next.id c.args.peer c.args.self.now.settings.window c.args.self.now.settings.backlog)))

@@ -14,5 +14,6 @@ invariant_of-result c =
       few = omega (arith, size, c.requires.connections);
       settled = size;
       noted = empty_noted c.in_ok-new-2.field-0 c.in_ok-no_guests.field-0.items c.args.settings.connections c.in_ok-new-2.ensures.nobody c.in_ok-no_guests.ensures;
-      registered = nobody_registered c.in_ok-new.field-0 c.in_ok-no_guests.field-0.items c.args.settings.connections c.in_ok-no_guests.ensures;
+      registered = nobody_registered c.in_ok-new.field-0 c.in_ok-no_guests.field-0.items c.args.settings.connections c.in_ok-no_guests.ensures
+          c.in_ok-new.ensures.free c.in_ok-new.ensures.nobody;
     }

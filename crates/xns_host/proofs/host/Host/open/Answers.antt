@@ -7,7 +7,7 @@ use Rattle.xns_host.specs.Story.{new_story}
 use Rattle.xns_host.specs.Telling.{Tells}
 use Rattle.xns_host.specs.declared.peer.Peer.{Peer}
 use Rattle.xns_host.proofs.Waking.{gets_place}
-use Rattle.xns_host.proofs.Registered.{all_after, gave_way, joined_opened, unentered}
+use Rattle.xns_host.proofs.Registered.{all_joined, joined_opened, opened_by, unentered}
 use Rattle.xns_host.proofs.host.Host.open.Goals as goal
 
 pub invariant_of-self : goal.invariant_of-self
@@ -23,21 +23,16 @@ invariant_of-self c =
           c.args.self.now.registered;
     }
 
-pub invariant_of-self-2-clause-registered : goal.invariant_of-self-2-clause-registered
-invariant_of-self-2-clause-registered c =
-    let entered : Updates peer_cmp c.args.self.now.register.peers c.enter.new.self.peers c.args.opener (Some c.in_ok-number.number) = search rules in
-    all_after c.args.self.now.register c.take.new.self c.args.self.now.guests.items _ c.in_ok-id.id c.args.self.now.registered
-    (joined_opened c.args.self.now.register c.enter.new.self c.take.new.self _ c.in_ok-id.id c.args.opener c.take.result
-    c.enter.ensures.identifiers entered c.requires.unknown c.in_ok-id.ensures.next c.take.ensures.given c.take.ensures.some c.take.ensures.owner
-    c.take.ensures.peers)
-
-pub put-requires-clause-registered : goal.put-requires-clause-registered
-put-requires-clause-registered c =
+pub put_in-requires-clause-registered : goal.put_in-requires-clause-registered
+put_in-requires-clause-registered c =
     let entered : Updates peer_cmp c.args.self.now.register.peers c.enter.new.self.peers c.args.opener (Some c.in_ok-number.number) = search rules in
     let has = joined_opened c.args.self.now.register c.enter.new.self c.take.new.self _ c.in_ok-id.id c.args.opener c.take.result
     c.enter.ensures.identifiers entered c.requires.unknown c.in_ok-id.ensures.next c.take.ensures.given c.take.ensures.some c.take.ensures.owner
     c.take.ensures.peers in
-    record {
+    all_joined c.args.self.now.register c.take.new.self c.args.self.now.guests.items _ _ c.args.self.now.registered has
+    (λ o opened. let same : c.args.opener ≡ o = cc in ap (λ (p : Peer). get peer_cmp c.args.self.now.register.peers p) (sym same) ∙ c.requires.unknown)
+    (opened_by c.args.self.now.register c.enter.new.self c.take.new.self c.in_ok-number.number c.args.opener entered c.take.ensures.peers)
+    (record {
       fits = ∣ record {
         story = _;
         tells = c.in-Ok.ensures.tells;
@@ -51,16 +46,7 @@ put-requires-clause-registered c =
           let same : c.args.opener ≡ o = cc in
           ap (λ (m : BTreeMap Peer ℕ). get peer_cmp m o) c.take.ensures.peers ∙ ap (λ (p : Peer). get peer_cmp c.enter.new.self.peers p) (sym same)
           ∙ entered.1;
-    }
-
-pub put-requires-clause-another : goal.put-requires-clause-another
-put-requires-clause-another c = λ g there.
-    let entered : Updates peer_cmp c.args.self.now.register.peers c.enter.new.self.peers c.args.opener (Some c.in_ok-number.number) = search rules in
-    gave_way c.args.self.now.register c.take.new.self c.args.self.now.guests.items _ c.in_ok-number.number g _ c.args.self.now.registered
-    (joined_opened c.args.self.now.register c.enter.new.self c.take.new.self _ c.in_ok-id.id c.args.opener c.take.result
-    c.enter.ensures.identifiers entered c.requires.unknown c.in_ok-id.ensures.next c.take.ensures.given c.take.ensures.some c.take.ensures.owner
-    c.take.ensures.peers)
-    (λ o opened. let same : c.args.opener ≡ o = cc in ap (λ (p : Peer). get peer_cmp c.args.self.now.register.peers p) (sym same) ∙ c.requires.unknown) there
+    })
 
 pub returns-clause-place : goal.returns-clause-place
 returns-clause-place c =
@@ -78,7 +64,7 @@ returns-clause-opened c = record {
     confirmed = false;
     heard_of = false;
   };
-  there = c.put.ensures.there;
+  there = c.put_in.ensures.there;
   is = record {
     next = c.in_ok-id.ensures.next;
     tells = subst (λ (own : Address). Tells c.in-Ok.connection.conversation (new_story (Some c.args.programs.items)
