@@ -83,7 +83,7 @@ pub struct Host {
     ghost settled: { length guests.items ≡ settings.connections },
     // What is to be done of each connection is noted, and of nothing else.
     ghost noted: { IsAllNoted agenda guests.items },
-    // The register leads to each connection what names it.
+    // The register leads to each connection what names it, and nothing else anywhere.
     ghost registered: { IsAllRegistered register guests.items },
 }
 
