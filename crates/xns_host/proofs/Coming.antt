@@ -1,5 +1,5 @@
 -- A call comes only with an item that is taken in.
-use Rattle.std.proofs.Common.{◌≡◌, ◌∙◌, ap, sym, refl, subst, ℕ, ◌-◌, ◌≤◌, ◌++◌, List, [], ◌∷◌, Bool, true, false, Option, Some, None, Result, Ok, Err, OnOk, arith}
+use Rattle.std.proofs.Common.{◌≡◌, ◌∙◌, ap, sym, refl, subst, ℕ, ◌-◌, ◌≤◌, ◌++◌, List, [], ◌∷◌, Bool, true, false, Option, Some, None, Result, Ok, Err, OnOk, OnErr, arith}
 use Rattle.std.specs.Option.{is_some}
 use Rattle.std.specs.declared.alloc.AllocError.{AllocError}
 use Rattle.courier_messages.specs.declared.message.Message.{Message}
@@ -14,7 +14,7 @@ use Rattle.courier_sessions.specs.Pumping.{sending, feeding, feeds, moving, serv
 use Rattle.courier_sessions.specs.declared.feed_refusal.FeedRefusal.{FeedRefusal}
 use Rattle.courier_sessions.specs.declared.feed_refusal.FeedRefusal.TheVariants.{Stopped, Busy, TooLong, Attention, Fault, NoMemory}
 use Rattle.courier_sessions.specs.declared.unlisted.Unlisted.{Unlisted}
-use Rattle.xns_host.specs.Story.{IsListed, Moves, MovesAll, Calms}
+use Rattle.xns_host.specs.Story.{IsListed, IsUnlisted, Moves, MovesAll, Calms}
 use Rattle.xns_host.specs.declared.side.Side.{Side}
 use Rattle.xns_host.specs.declared.side.Side.TheVariants.{Answers}
 use Rattle.xns_host.proofs.Leading.{goes_on}
@@ -99,4 +99,20 @@ quiet waiting left first rejects last before after all listed = record {
       let is = before y.0.state y.1.stands in
       let was = after z.0.state z.1.stands in
       (z.0, z.1, goes_on h x.0 z.0 x.2 (goes_on x.0 y.0 z.0 y.2 z.2), z.3, listed y.0.state z.0.state y.1.stands z.1.stands (omega (arith, is, was, all)));
+  going = λ h flows. let x = first.on h flows in let y = rejects.on x.0 x.1 in last.going y.0 y.1;
 }
+
+-- memory is refused only to the reject of a call that waits and is not listed
+pub unlisted : (a : Answering) (r : Result Bool AllocError)
+    → ((m : Message) → a.call ≡ Some m → why_unlisted a.programs m ≡ None → r ≡ Ok false)
+    → (a.call ≡ None → r ≡ Ok false)
+    → OnErr r (IsUnlisted (Answers a))
+unlisted a (Ok b) listed none = tt
+unlisted a (Err f) listed none = by_call a.call refl where
+  by_why : (m : Message) (o : Option Unlisted) → a.call ≡ Some m → why_unlisted a.programs m ≡ o → IsUnlisted (Answers a)
+  by_why m None c w = let z = listed m c w in absurd (cc)
+  by_why m (Some u) c w = (m, u, c, w)
+
+  by_call : (o : Option Message) → a.call ≡ o → IsUnlisted (Answers a)
+  by_call None c = let z = none c in absurd (cc)
+  by_call (Some m) c = by_why m (why_unlisted a.programs m) c refl

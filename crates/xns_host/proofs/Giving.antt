@@ -7,7 +7,7 @@ use Rattle.xns_spp.specs.Sending.{flush_answer, after_flush}
 use Rattle.xns_spp.specs.State.{State}
 use Rattle.xns_spp.specs.Telling.{resend_answer, after_resend, told_answer}
 use Rattle.xns_host.specs.Story.{Story, Runs, start, sends, takes, flushes, resends, tells, made_on}
-use Rattle.xns_host.specs.Closing.{drains, closing_items}
+use Rattle.xns_host.specs.Closing.{drains}
 use Rattle.xns_host.specs.Telling.{Goes, Gives, MovesAndGives}
 use Rattle.xns_host.specs.declared.closing.Closing.{Closing}
 use Rattle.xns_host.specs.declared.conversation.Conversation.{Conversation}
@@ -54,7 +54,7 @@ gives_then {s} {t} {u} {o} p q = record {
 
 -- the end stays
 still : (t u : Conversation) (s : State) → u.closing ≡ t.closing → u.endpoint ≡ t.endpoint → StandsFor t.endpoint s → Carries t u s s
-still t u s closing stay stands = same_items t u s s (ap closing_items closing) refl refl refl (subst (λ (e : Held). StandsFor e s) (sym stay) stands)
+still t u s closing stay stands = same_items t u s s closing refl refl refl (subst (λ (e : Held). StandsFor e s) (sym stay) stands)
 
 -- what waited first, and what waits behind it
 pub fetched : (t u : Conversation) (o : Option (List ℕ)) → u.side ≡ t.side → u.closing ≡ t.closing → u.endpoint ≡ t.endpoint → t.packets.items ≡ option_to_list o ++ u.packets.items → Gives t u o
@@ -72,7 +72,7 @@ pub gives_first : OtherStepsAcceptAndHandUpNothing → OtherStepsHearNothing →
     → ((s : State) → StandsFor t.endpoint s → StandsFor u.endpoint (after_resend s)) → ((s : State) → StandsFor t.endpoint s → o ≡ resend_answer s) → Gives t u o
 gives_first stay hear t u o same closing packets none step answer = gives_by t u o same closing (λ s stands. (
   after_resend s,
-  same_items t u s (after_resend s) (ap closing_items closing) (stay.resend s).accepted (stay.resend s).handed (hear.resend s).taken (step s stands),
+  same_items t u s (after_resend s) closing (stay.resend s).accepted (stay.resend s).handed (hear.resend s).taken (step s stands),
   resends start,
   alone t.packets.items u.packets.items (option_to_list (resend_answer s)) o none (packets ∙ none) (ap option_to_list (answer s stands)),
 ))
@@ -81,7 +81,7 @@ pub gives_flushed : OtherStepsAcceptAndHandUpNothing → OtherStepsHearNothing �
     → ((s : State) → StandsFor t.endpoint s → StandsFor u.endpoint (after_flush s)) → ((s : State) → StandsFor t.endpoint s → u.packets.items ≡ flush_answer s) → Gives t u None
 gives_flushed stay hear t u same closing none step answer = gives_by t u None same closing (λ s stands. (
   after_flush s,
-  same_items t u s (after_flush s) (ap closing_items closing) (stay.flush s).accepted (stay.flush s).handed (hear.flush s).taken (step s stands),
+  same_items t u s (after_flush s) closing (stay.flush s).accepted (stay.flush s).handed (hear.flush s).taken (step s stands),
   flushes start,
   answer s stands ∙ ap (λ (bs : Packets). bs ++ flush_answer s) (sym none),
 ))

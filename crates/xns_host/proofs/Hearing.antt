@@ -13,14 +13,14 @@ use Rattle.xns_idp.specs.declared.address.Address.{Address}
 use Rattle.xns_spp.specs.Ends.{is_from, is_ours_at, to_responder}
 use Rattle.xns_spp.specs.Held.{StandsFor}
 use Rattle.xns_spp.specs.Packet.{SppPacketModel, carried_by, carried_in, opener_of, spp_packet_of, with_header}
-use Rattle.xns_spp.specs.Receiving.{StoresBytes}
+use Rattle.xns_spp.specs.Receiving.{StoresBytes, after_receive}
 use Rattle.xns_spp.specs.State.{State, responder_state}
 use Rattle.xns_idp.specs.declared.fault.IdpFault.{IdpFault}
 use Rattle.xns_idp.specs.declared.packet.Packet.{Packet}
 use Rattle.xns_spp.specs.Header.{header_of}
 use Rattle.xns_spp.specs.declared.dropped.Dropped.{Dropped}
 use Rattle.xns_spp.specs.declared.dropped.Dropped.TheVariants.{NotSpp}
-use Rattle.xns_host.specs.Hosting.{EachHears, HasHeard, HasReplied, HearsIn, IsPacketOf, IsThere, Receives, address_in, nothing, heard, goes, listens, loses}
+use Rattle.xns_host.specs.Hosting.{ClosesFrom, EachHears, HasHeard, HasReplied, HearsIn, IsPacketOf, IsThere, Receives, address_in, nothing, heard, goes, listens, loses}
 use Rattle.xns_host.specs.Ours.{named_in}
 use Rattle.xns_host.specs.Register.{number_by, peer_at}
 use Rattle.xns_host.specs.Knowing.{news_of}
@@ -59,11 +59,13 @@ heard_or_not now bytes m place g h (Err e) read is ok steps err =
 pub has_heard : (bytes : List ℕ) (m : SppPacketModel) (confirming : Bool) (g h : Guest) (r : Result (Unit {0}) AllocError)
     → spp_packet_of bytes ≡ Ok m
     → OnOk r ((b : List ℕ) → spp_packet_of b ≡ Ok m → Hears g.connection.conversation h.connection.conversation b) → OnErr r (h ≡ g)
-    → OnOk r (HasReplied g.connection h.connection) → OnOk r (news_of h ≡ (confirming || g.confirmed, g.heard_of))
+    → OnOk r (HasReplied g.connection h.connection)
+    → OnOk r ((b : List ℕ) → spp_packet_of b ≡ Ok m → ClosesFrom g.connection h.connection (λ s. record s { state = after_receive s.state b }))
+    → OnOk r (news_of h ≡ (confirming || g.confirmed, g.heard_of))
     → OnErr r ((s : State) (b : List ℕ) → StandsFor g.connection.conversation.endpoint s → spp_packet_of b ≡ Ok m → StoresBytes s b)
     → HasHeard bytes confirming g (Some h)
-has_heard bytes m confirming g h (Ok u) read ok err replied news memory = listens h (ok bytes read) replied news
-has_heard bytes m confirming g h (Err e) read ok err replied news memory =
+has_heard bytes m confirming g h (Ok u) read ok err replied closes news memory = listens h (ok bytes read) replied (closes bytes read) news
+has_heard bytes m confirming g h (Err e) read ok err replied closes news memory =
     subst (λ (x : Guest). HasHeard bytes confirming g (Some x)) (sym err) (loses (λ s stands. memory s bytes stands read))
 
 -- the connection in one place heard them
@@ -91,6 +93,12 @@ put_there P a n p place less here said =
     let both : Some p ≡ Some place = sym (set_there a (slice_set a n p) n p less refl) ∙ here in
     let same : p ≡ place = cc in
     subst P same said
+
+-- what was read from a place where there is a connection is that one
+pub guest_in : (a : Places) (n : ℕ) (old : Option Guest) (g : Guest) → n < length a → old ≡ get_or a n old → slice_get a n ≡ Some (Some g) → old ≡ Some g
+guest_in a n old g less read here =
+    let both : Some old ≡ Some (Some g) = sym (slice_get_read a (length a) n old refl less read) ∙ here in
+    cc
 
 -- nothing came of them
 pub nothing_came : (now : ℕ) (opened : Guest → Type 0) (bytes : List ℕ) (a b : Places) → ((k : ℕ) → slice_get b k ≡ slice_get a k)

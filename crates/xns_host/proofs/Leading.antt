@@ -1,6 +1,6 @@
 -- What the steps of a pump do to the history of a side and its end.
 use Rattle.std.proofs.Common.{◌≡◌, ◌∙◌, ap, sym, refl, subst, ◌+◌, List, [], ◌∷◌, ◌++◌, append-nil, take, length, length-append, Bool, true, false}
-use Rattle.std.proofs.Common.{Option, Some, None, Result, Ok, Err, OnOk, arith}
+use Rattle.std.proofs.Common.{Option, Some, None, Result, Ok, Err, IfErr, OnOk, arith}
 use Rattle.std.specs.Prelude.{nat_lt, if◌then◌else◌}
 use Rattle.courier_messages.specs.declared.fault.SessionFault.{SessionFault}
 use Rattle.courier_messages.specs.declared.fault.SessionFault.TheVariants as faults
@@ -28,7 +28,7 @@ use Rattle.courier_sessions.specs.declared.feed_refusal.FeedRefusal.{FeedRefusal
 use Rattle.courier_sessions.specs.declared.feed_refusal.FeedRefusal.TheVariants.{Stopped, Busy, TooLong, Attention, Fault, NoMemory}
 use Rattle.courier_sessions.specs.declared.program.Program.{Program}
 use Rattle.courier_sessions.specs.declared.unlisted.Unlisted.{Unlisted}
-use Rattle.xns_host.specs.Story.{Story, CallerHas, ServerHas, AreRejected, Flows, Runs, start, sends, takes, flushes, resends, tells, GoesOn, Moves, IsListed, MovesAll, Calms}
+use Rattle.xns_host.specs.Story.{Story, CallerHas, ServerHas, AreRejected, Flows, Runs, start, sends, takes, flushes, resends, tells, GoesOn, Moves, IsListed, IsUnlisted, refused, unrejected, MovesAll, Calms, MovesUntil, is_stopped}
 use Rattle.xns_host.specs.Telling.{Goes, Calm, CalmFrom, Tells}
 use Rattle.xns_host.specs.declared.conversation.Conversation.{Conversation}
 use Rattle.xns_host.specs.declared.side.Side.{Side}
@@ -247,13 +247,18 @@ stopped_at h t n d is table =
     let fails : n.failed ≡ true = ap (λ (u : Talk). u.failed) is in
     record { phase = t.phase; done = subst (λ (u : Talk). HasDone h.made h.fed h.given h.handed u) same d; going = λ z. absurd (cc); table = table }
 
+-- what it had done when it was fed last
+caller_last : TheNextItemIsHandedUp → CallerGives → CallerFeeds → (h : Story) (t n : Talk) (e f : Held) (r : Result (Unit {0}) FeedRefusal) → t.failed ≡ false → Flows (Calls t) e h → (p : Pumped caller_side (t, h.state) r n f) → CallerOver h.made h.handed p.last
+caller_last next gives feeds_one h t n e f r still flows p =
+    let before : CallerOver h.made h.handed (t, h.state) = subst (λ (xs : List Item). HasDone h.made xs h.state.accepted h.handed t) flows.fed (subst (λ (xs : List Item). HasDone h.made h.fed xs h.handed t) flows.given (gone h t flows.has still)) in
+    caller_leads next gives feeds_one h.made h.handed p.leads before
+
 pub caller_pumped : TheNextItemIsHandedUp → CallerGives → CallerFeeds → (h : Story) (t n : Talk) (e f : Held) (r : Result (Unit {0}) FeedRefusal) → t.failed ≡ false → Flows (Calls t) e h → Pumped caller_side (t, h.state) r n f
     → (m : Story) × Flows (Calls n) f m × GoesOn h m
 caller_pumped next gives feeds_one h t n e f r still flows p =
     let s : State = p.last.1 in
     let m : Story = record h { state = s; fed = take s.handed s.taken; given = s.accepted } in
-    let before : CallerOver h.made h.handed (t, h.state) = subst (λ (xs : List Item). HasDone h.made xs h.state.accepted h.handed t) flows.fed (subst (λ (xs : List Item). HasDone h.made h.fed xs h.handed t) flows.given (gone h t flows.has still)) in
-    let after : HasDone h.made (take s.handed s.taken) s.accepted h.handed p.last.0 = caller_leads next gives feeds_one h.made h.handed p.leads before in
+    let after : HasDone h.made (take s.handed s.taken) s.accepted h.handed p.last.0 = caller_last next gives feeds_one h t n e f r still flows p in
     let has : CallerHas m n = ends_at (CallerHas m n) caller_side p.last r n p.settled
     (λ is. going m n (subst (λ (u : Talk). HasDone m.made m.fed m.given m.handed u) (sym is) after) flows.has.table) (λ is. stopped_at m p.last.0 n after is flows.has.table) in
     (m, record { stands = p.stands; has = has; fed = refl; given = refl }, same_messages h m (leads_run caller_side p.leads) refl refl refl refl refl)
@@ -291,13 +296,18 @@ server_stopped_at h programs a n d is listed rejected =
       rejected = subst (λ (ps : List Program). AreRejected ps h.taken h.answers) table rejected;
     }
 
+server_last : TheNextItemIsHandedUp → ServerGives → ServerFeeds → (h : Story) (a n : Answering) (e f : Held) (r : Result (Unit {0}) FeedRefusal) → a.failed ≡ false → Flows (Answers a) e h → (p : Pumped server_side (a, h.state) r n f)
+    → ServerOver a.programs h.taken h.handed h.answers p.last
+server_last next gives feeds_one h a n e f r still flows p =
+    let before : ServerOver a.programs h.taken h.handed h.answers (a, h.state) = subst (λ (xs : List Item). HasAnswered a.programs xs h.state.accepted h.taken h.handed h.answers a) flows.fed (subst (λ (xs : List Item). HasAnswered a.programs h.fed xs h.taken h.handed h.answers a) flows.given (server_gone h a flows.has still)) in
+    server_leads next gives feeds_one a.programs h.taken h.handed h.answers p.leads before
+
 pub server_pumped : TheNextItemIsHandedUp → ServerGives → ServerFeeds → (h : Story) (a n : Answering) (e f : Held) (r : Result (Unit {0}) FeedRefusal) → a.failed ≡ false → Flows (Answers a) e h → Pumped server_side (a, h.state) r n f
     → (m : Story) × Flows (Answers n) f m × GoesOn h m
 server_pumped next gives feeds_one h a n e f r still flows p =
     let s : State = p.last.1 in
     let m : Story = record h { state = s; fed = take s.handed s.taken; given = s.accepted } in
-    let before : ServerOver a.programs h.taken h.handed h.answers (a, h.state) = subst (λ (xs : List Item). HasAnswered a.programs xs h.state.accepted h.taken h.handed h.answers a) flows.fed (subst (λ (xs : List Item). HasAnswered a.programs h.fed xs h.taken h.handed h.answers a) flows.given (server_gone h a flows.has still)) in
-    let after : HasAnswered a.programs (take s.handed s.taken) s.accepted h.taken h.handed h.answers p.last.0 = server_leads next gives feeds_one a.programs h.taken h.handed h.answers p.leads before in
+    let after : HasAnswered a.programs (take s.handed s.taken) s.accepted h.taken h.handed h.answers p.last.0 = server_last next gives feeds_one h a n e f r still flows p in
     let has : ServerHas m n = ends_at (ServerHas m n) server_side p.last r n p.settled
     (λ is. server_going m a.programs n (subst (λ (u : Answering). HasAnswered a.programs m.fed m.given m.taken m.handed m.answers u) (sym is) after) flows.has.table flows.has.rejected)
     (λ is. server_stopped_at m a.programs p.last.0 n after is flows.has.table flows.has.rejected) in
@@ -354,6 +364,9 @@ caller_all next gives feeds_one t n e f (Ok u) still pumped = record {
       let p = pumped h.state flows.stands in
       let k = caller_pumped next gives feeds_one h t n e f (Ok u) still flows p in
       (k.0, k.1, k.2, pumped_still caller_side (t, h.state) u n f p);
+  going = λ h flows.
+      let p = pumped h.state flows.stands in
+      ap (λ (v : Talk). v.failed) p.settled.0 ∙ (caller_last next gives feeds_one h t n e f (Ok u) still flows p).going;
 }
 caller_all next gives feeds_one t n e f (Err x) still pumped = tt
 
@@ -364,17 +377,73 @@ server_all next gives feeds_one a n e f (Ok u) still pumped = record {
       let p = pumped h.state flows.stands in
       let k = server_pumped next gives feeds_one h a n e f (Ok u) still flows p in
       (k.0, k.1, k.2, pumped_still server_side (a, h.state) u n f p);
+  going = λ h flows.
+      let p = pumped h.state flows.stands in
+      ap (λ (v : Answering). v.failed) p.settled.0 ∙ (server_last next gives feeds_one h a n e f (Ok u) still flows p).going;
 }
 server_all next gives feeds_one a n e f (Err x) still pumped = tt
+
+-- ---- up to where an item is refused
+
+pub caller_refuses : TheNextItemIsHandedUp → CallerGives → CallerFeeds → (t n : Talk) (e f : Held) (r : Result (Unit {0}) FeedRefusal) → t.failed ≡ false → ((s : State) → StandsFor e s → Pumped caller_side (t, s) r n f) → IfErr r (λ x. MovesUntil (Calls t) e x f)
+caller_refuses next gives feeds_one t n e f (Ok u) still pumped = tt
+caller_refuses next gives feeds_one t n e f (Err x) still pumped = record {
+  on = λ h flows.
+      let p = pumped h.state flows.stands in
+      let s : State = p.last.1 in
+      let m : Story = record h { state = s; fed = take s.handed s.taken; given = s.accepted } in
+      let after : HasDone h.made (take s.handed s.taken) s.accepted h.handed p.last.0 = caller_last next gives feeds_one h t n e f (Err x) still flows p in (
+        Calls p.last.0,
+        m,
+        record { stands = p.stands; has = going m p.last.0 after flows.has.table; fed = refl; given = refl },
+        same_messages h m (leads_run caller_side p.leads) refl refl refl refl refl,
+        after.going,
+        refused x (n, p.settled),
+      );
+}
+
+pub server_refuses : TheNextItemIsHandedUp → ServerGives → ServerFeeds → (a n : Answering) (e f : Held) (r : Result (Unit {0}) FeedRefusal) → a.failed ≡ false → ((s : State) → StandsFor e s → Pumped server_side (a, s) r n f) → IfErr r (λ x. MovesUntil (Answers a) e x f)
+server_refuses next gives feeds_one a n e f (Ok u) still pumped = tt
+server_refuses next gives feeds_one a n e f (Err x) still pumped = record {
+  on = λ h flows.
+      let p = pumped h.state flows.stands in
+      let s : State = p.last.1 in
+      let m : Story = record h { state = s; fed = take s.handed s.taken; given = s.accepted } in
+      let after : HasAnswered a.programs (take s.handed s.taken) s.accepted h.taken h.handed h.answers p.last.0 = server_last next gives feeds_one h a n e f (Err x) still flows p in (
+        Answers p.last.0,
+        m,
+        record { stands = p.stands; has = server_going m a.programs p.last.0 after flows.has.table flows.has.rejected; fed = refl; given = refl },
+        same_messages h m (leads_run server_side p.leads) refl refl refl refl refl,
+        after.going,
+        refused x (n, p.settled),
+      );
+}
+
+pub until_then : {s t : Side} {e f g : Held} {x : FeedRefusal} → Moves s e t f → MovesUntil t f x g → MovesUntil s e x g
+until_then p q = record { on = λ h flows. let k = p.on h flows in let z = q.on k.0 k.1 in (z.0, z.1, z.2, goes_on h k.0 z.1 k.2 z.3, z.4, z.5) }
+
+-- memory is refused to the reject of a call
+pub unrejects : {s t : Side} {e f : Held} → MovesAll s e t f → IsUnlisted t → MovesUntil s e NoMemory f
+unrejects {t = t} p unlisted = record { on = λ h flows. let x = p.on h flows in (t, x.0, x.1, x.2, p.going h flows, unrejected unlisted) }
 
 pub all_moves : {s t : Side} {e f : Held} → MovesAll s e t f → Moves s e t f
 all_moves p = record { on = λ h flows. let x = p.on h flows in (x.0, x.1, x.2) }
 
 pub moves_all : {s t u : Side} {e f g : Held} → Moves s e t f → MovesAll t f u g → MovesAll s e u g
-moves_all p q = record { on = λ h flows. let x = p.on h flows in let y = q.on x.0 x.1 in (y.0, y.1, goes_on h x.0 y.0 x.2 y.2, y.3) }
+moves_all p q = record {
+  on = λ h flows. let x = p.on h flows in let y = q.on x.0 x.1 in (y.0, y.1, goes_on h x.0 y.0 x.2 y.2, y.3);
+  going = λ h flows. let x = p.on h flows in q.going x.0 x.1;
+}
 
 pub calms_at : {s t u : Side} {e f : Held} → MovesAll s e t f → u ≡ t → IsListed t → Calms s e u f
-calms_at {s} {t} {u} {e} {f} p same listed = subst (λ (x : Side). Calms s e x f) (sym same) (record { on = λ h flows. let x = p.on h flows in (x.0, x.1, x.2, x.3, listed) })
+calms_at {s} {t} {u} {e} {f} p same listed = subst (λ (x : Side). Calms s e x f) (sym same) (record { on = λ h flows. let x = p.on h flows in (x.0, x.1, x.2, x.3, listed); going = p.going })
+
+-- a side that has stopped after items moved has no story
+pub calms_never : {s t : Side} {e f : Held} → MovesAll s e t f → is_stopped t ≡ true → Calms s e t f
+calms_never p stopped = record {
+  on = λ h flows. let z = p.going h flows in absurd (cc);
+  going = p.going;
+}
 
 pub calm_then : {s t u : Conversation} → Goes s t → Calm t u → Calm s u
 calm_then p q = record { on = λ h f. let x = p.on h f in let y = q.on x.0 x.1 in (y.0, y.1, goes_on h x.0 y.0 x.2 y.2, y.3, y.4) }

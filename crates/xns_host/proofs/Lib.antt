@@ -1,5 +1,6 @@
 mod Again
 mod Apart
+mod Closes
 mod Coming
 mod Done
 mod Dues

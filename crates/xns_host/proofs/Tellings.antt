@@ -1,12 +1,15 @@
 -- What steps do to what a connection has done.
-use Rattle.std.proofs.Common.{◌≡◌, ◌∙◌, ap, sym, refl, subst, ℕ, ◌≤◌, List, [], ◌∷◌, ◌++◌, append-nil, append_assoc, take, drop, map, ◌-◌, length, Bool, true, false, Option, Some, None, Result, Ok, Err, OnOk, OnErr, arith, ◌≢◌}
-use Rattle.std.specs.Prelude.{not, ◌&&◌, ◌||◌, if◌then◌else◌, is_ok}
-use Rattle.std.proofs.lemmas.List.{take-append-le}
+use Rattle.std.proofs.Common.{◌≡◌, ◌∙◌, ap, sym, refl, subst, ℕ, ◌≤◌, List, [], ◌∷◌, ◌++◌, append-nil, append_assoc, take, drop, map, ◌-◌, length, Bool, true, false, Option, Some, None, Result, Ok, Err, IfErr, OnOk, OnErr, arith, ◌≢◌}
+use Rattle.std.specs.Prelude.{not, ◌&&◌, ◌||◌, ◌==◌, if◌then◌else◌, is_ok}
+use Rattle.std.proofs.Math.Seq.{drop-length}
+use Rattle.std.proofs.lemmas.Bool.{eqb-true}
+use Rattle.std.proofs.lemmas.List.{drop-append-le, take-append-le}
+use Rattle.std.proofs.lemmas.List.Folds.{list_any-append}
 use Rattle.courier_messages.specs.declared.message.Message.{Message}
 use Rattle.courier_sessions.specs.declared.feed_refusal.FeedRefusal.{FeedRefusal}
 use Rattle.courier_sessions.specs.declared.feed_refusal.FeedRefusal.TheVariants.{NoMemory}
 use Rattle.courier_sessions.specs.declared.program.Program.{Program}
-use Rattle.xns_spp.specs.Fronts.{begins_then}
+use Rattle.xns_spp.specs.Fronts.{begins_length, begins_then}
 use Rattle.xns_spp.specs.Growth.{Begins}
 use Rattle.xns_spp.specs.Ends.{is_open}
 use Rattle.xns_spp.specs.Held.{Held, StandsFor}
@@ -18,9 +21,9 @@ use Rattle.xns_spp.specs.Sending.{send_answer, after_send, take_answer, after_ta
 use Rattle.xns_spp.specs.State.{State, numbers_of, send_limit}
 use Rattle.xns_spp.specs.Telling.{after_resend}
 use Rattle.xns_spp.specs.declared.item.Item.{Item}
-use Rattle.xns_host.specs.Story.{Story, SideHas, Flows, Runs, start, sends, takes, flushes, resends, Moves, is_stopped, with_handed, new_story, Calms}
-use Rattle.xns_host.specs.Closing.{drains, closing_items, closing_item, put_if, end_stream, end_reply_stream, noted}
-use Rattle.xns_host.specs.Telling.{Tells, Goes, Rested, owes_end, owes_reply, Calm}
+use Rattle.xns_host.specs.Story.{Story, SideHas, Flows, Runs, start, sends, takes, flushes, resends, Moves, is_stopped, with_handed, new_story, Calms, MovesUntil}
+use Rattle.xns_host.specs.Closing.{drains, closing_items, closing_item, put_if, end_stream, end_reply_stream, noted, asks_end, replies_end, Knows}
+use Rattle.xns_host.specs.Telling.{Tells, Goes, Rested, owes_end, owes_reply, Calm, GoesUntil, ReadsOn, drained}
 use Rattle.xns_host.specs.declared.closing.Closing.{Closing}
 use Rattle.xns_host.specs.declared.closing.TheConstants.Closing.{NONE}
 use Rattle.xns_host.specs.declared.side.Side.{Side}
@@ -40,6 +43,20 @@ pub record Carries (t u : Conversation) (s v : State) : Type 0 where
   pub fed : Begins (take s.handed s.taken) (take v.handed v.taken)
   pub all : drains u.side u.closing ≡ false → take v.handed v.taken ≡ take s.handed s.taken
   pub given : (g : List Item) → g ++ closing_items t.closing ≡ s.accepted → g ++ closing_items u.closing ≡ v.accepted
+  pub knows : (fed : List Item) → Begins fed (take s.handed s.taken) → Knows t.closing (drop (length fed) (take s.handed s.taken))
+      → Knows u.closing (drop (length fed) (take v.handed v.taken))
+
+-- what is known of the one is known of the other
+abbrev pub KnowsToo : (e f : Closing) → Type 0
+KnowsToo e f = (items : List Item) → Knows e items → Knows f items
+
+pub knows_same : (e f : Closing) → f ≡ e → KnowsToo e f
+knows_same e f same items k = subst (λ (g : Closing). Knows g items) (sym same) k
+
+-- the items that were handed up are the same
+knows_still : (e f : Closing) (s v : State) → KnowsToo e f → take v.handed v.taken ≡ take s.handed s.taken → (fed : List Item)
+    → Knows e (drop (length fed) (take s.handed s.taken)) → Knows f (drop (length fed) (take v.handed v.taken))
+knows_still e f s v too front fed k = subst (λ (xs : List Item). Knows f (drop (length fed) xs)) (sym front) (too (drop (length fed) (take s.handed s.taken)) k)
 
 pub carried : (t u : Conversation) (h : Story) (v : State) → u.side ≡ t.side → (drains u.side u.closing ≡ false → drains t.side t.closing ≡ false) → Carries t u h.state v → Tells t h → Tells u (record h { state = v })
 carried t u h v same drain c tells = record {
@@ -48,6 +65,7 @@ carried t u h v same drain c tells = record {
   fed = begins_then h.fed (take h.state.handed h.state.taken) (take v.handed v.taken) tells.fed c.fed;
   all = λ z. tells.all (drain z) ∙ sym (c.all z);
   given = c.given h.given tells.given;
+  knows = c.knows h.fed tells.fed tells.knows;
 }
 
 -- what was wanted is wanted, where the closing stays but for what was put out
@@ -70,18 +88,83 @@ after_taken next s None is = let e = next.none s is in (ap (λ (v : State). v.ac
 after_taken next s (Some x) is = let e = next.some s x is in
     (ap (λ (v : State). v.accepted) e, subst (λ (v : State). Begins (take s.handed s.taken) (take v.handed v.taken)) (sym e) (x ∷ [], sym (next.more s x is)))
 
+-- what is known after an item was taken, if one was
+abbrev pub NotesNext : Option Item → (e f : Closing) → Type 0
+NotesNext None e f = f ≡ e
+NotesNext (Some x) e f = f ≡ noted e x.stream
+
+record IsNoted (e f : Closing) (a b : Bool) : Type 0 where
+  pub wanted : f.reply_wanted ≡ (e.reply_wanted || (a || b))
+  pub heard : f.reply_heard ≡ (e.reply_heard || b)
+
+or_true : (a : Bool) → true ≡ (a || true)
+or_true true = refl
+or_true false = refl
+
+or_false : (a : Bool) → a ≡ (a || false)
+or_false true = refl
+or_false false = refl
+
+-- one stream is not both
+is_noted : (e : Closing) (a b : Bool) → (a ≡ true → b ≡ false) → IsNoted e (if a then record e { reply_wanted = true } else if b then record e { reply_wanted = true; reply_heard = true } else e) a b
+is_noted e true true one = let z = one refl in absurd (cc)
+is_noted e true false one = record { wanted = or_true e.reply_wanted; heard = or_false e.reply_heard }
+is_noted e false true one = record { wanted = or_true e.reply_wanted; heard = or_true e.reply_heard }
+is_noted e false false one = record { wanted = or_false e.reply_wanted; heard = or_false e.reply_heard }
+
+not_both : (n : ℕ) → (n == end_stream) ≡ true → (n == end_reply_stream) ≡ false
+not_both n is = ap (λ (k : ℕ). k == end_reply_stream) (eqb-true n end_stream is)
+
+pub knows_more : (e : Closing) (items : List Item) (x : Item) → Knows e items → Knows (noted e x.stream) (items ++ x ∷ [])
+knows_more e items x k =
+    let a : Bool = x.stream == end_stream in
+    let b : Bool = x.stream == end_reply_stream in
+    let n = is_noted e a b (not_both x.stream) in
+    record {
+      wanted = n.wanted ∙ ap (λ (c : Bool). c || (a || b)) k.wanted ∙ ap (λ (c : Bool). asks_end items || c) (or_false (a || b)) ∙ sym (list_any-append _ items (x ∷ []));
+      heard = n.heard ∙ ap (λ (c : Bool). c || b) k.heard ∙ ap (λ (c : Bool). replies_end items || c) (or_false b) ∙ sym (list_any-append _ items (x ∷ []));
+    }
+
+knows_taken : TheNextItemIsHandedUp → (s : State) (o : Option Item) (e f : Closing) → take_answer s ≡ o → NotesNext o e f → (fed : List Item) → Begins fed (take s.handed s.taken) → Knows e (drop (length fed) (take s.handed s.taken))
+    → Knows f (drop (length fed) (take (after_take s).handed (after_take s).taken))
+knows_taken next s None e f is notes fed begins k = subst (λ (v : State). Knows f (drop (length fed) (take v.handed v.taken))) (sym (next.none s is)) (knows_same e f notes (drop (length fed) (take s.handed s.taken)) k)
+knows_taken next s (Some x) e f is notes fed begins k =
+    let xs : List Item = take s.handed s.taken in
+    let few = begins_length fed xs begins in
+    let more : Knows f (drop (length fed) xs ++ x ∷ []) = subst (λ (g : Closing). Knows g (drop (length fed) xs ++ x ∷ [])) (sym notes) (knows_more e (drop (length fed) xs) x k) in
+    let there : Knows f (drop (length fed) (xs ++ x ∷ [])) = subst (Knows f) (sym (drop-append-le (length fed) xs (x ∷ []) few)) more in
+    subst (λ (v : State). Knows f (drop (length fed) (take v.handed v.taken))) (sym (next.some s x is)) (subst (λ (ys : List Item). Knows f (drop (length fed) ys)) (sym (next.more s x is)) there)
+
 pub hands_up : TheNextItemIsHandedUp → (t u : Conversation) → u.side ≡ t.side → closing_items u.closing ≡ closing_items t.closing → u.closing.wanted ≡ t.closing.wanted → drains u.side u.closing ≡ true
-    → ((s : State) → StandsFor t.endpoint s → StandsFor u.endpoint (after_take s)) → Goes t u
-hands_up next t u same closing wanted drain step = goes_by t u same (λ z. absurd (cc)) (λ z. wanted ∙ z) (λ s stands.
-    let k = after_taken next s (take_answer s) refl in
-    (after_take s, record { stands = step s stands; fed = k.1; all = λ z. absurd (cc); given = λ g e. ap (λ (xs : List Item). g ++ xs) closing ∙ e ∙ sym k.0 }, takes start))
+    → ((s : State) → StandsFor t.endpoint s → NotesNext (take_answer s) t.closing u.closing) → ((s : State) → StandsFor t.endpoint s → StandsFor u.endpoint (after_take s)) → Goes t u
+hands_up next t u same closing wanted drain notes step = goes_by t u same (λ z. absurd (cc)) (λ z. wanted ∙ z) (λ s stands.
+    let k = after_taken next s (take_answer s) refl in (
+      after_take s,
+      record {
+        stands = step s stands;
+        fed = k.1;
+        all = λ z. absurd (cc);
+        given = λ g e. ap (λ (xs : List Item). g ++ xs) closing ∙ e ∙ sym k.0;
+        knows = knows_taken next s (take_answer s) t.closing u.closing refl (notes s stands);
+      },
+      takes start,
+    ))
 
 -- ---- an end's step with the same items
 
-pub same_items : (t u : Conversation) (s v : State) → closing_items u.closing ≡ closing_items t.closing → v.accepted ≡ s.accepted → v.handed ≡ s.handed → v.taken ≡ s.taken → StandsFor u.endpoint v → Carries t u s v
-same_items t u s v closing accepted handed taken stands =
+same_said : (t u : Conversation) (s v : State) → closing_items u.closing ≡ closing_items t.closing → KnowsToo t.closing u.closing → v.accepted ≡ s.accepted → v.handed ≡ s.handed → v.taken ≡ s.taken → StandsFor u.endpoint v → Carries t u s v
+same_said t u s v closing too accepted handed taken stands =
     let front : take v.handed v.taken ≡ take s.handed s.taken = ap (λ (n : ℕ). take n v.taken) handed ∙ ap (λ (xs : List Item). take s.handed xs) taken in
-    record { stands = stands; fed = ([], append-nil (take s.handed s.taken) ∙ sym front); all = λ z. front; given = λ g e. ap (λ (xs : List Item). g ++ xs) closing ∙ e ∙ sym accepted }
+    record {
+      stands = stands;
+      fed = ([], append-nil (take s.handed s.taken) ∙ sym front);
+      all = λ z. front;
+      given = λ g e. ap (λ (xs : List Item). g ++ xs) closing ∙ e ∙ sym accepted;
+      knows = λ fed begins k. knows_still t.closing u.closing s v too front fed k;
+    }
+
+pub same_items : (t u : Conversation) (s v : State) → u.closing ≡ t.closing → v.accepted ≡ s.accepted → v.handed ≡ s.handed → v.taken ≡ s.taken → StandsFor u.endpoint v → Carries t u s v
+same_items t u s v closing = same_said t u s v (ap closing_items closing) (knows_same t.closing u.closing closing)
 
 -- ---- a packet comes
 
@@ -98,7 +181,13 @@ hears grows stay t u h b same closing stands tells =
     let few = tells.stands.fits.bounds.handed_taken in
     let front : take v.handed v.taken ≡ take s.handed s.taken = ap (λ (n : ℕ). take n v.taken) k.handed ∙ same_front s.handed s.taken v.taken few g.taken in
     carried t u h v same (λ z. ap (λ (x : Side). drains x t.closing) (sym same) ∙ ap (λ (e : Closing). drains u.side e) (sym closing) ∙ z)
-    (record { stands = stands; fed = ([], append-nil (take s.handed s.taken) ∙ sym front); all = λ z. front; given = λ l e. ap (λ (x : Closing). l ++ closing_items x) closing ∙ e ∙ sym k.accepted }) tells
+    (record {
+      stands = stands;
+      fed = ([], append-nil (take s.handed s.taken) ∙ sym front);
+      all = λ z. front;
+      given = λ l e. ap (λ (x : Closing). l ++ closing_items x) closing ∙ e ∙ sym k.accepted;
+      knows = λ fed begins z. knows_still t.closing u.closing s v (knows_same t.closing u.closing closing) front fed z;
+    }) tells
 
 -- ---- items move
 
@@ -112,14 +201,56 @@ nothing_closing false false false deaf side e a b c d =
 pub nothing_said : (side : Side) (e : Closing) → drains side e ≡ false → (is_stopped side ≡ false) × (closing_items e ≡ [])
 nothing_said side e d = nothing_closing (is_stopped side) e.end_sent e.reply_sent e.deaf side e refl refl refl d
 
+rest_free : (a b : Bool) → (a || b) ≡ false → b ≡ false
+rest_free true b z = absurd (cc)
+rest_free false b z = z
+
+-- what was read is read on by another side that has not stopped
+pub reads_by : (side other : Side) (e : Closing) → drains side e ≡ false → is_stopped other ≡ false → drains other e ≡ false
+reads_by side other e d still =
+    let rest : Bool = e.end_sent || (e.reply_sent || e.deaf) in
+    ap (λ (b : Bool). b || rest) still ∙ rest_free (is_stopped side) rest d
+
+unsaid : (a b : Bool) → put_if a end_stream ++ put_if b end_reply_stream ≡ [] → (a ≡ false) × (b ≡ false)
+unsaid true b z = absurd (cc)
+unsaid false true z = absurd (cc)
+unsaid false false z = (refl, refl)
+
+-- and where nothing was put out meanwhile
+pub reads_still : (u w : Conversation) → drains u.side u.closing ≡ false → w.side ≡ u.side → w.closing.deaf ≡ u.closing.deaf → closing_items w.closing ≡ [] → drains w.side w.closing ≡ false
+reads_still u w d same deaf none =
+    let k = unsaid w.closing.end_sent w.closing.reply_sent none in
+    let is = parts (is_stopped u.side) u.closing.end_sent u.closing.reply_sent u.closing.deaf d in
+    ap (λ (x : Side). drains x w.closing) same ∙ ap (λ (b : Bool). b || (w.closing.end_sent || (w.closing.reply_sent || w.closing.deaf))) is.0
+    ∙ ap (λ (b : Bool). b || (w.closing.reply_sent || w.closing.deaf)) k.0 ∙ ap (λ (b : Bool). b || w.closing.deaf) k.1 ∙ deaf ∙ is.1 where
+      parts : (a b c d : Bool) → (a || (b || (c || d))) ≡ false → (a ≡ false) × (d ≡ false)
+      parts true b c d z = absurd (cc)
+      parts false true c d z = absurd (cc)
+      parts false false true d z = absurd (cc)
+      parts false false false d z = (refl, z)
+
 pub flows_of : (t : Conversation) (h : Story) → drains t.side t.closing ≡ false → Tells t h → Flows t.side t.endpoint h
 flows_of t h d tells =
     let k = nothing_said t.side t.closing d in
     record { stands = tells.stands; has = tells.has; fed = tells.all d; given = sym (append-nil h.given) ∙ ap (λ (xs : List Item). h.given ++ xs) (sym k.1) ∙ tells.given }
 
-pub tells_of : (t : Conversation) (h : Story) → closing_items t.closing ≡ [] → Flows t.side t.endpoint h → Tells t h
-tells_of t h closing f =
-    record { stands = f.stands; has = f.has; fed = ([], append-nil h.fed ∙ f.fed); all = λ z. f.fed; given = ap (λ (xs : List Item). h.given ++ xs) closing ∙ append-nil h.given ∙ f.given }
+-- all that was handed up was fed
+none_drained : (h : Story) → h.fed ≡ take h.state.handed h.state.taken → drained h ≡ []
+none_drained h fed = ap (λ (xs : List Item). drop (length h.fed) xs) (sym fed) ∙ drop-length h.fed
+
+-- so nothing is known of the peer's closing
+pub knows_none : (t : Conversation) (h : Story) → drains t.side t.closing ≡ false → Tells t h → Knows t.closing []
+knows_none t h d tells = subst (Knows t.closing) (none_drained h (tells.all d)) tells.knows
+
+pub tells_of : (t : Conversation) (h : Story) → closing_items t.closing ≡ [] → Knows t.closing [] → Flows t.side t.endpoint h → Tells t h
+tells_of t h closing knows f = record {
+  stands = f.stands;
+  has = f.has;
+  fed = ([], append-nil h.fed ∙ f.fed);
+  all = λ z. f.fed;
+  given = ap (λ (xs : List Item). h.given ++ xs) closing ∙ append-nil h.given ∙ f.given;
+  knows = subst (Knows t.closing) (sym (none_drained h f.fed)) knows;
+}
 
 pub conversed : (t u : Conversation) → drains t.side t.closing ≡ false → u.closing ≡ t.closing → Moves t.side t.endpoint u.side u.endpoint → Goes t u
 conversed t u d closing moves = record {
@@ -127,7 +258,16 @@ conversed t u d closing moves = record {
   wanted = still_wanted closing;
   on = λ h tells.
       let k = moves.on h (flows_of t h d tells) in
-      (k.0, tells_of u k.0 (ap closing_items closing ∙ (nothing_said t.side t.closing d).1) k.1, k.2);
+      (k.0, tells_of u k.0 (ap closing_items closing ∙ (nothing_said t.side t.closing d).1) (knows_same t.closing u.closing closing [] (knows_none t h d tells)) k.1, k.2);
+}
+
+-- up to where no more is moved
+pub converses_until : (t : Conversation) (f : Held) (e : FeedRefusal) → drains t.side t.closing ≡ false → MovesUntil t.side t.endpoint e f → GoesUntil t (λ h. h) e
+converses_until t f e d until = record {
+  on = λ h tells.
+      let k = until.on h (flows_of t h d tells) in
+      let last : Conversation = record t { side = k.0; endpoint = f } in
+      (last, k.1, tells_of last k.1 (nothing_said t.side t.closing d).1 (knows_none t h d tells) k.2, k.3, reads_by t.side k.0 t.closing d k.4, k.5);
 }
 
 -- ---- flags that say nothing of what was put out
@@ -164,11 +304,11 @@ pub not_put : ItemsAreAcceptedOrChangeNothing → (t u : Conversation) (x : Item
     → ((s : State) → StandsFor t.endpoint s → is_ok (send_answer s x) ≡ false) → ((s : State) → StandsFor t.endpoint s → StandsFor u.endpoint (after_send s x)) → Goes t u
 not_put law t u x same closing refused step = goes_by t u same (λ z. ap (λ (e : Closing). drains t.side e) (sym closing) ∙ ap (λ (y : Side). drains y u.closing) (sym same) ∙ z) (still_wanted closing) (λ s stands.
     let e : after_send s x ≡ s = law.refused s x (refused s stands) in
-    (s, same_items t u s s (ap closing_items closing) refl refl refl (subst (λ (v : State). StandsFor u.endpoint v) e (step s stands)), start))
+    (s, same_items t u s s closing refl refl refl (subst (λ (v : State). StandsFor u.endpoint v) e (step s stands)), start))
 
 accepts : ItemsAreAcceptedOrChangeNothing → (t u : Conversation) (x : Item) (s : State) → is_ok (send_answer s x) ≡ true → StandsFor u.endpoint (after_send s x)
-    → ((g : List Item) → g ++ closing_items u.closing ≡ (g ++ closing_items t.closing) ++ x ∷ []) → Carries t u s (after_send s x)
-accepts law t u x s ok stands more =
+    → ((g : List Item) → g ++ closing_items u.closing ≡ (g ++ closing_items t.closing) ++ x ∷ []) → KnowsToo t.closing u.closing → Carries t u s (after_send s x)
+accepts law t u x s ok stands more too =
     let e : after_send s x ≡ record s { accepted = s.accepted ++ x ∷ [] } = law.accepted s x ok in
     let front : take (after_send s x).handed (after_send s x).taken ≡ take s.handed s.taken = ap (λ (v : State). take v.handed v.taken) e in
     record {
@@ -176,6 +316,7 @@ accepts law t u x s ok stands more =
       fed = ([], append-nil (take s.handed s.taken) ∙ sym front);
       all = λ z. front;
       given = λ g is. more g ∙ ap (λ (xs : List Item). xs ++ x ∷ []) is ∙ sym (ap (λ (v : State). v.accepted) e);
+      knows = λ fed begins k. knows_still t.closing u.closing s (after_send s x) too front fed k;
     }
 
 -- the reply
@@ -186,7 +327,8 @@ put_reply law t u same closing unsent ok step = goes_by t u same (λ z. absurd (
   after_send s x,
   accepts law t u x s (ok s stands) (step s stands) (λ g.
       ap (λ (f : Closing). g ++ closing_items f) closing ∙ sym (append_assoc g (end_of t.closing) (x ∷ []))
-      ∙ ap (λ (xs : List Item). xs ++ x ∷ []) (sym (ap (λ (b : Bool). g ++ (end_of t.closing ++ put_if b end_reply_stream)) unsent ∙ ap (λ (xs : List Item). g ++ xs) (append-nil (end_of t.closing))))),
+      ∙ ap (λ (xs : List Item). xs ++ x ∷ []) (sym (ap (λ (b : Bool). g ++ (end_of t.closing ++ put_if b end_reply_stream)) unsent ∙ ap (λ (xs : List Item). g ++ xs) (append-nil (end_of t.closing)))))
+      (λ items k. subst (λ (e : Closing). Knows e items) (sym closing) (record { wanted = k.wanted; heard = k.heard })),
   sends start x,
 )) where
   never : (a b c : Bool) → (a || (b || (true || c))) ≡ false → ⊥
@@ -209,7 +351,8 @@ put_end law t u same closing free ok step = goes_by t u same (λ z. free) (still
       after_send s x,
       accepts law t u x s (ok s stands) (step s stands) (λ g.
           ap (λ (f : Closing). g ++ closing_items f) closing ∙ ap (λ (b : Bool). g ++ (x ∷ [] ++ put_if b end_reply_stream)) (no_reply (is_stopped t.side) t.closing.end_sent t.closing.reply_sent t.closing.deaf free)
-          ∙ ap (λ (xs : List Item). xs ++ x ∷ []) (sym (ap (λ (xs : List Item). g ++ xs) none ∙ append-nil g))),
+          ∙ ap (λ (xs : List Item). xs ++ x ∷ []) (sym (ap (λ (xs : List Item). g ++ xs) none ∙ append-nil g)))
+          (λ items k. subst (λ (e : Closing). Knows e items) (sym closing) (record { wanted = k.wanted; heard = k.heard })),
       sends start x,
     )) where
       no_reply : (a b c d : Bool) → (a || (b || (c || d))) ≡ false → c ≡ false
@@ -232,6 +375,8 @@ acts t side h m state fed given stop has tells =
       fed = subst (λ (s : State). Begins m.fed (take s.handed s.taken)) (sym state) (subst (λ (xs : List Item). Begins xs (take h.state.handed h.state.taken)) (sym fed) tells.fed);
       all = λ z. fed ∙ tells.all (sym same ∙ z) ∙ ap (λ (s : State). take s.handed s.taken) (sym state);
       given = ap (λ (xs : List Item). xs ++ closing_items t.closing) given ∙ tells.given ∙ ap (λ (s : State). s.accepted) (sym state);
+      knows = subst (λ (s : State). Knows t.closing (drop (length m.fed) (take s.handed s.taken))) (sym state)
+          (subst (λ (xs : List Item). Knows t.closing (drop (length xs) (take h.state.handed h.state.taken))) (sym fed) tells.knows);
     }
 
 -- ---- packets out
@@ -241,25 +386,32 @@ packs t u same closing step = goes_by t u same (λ z. ap (λ (e : Closing). drai
 
 pub resends_first : OtherStepsAcceptAndHandUpNothing → OtherStepsHearNothing → (t u : Conversation) → u.side ≡ t.side → u.closing ≡ t.closing → ((s : State) → StandsFor t.endpoint s → StandsFor u.endpoint (after_resend s)) → Goes t u
 resends_first stay hear t u same closing step = packs t u same closing (λ s stands.
-    (after_resend s, same_items t u s (after_resend s) (ap closing_items closing) (stay.resend s).accepted (stay.resend s).handed (hear.resend s).taken (step s stands), resends start))
+    (after_resend s, same_items t u s (after_resend s) closing (stay.resend s).accepted (stay.resend s).handed (hear.resend s).taken (step s stands), resends start))
 
 pub flushed : OtherStepsAcceptAndHandUpNothing → OtherStepsHearNothing → (t u : Conversation) → u.side ≡ t.side → u.closing ≡ t.closing → ((s : State) → StandsFor t.endpoint s → StandsFor u.endpoint (after_flush s)) → Goes t u
 flushed stay hear t u same closing step = packs t u same closing (λ s stands.
-    (after_flush s, same_items t u s (after_flush s) (ap closing_items closing) (stay.flush s).accepted (stay.flush s).handed (hear.flush s).taken (step s stands), flushes start))
+    (after_flush s, same_items t u s (after_flush s) closing (stay.flush s).accepted (stay.flush s).handed (hear.flush s).taken (step s stands), flushes start))
 
 -- the end, the side and the closing stay
 pub same_end : (t u : Conversation) → u.side ≡ t.side → u.closing ≡ t.closing → u.endpoint ≡ t.endpoint → Goes t u
 same_end t u same closing stay = packs t u same closing (λ s stands.
-    (s, same_items t u s s (ap closing_items closing) refl refl refl (subst (λ (e : Held). StandsFor e s) (sym stay) stands), start))
+    (s, same_items t u s s closing refl refl refl (subst (λ (e : Held). StandsFor e s) (sym stay) stands), start))
 
 -- so do the end, the side and what was put out
-pub marks : (t u : Conversation) → u.side ≡ t.side → closing_items u.closing ≡ closing_items t.closing → (drains u.side u.closing ≡ false → drains t.side t.closing ≡ false) → (t.closing.wanted ≡ true → u.closing.wanted ≡ true) → u.endpoint ≡ t.endpoint → Goes t u
-marks t u same closing still wanted stay = goes_by t u same still wanted (λ s stands.
-    (s, same_items t u s s closing refl refl refl (subst (λ (e : Held). StandsFor e s) (sym stay) stands), start))
+pub marks : (t u : Conversation) → u.side ≡ t.side → closing_items u.closing ≡ closing_items t.closing → KnowsToo t.closing u.closing → (drains u.side u.closing ≡ false → drains t.side t.closing ≡ false) → (t.closing.wanted ≡ true → u.closing.wanted ≡ true) → u.endpoint ≡ t.endpoint → Goes t u
+marks t u same closing too still wanted stay = goes_by t u same still wanted (λ s stands.
+    (s, same_said t u s s closing too refl refl refl (subst (λ (e : Held). StandsFor e s) (sym stay) stands), start))
 
 pub on_ok : {X Y : Type 0} (P Q : Type 0) (r : Result X Y) → (P → Q) → OnOk r P → OnOk r Q
 on_ok P Q (Ok x) f h = f h
 on_ok P Q (Err e) f h = h
+
+pub if_err : {X E : Type 0} (P Q : E → Type 0) (r : Result X E) → ((e : E) → P e → Q e) → IfErr r P → IfErr r Q
+if_err P Q (Ok x) f h = h
+if_err P Q (Err e) f h = f e h
+
+pub when_ok : {E : Type 0} (P : Type 0) (r : Result (Unit {0}) E) → r ≡ Ok tt → OnOk r P → P
+when_ok P r good h = subst (λ (x : Result (Unit {0}) _). OnOk x P) good h
 
 -- what a call that may be refused memory did
 pub done_or_not : {X Y : Type 0} (P Q R : Type 0) (r : Result X Y) → (P → R) → (Q → R) → OnOk r P → OnErr r Q → R
@@ -311,7 +463,7 @@ flushes_all stay hear t u same closing step = record {
       let m : Story = record h { state = after_flush s } in
       let drain : drains u.side u.closing ≡ false → drains t.side t.closing ≡ false = λ z. ap (λ (e : Closing). drains t.side e) (sym closing) ∙ ap (λ (y : Side). drains y u.closing) (sym same) ∙ z in (
         m,
-        carried t u h (after_flush s) same drain (same_items t u s (after_flush s) (ap closing_items closing) (stay.flush s).accepted (stay.flush s).handed (hear.flush s).taken (step s tells.stands)) tells,
+        carried t u h (after_flush s) same drain (same_items t u s (after_flush s) closing (stay.flush s).accepted (stay.flush s).handed (hear.flush s).taken (step s tells.stands)) tells,
         same_messages h m (flushes start) refl refl refl refl refl,
         flushed_out s,
       );
@@ -342,6 +494,7 @@ tells_same t u h same closing stay tells = record {
   fed = tells.fed;
   all = λ z. tells.all (ap (λ (e : Closing). drains t.side e) (sym closing) ∙ ap (λ (y : Side). drains y u.closing) (sym same) ∙ z);
   given = ap (λ (e : Closing). h.given ++ closing_items e) closing ∙ tells.given;
+  knows = knows_same t.closing u.closing closing (drained h) tells.knows;
 }
 
 pub rested_same : {s t u : Conversation} → Rested s t → u.side ≡ t.side → u.closing ≡ t.closing → u.endpoint ≡ t.endpoint → Rested s u
@@ -357,13 +510,14 @@ new_tells t programs s e side endpoint same closing stands has none empty = reco
   fed = (take s.handed s.taken, refl);
   all = λ z. sym none;
   given = ap closing_items closing ∙ sym empty;
+  knows = knows_same NONE t.closing closing (take s.handed s.taken) (subst (Knows NONE) (sym none) (record { wanted = refl; heard = refl }));
 }
 
 pub calmed : (t u : Conversation) → drains t.side t.closing ≡ false → u.closing ≡ t.closing → Calms t.side t.endpoint u.side u.endpoint → Calm t u
 calmed t u d closing calms = record {
   on = λ h tells.
       let k = calms.on h (flows_of t h d tells) in
-      (k.0, tells_of u k.0 (ap closing_items closing ∙ (nothing_said t.side t.closing d).1) k.1, k.2, k.3, k.4);
+      (k.0, tells_of u k.0 (ap closing_items closing ∙ (nothing_said t.side t.closing d).1) (knows_same t.closing u.closing closing [] (knows_none t h d tells)) k.1, k.2, k.3, k.4);
 }
 
 pub settle_calm : (t u v w : Conversation) (r : Result (Unit {0}) FeedRefusal) → (r ≡ Ok tt → drains u.side u.closing ≡ false → Calm t u) → (r ≡ Ok tt → v ≡ u) → (r ≢ Ok tt → r ≢ Err NoMemory → drains v.side v.closing ≡ true)
@@ -384,3 +538,13 @@ pub never_free : (a b : Bool) → (a || (b || true)) ≡ false → ⊥
 never_free true b z = cc
 never_free false true z = cc
 never_free false false z = cc
+
+-- ---- what was read is read on
+
+pub settle_reads : (t u v w : Conversation) (r : Result (Unit {0}) FeedRefusal)
+    → OnOk r ((h : Story) → Tells t h → drains t.side t.closing ≡ false → drains u.side u.closing ≡ false) → (r ≡ Ok tt → v ≡ u)
+    → w.side ≡ v.side → w.closing.deaf ≡ v.closing.deaf → OnOk r (ReadsOn t w)
+settle_reads t u v w (Ok x) reads good same deaf = λ h tells d none.
+    let z : drains v.side v.closing ≡ false = subst (λ (k : Conversation). drains k.side k.closing ≡ false) (sym (good refl)) (reads h tells d) in
+    reads_still v w z same deaf none
+settle_reads t u v w (Err e) reads good same deaf = tt

@@ -1,5 +1,6 @@
 -- The closing exchange of a connection (XSIS 028112, Sequenced Packet Protocol, Termination).
-use Rattle.std.specs.Prelude.{ℕ, List, [], ◌∷◌, ◌++◌, Bool, true, false, ◌||◌, ◌==◌, if◌then◌else◌}
+use Rattle.std.specs.Prelude.{◌≡◌, ℕ, List, [], ◌∷◌, ◌++◌, Bool, true, false, ◌||◌, ◌==◌, if◌then◌else◌}
+use Rattle.std.specs.List.{list_any}
 use Rattle.xns_spp.specs.declared.item.Item.{Item}
 use Rattle.xns_host.specs.Story.{is_stopped}
 use Rattle.xns_host.specs.declared.closing.Closing.{Closing}
@@ -32,3 +33,16 @@ noted c stream =
     if stream == end_stream then record c { reply_wanted = true }
     else if stream == end_reply_stream then record c { reply_wanted = true; reply_heard = true }
     else c
+
+-- whether End, or EndReply, is among these items
+abbrev pub asks_end : List Item → Bool
+asks_end items = list_any (λ x. (x.stream == end_stream) || (x.stream == end_reply_stream)) items
+
+-- whether EndReply is
+abbrev pub replies_end : List Item → Bool
+replies_end items = list_any (λ x. x.stream == end_reply_stream) items
+
+-- what is known of the peer's closing is what these items say
+pub record Knows (c : Closing) (items : List Item) : Type 0 where
+  pub wanted : c.reply_wanted ≡ asks_end items
+  pub heard : c.reply_heard ≡ replies_end items

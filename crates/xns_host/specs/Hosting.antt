@@ -12,9 +12,10 @@ use Rattle.xns_idp.specs.declared.packet_type.TheConstants.{ERROR}
 use Rattle.xns_spp.specs.Ends.{is_ours_at}
 use Rattle.xns_spp.specs.Held.{StandsFor}
 use Rattle.xns_spp.specs.Packet.{SppPacketModel}
-use Rattle.xns_spp.specs.Receiving.{StoresBytes}
+use Rattle.xns_spp.specs.Receiving.{StoresBytes, after_receive}
 use Rattle.xns_spp.specs.State.{State, initiator_state, responder_state}
 use Rattle.xns_agenda.specs.Agenda.{Plan, IsNoted}
+use Rattle.xns_host.specs.Closed.{ClosesBy}
 use Rattle.xns_host.specs.Connecting.{owed_after}
 use Rattle.xns_host.specs.Events.{event_in}
 use Rattle.xns_host.specs.Identifiers.{Ids, IsNext, is_free}
@@ -93,11 +94,15 @@ StaysAsked old new = old.closing.wanted ≡ true → new.closing.wanted ≡ true
 abbrev pub HasReplied : (old new : Connection) → Type 0
 HasReplied old new = new.owed.moving ≡ false → new.closed ≡ old.closed → HasSaidReply new.conversation
 
+-- after this was done its items moved, and so it was closed, if it was
+abbrev pub ClosesFrom : (old new : Connection) → (Story → Story) → Type 0
+ClosesFrom old new deed = ClosesBy old.conversation deed new.conversation new.owed.moving old.closed new.closed
+
 -- the connection in this place went on from where that one was when the program had done this, whatever it had done before
 abbrev pub WentOn : Connection → (Story → Story) → Option Guest → Type 0
 WentOn c deed None = ⊥
 WentOn c deed (Some g) = GoesFrom c.conversation g.connection.conversation deed × StaysAsked c.conversation g.connection.conversation
-    × HasReplied c g.connection
+    × HasReplied c g.connection × ClosesFrom c g.connection deed
 
 -- such steps led to the one in this place
 abbrev pub LedTo : (Conversation → Conversation → Type 0) → Connection → Option Guest → Type 0
@@ -109,6 +114,7 @@ abbrev pub IsAsked : Connection → Option Guest → Type 0
 IsAsked c None = ⊥
 IsAsked c (Some g) = Goes c.conversation g.connection.conversation × (g.connection.conversation.closing.wanted ≡ true)
     × (g.connection.owed.moving ≡ false → HasSaidEnd g.connection.conversation) × HasReplied c g.connection
+    × ClosesFrom c g.connection (λ h. h)
 
 -- the connection is in this place; or it was forgotten: it is closed, the program was told, and it lingers no more
 pub data StaysIn (c : Connection) : Option (Option Guest) → Type 0 where
@@ -177,7 +183,8 @@ pub record DoesDue (now : ℕ) (old new : List (Option Guest)) : Type 0 where
 pub data HasTold (now : ℕ) (c next : Connection) : Type 0 where
   handed : (m : Message) → waiting_message c.conversation.side ≡ Some m
       → GoesFrom c.conversation next.conversation (λ h. with_handed c.conversation.side h m)
-      → StaysAsked c.conversation next.conversation → HasReplied c next → StepsAt now c.wait next.wait → HasTold now c next
+      → StaysAsked c.conversation next.conversation → HasReplied c next → ClosesFrom c next (λ h. with_handed c.conversation.side h m)
+      → StepsAt now c.wait next.wait → HasTold now c next
   closed : waiting_message c.conversation.side ≡ None → next ≡ record c { told = true } → HasTold now c next
 
 -- this was the step that led to the connection in this place
@@ -369,6 +376,7 @@ confirms p = not (p.header.target_id == 0)
 -- was refused for, and are as if lost
 pub data HasHeard (bytes : List ℕ) (confirming : Bool) (g : Guest) : Option Guest → Type 0 where
   listens : (h : Guest) → Hears g.connection.conversation h.connection.conversation bytes → HasReplied g.connection h.connection
+      → ClosesFrom g.connection h.connection (λ s. record s { state = after_receive s.state bytes })
       → news_of h ≡ (confirming || g.confirmed, g.heard_of) → HasHeard bytes confirming g (Some h)
   loses : ((s : State) → StandsFor g.connection.conversation.endpoint s → StoresBytes s bytes) → HasHeard bytes confirming g (Some g)
 

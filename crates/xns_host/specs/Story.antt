@@ -1,5 +1,5 @@
 -- What one connection has done: the history of its end and of its side.
-use Rattle.std.specs.Prelude.{◌≡◌, ℕ, ◌+◌, List, [], ◌∷◌, ◌++◌, Bool, false, if◌then◌else◌, length, take, slice_get, Option, Some, None}
+use Rattle.std.specs.Prelude.{◌≡◌, ℕ, ◌+◌, List, [], ◌∷◌, ◌++◌, Bool, false, if◌then◌else◌, length, take, slice_get, Option, Some, None, Err}
 use Rattle.std.specs.Option.{is_some, option_to_list}
 use Rattle.courier_messages.specs.declared.message.Message.{Message}
 use Rattle.courier_messages.specs.Conversation.{Phase}
@@ -12,9 +12,11 @@ use Rattle.xns_spp.specs.Telling.{resend_answer, after_resend, told_answer}
 use Rattle.xns_spp.specs.declared.item.Item.{Item}
 use Rattle.courier_sessions.specs.Answering.{Answering, is_busy, why_unlisted, reject_message, transaction_in}
 use Rattle.courier_sessions.specs.Answerings.{HasAnswered}
-use Rattle.courier_sessions.specs.Pumping.{one_step, caller_side, server_side}
+use Rattle.courier_sessions.specs.Pumping.{one_step, caller_side, server_side, Settles}
 use Rattle.courier_sessions.specs.Talk.{Talk}
 use Rattle.courier_sessions.specs.Talks.{HasDone}
+use Rattle.courier_sessions.specs.declared.feed_refusal.FeedRefusal.{FeedRefusal}
+use Rattle.courier_sessions.specs.declared.feed_refusal.FeedRefusal.TheVariants.{NoMemory}
 use Rattle.courier_sessions.specs.declared.program.Program.{Program}
 use Rattle.courier_sessions.specs.declared.unlisted.Unlisted.{Unlisted}
 use Rattle.xns_host.specs.declared.side.Side.{Side}
@@ -161,10 +163,34 @@ abbrev pub IsListed : Side → Type 0
 IsListed (Calls t) = Unit {0}
 IsListed (Answers a) = (m : Message) → a.call ≡ Some m → why_unlisted a.programs m ≡ None
 
--- whatever a side and its end had done goes on so, up to where no item can move
+-- whatever a side and its end had done goes on so, up to where no item can move; the side has not stopped
 pub record MovesAll (side : Side) (endpoint : Held) (next : Side) (after : Held) : Type 0 where
   pub on : (h : Story) → Flows side endpoint h → (m : Story) × Flows next after m × GoesOn h m × IsMoved next m.state
+  pub going : (h : Story) → Flows side endpoint h → is_stopped next ≡ false
 
 -- and no call is to be rejected
 pub record Calms (side : Side) (endpoint : Held) (next : Side) (after : Held) : Type 0 where
   pub on : (h : Story) → Flows side endpoint h → (m : Story) × Flows next after m × GoesOn h m × IsMoved next m.state × IsListed next
+  pub going : (h : Story) → Flows side endpoint h → is_stopped next ≡ false
+
+-- ---- what is refused
+
+-- nothing is out, and the side refuses the item that waits next, for this reason
+abbrev pub IsRefused : Side → State → FeedRefusal → Type 0
+IsRefused (Calls t) s e = (n : Talk) × Settles caller_side (t, s) (Err e) n
+IsRefused (Answers a) s e = (n : Answering) × Settles server_side (a, s) (Err e) n
+
+-- a call waits that is to be rejected
+abbrev pub IsUnlisted : Side → Type 0
+IsUnlisted (Calls t) = ⊥
+IsUnlisted (Answers a) = (m : Message) × (u : Unlisted) × (a.call ≡ Some m) × (why_unlisted a.programs m ≡ Some u)
+
+-- why no more is moved: the side refuses an item, or memory is refused to the reject of a call
+pub data IsHeld (side : Side) (s : State) : FeedRefusal → Type 0 where
+  refused : (e : FeedRefusal) → IsRefused side s e → IsHeld side s e
+  unrejected : IsUnlisted side → IsHeld side s NoMemory
+
+-- whatever a side and its end had done went on so, up to where no more was moved for this reason; till then the side had not stopped
+pub record MovesUntil (side : Side) (endpoint : Held) (e : FeedRefusal) (after : Held) : Type 0 where
+  pub on : (h : Story) → Flows side endpoint h
+      → (last : Side) × (m : Story) × Flows last after m × GoesOn h m × (is_stopped last ≡ false) × IsHeld last m.state e

@@ -1,5 +1,5 @@
 -- What a connection has done, with the closing exchange (XSIS 028112, Sequenced Packet Protocol, Termination).
-use Rattle.std.specs.Prelude.{◌≡◌, ◌<◌, ℕ, List, [], ◌++◌, Bool, true, false, not, ◌&&◌, ◌||◌, ◌==◌, nat_lt, if◌then◌else◌, take, Option, None, is_ok}
+use Rattle.std.specs.Prelude.{◌≡◌, ◌<◌, ℕ, List, [], ◌++◌, Bool, true, false, not, ◌&&◌, ◌||◌, ◌==◌, nat_lt, if◌then◌else◌, length, take, drop, Option, None, is_ok}
 use Rattle.std.specs.Option.{option_to_list}
 use Rattle.courier_sessions.specs.Answering.{has_items}
 use Rattle.xns_spp.specs.Ends.{is_open}
@@ -9,8 +9,10 @@ use Rattle.xns_spp.specs.Receiving.{after_receive}
 use Rattle.xns_spp.specs.Sending.{flush_answer, send_answer, waiting_count}
 use Rattle.xns_spp.specs.State.{State}
 use Rattle.xns_spp.specs.Telling.{told_answer, unacknowledged_count}
-use Rattle.xns_host.specs.Closing.{closing_item, closing_items, drains, end_reply_stream, end_stream}
-use Rattle.xns_host.specs.Story.{Story, SideHas, GoesOn, made_on, out_of, has_call, IsMoved, IsListed}
+use Rattle.courier_sessions.specs.declared.feed_refusal.FeedRefusal.{FeedRefusal}
+use Rattle.xns_spp.specs.declared.item.Item.{Item}
+use Rattle.xns_host.specs.Closing.{closing_item, closing_items, drains, end_reply_stream, end_stream, Knows}
+use Rattle.xns_host.specs.Story.{Story, SideHas, GoesOn, made_on, out_of, has_call, IsMoved, IsListed, IsHeld}
 use Rattle.xns_host.specs.declared.closing.Closing.{Closing}
 use Rattle.xns_host.specs.declared.conversation.Conversation.{Conversation}
 use Rattle.xns_host.specs.declared.owed.Owed.{Owed}
@@ -39,6 +41,10 @@ waits s = not (is_open s.ends) || nat_lt 0 (unacknowledged_count s)
 abbrev pub is_over : Closing → State → Bool
 is_over c s = c.reply_sent && (c.reply_heard && (unacknowledged_count s == 0))
 
+-- the items that were handed up and not fed to the side
+abbrev pub drained : Story → List Item
+drained h = drop (length h.fed) (take h.state.handed h.state.taken)
+
 pub record Tells (conversation : Conversation) (h : Story) : Type 0 where
   pub stands : StandsFor conversation.endpoint h.state
   pub has : SideHas h conversation.side
@@ -46,6 +52,8 @@ pub record Tells (conversation : Conversation) (h : Story) : Type 0 where
   pub fed : Begins h.fed (take h.state.handed h.state.taken)
   pub all : drains conversation.side conversation.closing ≡ false → h.fed ≡ take h.state.handed h.state.taken
   pub given : h.given ++ closing_items conversation.closing ≡ h.state.accepted
+  -- the others say what is known of the peer's closing
+  pub knows : Knows conversation.closing (drained h)
 
 -- whatever it had done goes on so: the program makes no call and is handed nothing; once it drains it does so for good, and once it was
 -- asked to close it stays asked
@@ -106,3 +114,14 @@ pub record Calm (old new : Conversation) : Type 0 where
 -- the same, from where it is after something else was done
 pub record CalmFrom (old new : Conversation) (base : Story → Story) : Type 0 where
   pub on : (h : Story) → Tells old h → (m : Story) × Tells new m × GoesOn (base h) m × IsMoved new.side m.state × IsListed new.side
+
+-- whatever it had done went on from where it is after something else was done, up to where no more was moved for this reason; till then
+-- what came was read
+pub record GoesUntil (old : Conversation) (base : Story → Story) (e : FeedRefusal) : Type 0 where
+  pub on : (h : Story) → Tells old h → (last : Conversation) × (m : Story) × Tells last m × GoesOn (base h) m
+      × (drains last.side last.closing ≡ false) × IsHeld last.side m.state e
+
+-- where the end puts nothing out of the closing exchange, what was read is read on
+abbrev pub ReadsOn : (old new : Conversation) → Type 0
+ReadsOn old new = (h : Story) → Tells old h → drains old.side old.closing ≡ false → closing_items new.closing ≡ []
+    → drains new.side new.closing ≡ false

@@ -13,6 +13,7 @@ ghost use Rattle.xns_spp.specs.Receiving.{after_receive, StoresBytes};
 ghost use Rattle.xns_spp.specs.Sending.{tick_answer};
 ghost use Rattle.xns_spp.specs.State.{State, initiator_state, responder_state};
 ghost use Rattle.xns_spp.specs.Telling.{own_name, peer_name, resend_answer, told_answer, unacknowledged_count};
+ghost use Rattle.xns_host.specs.Closed.{ClosesBy};
 ghost use Rattle.xns_host.specs.Closing.{drains};
 ghost use Rattle.xns_host.specs.Connecting.{is_again, is_open_due, is_closed_due, why_given_up, why_after, owed_after, owed_heard, is_foreign, wait_heard};
 ghost use Rattle.xns_host.specs.Reasons.{call_fault_of, answer_fault_of};
@@ -106,6 +107,11 @@ fn after_moving(
     ensures idle { drains conversation.new.side conversation.new.closing ≡ false → conversation.new ≡ conversation.old }
     ensures stays { closed.new ≡ closed.old → conversation.new ≡ conversation.old }
     ensures endpoint { conversation.new.endpoint ≡ conversation.old.endpoint }
+    ensures rest { conversation.new ≡ record conversation.old {
+      closing = record conversation.old.closing {
+        deaf = conversation.new.closing.deaf;
+      };
+    } }
 {
     if closed.is_some() {
         return;
@@ -152,6 +158,7 @@ fn settled(
     ensures read { owed.new.moving ≡ false → closed.new ≡ closed.old → ReadsAll conversation.old conversation.new }
     ensures said { owed.new.moving ≡ false → HasSaidEnd conversation.new }
     ensures replied { owed.new.moving ≡ false → closed.new ≡ closed.old → HasSaidReply conversation.new }
+    ensures why { ClosesBy conversation.old (λ h. h) conversation.new owed.new.moving closed.old closed.new }
 {
     let waiting = conversation.endpoint.waiting();
     let moved = conversation.settle(alloc);
@@ -356,6 +363,8 @@ impl Connection {
             × (self.new.owed.fresh ≡ true) }
         ensures word { self.old.owed.word ≡ true → self.new.owed.word ≡ true }
         ensures steps { StepsAt now self.old.wait self.new.wait }
+        ensures why { ClosesBy self.old.conversation (λ h. h) self.new.conversation self.new.owed.moving
+            self.old.closed self.new.closed }
     {
         settled(
             &mut self.conversation,
@@ -391,6 +400,9 @@ impl Connection {
         ensures word { OnOk result ((s : State) (b : List ℕ) → StandsFor self.old.conversation.endpoint s → spp_packet_of b ≡ Ok packet.now
             → (owed_heard self.old.owed self.old.wait s b).word ≡ true → self.new.owed.word ≡ true) }
         ensures fresh { OnOk result (self.new.owed.fresh ≡ true) }
+        ensures why { OnOk result ((b : List ℕ) → spp_packet_of b ≡ Ok packet.now
+            → ClosesBy self.old.conversation (λ h. record h { state = after_receive h.state b }) self.new.conversation
+            self.new.owed.moving self.old.closed self.new.closed) }
         ensures unchanged { OnErr result (self.new ≡ self.old) }
         ensures memory { OnErr result ((s : State) (b : List ℕ) → StandsFor self.old.conversation.endpoint s
             → spp_packet_of b ≡ Ok packet.now → StoresBytes s b) }
@@ -422,6 +434,8 @@ impl Connection {
         ensures owed { (self.new.owed.again ≡ self.old.owed.again) × (self.new.owed.asks ≡ self.old.owed.asks) }
         ensures word { self.old.owed.word ≡ true → self.new.owed.word ≡ true }
         ensures idle { self.old.owed.moving ≡ false → self.new ≡ self.old }
+        ensures why { self.old.owed.moving ≡ true → ClosesBy self.old.conversation (λ h. h) self.new.conversation self.new.owed.moving
+            self.old.closed self.new.closed }
         ensures fresh { self.old.owed.fresh ≡ true → self.new.owed.fresh ≡ true }
         ensures steps { StepsAt now self.old.wait self.new.wait }
     {
@@ -502,6 +516,8 @@ impl Connection {
             → told_answer s self.old.owed.asks ≡ None }
         ensures idle { self.old.owed.moving ≡ false → (self.new.conversation.side ≡ self.old.conversation.side)
             × (self.new.conversation.closing ≡ self.old.conversation.closing) × (self.new.closed ≡ self.old.closed) }
+        ensures why { self.old.owed.moving ≡ true → (mid : Conversation) × Goes mid self.new.conversation
+            × ClosesBy self.old.conversation (λ h. h) mid self.new.owed.moving self.old.closed self.new.closed }
         ensures closed { self.old.closed ≢ None → self.new.closed ≡ self.old.closed }
         ensures told { self.new.told ≡ self.old.told }
         ensures steps { StepsAt now self.old.wait self.new.wait }
@@ -537,6 +553,9 @@ impl Connection {
         ensures said { result ≡ Ok tt → self.new.owed.moving ≡ false → HasSaidEnd self.new.conversation }
         ensures replied { result ≡ Ok tt → self.new.owed.moving ≡ false → self.new.closed ≡ self.old.closed
             → HasSaidReply self.new.conversation }
+        ensures why { result ≡ Ok tt → ClosesBy self.old.conversation
+            (λ h. record h { made = h.made ++ words_call program version procedure words.now ∷ [] }) self.new.conversation
+            self.new.owed.moving self.old.closed self.new.closed }
         ensures closed { self.old.closed ≢ None → self.new.closed ≡ self.old.closed }
         ensures packets { self.new.conversation.packets ≡ self.old.conversation.packets }
         ensures told { self.new.told ≡ self.old.told }
@@ -582,6 +601,9 @@ impl Connection {
         ensures said { result ≡ Ok tt → self.new.owed.moving ≡ false → HasSaidEnd self.new.conversation }
         ensures replied { result ≡ Ok tt → self.new.owed.moving ≡ false → self.new.closed ≡ self.old.closed
             → HasSaidReply self.new.conversation }
+        ensures why { (k : ℕ) → asked_of self.old.conversation.side ≡ Some k → result ≡ Ok tt → ClosesBy self.old.conversation
+            (λ h. record h { answers = h.answers ++ answer_message kind k words.now ∷ [] }) self.new.conversation
+            self.new.owed.moving self.old.closed self.new.closed }
         ensures closed { self.old.closed ≢ None → self.new.closed ≡ self.old.closed }
         ensures packets { self.new.conversation.packets ≡ self.old.conversation.packets }
         ensures told { self.new.told ≡ self.old.told }
@@ -614,6 +636,8 @@ impl Connection {
         ensures said { self.new.owed.moving ≡ false → HasSaidEnd self.new.conversation }
         ensures replied { self.new.owed.moving ≡ false → self.new.closed ≡ self.old.closed
             → HasSaidReply self.new.conversation }
+        ensures why { ClosesBy self.old.conversation (λ h. h) self.new.conversation self.new.owed.moving
+            self.old.closed self.new.closed }
         ensures closed { self.old.closed ≢ None → self.new.closed ≡ self.old.closed }
         ensures told { self.new.told ≡ self.old.told }
         ensures steps { StepsAt now self.old.wait self.new.wait }
@@ -646,6 +670,9 @@ impl Connection {
         ensures said { result ≢ None → self.new.owed.moving ≡ false → HasSaidEnd self.new.conversation }
         ensures replied { result ≢ None → self.new.owed.moving ≡ false → self.new.closed ≡ self.old.closed
             → HasSaidReply self.new.conversation }
+        ensures why { (m : Message) → result ≡ Some m
+            → ClosesBy self.old.conversation (λ h. with_handed self.old.conversation.side h m) self.new.conversation
+            self.new.owed.moving self.old.closed self.new.closed }
         ensures closed { self.old.closed ≢ None → self.new.closed ≡ self.old.closed }
         ensures packets { self.new.conversation.packets ≡ self.old.conversation.packets }
         ensures told { self.new.told ≡ self.old.told }
@@ -657,7 +684,7 @@ impl Connection {
         ensures none { result ≡ None → self.new ≡ self.old }
     {
         let message = self.conversation.take_message()?;
-        if self.conversation.is_calm() {
+        if !self.owed.moving && self.conversation.is_calm() {
             return Some(message);
         }
         settled(

@@ -1,6 +1,6 @@
 //! An endpoint, its side, and the closing exchange between both.
 
-ghost use Rattle.std.specs.Prelude.{◌≡◌, ◌≢◌, ◌≤◌, ◌-◌, ℕ, [], ◌∷◌, ◌++◌, List, true, false, is_ok, IfOk, OnOk, OnErr, Some, None, Ok, Err};
+ghost use Rattle.std.specs.Prelude.{◌≡◌, ◌≢◌, ◌≤◌, ◌-◌, ℕ, [], ◌∷◌, ◌++◌, List, true, false, is_ok, IfErr, IfOk, OnOk, OnErr, Some, None, Ok, Err};
 ghost use Rattle.courier_messages.specs.declared.message.Message.{Message};
 ghost use Rattle.courier_messages.specs.RawCalls.{words_call};
 ghost use Rattle.courier_sessions.specs.declared.feed_refusal.FeedRefusal.TheVariants.{NoMemory};
@@ -71,7 +71,7 @@ fn noted(closing: Closing, stream: u8) -> Closing
 
 impl Conversation {
     ghost use Rattle.xns_host.specs.Reasons.{call_fault_of, answer_fault_of};
-    ghost use Rattle.xns_host.specs.Telling.{Tells, Goes, Gives, Rested, Calm, HasSaidEnd, HasSaidReply, NoneWaits, ReadsAll, owes_end, owes_reply};
+    ghost use Rattle.xns_host.specs.Telling.{Tells, Goes, GoesUntil, Gives, Rested, Calm, HasSaidEnd, HasSaidReply, NoneWaits, ReadsAll, ReadsOn, owes_end, owes_reply};
     ghost use Rattle.xns_host.specs.Telling.{waits, is_over, word_answer};
 
     /// One in which nothing was said.
@@ -107,6 +107,7 @@ impl Conversation {
         ensures drains { drains self.new.side self.new.closing ≡ true }
         ensures fewer { (s v : State) → StandsFor self.old.endpoint s → StandsFor self.new.endpoint v
             → waiting_count v ≤ waiting_count s - 1 }
+        ensures beside { (self.new.side ≡ self.old.side) × (self.new.closing.deaf ≡ self.old.closing.deaf) }
     {
         xns_spp::laws::the_next_item_is_handed_up();
         let Some(item) = self.endpoint.take() else {
@@ -121,6 +122,7 @@ impl Conversation {
         ensures goes { Goes self.old self.new }
         ensures packets { self.new.packets ≡ self.old.packets }
         ensures read { (h : Story) → Tells self.old h → NoneWaits self.new.endpoint }
+        ensures beside { (self.new.side ≡ self.old.side) × (self.new.closing.deaf ≡ self.old.closing.deaf) }
     {
         for turn in 0..self.endpoint.waiting() {
             self.take_one();
@@ -133,6 +135,7 @@ impl Conversation {
         ensures packets { self.new.packets ≡ self.old.packets }
         ensures idle { drains self.new.side self.new.closing ≡ false → self.new ≡ self.old }
         ensures read { ReadsAll self.old self.new }
+        ensures beside { (self.new.side ≡ self.old.side) × (self.new.closing.deaf ≡ self.old.closing.deaf) }
     {
         if self.drains() {
             self.drain();
@@ -176,6 +179,7 @@ impl Conversation {
         ensures waiting { (s v : State) → StandsFor self.old.endpoint s → StandsFor self.new.endpoint v
             → waiting_count v ≡ waiting_count s }
         ensures replied { HasSaidReply self.new }
+        ensures beside { (self.new.side ≡ self.old.side) × (self.new.closing.deaf ≡ self.old.closing.deaf) }
     {
         xns_spp::laws::items_are_accepted_or_change_nothing();
         if !self.owes_reply() {
@@ -192,6 +196,7 @@ impl Conversation {
         ensures packets { self.new.packets ≡ self.old.packets }
         ensures idle { drains self.new.side self.new.closing ≡ false → self.new ≡ self.old }
         ensures said { HasSaidEnd self.new }
+        ensures beside { (self.new.side ≡ self.old.side) × (self.new.closing.deaf ≡ self.old.closing.deaf) }
     {
         xns_spp::laws::items_are_accepted_or_change_nothing();
         if !self.owes_end() {
@@ -207,6 +212,9 @@ impl Conversation {
         ensures goes { Goes self.old self.new }
         ensures packets { self.new.packets ≡ self.old.packets }
         ensures calm { result ≡ Ok tt → drains self.new.side self.new.closing ≡ false → Calm self.old self.new }
+        ensures reads { OnOk result ((h : Story) → Tells self.old h → drains self.old.side self.old.closing ≡ false
+            → drains self.new.side self.new.closing ≡ false) }
+        ensures refused { IfErr result (λ e. GoesUntil self.old (λ h. h) e) }
     {
         if self.drains() {
             return Ok(());
@@ -222,6 +230,7 @@ impl Conversation {
         ensures read { ReadsAll self.old self.new }
         ensures said { HasSaidEnd self.new }
         ensures replied { HasSaidReply self.new }
+        ensures beside { (self.new.side ≡ self.old.side) × (self.new.closing.deaf ≡ self.old.closing.deaf) }
     {
         self.say_end(alloc);
         self.drain_out();
@@ -233,7 +242,7 @@ impl Conversation {
         ensures goes { Goes self.old self.new }
         ensures packets { self.new.packets ≡ self.old.packets }
         ensures drains { drains self.new.side self.new.closing ≡ true }
-        ensures endpoint { self.new.endpoint ≡ self.old.endpoint }
+        ensures rest { self.new ≡ record self.old { closing = record self.old.closing { deaf = true } } }
     {
         self.closing.deaf = true;
     }
@@ -260,6 +269,8 @@ impl Conversation {
         ensures read { result ≢ Err NoMemory → ReadsAll self.old self.new }
         ensures said { result ≢ Err NoMemory → HasSaidEnd self.new }
         ensures replied { result ≢ Err NoMemory → HasSaidReply self.new }
+        ensures reads { OnOk result (ReadsOn self.old self.new) }
+        ensures refused { IfErr result (λ e. GoesUntil self.old (λ h. h) e) }
     {
         let moved = self.converse(alloc);
         self.mark(moved);
@@ -290,8 +301,7 @@ impl Conversation {
     pub fn close(&mut self)
         ensures goes { Goes self.old self.new }
         ensures packets { self.new.packets ≡ self.old.packets }
-        ensures endpoint { self.new.endpoint ≡ self.old.endpoint }
-        ensures asked { self.new.closing.wanted ≡ true }
+        ensures rest { self.new ≡ record self.old { closing = record self.old.closing { wanted = true } } }
     {
         self.closing.wanted = true;
     }

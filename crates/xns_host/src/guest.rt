@@ -1,12 +1,12 @@
 //! A connection in its place at a host.
 
 ghost use Rattle.std.specs.Prelude.{◌≡◌, ℕ, List, [], ◌∷◌, ◌++◌, ◌||◌, OnErr, OnOk, Ok, None, Some, true, false};
-ghost use Rattle.xns_host.specs.Hosting.{HasReplied, StaysAsked, facts_of, lingers_since, may_go, stranger_since};
+ghost use Rattle.xns_host.specs.Hosting.{ClosesFrom, HasReplied, StaysAsked, facts_of, lingers_since, may_go, stranger_since};
 ghost use Rattle.courier_messages.specs.RawCalls.{words_call};
 ghost use Rattle.xns_spp.specs.Ends.{is_open};
 ghost use Rattle.xns_spp.specs.Held.{StandsFor};
 ghost use Rattle.xns_spp.specs.Packet.{IsSppPacket, spp_packet_of};
-ghost use Rattle.xns_spp.specs.Receiving.{StoresBytes};
+ghost use Rattle.xns_spp.specs.Receiving.{StoresBytes, after_receive};
 ghost use Rattle.xns_spp.specs.State.{State};
 ghost use Rattle.xns_host.specs.Quotes.{is_opened_by};
 ghost use Rattle.xns_host.specs.Knowing.{known_of, news_of};
@@ -63,6 +63,8 @@ impl Guest {
         ensures memory { OnErr result ((s : State) (b : List ℕ) → StandsFor self.old.connection.conversation.endpoint s
             → spp_packet_of b ≡ Ok packet.now → StoresBytes s b) }
         ensures replied { OnOk result (HasReplied self.old.connection self.new.connection) }
+        ensures closes { OnOk result ((b : List ℕ) → spp_packet_of b ≡ Ok packet.now
+            → ClosesFrom self.old.connection self.new.connection (λ h. record h { state = after_receive h.state b })) }
         ensures steps { OnOk result (HearsAt now self.old.connection.wait self.new.connection.wait) }
         ensures known { known_of self.new ≡ known_of self.old }
         ensures news { OnOk result (news_of self.new ≡ (confirms || self.old.confirmed, self.old.heard_of)) }
@@ -90,6 +92,8 @@ impl Guest {
         ensures wanted { StaysAsked self.old.connection.conversation self.new.connection.conversation }
         ensures steps { StepsAt now self.old.connection.wait self.new.connection.wait }
         ensures replied { result ≡ Ok tt → HasReplied self.old.connection self.new.connection }
+        ensures closes { result ≡ Ok tt → ClosesFrom self.old.connection self.new.connection
+            (λ h. record h { made = h.made ++ words_call program version procedure words.now ∷ [] }) }
         ensures unchanged { OnErr result (self.new ≡ self.old) }
         ensures known { known_of self.new ≡ known_of self.old }
         ensures news { news_of self.new ≡ news_of self.old }
@@ -114,6 +118,9 @@ impl Guest {
         ensures wanted { StaysAsked self.old.connection.conversation self.new.connection.conversation }
         ensures steps { StepsAt now self.old.connection.wait self.new.connection.wait }
         ensures replied { result ≡ Ok tt → HasReplied self.old.connection self.new.connection }
+        ensures closes { (k : ℕ) → asked_of self.old.connection.conversation.side ≡ Some k → result ≡ Ok tt
+            → ClosesFrom self.old.connection self.new.connection
+            (λ h. record h { answers = h.answers ++ answer_message answer k words.now ∷ [] }) }
         ensures unchanged { OnErr result (self.new ≡ self.old) }
         ensures known { known_of self.new ≡ known_of self.old }
         ensures news { news_of self.new ≡ news_of self.old }
@@ -128,6 +135,7 @@ impl Guest {
         ensures asked { self.new.connection.conversation.closing.wanted ≡ true }
         ensures said { self.new.connection.owed.moving ≡ false → HasSaidEnd self.new.connection.conversation }
         ensures replied { HasReplied self.old.connection self.new.connection }
+        ensures closes { ClosesFrom self.old.connection self.new.connection (λ h. h) }
         ensures known { known_of self.new ≡ known_of self.old }
         ensures news { news_of self.new ≡ news_of self.old }
         ensures steps { StepsAt now self.old.connection.wait self.new.connection.wait }

@@ -1,13 +1,13 @@
 //! A side of a conversation: the one that calls or the one that is called.
 
-ghost use Rattle.std.specs.Prelude.{◌≡◌, ◌≤◌, ℕ, [], ◌∷◌, ◌++◌, true, false, OnOk, OnErr, Some, None, Ok};
+ghost use Rattle.std.specs.Prelude.{◌≡◌, ◌≤◌, ℕ, [], ◌∷◌, ◌++◌, true, false, IfErr, OnOk, OnErr, Some, None, Ok};
 ghost use Rattle.courier_messages.specs.declared.message.Message.{Message};
 ghost use Rattle.courier_messages.specs.RawCalls.{words_call};
 ghost use Rattle.courier_sessions.specs.Answering.{answer_message, has_items};
 ghost use Rattle.xns_spp.specs.Held.{Held, StandsFor};
 ghost use Rattle.xns_spp.specs.Sending.{waiting_count};
 ghost use Rattle.xns_spp.specs.State.{State};
-ghost use Rattle.xns_host.specs.Story.{Story, SideHas, Moves, MovesAll, Calms, IsListed, is_stopped, out_of, asked_of, has_call};
+ghost use Rattle.xns_host.specs.Story.{Story, SideHas, Moves, MovesAll, Calms, IsListed, IsUnlisted, MovesUntil, is_stopped, out_of, asked_of, has_call};
 ghost use Rattle.xns_host.specs.Story.{has_message, waiting_message, with_handed};
 ghost use Rattle.xns_host.specs.Refusing.{Answers, side_call_fault, side_answer_fault, call_result, answer_result};
 
@@ -154,6 +154,7 @@ impl Side {
         requires { is_stopped self.old ≡ false }
         ensures moves { Moves self.old endpoint.old self.new endpoint.new }
         ensures all { OnOk result (MovesAll self.old endpoint.old self.new endpoint.new) }
+        ensures refused { IfErr result (λ e. MovesUntil self.old endpoint.old e endpoint.new) }
         // A call comes only with an item: where as many wait as before, none came.
         ensures calls { has_message self.old ≡ false → OnOk result ((s v : State) → StandsFor endpoint.old s → StandsFor endpoint.new v
             → waiting_count s ≤ waiting_count v → IsListed self.new) }
@@ -173,6 +174,8 @@ impl Side {
         ensures listed { result ≡ Ok false → (self.new ≡ self.old) × IsListed self.old }
         ensures gone { result ≡ Ok true → has_message self.new ≡ false }
         ensures stopped { is_stopped self.new ≡ is_stopped self.old }
+        ensures memory { OnErr result (IsUnlisted self.old) }
+        ensures unchanged { OnErr result (self.new ≡ self.old) }
     {
         courier_sessions::laws::a_server_session_is_its_conversation();
         match self {
@@ -186,7 +189,8 @@ impl Side {
     pub fn converse(&mut self, alloc: Global, endpoint: &mut Endpoint) -> Result<(), FeedRefusal>
         requires { is_stopped self.old ≡ false }
         ensures moves { Moves self.old endpoint.old self.new endpoint.new }
-        ensures calms { result ≡ Ok tt → is_stopped self.new ≡ false → Calms self.old endpoint.old self.new endpoint.new }
+        ensures calms { OnOk result (Calms self.old endpoint.old self.new endpoint.new) }
+        ensures refused { IfErr result (λ e. MovesUntil self.old endpoint.old e endpoint.new) }
     {
         self.pump(alloc, endpoint)?;
         let mut waiting = endpoint.waiting();

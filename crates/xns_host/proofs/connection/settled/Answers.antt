@@ -4,6 +4,7 @@ use Rattle.xns_host.specs.Telling.{Calm, HasSaidEnd, HasSaidReply, NoneWaits}
 use Rattle.xns_host.specs.declared.conversation.Conversation.{Conversation}
 use Rattle.xns_host.proofs.Leading.{goes_then}
 use Rattle.xns_host.proofs.Tellings.{drains_still, undrained}
+use Rattle.xns_host.proofs.Closes.{closes}
 use Rattle.xns_host.proofs.connection.settled.Goals as goal
 
 pub after_moving-requires-clause-deaf : goal.after_moving-requires-clause-deaf
@@ -33,3 +34,7 @@ pub returns-clause-replied : goal.returns-clause-replied
 returns-clause-replied c = λ still kept.
     let same = c.after_moving.ensures.stays kept in
     subst HasSaidReply (sym same) (c.settle-moved.ensures.replied (λ refused. absurd (search rules)))
+
+pub returns-clause-why : goal.returns-clause-why
+returns-clause-why c = closes c.args.conversation.now c.settle-moved.new.self c.after_moving.new.conversation c.settle-moved.result _ c.args.closed.now c.after_moving.new.closed
+    c.settle-moved.ensures.refused c.settle-moved.ensures.reads c.after_moving.ensures.rest c.after_moving.ensures.stays c.after_moving.ensures.why (search rules) (search rules)

@@ -21,7 +21,8 @@ returns-in-Some-take_message-clause-told c = λ g is some.
     by_guest (λ (h : Guest). HasTold c.args.now h.connection c.take_message.new.self) c.args.slot.now g c.in-Some.guest c.in-Some.is is
     (handed c.in-Some-take_message.message (sym c.take_message.ensures.message ∙ c.in-Some-take_message.is)
     (λ h tells. c.take_message.ensures.handed h c.in-Some-take_message.message tells c.in-Some-take_message.is) c.take_message.ensures.wanted
-    (λ still kept. c.take_message.ensures.replied (λ none. absurd (search rules)) still kept) c.take_message.ensures.steps)
+    (λ still kept. c.take_message.ensures.replied (λ none. absurd (search rules)) still kept)
+    (c.take_message.ensures.why c.in-Some-take_message.message c.in-Some-take_message.is) c.take_message.ensures.steps)
 
 pub returns-clause-told : goal.returns-clause-told
 returns-clause-told c = λ g is some.

@@ -26,7 +26,7 @@ returns-clause-heard c = λ b g s read is stands ours.
       refl,
       subst (λ (x : Guest). HasHeard b c.args.confirms x (Some c.receive.new.self)) same
           (has_heard b c.args.packet.now c.args.confirms c.in-Some.guest c.receive.new.self c.receive.result read c.receive.ensures.hears c.receive.ensures.unchanged
-          c.receive.ensures.replied c.receive.ensures.news c.receive.ensures.memory),
+          c.receive.ensures.replied c.receive.ensures.closes c.receive.ensures.news c.receive.ensures.memory),
     )
 
 pub returns-clause-fits : goal.returns-clause-fits

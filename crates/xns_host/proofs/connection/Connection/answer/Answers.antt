@@ -6,6 +6,8 @@ use Rattle.std.proofs.Common.{subst}
 use Rattle.xns_spp.specs.Held.{Held}
 use Rattle.xns_host.specs.Telling.{OwesRoom}
 use Rattle.xns_host.proofs.Owing.{same_room}
+use Rattle.xns_host.proofs.Closes.{closes_from}
+use Rattle.xns_host.specs.Story.{Story}
 use Rattle.xns_host.proofs.connection.Connection.answer.Goals as goal
 
 pub returns-clause-answered : goal.returns-clause-answered
@@ -32,3 +34,7 @@ returns-clause-room c = subst (λ (e : Held). OwesRoom e c.settled.new.conversat
 
 pub returns-in_err-answer-clause-room : goal.returns-in_err-answer-clause-room
 returns-in_err-answer-clause-room c = same_room _ _ _ c.answer.ensures.endpoint
+
+pub returns-clause-why : goal.returns-clause-why
+returns-clause-why c = λ k asked good.
+    closes_from (λ (h : Story). record h { answers = h.answers ++ answer_message c.args.kind k c.args.words.now ∷ [] }) (λ h tells. c.in_ok-answer.ensures.answered h k tells asked refl) c.in_ok-answer.ensures.drains c.settled.ensures.why

@@ -5,6 +5,8 @@ use Rattle.std.proofs.Common.{subst}
 use Rattle.xns_spp.specs.Held.{Held}
 use Rattle.xns_host.specs.Telling.{OwesRoom}
 use Rattle.xns_host.proofs.Owing.{same_room}
+use Rattle.xns_host.proofs.Closes.{closes_from}
+use Rattle.xns_host.specs.Story.{Story}
 use Rattle.xns_host.proofs.connection.Connection.call.Goals as goal
 
 pub returns-clause-called : goal.returns-clause-called
@@ -22,3 +24,7 @@ returns-clause-room c = subst (λ (e : Held). OwesRoom e c.settled.new.conversat
 
 pub returns-in_err-call-clause-room : goal.returns-in_err-call-clause-room
 returns-in_err-call-clause-room c = same_room _ _ _ c.call.ensures.endpoint
+
+pub returns-clause-why : goal.returns-clause-why
+returns-clause-why c = λ good.
+    closes_from (λ (h : Story). record h { made = h.made ++ words_call c.args.program c.args.version c.args.procedure c.args.words.now ∷ [] }) (λ h tells. c.in_ok-call.ensures.called h tells refl) c.in_ok-call.ensures.drains c.settled.ensures.why

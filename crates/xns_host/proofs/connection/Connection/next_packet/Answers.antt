@@ -2,7 +2,8 @@ use Rattle.xns_host.proofs.Done.{steps_then}
 use Rattle.xns_host.proofs.Leading.{goes_then}
 use Rattle.xns_host.proofs.Giving.{moves_and_gives, moves_and_none}
 use Rattle.xns_host.proofs.Tellings.{rested_then}
-use Rattle.std.proofs.Common.{◌∙◌, ap, sym, Bool}
+use Rattle.std.proofs.Common.{◌∙◌, ap, sym, subst, Bool}
+use Rattle.xns_host.specs.Closed.{ClosesBy}
 use Rattle.xns_spp.specs.Telling.{told_answer}
 use Rattle.xns_host.proofs.connection.Connection.next_packet.Goals as goal
 
@@ -40,3 +41,10 @@ returns-clause-asks c = λ was is s stands. c.next_packet-packet.ensures.asks (c
 pub returns-clause-word : goal.returns-clause-word
 returns-clause-word c = λ owed none s stands.
     ap (λ (b : Bool). told_answer s b) (sym c.move_owed.ensures.owed.1) ∙ c.next_packet-packet.ensures.word (c.move_owed.ensures.word owed) none s stands
+
+pub returns-clause-why : goal.returns-clause-why
+returns-clause-why c = λ was. (
+  c.move_owed.new.self.conversation,
+  c.next_packet-packet.ensures.goes,
+  subst (λ (b : Bool). ClosesBy c.args.self.now.conversation (λ h. h) c.move_owed.new.self.conversation b c.args.self.now.closed c.move_owed.new.self.closed) (sym c.next_packet-packet.ensures.moving) (c.move_owed.ensures.why was),
+)

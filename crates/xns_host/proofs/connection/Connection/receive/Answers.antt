@@ -5,6 +5,8 @@ use Rattle.xns_host.proofs.Tellings.{still_wanted}
 use Rattle.std.proofs.Common.{◌∙◌, ap, ℕ}
 use Rattle.std.specs.Prelude.{nat_lt}
 use Rattle.xns_host.proofs.Owing.{again_heard, progress_is, waits_heard, word_heard}
+use Rattle.xns_host.proofs.Closes.{closes_from}
+use Rattle.xns_host.specs.Story.{Story}
 use Rattle.xns_host.proofs.connection.Connection.receive.Goals as goal
 
 pub returns-clause-tells : goal.returns-clause-tells
@@ -42,3 +44,7 @@ pub returns-clause-word : goal.returns-clause-word
 returns-clause-word c = λ s b stands read owed.
     c.settled.ensures.word (word_heard c.args.self.now.owed c.note.new.owed c.args.self.now.wait s b c.in_ok-input.input
     (c.in_ok-input.ensures.answer s b stands read) (λ yes. (c.note.ensures.foreign yes).1) c.note.ensures.word ∙ owed)
+
+pub returns-clause-why : goal.returns-clause-why
+returns-clause-why c = λ b read.
+    closes_from (λ (h : Story). record h { state = after_receive h.state b }) (λ h tells. c.in_ok-input.ensures.tells h b tells read) (cc) c.settled.ensures.why

@@ -1,9 +1,11 @@
 use Rattle.xns_host.proofs.Leading.{calm_from, stays}
 use Rattle.xns_host.specs.Story.{with_handed}
-use Rattle.std.proofs.Common.{subst}
+use Rattle.std.proofs.Common.{refl, subst}
 use Rattle.xns_spp.specs.Held.{Held}
 use Rattle.xns_host.specs.Telling.{OwesRoom}
 use Rattle.xns_host.proofs.Owing.{same_room}
+use Rattle.xns_host.proofs.Closes.{closes_calm, closes_from}
+use Rattle.xns_host.specs.Story.{Story}
 use Rattle.xns_host.proofs.connection.Connection.take_message.Goals as goal
 
 pub returns-then-is_calm-clause-handed : goal.returns-then-is_calm-clause-handed
@@ -29,3 +31,9 @@ returns-clause-room c = subst (λ (e : Held). OwesRoom e c.settled.new.conversat
 
 pub returns-then-is_calm-clause-room : goal.returns-then-is_calm-clause-room
 returns-then-is_calm-clause-room c = same_room _ _ _ c.in_ok-message.ensures.endpoint
+
+pub returns-then-is_calm-clause-why : goal.returns-then-is_calm-clause-why
+returns-then-is_calm-clause-why c = λ m is. closes_calm (λ (h : Story). with_handed c.args.self.now.conversation.side h m) (c.is_calm.ensures.open c.if-is_calm.true) c.if-not-self.true refl
+
+pub returns-clause-why : goal.returns-clause-why
+returns-clause-why c = λ m is. closes_from (λ (h : Story). with_handed c.args.self.now.conversation.side h m) (λ h tells. c.in_ok-message.ensures.handed h m tells is) c.in_ok-message.ensures.drains c.settled.ensures.why

@@ -4,7 +4,7 @@ use Rattle.xns_host.proofs.Waits.{same_waiting}
 use Rattle.xns_host.proofs.conversation.Conversation.drain.Goals as goal
 
 pub loop-turn-init : goal.loop-turn-init
-loop-turn-init c = (goes_not c.args.self.now, c.requires, refl, λ h tells s stands. let same = same_waiting s h.state stands tells.stands in omega (arith, same))
+loop-turn-init c = (goes_not c.args.self.now, c.requires, refl, λ h tells s stands. let same = same_waiting s h.state stands tells.stands in omega (arith, same), refl, refl)
 
 pub loop-turn-preserved : goal.loop-turn-preserved
 loop-turn-preserved c = (
@@ -16,6 +16,8 @@ loop-turn-preserved c = (
       let before = c.loop-turn.invariant.3 h tells x.0.state x.1.stands in
       let one = c.take_one.ensures.fewer x.0.state s x.1.stands stands in
       omega (arith, before, one),
+  c.take_one.ensures.beside.0 ∙ c.loop-turn.invariant.4,
+  c.take_one.ensures.beside.1 ∙ c.loop-turn.invariant.5,
 )
 
 pub returns-clause-goes : goal.returns-clause-goes
@@ -29,3 +31,6 @@ returns-clause-read c = λ h tells s stands.
 
 pub returns-clause-packets : goal.returns-clause-packets
 returns-clause-packets c = c.loop-turn.invariant.2
+
+pub returns-clause-beside : goal.returns-clause-beside
+returns-clause-beside c = (c.loop-turn.invariant.4, c.loop-turn.invariant.5)

@@ -10,3 +10,4 @@ use Rattle.xns_host.proofs.conversation.Conversation.drain.Given as goal
 abbrev pub invariant-loop-turn : goal.invariant-loop-turn
 invariant-loop-turn l = Goes l.initial.self l.self × (drains l.self.side l.self.closing ≡ true) × (l.self.packets ≡ l.initial.self.packets)
     × ((h : Story) → Tells l.initial.self h → (s : State) → StandsFor l.self.endpoint s → waiting_count s ≤ waiting_count h.state - l.turn)
+    × (l.self.side ≡ l.initial.self.side) × (l.self.closing.deaf ≡ l.initial.self.closing.deaf)

@@ -1,5 +1,5 @@
 use Rattle.xns_host.proofs.Leading.{goes_then}
-use Rattle.xns_host.proofs.Tellings.{settle_calm}
+use Rattle.xns_host.proofs.Tellings.{settle_calm, settle_reads}
 use Rattle.xns_host.proofs.conversation.Conversation.settle.Goals as goal
 
 pub returns-in-Err-NoMemory-clause-goes : goal.returns-in-Err-NoMemory-clause-goes
@@ -15,3 +15,6 @@ pub returns-clause-read : goal.returns-clause-read
 returns-clause-read c = λ good h tells yes.
     let x = (goes_then c.converse-moved.ensures.goes c.mark.ensures.goes).on h tells in
     c.close_up.ensures.read x.0 x.1 yes
+
+pub returns-clause-reads : goal.returns-clause-reads
+returns-clause-reads c = settle_reads c.args.self.now c.converse-moved.new.self c.mark.new.self c.close_up.new.self c.converse-moved.result c.converse-moved.ensures.reads c.mark.ensures.good c.close_up.ensures.beside.0 c.close_up.ensures.beside.1

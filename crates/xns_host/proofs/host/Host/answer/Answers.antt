@@ -1,4 +1,9 @@
-use Rattle.std.proofs.Common.{refl, rules, arith}
+use Rattle.std.proofs.Common.{◌++◌, ◌∷◌, [], Option, refl, rules, arith}
+use Rattle.courier_sessions.specs.Answering.{answer_message}
+use Rattle.xns_host.specs.Hosting.{WentOn}
+use Rattle.xns_host.specs.Story.{Story}
+use Rattle.xns_host.specs.declared.guest.Guest.{Guest}
+use Rattle.xns_host.proofs.Hearing.{guest_in, put_there}
 use Rattle.std.specs.Prelude.{slice_set}
 use Rattle.xns_host.proofs.Done.{each_still, told_step}
 use Rattle.xns_host.proofs.Noting.{kept_but}
@@ -21,3 +26,9 @@ pub returns-in_err-answer_in-clause-steps : goal.returns-in_err-answer_in-clause
 returns-in_err-answer_in-clause-steps c =
     told_step c.tell-now.result _ c.args.self.now.guests.items (slice_set c.args.self.now.guests.items c.args.number c.answer_in.new.slot) c.args.number
     c.index_mut.result.now c.answer_in.new.slot c.tell-now.ensures.result (omega arith) (search rules) refl c.answer_in.ensures.steps
+
+pub returns-clause-answered : goal.returns-clause-answered
+returns-clause-answered c = λ g k place here asked good there.
+    put_there (λ (p : Option Guest). WentOn g.connection (λ (h : Story). record h { answers = h.answers ++ answer_message c.args.answer k c.args.words.now ∷ [] }) p)
+    c.args.self.now.guests.items c.args.number c.answer_in.new.slot place (omega arith) there
+    (c.in_ok-answer_in.ensures.answered g k (guest_in c.args.self.now.guests.items c.args.number c.index_mut.result.now g (omega arith) (search rules) here) asked refl)

@@ -1,9 +1,10 @@
-use Rattle.std.proofs.Common.{◌∙◌, ap, sym, subst, OnOk}
-use Rattle.xns_host.specs.Story.{Flows, is_stopped, has_message, MovesAll}
+use Rattle.std.proofs.Common.{◌∙◌, ap, sym, subst, IfErr, OnOk}
+use Rattle.courier_sessions.specs.declared.feed_refusal.FeedRefusal.{FeedRefusal}
+use Rattle.xns_host.specs.Story.{Flows, is_stopped, has_message, MovesAll, MovesUntil}
 use Rattle.xns_host.specs.declared.side.Side.{Side}
 use Rattle.xns_host.specs.declared.side.Side.TheVariants.{Calls, Answers}
 use Rattle.xns_host.proofs.Coming.{no_call_comes}
-use Rattle.xns_host.proofs.Leading.{caller_pumped, server_pumped, caller_all, server_all}
+use Rattle.xns_host.proofs.Leading.{caller_pumped, server_pumped, caller_all, server_all, caller_refuses, server_refuses}
 use Rattle.xns_host.proofs.side.Side.pump.Goals as goal
 
 pub returns-in-Calls-clause-moves : goal.returns-in-Calls-clause-moves
@@ -34,3 +35,13 @@ pub returns-in-Answers-clause-calls : goal.returns-in-Answers-clause-calls
 returns-in-Answers-clause-calls c = λ free.
     no_call_comes c.the_next_item_is_handed_up.ensures c.in-Answers.server c.pump-in-Answers.new.side c.args.endpoint.now c.pump-in-Answers.new.endpoint c.pump-in-Answers.result c.pump-in-Answers.ensures
     (ap has_message (sym c.in-Answers.is) ∙ free)
+
+pub returns-in-Calls-clause-refused : goal.returns-in-Calls-clause-refused
+returns-in-Calls-clause-refused c = subst (λ (x : Side). IfErr c.pump.result (λ (e : FeedRefusal). MovesUntil x c.args.endpoint.now e c.pump.new.endpoint)) (sym c.in-Calls.is)
+    (caller_refuses c.the_next_item_is_handed_up.ensures c.a_session_is_its_conversation.ensures.give c.a_session_is_its_conversation.ensures.feed c.in-Calls.caller c.pump.new.side c.args.endpoint.now c.pump.new.endpoint c.pump.result
+    (ap is_stopped (sym c.in-Calls.is) ∙ c.requires) c.pump.ensures)
+
+pub returns-in-Answers-clause-refused : goal.returns-in-Answers-clause-refused
+returns-in-Answers-clause-refused c = subst (λ (x : Side). IfErr c.pump-in-Answers.result (λ (e : FeedRefusal). MovesUntil x c.args.endpoint.now e c.pump-in-Answers.new.endpoint)) (sym c.in-Answers.is)
+    (server_refuses c.the_next_item_is_handed_up.ensures c.a_server_session_is_its_conversation.ensures.give c.a_server_session_is_its_conversation.ensures.feed c.in-Answers.server c.pump-in-Answers.new.side c.args.endpoint.now c.pump-in-Answers.new.endpoint c.pump-in-Answers.result
+    (ap is_stopped (sym c.in-Answers.is) ∙ c.requires) c.pump-in-Answers.ensures)

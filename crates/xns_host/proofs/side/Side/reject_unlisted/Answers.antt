@@ -1,8 +1,8 @@
-use Rattle.std.proofs.Common.{◌≡◌, ◌∙◌, ap, sym, subst, refl}
-use Rattle.xns_host.specs.Story.{Moves, is_stopped, IsListed}
+use Rattle.std.proofs.Common.{◌≡◌, ◌∙◌, ap, sym, subst, refl, OnErr}
+use Rattle.xns_host.specs.Story.{Moves, is_stopped, IsListed, IsUnlisted}
 use Rattle.xns_host.specs.declared.side.Side.{Side}
 use Rattle.xns_host.specs.declared.side.Side.TheVariants.{Answers}
-use Rattle.xns_host.proofs.Coming.{gone}
+use Rattle.xns_host.proofs.Coming.{gone, unlisted}
 use Rattle.xns_host.proofs.Handing.{rejected, reject_moves, nothing_moves}
 use Rattle.xns_host.proofs.Leading.{moves_not}
 use Rattle.xns_host.proofs.side.Side.reject_unlisted.Goals as goal
@@ -37,3 +37,8 @@ pub returns-in-Answers-clause-gone : goal.returns-in-Answers-clause-gone
 returns-in-Answers-clause-gone c =
     let r = c.reject_unlisted.ensures in
     gone c.in-Answers.server c.reject_unlisted.new.self c.reject_unlisted.result r.rejected r.listed r.none
+
+pub returns-in-Answers-clause-memory : goal.returns-in-Answers-clause-memory
+returns-in-Answers-clause-memory c =
+    let r = c.reject_unlisted.ensures in
+    subst (λ (x : Side). OnErr c.reject_unlisted.result (IsUnlisted x)) (sym c.in-Answers.is) (unlisted c.in-Answers.server c.reject_unlisted.result r.listed r.none)
