@@ -9,6 +9,7 @@ mod Giving
 mod Going
 mod Handing
 mod Hearing
+mod Known
 mod Leading
 mod Listing
 mod Lives

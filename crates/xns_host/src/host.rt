@@ -1,6 +1,6 @@
 //! Many connections behind one address.
 
-ghost use Rattle.std.specs.Prelude.{◌≡◌, ◌≢◌, ◌<◌, ◌≤◌, ◌∷◌, ◌++◌, ◌⊎◌, ℕ, List, [], Option, length, max, true, false, IfOk, IfSome, OnErr, OnOk};
+ghost use Rattle.std.specs.Prelude.{◌≡◌, ◌≢◌, ◌<◌, ◌≤◌, ◌∷◌, ◌++◌, ◌⊎◌, ◌||◌, ℕ, List, [], Option, length, max, true, false, IfOk, IfSome, OnErr, OnOk};
 ghost use Rattle.std.specs.Prelude.{Some, None, Ok, Err, count_by, slice_get};
 ghost use Rattle.std.specs.BTreeMap.{btree_map_len, get};
 ghost use Rattle.std.specs.Option.{is_some};
@@ -21,13 +21,14 @@ ghost use Rattle.xns_host.specs.Hosting.{TellsIn, WentOn, address_in, confirms, 
 ghost use Rattle.xns_host.specs.Quotes.{is_opened_by};
 ghost use Rattle.xns_host.specs.Register.{number_by, peer_at, peer_cmp};
 ghost use Rattle.xns_host.specs.Registered.{HasLeft, IsAllRegistered};
-ghost use Rattle.xns_host.specs.Story.{asked_of};
+ghost use Rattle.xns_host.specs.Story.{asked_of, waiting_message};
 ghost use Rattle.courier_sessions.specs.Answering.{answer_message};
 ghost use Rattle.xns_host.specs.Reasons.{call_fault_of, answer_fault_of};
 ghost use Rattle.xns_host.specs.Refusing.{Answers};
 ghost use Rattle.xns_host.specs.Settings.{IsFit, most_connections, wrong_setting};
 ghost use Rattle.xns_agenda.specs.Turns.{with_turn};
-ghost use Rattle.xns_host.specs.Hosting.{ActsIn, DoesDue, EachActs, EachSteps};
+ghost use Rattle.xns_host.specs.Hosting.{ActsIn, DoesDue, EachActs, EachSame, EachSteps};
+ghost use Rattle.xns_host.specs.Knowing.{all_known_of, known_of, news_of};
 ghost use Rattle.xns_host.specs.Services.{Serves, most_services, programs_at};
 ghost use Rattle.xns_agenda.specs.Waiting.{last_time};
 ghost use Rattle.xns_host.specs.declared.guest.Guest.{Guest};
@@ -286,6 +287,7 @@ impl Host {
         ensures unchanged { OnErr result ((k : ℕ) → slice_get self.new.guests.items k ≡ slice_get self.old.guests.items k) }
         ensures agenda { OnErr result (self.new.agenda ≡ self.old.agenda) }
         ensures steps { EachSteps (max self.old.clock.latest now) self.old.guests.items self.new.guests.items }
+        ensures known { EachSame all_known_of self.old.guests.items self.new.guests.items }
         ensures set_up { StaysSetUpAt now self.old self.new }
     {
         let now = self.clock.tell(now);
@@ -329,6 +331,7 @@ impl Host {
         ensures unchanged { OnErr result ((k : ℕ) → slice_get self.new.guests.items k ≡ slice_get self.old.guests.items k) }
         ensures agenda { OnErr result (self.new.agenda ≡ self.old.agenda) }
         ensures steps { EachSteps (max self.old.clock.latest now) self.old.guests.items self.new.guests.items }
+        ensures known { EachSame all_known_of self.old.guests.items self.new.guests.items }
         ensures set_up { StaysSetUpAt now self.old self.new }
     {
         let now = self.clock.tell(now);
@@ -358,6 +361,7 @@ impl Host {
         ensures unchanged { OnErr result ((k : ℕ) → slice_get self.new.guests.items k ≡ slice_get self.old.guests.items k) }
         ensures agenda { OnErr result (self.new.agenda ≡ self.old.agenda) }
         ensures steps { EachSteps (max self.old.clock.latest now) self.old.guests.items self.new.guests.items }
+        ensures known { EachSame all_known_of self.old.guests.items self.new.guests.items }
         ensures set_up { StaysSetUpAt now self.old self.new }
     {
         let now = self.clock.tell(now);
@@ -433,6 +437,7 @@ impl Host {
         ensures ours { packet.now.kind ≡ ERROR → result ≡ true → QuotesOurs self.old (packet_model packet.now) }
         ensures goes { EachGoes self.old.guests.items self.new.guests.items }
         ensures steps { EachSteps now self.old.guests.items self.new.guests.items }
+        ensures known { EachSame all_known_of self.old.guests.items self.new.guests.items }
         ensures one { ChangesOne self.old.guests.items self.new.guests.items }
         ensures unchanged { result ≡ false → (k : ℕ) → slice_get self.new.guests.items k ≡ slice_get self.old.guests.items k }
         ensures set_up { StaysSetUp self.old self.new }
@@ -458,6 +463,7 @@ impl Host {
         ensures ours { result ≡ true → IsThere (IsToOpen quote.now) (slice_get self.old.guests.items number) }
         ensures goes { EachGoes self.old.guests.items self.new.guests.items }
         ensures steps { EachSteps now self.old.guests.items self.new.guests.items }
+        ensures known { EachSame all_known_of self.old.guests.items self.new.guests.items }
         ensures apart { IsApart self.old.guests.items self.new.guests.items number }
         ensures unchanged { result ≡ false → (k : ℕ) → slice_get self.new.guests.items k ≡ slice_get self.old.guests.items k }
         ensures set_up { StaysSetUp self.old self.new }
@@ -511,7 +517,7 @@ impl Host {
     #[tactic(auto, using(crate::proofs::Hearing::hears_not, crate::proofs::Registered::still_registered))]
     fn hear(&mut self, now: u64, number: usize, confirms: bool, packet: &SppPacket) -> bool
         requires { IsSppPacket packet.now }
-        ensures hears { (b : List ℕ) → spp_packet_of b ≡ Ok packet.now → EachHears now b self.old.guests.items self.new.guests.items }
+        ensures hears { (b : List ℕ) → spp_packet_of b ≡ Ok packet.now → EachHears now b confirms self.old.guests.items self.new.guests.items }
         ensures heard { (b : List ℕ) (g : Guest) (s : State) (place : Option Guest) → spp_packet_of b ≡ Ok packet.now
             → slice_get self.old.guests.items number ≡ Some (Some g) → StandsFor g.connection.conversation.endpoint s
             → is_ours_at s.ends packet.now ≡ true → slice_get self.new.guests.items number ≡ Some place
@@ -632,6 +638,10 @@ impl Host {
         ensures event { (place : Option Guest) → slice_get self.old.guests.items number ≡ Some place → result ≡ event_in number place }
         ensures told { (g : Guest) → slice_get self.old.guests.items number ≡ Some (Some g) → result ≢ None
             → TellsIn self.old.clock.latest g.connection (slice_get self.new.guests.items number) }
+        ensures news { (g next : Guest) → slice_get self.old.guests.items number ≡ Some (Some g) → result ≢ None
+            → slice_get self.new.guests.items number ≡ Some (Some next)
+            → news_of next ≡ (g.confirmed, is_some (waiting_message g.connection.conversation.side) || g.heard_of) }
+        ensures known { EachSame known_of self.old.guests.items self.new.guests.items }
         ensures none { result ≡ None → (k : ℕ) → slice_get self.new.guests.items k ≡ slice_get self.old.guests.items k }
         ensures passed { result ≡ None → self.new.agenda
             ≡ record self.old.agenda { events = with_turn self.old.agenda.events number false } }
@@ -650,6 +660,7 @@ impl Host {
     /// The next thing that the program is told. A `None`: there is nothing, until something is done again.
     pub fn next_event(&mut self) -> Option<Event>
         ensures told { IfSome result (λ e. IsNextEvent self.old.clock.latest self.old.guests.items self.new.guests.items e) }
+        ensures known { EachSame known_of self.old.guests.items self.new.guests.items }
         ensures none { result ≡ None → HasNoEvent self.old.guests.items }
         ensures unchanged { result ≡ None → (k : ℕ) → slice_get self.new.guests.items k ≡ slice_get self.old.guests.items k }
         ensures set_up { StaysSetUp self.old self.new }
@@ -668,6 +679,7 @@ impl Host {
         ensures goes { EachGoes self.old.guests.items self.new.guests.items }
         ensures keeps { EachKeeps self.old.guests.items self.new.guests.items }
         ensures strays { self.new.strays ≡ self.old.strays }
+        ensures known { EachSame all_known_of self.old.guests.items self.new.guests.items }
         ensures acts { now < last_time → (g : Guest) → slice_get self.old.guests.items number ≡ Some (Some g)
             → ActsIn now g.connection (slice_get self.new.guests.items number) }
         ensures apart { IsApart self.old.guests.items self.new.guests.items number }
@@ -686,6 +698,7 @@ impl Host {
         ensures goes { EachGoes self.old.guests.items self.new.guests.items }
         ensures keeps { EachKeeps self.old.guests.items self.new.guests.items }
         ensures strays { self.new.strays ≡ self.old.strays }
+        ensures known { EachSame all_known_of self.old.guests.items self.new.guests.items }
         ensures acts { now < last_time → EachActs now self.old.guests.items self.new.guests.items }
         ensures set_up { StaysSetUp self.old self.new }
     {
@@ -709,6 +722,7 @@ impl Host {
         ensures strays { self.new.strays ≡ self.old.strays }
         ensures fault { OnErr result (result ≡ Err NoMemory) }
         ensures steps { EachSteps now self.old.guests.items self.new.guests.items }
+        ensures known { EachSame all_known_of self.old.guests.items self.new.guests.items }
         ensures set_up { StaysSetUp self.old self.new }
     {
         let made = packet_in(&mut self.guests[number], self.alloc, now);
@@ -732,6 +746,7 @@ impl Host {
         ensures keeps { (self.old.strays.waiting ≢ []) ⊎ ((o : Outgoing) → result ≢ Ok (Some o))
             → EachKeeps self.old.guests.items self.new.guests.items }
         ensures goes { EachGoes self.old.guests.items self.new.guests.items }
+        ensures known { EachSame all_known_of self.old.guests.items self.new.guests.items }
         ensures none { result ≡ Ok None → HasNoPacket self.new.guests.items }
         ensures fault { OnErr result (result ≡ Err NoMemory) }
         ensures due { let time = max self.old.clock.latest now in time < last_time

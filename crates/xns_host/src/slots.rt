@@ -272,7 +272,7 @@ pub fn hear_in(
     packet: &SppPacket,
 ) -> bool
     requires { IsSppPacket packet.now }
-    ensures hears { (b : List ℕ) → spp_packet_of b ≡ Ok packet.now → HearsIn now b (Some slot.old) (Some slot.new) }
+    ensures hears { (b : List ℕ) → spp_packet_of b ≡ Ok packet.now → HearsIn now b confirms (Some slot.old) (Some slot.new) }
     ensures heard { (b : List ℕ) (g : Guest) (s : State) → spp_packet_of b ≡ Ok packet.now → slot.old ≡ Some g
         → StandsFor g.connection.conversation.endpoint s → is_ours_at s.ends packet.now ≡ true
         → (result ≡ true) × HasHeard b confirms g slot.new }

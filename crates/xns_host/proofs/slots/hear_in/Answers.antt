@@ -12,12 +12,12 @@ returns-in_default-clause-hears c = λ b read. nothing
 
 pub returns-then-not-is_ours-clause-hears : goal.returns-then-not-is_ours-clause-hears
 returns-then-not-is_ours-clause-hears c = λ b read.
-    subst (λ (p : Option Guest). HearsIn c.args.now b (Some c.args.slot.now) (Some p)) c.in-Some.is nothing
+    subst (λ (p : Option Guest). HearsIn c.args.now b c.args.confirms (Some c.args.slot.now) (Some p)) c.in-Some.is nothing
 
 pub returns-clause-hears : goal.returns-clause-hears
 returns-clause-hears c = λ b read.
-    heard_or_not c.args.now b c.args.packet.now c.args.slot.now c.in-Some.guest c.receive.new.self c.receive.result read c.in-Some.is
-    c.receive.ensures.hears c.receive.ensures.steps c.receive.ensures.unchanged
+    heard_or_not c.args.now b c.args.packet.now c.args.confirms c.args.slot.now c.in-Some.guest c.receive.new.self c.receive.result read c.in-Some.is
+    c.receive.ensures.hears c.receive.ensures.steps c.receive.ensures.known c.receive.ensures.news c.receive.ensures.unchanged
 
 pub returns-clause-heard : goal.returns-clause-heard
 returns-clause-heard c = λ b g s read is stands ours.

@@ -13,6 +13,7 @@ returns-in-Some-2-clause-given c = record {
   gave = subst (λ (o : Option (List ℕ)). MovesAndGives c.in-Some.guest.connection.conversation c.next_packet.new.self.conversation o)
       c.in-Some-2.is c.in_ok-packet.ensures.gives;
   via = refl;
+  known = refl;
 }
 
 pub returns-in-Some-2-clause-keeps : goal.returns-in-Some-2-clause-keeps

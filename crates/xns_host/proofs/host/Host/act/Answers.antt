@@ -1,9 +1,11 @@
-use Rattle.std.proofs.Common.{◌≡◌, ◌<◌, Some, length, rules, slice_get, arith}
+use Rattle.std.proofs.Common.{◌≡◌, ◌<◌, refl, Some, length, rules, slice_get, arith}
 use Rattle.std.specs.Prelude.{slice_set}
 use Rattle.xns_host.proofs.Apart.{apart_then, set_apart, set_there}
 use Rattle.xns_host.proofs.Done.{act_settled}
 use Rattle.xns_host.proofs.Going.{all_set, all_settled, all_then, each_set, each_settled, each_then, keeping}
 use Rattle.xns_host.proofs.Noting.{kept_but, same_place}
+use Rattle.xns_host.specs.Knowing.{all_known_of}
+use Rattle.xns_host.proofs.Known.{all_known_set, known_same, same_settled, same_then}
 use Rattle.xns_host.proofs.host.Host.act.Goals as goal
 
 pub note-requires-clause-others : goal.note-requires-clause-others
@@ -51,3 +53,16 @@ returns-clause-keeps c =
     c.act_in-done.ensures.known c.act_in-done.ensures.keeps)
     (all_settled keeping c.as_slice.result.now c.settle.new.self.guests.items c.args.number c.act_in-done.new.slot c.act_in-done.result there
     c.act_in-done.ensures.done (search rules) (search rules) (search rules))
+
+pub returns-then-number-len-clause-known : goal.returns-then-number-len-clause-known
+returns-then-number-len-clause-known c = known_same c.args.self.now.guests.items c.args.self.now.guests.items refl
+
+pub returns-clause-known : goal.returns-clause-known
+returns-clause-known c =
+    let less : c.args.number < length c.args.self.now.guests.items = omega arith in
+    let items : c.as_slice.result.now ≡ slice_set c.args.self.now.guests.items c.args.number c.act_in-done.new.slot = search rules in
+    same_then all_known_of c.args.self.now.guests.items c.as_slice.result.now c.settle.new.self.guests.items
+    (all_known_set c.args.self.now.guests.items c.as_slice.result.now c.args.number c.index_mut.result.now c.act_in-done.new.slot less (search rules) items
+    c.act_in-done.ensures.known c.act_in-done.ensures.news)
+    (same_settled all_known_of c.as_slice.result.now c.settle.new.self.guests.items c.args.number c.act_in-done.result (search rules) (search rules)
+    (search rules))
