@@ -23,5 +23,6 @@ mod Rejecting
 mod Serving
 mod Still
 mod Tellings
+mod Undone
 mod Waits
 mod Waking

@@ -32,6 +32,8 @@ use Rattle.xns_agenda.specs.Waiting.{HearsAt, IsDueAfter, StepsAt, act_at, after
 use Rattle.xns_host.specs.declared.connection.Connection.{Connection}
 use Rattle.xns_host.specs.declared.conversation.Conversation.{Conversation}
 use Rattle.xns_host.specs.declared.event.Event.{Event}
+use Rattle.xns_agenda.specs.declared.due.Due.{Due}
+use Rattle.xns_agenda.specs.declared.due.Due.TheVariants.{Never, AgainAt, AskAt, ForgetAt}
 use Rattle.xns_agenda.specs.declared.facts.Facts.{Facts}
 use Rattle.xns_agenda.specs.declared.facts.TheConstants.Facts.{NONE}
 use Rattle.xns_host.specs.declared.guest.Guest.{Guest}
@@ -72,6 +74,26 @@ may_go c = is_some c.closed && (c.told && is_none (due_time c.wait.due))
 abbrev pub is_done : Option Guest → Bool
 is_done None = false
 is_done (Some g) = may_go g.connection
+
+-- it waits to be forgotten
+abbrev pub is_lingering : Due → Bool
+is_lingering Never = false
+is_lingering (AgainAt t) = false
+is_lingering (AskAt t) = false
+is_lingering (ForgetAt t) = true
+
+-- where the program was told that it is closed, it is, and lingers: so it may not be forgotten yet
+abbrev pub IsNotDone : Connection → Type 0
+IsNotDone c = c.told ≡ true → (is_some c.closed ≡ true) × (is_lingering c.wait.due ≡ true)
+
+-- the one in this place
+abbrev pub IsNotDoneIn : Option Guest → Type 0
+IsNotDoneIn None = Unit {0}
+IsNotDoneIn (Some g) = IsNotDone g.connection
+
+-- so it is of each that is there
+pub record HasNoneDone (guests : List (Option Guest)) : Type 0 where
+  pub each : (k : ℕ) (g : Guest) → slice_get guests k ≡ Some (Some g) → IsNotDone g.connection
 
 -- ---- one connection of them
 
@@ -155,12 +177,12 @@ abbrev pub HasActedIn : ℕ → Connection → Option Guest → Type 0
 HasActedIn now c None = ⊥
 HasActedIn now c (Some g) = HasActed now c g.connection
 
--- and it is in this place or forgotten: one that may be forgotten now, and could not be before, is
+-- and it is in this place or forgotten: one that may be forgotten now is
 pub record ActsIn (now : ℕ) (c : Connection) (place : Option (Option Guest)) : Type 0 where
   pub next : Connection
   pub acts : HasActed now c next
   pub stays : StaysIn next place
-  pub gone : may_go c ≡ false → may_go next ≡ true → place ≡ Some None
+  pub gone : may_go next ≡ true → place ≡ Some None
 
 -- so it was of each connection
 abbrev pub EachActs : ℕ → (old new : List (Option Guest)) → Type 0

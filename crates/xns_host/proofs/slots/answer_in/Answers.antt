@@ -4,6 +4,7 @@ use Rattle.xns_host.specs.Reasons.{answer_fault_of}
 use Rattle.xns_host.specs.Refusing.{Answers}
 use Rattle.xns_host.specs.declared.host_fault.HostFault.{HostFault}
 use Rattle.xns_host.proofs.Ends.{asked_of_one, from_fits}
+use Rattle.xns_host.specs.Hosting.{IsNotDoneIn}
 use Rattle.xns_host.proofs.slots.answer_in.Goals as goal
 
 pub returns-clause-fits : goal.returns-clause-fits
@@ -14,3 +15,12 @@ returns-clause-fits c = λ g is fits.
     let asked = asked_of_one c.in-Some.guest.connection.conversation c.args.answer c.args.words.now free in
     from_fits c.args.slot.now g c.in-Some.guest _ (λ h. record h { answers = h.answers ++ answer_message c.args.answer asked.0 c.args.words.now ∷ [] })
     (λ s. refl) c.in-Some.is is c.answer.ensures.known (c.answer.ensures.answered asked.0 asked.1 good) fits
+
+pub returns-clause-not_done : goal.returns-clause-not_done
+returns-clause-not_done c = λ was. c.answer.ensures.not_done (subst IsNotDoneIn c.in-Some.is was)
+
+pub returns-in_default-clause-not_done : goal.returns-in_default-clause-not_done
+returns-in_default-clause-not_done c = λ was. was
+
+pub returns-in_err-answer-clause-not_done : goal.returns-in_err-answer-clause-not_done
+returns-in_err-answer-clause-not_done c = λ was. c.answer.ensures.not_done (subst IsNotDoneIn c.in-Some.is was)

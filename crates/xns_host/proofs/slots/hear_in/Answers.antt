@@ -5,6 +5,7 @@ use Rattle.xns_host.proofs.Hearing.{has_heard, heard_or_not}
 use Rattle.std.proofs.Common.{[], ◌++◌}
 use Rattle.xns_spp.specs.Packet.{spp_packet_spelling}
 use Rattle.xns_host.proofs.Ends.{received_fits}
+use Rattle.xns_host.specs.Hosting.{IsNotDoneIn}
 use Rattle.xns_host.proofs.slots.hear_in.Goals as goal
 
 pub returns-in_default-clause-hears : goal.returns-in_default-clause-hears
@@ -41,3 +42,12 @@ returns-clause-ours c = λ yes. record {
   there = ap Some c.in-Some.is;
   is = λ s stands. let e = c.is_ours.ensures s stands in search rules;
 }
+
+pub returns-clause-not_done : goal.returns-clause-not_done
+returns-clause-not_done c = λ was. c.receive.ensures.not_done (subst IsNotDoneIn c.in-Some.is was)
+
+pub returns-in_default-clause-not_done : goal.returns-in_default-clause-not_done
+returns-in_default-clause-not_done c = λ was. was
+
+pub returns-then-not-is_ours-clause-not_done : goal.returns-then-not-is_ours-clause-not_done
+returns-then-not-is_ours-clause-not_done c = λ was. subst IsNotDoneIn c.in-Some.is was

@@ -10,7 +10,7 @@ pub loop-init : goal.loop-init
 loop-init c = (
   refl,
   each_stays c.args.self.now.guests.items c.args.self.now.guests.items refl,
-  λ more. at_first c.args.now c.args.self.now.guests.items,
+  λ more. at_first c.args.now c.args.self.now.guests.items c.args.self.now.not_done,
   each_kept c.args.self.now.guests.items c.args.self.now.guests.items refl,
   search rules,
   known_same c.args.self.now.guests.items c.args.self.now.guests.items refl,
