@@ -5,7 +5,7 @@ use Rattle.std.specs.Option.{is_none, is_some}
 use Rattle.std.proofs.lemmas.Bool.{le-leb, leb-false, lt-leb}
 use Rattle.xns_agenda.specs.Agenda.{Plan}
 use Rattle.xns_host.specs.Connecting.{owed_after}
-use Rattle.xns_host.specs.Hosting.{ActsIn, DoesDue, EachActs, EachSteps, StepsIn, HasActed, HasActedIn, IsAllNoted, IsApart, StaysIn, facts_in, forgotten, is_done, may_go, stays}
+use Rattle.xns_host.specs.Hosting.{ActsIn, DoesDue, EachActs, EachSteps, StepsIn, HasActed, HasActedIn, HasNoneDone, IsAllNoted, IsApart, StaysIn, facts_in, forgotten, is_done, may_go, stays}
 use Rattle.xns_agenda.specs.Times.{HasNoneBy, IsFirstBy}
 use Rattle.xns_agenda.specs.Waiting.{StepsAt, still, step, close, HearsAt, no_word, word, after_step, after_word, lingering}
 use Rattle.xns_agenda.specs.Waiting.{Waiting, IsDueAfter, act_at, act_by, after_act, after_by, due_time, last_time, unless_silent}
@@ -19,6 +19,7 @@ use Rattle.xns_host.specs.declared.owed.Owed.{Owed}
 use Rattle.xns_host.proofs.Going.{settled}
 use Rattle.xns_host.proofs.Apart.{set_there}
 use Rattle.xns_host.proofs.Noting.{place_other, same_or_other, same_place}
+use Rattle.xns_host.proofs.Undone.{not_gone_yet}
 use Rattle.xns_host.proofs.Waking.{HasTime, has_time}
 
 -- ---- one place
@@ -34,7 +35,7 @@ act_settled a b n now c (Some g) done there acted is gone kept = record {
   next = g.connection;
   acts = acted;
   stays = settled a b n g done there is gone kept;
-  gone = λ was go. gone (is ∙ go);
+  gone = λ go. gone (is ∙ go);
 }
 
 -- ---- doing what is due again does nothing
@@ -178,20 +179,20 @@ record WillAct (now : ℕ) (c : Connection) (place : Option (Option Guest)) : Ty
   next : Connection
   will : Leads now c next
   stays : StaysIn next place
-  gone : may_go c ≡ false → may_go next ≡ true → place ≡ Some None
+  gone : may_go next ≡ true → place ≡ Some None
 
 -- and each round leaves one place fewer in which something is due
 pub record SoFar (now : ℕ) (first gs : Places) (rounds : ℕ) : Type 0 where
   will : (k : ℕ) (g : Guest) → slice_get first k ≡ Some (Some g) → WillAct now g.connection (slice_get gs k)
   few : dues_in now gs + rounds ≤ length first
 
-pub at_first : (now : ℕ) (first : Places) → SoFar now first first 0
-at_first now first = record {
+pub at_first : (now : ℕ) (first : Places) → HasNoneDone first → SoFar now first first 0
+at_first now first all = record {
   will = λ k g there. record {
     next = g.connection;
     will = (refl, refl);
     stays = subst (λ (q : Option (Option Guest)). StaysIn g.connection q) (sym there) (stays g refl);
-    gone = λ was go. absurd (cc);
+    gone = λ go. absurd (not_gone_yet g.connection (all.each k g there) go);
   };
   few = let most = dues_few now first in omega (arith, most);
 }
@@ -217,18 +218,12 @@ one_at o a b left right = cc
 not_both : {X : Type 0} (o : Option (Option X)) (a : X) → o ≡ Some (Some a) → o ≡ Some None → ⊥
 not_both o a left right = cc
 
--- who is in a place is not gone
-not_gone : (b : Bool) (place : Option (Option Guest)) (g : Guest) → place ≡ Some (Some g) → (b ≡ true → place ≡ Some None) → b ≡ false
-not_gone true place g there gone = absurd (not_both place g there (gone refl))
-not_gone false place g there gone = refl
-
 then_will : (now : ℕ) (c : Connection) (g : Guest) (place next_place : Option (Option Guest)) → WillAct now c place → place ≡ Some (Some g)
     → ActsIn now g.connection next_place → WillAct now c next_place
 then_will now c g place next_place will there acted =
-    by will.next place will.will refl will.stays (λ was. not_gone (may_go will.next) place g there (will.gone was)) where
-      after : (d : Connection) → g.connection ≡ d → Leads now c d → (may_go c ≡ false → may_go d ≡ false)
-          → WillAct now c next_place
-      after d here leads kept =
+    by will.next place will.will refl will.stays where
+      after : (d : Connection) → g.connection ≡ d → Leads now c d → WillAct now c next_place
+      after d here leads =
           let next_wait : after_act acted.next.wait now ≡ after_act c.wait now
           = nothing_acts acted.next.wait now acted.acts.later ∙ acted.acts.wait ∙ ap (λ (x : Connection). after_act x.wait now) here ∙ leads.0 in
           let next_owed : owed_after acted.next.owed (act_at acted.next.wait now) ≡ owed_after c.owed (act_at c.wait now)
@@ -238,14 +233,13 @@ then_will now c g place next_place will there acted =
             next = acted.next;
             will = (next_wait, next_owed);
             stays = acted.stays;
-            gone = λ was go. acted.gone (ap may_go here ∙ kept was) go;
+            gone = acted.gone;
           }
 
-      by : (d : Connection) (q : Option (Option Guest)) → Leads now c d → place ≡ q → StaysIn d q
-          → (may_go c ≡ false → may_go d ≡ false) → WillAct now c next_place
-      by d (Some (Some _)) leads is (stays h same) kept = after d (ap (λ (x : Guest). x.connection) (one_at place g h there is) ∙ same) leads kept
-      by d (Some None) leads is (forgotten gone) kept = absurd (not_both place g there is)
-      by d None leads is at kept = elim at [ ]
+      by : (d : Connection) (q : Option (Option Guest)) → Leads now c d → place ≡ q → StaysIn d q → WillAct now c next_place
+      by d (Some (Some _)) leads is (stays h same) = after d (ap (λ (x : Guest). x.connection) (one_at place g h there is) ∙ same) leads
+      by d (Some None) leads is (forgotten gone) = absurd (not_both place g there is)
+      by d None leads is at = elim at [ ]
 
 pub one_more : (now : ℕ) (first gs hs : Places) (a : Plan) (n rounds : ℕ) → SoFar now first gs rounds → IsAllNoted a gs → length gs ≡ length a.dues
     → IsFirstBy a.dues now n → ((g : Guest) → slice_get gs n ≡ Some (Some g) → ActsIn now g.connection (slice_get hs n)) → IsApart gs hs n
@@ -282,7 +276,7 @@ at_last now first gs rounds before none = λ k g there. let w = before.will k g 
   }
 
   by : (k : ℕ) (g : Guest) (d : Connection) → Leads now g.connection d → (q : Option (Option Guest))
-      → slice_get gs k ≡ q → StaysIn d q → (may_go g.connection ≡ false → may_go d ≡ true → slice_get gs k ≡ Some None)
+      → slice_get gs k ≡ q → StaysIn d q → (may_go d ≡ true → slice_get gs k ≡ Some None)
       → ActsIn now g.connection (slice_get gs k)
   by k g d leads (Some (Some _)) is (stays h same) left =
       let after : IsDueAfter now h.connection.wait.due = not_due now (due_time h.connection.wait.due) (none k (Some h) is) in

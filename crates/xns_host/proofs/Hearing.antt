@@ -23,7 +23,7 @@ use Rattle.xns_spp.specs.declared.dropped.Dropped.TheVariants.{NotSpp}
 use Rattle.xns_host.specs.Hosting.{ClosesFrom, EachHears, HasHeard, HasReplied, HearsIn, IsPacketOf, IsThere, Receives, address_in, nothing, heard, goes, listens, loses}
 use Rattle.xns_host.specs.Ours.{named_in}
 use Rattle.xns_host.specs.Register.{number_by, peer_at}
-use Rattle.xns_host.specs.Knowing.{news_of}
+use Rattle.xns_host.specs.Knowing.{all_known_of, known_of, news_of}
 use Rattle.xns_host.specs.Registered.{IsRegistered}
 use Rattle.xns_host.specs.Telling.{Hears}
 use Rattle.xns_agenda.specs.Waiting.{HearsAt}
@@ -34,27 +34,30 @@ use Rattle.xns_host.proofs.Apart.{set_there}
 use Rattle.xns_host.proofs.Done.{each_still}
 use Rattle.xns_host.proofs.Ends.{leads_to}
 use Rattle.xns_host.proofs.Going.{each_same}
+use Rattle.xns_host.proofs.Known.{same_all}
 use Rattle.xns_host.proofs.Noting.{place_other, same_or_other}
 
 abbrev Places : Type 0
 Places = List (Option Guest)
 
-same_in : (now : ℕ) (bytes : List ℕ) (p q : Option (Option Guest)) → q ≡ p → HearsIn now bytes p q
-same_in now bytes p q is = subst (λ (r : Option (Option Guest)). HearsIn now bytes p r) (sym is) nothing
+same_in : (now : ℕ) (bytes : List ℕ) (confirming : Bool) (p q : Option (Option Guest)) → q ≡ p → HearsIn now bytes confirming p q
+same_in now bytes confirming p q is = subst (λ (r : Option (Option Guest)). HearsIn now bytes confirming p r) (sym is) nothing
 
-pub hears_not : (now : ℕ) (bytes : List ℕ) (a b : Places) → b ≡ a → EachHears now bytes a b
-hears_not now bytes a b is = λ k. same_in now bytes (slice_get a k) (slice_get b k) (ap (λ (xs : Places). slice_get xs k) is)
+pub hears_not : (now : ℕ) (bytes : List ℕ) (confirming : Bool) (a b : Places) → b ≡ a → EachHears now bytes confirming a b
+hears_not now bytes confirming a b is = λ k.
+    same_in now bytes confirming (slice_get a k) (slice_get b k) (ap (λ (xs : Places). slice_get xs k) is)
 
 -- where memory was refused they came to nothing
-pub heard_or_not : (now : ℕ) (bytes : List ℕ) (m : SppPacketModel) (place : Option Guest) (g h : Guest) (r : Result (Unit {0}) AllocError)
-    → spp_packet_of bytes ≡ Ok m → place ≡ Some g
+pub heard_or_not : (now : ℕ) (bytes : List ℕ) (m : SppPacketModel) (confirming : Bool) (place : Option Guest) (g h : Guest)
+    (r : Result (Unit {0}) AllocError) → spp_packet_of bytes ≡ Ok m → place ≡ Some g
     → OnOk r ((b : List ℕ) → spp_packet_of b ≡ Ok m → Hears g.connection.conversation h.connection.conversation b)
-    → OnOk r (HearsAt now g.connection.wait h.connection.wait) → OnErr r (h ≡ g) → HearsIn now bytes (Some place) (Some (Some h))
-heard_or_not now bytes m place g h (Ok u) read is ok steps err =
-    subst (λ (p : Option Guest). HearsIn now bytes (Some p) (Some (Some h))) (sym is) (heard (ok bytes read) steps)
-heard_or_not now bytes m place g h (Err e) read is ok steps err =
-    subst (λ (p : Option Guest). HearsIn now bytes (Some p) (Some (Some h))) (sym is)
-    (subst (λ (x : Guest). HearsIn now bytes (Some (Some g)) (Some (Some x))) (sym err) nothing)
+    → OnOk r (HearsAt now g.connection.wait h.connection.wait) → known_of h ≡ known_of g
+    → OnOk r (news_of h ≡ (confirming || g.confirmed, g.heard_of)) → OnErr r (h ≡ g) → HearsIn now bytes confirming (Some place) (Some (Some h))
+heard_or_not now bytes m confirming place g h (Ok u) read is ok steps known news err =
+    subst (λ (p : Option Guest). HearsIn now bytes confirming (Some p) (Some (Some h))) (sym is) (heard (ok bytes read) steps known news)
+heard_or_not now bytes m confirming place g h (Err e) read is ok steps known news err =
+    subst (λ (p : Option Guest). HearsIn now bytes confirming (Some p) (Some (Some h))) (sym is)
+    (subst (λ (x : Guest). HearsIn now bytes confirming (Some (Some g)) (Some (Some x))) (sym err) nothing)
 
 pub has_heard : (bytes : List ℕ) (m : SppPacketModel) (confirming : Bool) (g h : Guest) (r : Result (Unit {0}) AllocError)
     → spp_packet_of bytes ≡ Ok m
@@ -69,16 +72,16 @@ has_heard bytes m confirming g h (Err e) read ok err replied closes news memory 
     subst (λ (x : Guest). HasHeard bytes confirming g (Some x)) (sym err) (loses (λ s stands. memory s bytes stands read))
 
 -- the connection in one place heard them
-pub hears_set : (now : ℕ) (bytes : List ℕ) (a b : Places) (n : ℕ) (old p : Option Guest) → n < length a → old ≡ get_or a n old
-    → b ≡ slice_set a n p → HearsIn now bytes (Some old) (Some p) → EachHears now bytes a b
-hears_set now bytes a b n old p less read is step = λ k. by k (same_or_other k n) where
-  at : HearsIn now bytes (slice_get a n) (slice_get b n)
-  at = subst (λ (q : Option (Option Guest)). HearsIn now bytes q (slice_get b n)) (sym (slice_get_read a (length a) n old refl less read))
-      (subst (λ (q : Option (Option Guest)). HearsIn now bytes (Some old) q) (sym (set_there a b n p less is)) step)
+pub hears_set : (now : ℕ) (bytes : List ℕ) (confirming : Bool) (a b : Places) (n : ℕ) (old p : Option Guest) → n < length a
+    → old ≡ get_or a n old → b ≡ slice_set a n p → HearsIn now bytes confirming (Some old) (Some p) → EachHears now bytes confirming a b
+hears_set now bytes confirming a b n old p less read is step = λ k. by k (same_or_other k n) where
+  at : HearsIn now bytes confirming (slice_get a n) (slice_get b n)
+  at = subst (λ (q : Option (Option Guest)). HearsIn now bytes confirming q (slice_get b n)) (sym (slice_get_read a (length a) n old refl less read))
+      (subst (λ (q : Option (Option Guest)). HearsIn now bytes confirming (Some old) q) (sym (set_there a b n p less is)) step)
 
-  by : (k : ℕ) → (k ≡ n) ⊎ (k ≢ n) → HearsIn now bytes (slice_get a k) (slice_get b k)
-  by k (inl e) = subst (λ (m : ℕ). HearsIn now bytes (slice_get a m) (slice_get b m)) (sym e) at
-  by k (inr other) = same_in now bytes (slice_get a k) (slice_get b k) (ap (λ (xs : Places). slice_get xs k) is ∙ place_other a n k p other)
+  by : (k : ℕ) → (k ≡ n) ⊎ (k ≢ n) → HearsIn now bytes confirming (slice_get a k) (slice_get b k)
+  by k (inl e) = subst (λ (m : ℕ). HearsIn now bytes confirming (slice_get a m) (slice_get b m)) (sym e) at
+  by k (inr other) = same_in now bytes confirming (slice_get a k) (slice_get b k) (ap (λ (xs : Places). slice_get xs k) is ∙ place_other a n k p other)
 
 -- such a one was read from a place
 pub there_in : (P : Guest → Type 0) (a : Places) (n : ℕ) (old : Option Guest) → n < length a → old ≡ get_or a n old → IsThere P (Some old)
@@ -103,7 +106,7 @@ guest_in a n old g less read here =
 -- nothing came of them
 pub nothing_came : (now : ℕ) (opened : Guest → Type 0) (bytes : List ℕ) (a b : Places) → ((k : ℕ) → slice_get b k ≡ slice_get a k)
     → Receives now opened bytes a b
-nothing_came now opened bytes a b same = goes (each_same a b same) (each_still now a b same)
+nothing_came now opened bytes a b same = goes (each_same a b same) (each_still now a b same) (same_all all_known_of a b same)
 
 -- ---- the packet that opens a connection
 

@@ -10,6 +10,7 @@ mod Giving
 mod Going
 mod Handing
 mod Hearing
+mod Known
 mod Leading
 mod Listing
 mod Lives
@@ -23,5 +24,6 @@ mod Rejecting
 mod Serving
 mod Still
 mod Tellings
+mod Undone
 mod Waits
 mod Waking

@@ -1,6 +1,6 @@
 -- Many connections behind one address.
 use Rattle.std.specs.Prelude.{◌≡◌, ◌≢◌, ℕ, Bool, true, false, not, ◌&&◌, ◌||◌, ◌==◌, List, [], if◌then◌else◌, Option, Some, None, position}
-use Rattle.std.specs.Prelude.{slice_get}
+use Rattle.std.specs.Prelude.{slice_get, Ok}
 use Rattle.std.specs.Option.{is_some, is_none}
 use Rattle.std.specs.BTreeMap.{BTreeMap}
 use Rattle.std.specs.Global.{Global}
@@ -11,7 +11,7 @@ use Rattle.xns_idp.specs.declared.address.Address.{Address}
 use Rattle.xns_idp.specs.declared.packet_type.TheConstants.{ERROR}
 use Rattle.xns_spp.specs.Ends.{is_ours_at}
 use Rattle.xns_spp.specs.Held.{StandsFor}
-use Rattle.xns_spp.specs.Packet.{SppPacketModel}
+use Rattle.xns_spp.specs.Packet.{SppPacketModel, spp_packet_of}
 use Rattle.xns_spp.specs.Receiving.{StoresBytes, after_receive}
 use Rattle.xns_spp.specs.State.{State, initiator_state, responder_state}
 use Rattle.xns_agenda.specs.Agenda.{Plan, IsNoted}
@@ -22,7 +22,7 @@ use Rattle.xns_host.specs.Identifiers.{Ids, IsNext, is_free}
 use Rattle.courier_messages.specs.declared.message.Message.{Message}
 use Rattle.xns_host.specs.Living.{GoesFrom}
 use Rattle.xns_host.specs.Quotes.{is_opened_by, quoted_opening}
-use Rattle.xns_host.specs.Knowing.{news_of}
+use Rattle.xns_host.specs.Knowing.{all_known_of, known_of, news_of}
 use Rattle.xns_host.specs.Services.{programs_at}
 use Rattle.xns_host.specs.Settings.{IsBegun}
 use Rattle.xns_host.specs.Story.{Story, has_message, new_story, waiting_message, with_handed}
@@ -33,6 +33,8 @@ use Rattle.xns_agenda.specs.Waiting.{HearsAt, IsDueAfter, StepsAt, act_at, after
 use Rattle.xns_host.specs.declared.connection.Connection.{Connection}
 use Rattle.xns_host.specs.declared.conversation.Conversation.{Conversation}
 use Rattle.xns_host.specs.declared.event.Event.{Event}
+use Rattle.xns_agenda.specs.declared.due.Due.{Due}
+use Rattle.xns_agenda.specs.declared.due.Due.TheVariants.{Never, AgainAt, AskAt, ForgetAt}
 use Rattle.xns_agenda.specs.declared.facts.Facts.{Facts}
 use Rattle.xns_agenda.specs.declared.facts.TheConstants.Facts.{NONE}
 use Rattle.xns_host.specs.declared.guest.Guest.{Guest}
@@ -74,6 +76,26 @@ abbrev pub is_done : Option Guest → Bool
 is_done None = false
 is_done (Some g) = may_go g.connection
 
+-- it waits to be forgotten
+abbrev pub is_lingering : Due → Bool
+is_lingering Never = false
+is_lingering (AgainAt t) = false
+is_lingering (AskAt t) = false
+is_lingering (ForgetAt t) = true
+
+-- where the program was told that it is closed, it is, and lingers: so it may not be forgotten yet
+abbrev pub IsNotDone : Connection → Type 0
+IsNotDone c = c.told ≡ true → (is_some c.closed ≡ true) × (is_lingering c.wait.due ≡ true)
+
+-- the one in this place
+abbrev pub IsNotDoneIn : Option Guest → Type 0
+IsNotDoneIn None = Unit {0}
+IsNotDoneIn (Some g) = IsNotDone g.connection
+
+-- so it is of each that is there
+pub record HasNoneDone (guests : List (Option Guest)) : Type 0 where
+  pub each : (k : ℕ) (g : Guest) → slice_get guests k ≡ Some (Some g) → IsNotDone g.connection
+
 -- ---- one connection of them
 
 -- there is a connection with this number
@@ -85,6 +107,16 @@ has_guest (Some (Some g)) = true
 -- the connections with other numbers are as they were
 pub record IsApart (old new : List (Option Guest)) (number : ℕ) : Type 0 where
   pub others : (k : ℕ) → k ≢ number → slice_get new k ≡ slice_get old k
+
+-- the connection in this place is such
+pub record IsThere (P : Guest → Type 0) (place : Option (Option Guest)) : Type 0 where
+  pub guest : Guest
+  pub there : place ≡ Some (Some guest)
+  pub is : P guest
+
+-- each connection that is there was there, and this is of it what it was
+abbrev pub EachSame : {X : Type 0} → (Guest → X) → (old new : List (Option Guest)) → Type 0
+EachSame what old new = (k : ℕ) (h : Guest) → slice_get new k ≡ Some (Some h) → IsThere (λ g. what h ≡ what g) (slice_get old k)
 
 -- once it was asked to close it stays asked
 abbrev pub StaysAsked : (old new : Conversation) → Type 0
@@ -151,12 +183,12 @@ abbrev pub HasActedIn : ℕ → Connection → Option Guest → Type 0
 HasActedIn now c None = ⊥
 HasActedIn now c (Some g) = HasActed now c g.connection
 
--- and it is in this place or forgotten: one that may be forgotten now, and could not be before, is
+-- and it is in this place or forgotten: one that may be forgotten now is
 pub record ActsIn (now : ℕ) (c : Connection) (place : Option (Option Guest)) : Type 0 where
   pub next : Connection
   pub acts : HasActed now c next
   pub stays : StaysIn next place
-  pub gone : may_go c ≡ false → may_go next ≡ true → place ≡ Some None
+  pub gone : may_go next ≡ true → place ≡ Some None
 
 -- so it was of each connection
 abbrev pub EachActs : ℕ → (old new : List (Option Guest)) → Type 0
@@ -199,13 +231,16 @@ pub record TellsIn (now : ℕ) (c : Connection) (place : Option (Option Guest)) 
   pub stays : StaysIn next place
   pub gone : may_go next ≡ true → place ≡ Some None
 
--- the event is what one of the connections had to tell, once, at this time, and the others are as they were
+-- the event is what one of the connections had to tell, once, at this time, and the others are as they were; the program was told of a
+-- call of that one from then on, if a message of it was handed, and nothing else came of it
 pub record IsNextEvent (now : ℕ) (old new : List (Option Guest)) (event : Event) : Type 0 where
   pub number : ℕ
   pub guest : Guest
   pub there : slice_get old number ≡ Some (Some guest)
   pub told : event_in number (Some guest) ≡ Some event
   pub once : TellsIn now guest.connection (slice_get new number)
+  pub news : (next : Guest) → slice_get new number ≡ Some (Some next)
+      → news_of next ≡ (guest.confirmed, is_some (waiting_message guest.connection.conversation.side) || guest.heard_of)
   pub others : IsApart old new number
 
 -- no connection has anything to tell
@@ -249,7 +284,7 @@ pub record IsFirstWant (strays : List Outgoing) (guests : List (Option Guest)) (
 
 -- ---- what goes out
 
--- the connection in a place gave this packet, which goes out by its way
+-- the connection in a place gave this packet, which goes out by its way, and is known as it was
 pub record IsGiven (old new : Option (Option Guest)) (o : Outgoing) : Type 0 where
   pub guest : Guest
   pub next : Guest
@@ -257,6 +292,7 @@ pub record IsGiven (old new : Option (Option Guest)) (o : Outgoing) : Type 0 whe
   pub is : new ≡ Some (Some next)
   pub gave : MovesAndGives guest.connection.conversation next.connection.conversation (Some o.packet)
   pub via : o.via ≡ guest.via
+  pub known : all_known_of next ≡ all_known_of guest
 
 -- each connection went on by itself and gave none, and then one of them gave this packet
 pub record IsNextPacket (old new : List (Option Guest)) (o : Outgoing) : Type 0 where
@@ -352,14 +388,15 @@ IsNotServed now c (Some g) = Goes c.conversation g.connection.conversation × (g
 -- ---- a packet that came
 
 -- what these bytes came to in a place at this time: nothing; or the connection in it goes on from where it is after they came, and so do
--- its waits
-pub data HearsIn (now : ℕ) (bytes : List ℕ) : (old new : Option (Option Guest)) → Type 0 where
-  nothing : {place : Option (Option Guest)} → HearsIn now bytes place place
+-- its waits; it is known as it was, and confirmed where they confirm it
+pub data HearsIn (now : ℕ) (bytes : List ℕ) (confirming : Bool) : (old new : Option (Option Guest)) → Type 0 where
+  nothing : {place : Option (Option Guest)} → HearsIn now bytes confirming place place
   heard : {g h : Guest} → Hears g.connection.conversation h.connection.conversation bytes
-      → HearsAt now g.connection.wait h.connection.wait → HearsIn now bytes (Some (Some g)) (Some (Some h))
+      → HearsAt now g.connection.wait h.connection.wait → known_of h ≡ known_of g → news_of h ≡ (confirming || g.confirmed, g.heard_of)
+      → HearsIn now bytes confirming (Some (Some g)) (Some (Some h))
 
-abbrev pub EachHears : ℕ → List ℕ → (old new : List (Option Guest)) → Type 0
-EachHears now bytes old new = (k : ℕ) → HearsIn now bytes (slice_get old k) (slice_get new k)
+abbrev pub EachHears : ℕ → List ℕ → Bool → (old new : List (Option Guest)) → Type 0
+EachHears now bytes confirming old new = (k : ℕ) → HearsIn now bytes confirming (slice_get old k) (slice_get new k)
 
 -- the packet is to this host, and one of this connection
 pub record IsPacketOf (host : List ℕ) (p : SppPacketModel) (guest : Guest) : Type 0 where
@@ -410,16 +447,10 @@ pub record IsOpened (services : BTreeMap ℕ (Vec Program Global)) (settings : S
   pub served : programs_at services socket ≡ Some programs
   pub answering : IsAnswering settings ids (address_in network host socket) opener id way now programs guest
 
--- the connection in this place is such
-pub record IsThere (P : Guest → Type 0) (place : Option (Option Guest)) : Type 0 where
-  pub guest : Guest
-  pub there : place ≡ Some (Some guest)
-  pub is : P guest
-
--- what became of the connections by these bytes at this time: each went on by itself, its waits by steps of this moment; or heard them; or
--- a new one was opened first and has heard them
+-- what became of the connections by these bytes at this time: each went on by itself, its waits by steps of this moment, and is known as
+-- it was; or heard them, and is confirmed where they name it by our identifier; or a new one was opened first and has heard them
 pub data Receives (now : ℕ) (opened : Guest → Type 0) (bytes : List ℕ) (old new : List (Option Guest)) : Type 0 where
-  goes : EachGoes old new → EachSteps now old new → Receives now opened bytes old new
-  hears : EachHears now bytes old new → Receives now opened bytes old new
+  goes : EachGoes old new → EachSteps now old new → EachSame all_known_of old new → Receives now opened bytes old new
+  hears : (p : SppPacketModel) → spp_packet_of bytes ≡ Ok p → EachHears now bytes (confirms p) old new → Receives now opened bytes old new
   opens : (mid : List (Option Guest)) (n : ℕ) → IsPlace old n → IsApart old mid n → IsThere opened (slice_get mid n)
-      → EachHears now bytes mid new → HasHeardIn bytes (slice_get mid n) (slice_get new n) → Receives now opened bytes old new
+      → EachHears now bytes false mid new → HasHeardIn bytes (slice_get mid n) (slice_get new n) → Receives now opened bytes old new

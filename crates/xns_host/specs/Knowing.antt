@@ -28,3 +28,7 @@ news_of g = (g.confirmed, g.heard_of)
 abbrev pub news_in : Option Guest → Option (Bool × Bool)
 news_in None = None
 news_in (Some g) = Some (news_of g)
+
+-- all that a host knows of a connection beside what it is
+abbrev pub all_known_of : Guest → Known × (Bool × Bool)
+all_known_of g = (known_of g, news_of g)

@@ -1,7 +1,7 @@
 //! A connection in its place at a host.
 
 ghost use Rattle.std.specs.Prelude.{◌≡◌, ℕ, List, [], ◌∷◌, ◌++◌, ◌||◌, OnErr, OnOk, Ok, None, Some, true, false};
-ghost use Rattle.xns_host.specs.Hosting.{ClosesFrom, HasReplied, StaysAsked, facts_of, lingers_since, may_go, stranger_since};
+ghost use Rattle.xns_host.specs.Hosting.{ClosesFrom, HasReplied, IsNotDone, StaysAsked, facts_of, lingers_since, may_go, stranger_since};
 ghost use Rattle.courier_messages.specs.RawCalls.{words_call};
 ghost use Rattle.xns_spp.specs.Ends.{is_open};
 ghost use Rattle.xns_spp.specs.Held.{StandsFor};
@@ -68,6 +68,7 @@ impl Guest {
         ensures steps { OnOk result (HearsAt now self.old.connection.wait self.new.connection.wait) }
         ensures known { known_of self.new ≡ known_of self.old }
         ensures news { OnOk result (news_of self.new ≡ (confirms || self.old.confirmed, self.old.heard_of)) }
+        ensures not_done { IsNotDone self.old.connection → IsNotDone self.new.connection }
     {
         self.connection.receive(alloc, now, packet)?;
         if confirms {
@@ -97,6 +98,7 @@ impl Guest {
         ensures unchanged { OnErr result (self.new ≡ self.old) }
         ensures known { known_of self.new ≡ known_of self.old }
         ensures news { news_of self.new ≡ news_of self.old }
+        ensures not_done { IsNotDone self.old.connection → IsNotDone self.new.connection }
     {
         self.connection
             .call(alloc, now, program, version, procedure, words)?;
@@ -124,6 +126,7 @@ impl Guest {
         ensures unchanged { OnErr result (self.new ≡ self.old) }
         ensures known { known_of self.new ≡ known_of self.old }
         ensures news { news_of self.new ≡ news_of self.old }
+        ensures not_done { IsNotDone self.old.connection → IsNotDone self.new.connection }
     {
         self.connection.answer(alloc, now, answer, words)?;
         Ok(())
@@ -138,6 +141,7 @@ impl Guest {
         ensures closes { ClosesFrom self.old.connection self.new.connection (λ h. h) }
         ensures known { known_of self.new ≡ known_of self.old }
         ensures news { news_of self.new ≡ news_of self.old }
+        ensures not_done { IsNotDone self.old.connection → IsNotDone self.new.connection }
         ensures steps { StepsAt now self.old.connection.wait self.new.connection.wait }
     {
         self.connection.close(alloc, now);
@@ -152,6 +156,7 @@ impl Guest {
         ensures steps { StepsAt now self.old.connection.wait self.new.connection.wait }
         ensures known { known_of self.new ≡ known_of self.old }
         ensures news { news_of self.new ≡ news_of self.old }
+        ensures not_done { IsNotDone self.old.connection → IsNotDone self.new.connection }
     {
         self.connection.not_served(now);
     }

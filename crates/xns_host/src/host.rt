@@ -1,6 +1,6 @@
 //! Many connections behind one address.
 
-ghost use Rattle.std.specs.Prelude.{◌≡◌, ◌≢◌, ◌<◌, ◌≤◌, ◌∷◌, ◌++◌, ◌⊎◌, ℕ, List, [], Option, length, max, true, false, IfOk, IfSome, OnErr, OnOk};
+ghost use Rattle.std.specs.Prelude.{◌≡◌, ◌≢◌, ◌<◌, ◌≤◌, ◌∷◌, ◌++◌, ◌⊎◌, ◌||◌, ℕ, List, [], Option, length, max, true, false, IfOk, IfSome, OnErr, OnOk};
 ghost use Rattle.std.specs.Prelude.{Some, None, Ok, Err, count_by, slice_get};
 ghost use Rattle.std.specs.BTreeMap.{btree_map_len, get};
 ghost use Rattle.std.specs.Option.{is_some};
@@ -20,14 +20,15 @@ ghost use Rattle.xns_host.specs.Hosting.{IsNextEvent, IsNextPacket, IsNotServed,
 ghost use Rattle.xns_host.specs.Hosting.{TellsIn, WentOn, address_in, confirms, has_guest};
 ghost use Rattle.xns_host.specs.Quotes.{is_opened_by};
 ghost use Rattle.xns_host.specs.Register.{number_by, peer_at, peer_cmp};
-ghost use Rattle.xns_host.specs.Registered.{HasLeft, IsAllRegistered};
-ghost use Rattle.xns_host.specs.Story.{asked_of};
+ghost use Rattle.xns_host.specs.Registered.{IsAllRegistered};
+ghost use Rattle.xns_host.specs.Story.{asked_of, waiting_message};
 ghost use Rattle.courier_sessions.specs.Answering.{answer_message};
 ghost use Rattle.xns_host.specs.Reasons.{call_fault_of, answer_fault_of};
 ghost use Rattle.xns_host.specs.Refusing.{Answers};
 ghost use Rattle.xns_host.specs.Settings.{IsFit, most_connections, wrong_setting};
 ghost use Rattle.xns_agenda.specs.Turns.{with_turn};
-ghost use Rattle.xns_host.specs.Hosting.{ActsIn, DoesDue, EachActs, EachSteps};
+ghost use Rattle.xns_host.specs.Hosting.{ActsIn, DoesDue, EachActs, EachSame, EachSteps, HasNoneDone};
+ghost use Rattle.xns_host.specs.Knowing.{all_known_of, known_of, news_of};
 ghost use Rattle.xns_host.specs.Services.{Serves, most_services, programs_at};
 ghost use Rattle.xns_agenda.specs.Waiting.{last_time};
 ghost use Rattle.xns_host.specs.declared.guest.Guest.{Guest};
@@ -46,8 +47,8 @@ use crate::register::Register;
 use crate::services::Services;
 use crate::settings::Settings;
 use crate::slots::{
-    act_in, answer_in, call_in, close_in, count, event_in, forget_in, hear_in, is_done_in,
-    no_guests, not_served_in, note, packet_in, put_in,
+    act_in, answer_in, call_in, close_in, count, event_in, hear_in, is_done_in, no_guests,
+    not_served_in, note, packet_in, put_in, settle_in,
 };
 use crate::strays::Strays;
 use courier_sessions::{Answer, Program};
@@ -85,6 +86,8 @@ pub struct Host {
     ghost noted: { IsAllNoted agenda guests.items },
     // The register leads to each connection what names it, and nothing else anywhere.
     ghost registered: { IsAllRegistered register guests.items },
+    // One that may be forgotten is.
+    ghost not_done: { HasNoneDone guests.items },
 }
 
 impl Host {
@@ -171,41 +174,6 @@ impl Host {
         self.services.serve(self.alloc, socket, programs)
     }
 
-    /// Forgets the connection with this number.
-    #[tactic(auto, using(crate::proofs::Apart::set_there))]
-    fn forget(&mut self, number: usize)
-        requires { number < length self.old.guests.items }
-        ensures apart { IsApart self.old.guests.items self.new.guests.items number }
-        ensures gone { slice_get self.new.guests.items number ≡ Some None }
-        ensures sized { length self.new.guests.items ≡ length self.old.guests.items }
-        ensures left { HasLeft self.old.register self.new.register (slice_get self.old.guests.items number) }
-        ensures strays { self.new.strays ≡ self.old.strays }
-        ensures set_up { StaysSetUp self.old self.new }
-    {
-        forget_in(
-            &mut self.register,
-            &mut self.guests,
-            &mut self.agenda,
-            number,
-        );
-    }
-
-    /// Forgets the connection with this number, if it is done.
-    fn settle(&mut self, number: usize, done: bool)
-        requires { number < length self.old.guests.items }
-        ensures apart { IsApart self.old.guests.items self.new.guests.items number }
-        ensures gone { done ≡ true → slice_get self.new.guests.items number ≡ Some None }
-        ensures left { done ≡ true → HasLeft self.old.register self.new.register (slice_get self.old.guests.items number) }
-        ensures kept { done ≡ false → self.new.guests.items ≡ self.old.guests.items }
-        ensures register { done ≡ false → self.new.register ≡ self.old.register }
-        ensures strays { self.new.strays ≡ self.old.strays }
-        ensures set_up { StaysSetUp self.old self.new }
-    {
-        if done {
-            self.forget(number);
-        }
-    }
-
     /// Opens a connection from this socket of ours to the peer, whose side calls; its number. Its packets go out by this `via`.
     ///
     /// An `Err`, which changes nothing, is [`HostFault::NoRoom`] where there is no room and none gives way, or [`HostFault::NoMemory`].
@@ -266,7 +234,7 @@ impl Host {
     /// An `Err`, which changes nothing, is [`HostFault::NoConnection`], [`HostFault::PeerCalls`] where the peer opened it,
     /// [`HostFault::Closing`] where it is closed or was asked to close, [`HostFault::Busy`] while a call waits or its answer was not
     /// fetched, [`HostFault::TooLong`] over 65,530 words, or [`HostFault::NoMemory`].
-    #[tactic(auto, using(crate::proofs::Noting::put_back, crate::proofs::Registered::still_registered))]
+    #[tactic(auto, using(crate::proofs::Noting::put_back, crate::proofs::Registered::still_registered, crate::proofs::Undone::still_not_done))]
     pub fn call(
         &mut self,
         now: u64,
@@ -286,6 +254,7 @@ impl Host {
         ensures unchanged { OnErr result ((k : ℕ) → slice_get self.new.guests.items k ≡ slice_get self.old.guests.items k) }
         ensures agenda { OnErr result (self.new.agenda ≡ self.old.agenda) }
         ensures steps { EachSteps (max self.old.clock.latest now) self.old.guests.items self.new.guests.items }
+        ensures known { EachSame all_known_of self.old.guests.items self.new.guests.items }
         ensures set_up { StaysSetUpAt now self.old self.new }
     {
         let now = self.clock.tell(now);
@@ -311,7 +280,7 @@ impl Host {
     /// An `Err`, which changes nothing, is [`HostFault::NoConnection`], [`HostFault::NoCall`] where no call was handed that is not
     /// answered, [`HostFault::Closing`] where the connection is closed, [`HostFault::TooLong`] over 131,072 bytes, or
     /// [`HostFault::NoMemory`].
-    #[tactic(auto, using(crate::proofs::Noting::put_back, crate::proofs::Registered::still_registered))]
+    #[tactic(auto, using(crate::proofs::Noting::put_back, crate::proofs::Registered::still_registered, crate::proofs::Undone::still_not_done))]
     pub fn answer(
         &mut self,
         now: u64,
@@ -329,6 +298,7 @@ impl Host {
         ensures unchanged { OnErr result ((k : ℕ) → slice_get self.new.guests.items k ≡ slice_get self.old.guests.items k) }
         ensures agenda { OnErr result (self.new.agenda ≡ self.old.agenda) }
         ensures steps { EachSteps (max self.old.clock.latest now) self.old.guests.items self.new.guests.items }
+        ensures known { EachSame all_known_of self.old.guests.items self.new.guests.items }
         ensures set_up { StaysSetUpAt now self.old self.new }
     {
         let now = self.clock.tell(now);
@@ -348,7 +318,7 @@ impl Host {
     }
 
     /// Closes a connection once all that it has to say is said. An `Err`, which changes nothing, is [`HostFault::NoConnection`].
-    #[tactic(auto, using(crate::proofs::Noting::put_back, crate::proofs::Registered::still_registered))]
+    #[tactic(auto, using(crate::proofs::Noting::put_back, crate::proofs::Registered::still_registered, crate::proofs::Undone::still_not_done))]
     pub fn close(&mut self, now: u64, number: usize) -> Result<(), HostFault>
         ensures apart { IsApart self.old.guests.items self.new.guests.items number }
         ensures none { has_guest (slice_get self.old.guests.items number) ≡ false → result ≡ Err (NoConnection number) }
@@ -358,6 +328,7 @@ impl Host {
         ensures unchanged { OnErr result ((k : ℕ) → slice_get self.new.guests.items k ≡ slice_get self.old.guests.items k) }
         ensures agenda { OnErr result (self.new.agenda ≡ self.old.agenda) }
         ensures steps { EachSteps (max self.old.clock.latest now) self.old.guests.items self.new.guests.items }
+        ensures known { EachSame all_known_of self.old.guests.items self.new.guests.items }
         ensures set_up { StaysSetUpAt now self.old self.new }
     {
         let now = self.clock.tell(now);
@@ -433,6 +404,7 @@ impl Host {
         ensures ours { packet.now.kind ≡ ERROR → result ≡ true → QuotesOurs self.old (packet_model packet.now) }
         ensures goes { EachGoes self.old.guests.items self.new.guests.items }
         ensures steps { EachSteps now self.old.guests.items self.new.guests.items }
+        ensures known { EachSame all_known_of self.old.guests.items self.new.guests.items }
         ensures one { ChangesOne self.old.guests.items self.new.guests.items }
         ensures unchanged { result ≡ false → (k : ℕ) → slice_get self.new.guests.items k ≡ slice_get self.old.guests.items k }
         ensures set_up { StaysSetUp self.old self.new }
@@ -450,7 +422,7 @@ impl Host {
     }
 
     /// Closes the connection with this number, if it is the one that a quoted packet was to open.
-    #[tactic(auto, using(crate::proofs::Going::each_stays, crate::proofs::Registered::still_registered))]
+    #[tactic(auto, using(crate::proofs::Going::each_stays, crate::proofs::Registered::still_registered, crate::proofs::Undone::still_not_done))]
     fn not_served(&mut self, now: u64, number: usize, quote: &OpeningQuote) -> bool
         ensures closed { (g : Guest) (s : State) (place : Option Guest) → slice_get self.old.guests.items number ≡ Some (Some g)
             → StandsFor g.connection.conversation.endpoint s → is_opened_by g s quote.now ≡ true → g.connection.closed ≡ None
@@ -458,6 +430,7 @@ impl Host {
         ensures ours { result ≡ true → IsThere (IsToOpen quote.now) (slice_get self.old.guests.items number) }
         ensures goes { EachGoes self.old.guests.items self.new.guests.items }
         ensures steps { EachSteps now self.old.guests.items self.new.guests.items }
+        ensures known { EachSame all_known_of self.old.guests.items self.new.guests.items }
         ensures apart { IsApart self.old.guests.items self.new.guests.items number }
         ensures unchanged { result ≡ false → (k : ℕ) → slice_get self.new.guests.items k ≡ slice_get self.old.guests.items k }
         ensures set_up { StaysSetUp self.old self.new }
@@ -508,10 +481,10 @@ impl Host {
     }
 
     /// Takes a packet in that names the connection with this number; whether it is one of it.
-    #[tactic(auto, using(crate::proofs::Hearing::hears_not, crate::proofs::Registered::still_registered))]
+    #[tactic(auto, using(crate::proofs::Hearing::hears_not, crate::proofs::Registered::still_registered, crate::proofs::Undone::still_not_done))]
     fn hear(&mut self, now: u64, number: usize, confirms: bool, packet: &SppPacket) -> bool
         requires { IsSppPacket packet.now }
-        ensures hears { (b : List ℕ) → spp_packet_of b ≡ Ok packet.now → EachHears now b self.old.guests.items self.new.guests.items }
+        ensures hears { (b : List ℕ) → spp_packet_of b ≡ Ok packet.now → EachHears now b confirms self.old.guests.items self.new.guests.items }
         ensures heard { (b : List ℕ) (g : Guest) (s : State) (place : Option Guest) → spp_packet_of b ≡ Ok packet.now
             → slice_get self.old.guests.items number ≡ Some (Some g) → StandsFor g.connection.conversation.endpoint s
             → is_ours_at s.ends packet.now ≡ true → slice_get self.new.guests.items number ≡ Some place
@@ -625,13 +598,17 @@ impl Host {
     }
 
     /// What the connection with this number has to tell the program, if it has anything: it has had its turn.
-    #[tactic(auto, using(crate::proofs::Noting::put_back, crate::proofs::Noting::quiet_noted, crate::proofs::Registered::still_registered))]
+    #[tactic(auto, using(crate::proofs::Noting::put_back, crate::proofs::Noting::quiet_noted, crate::proofs::Registered::still_registered, crate::proofs::Undone::still_not_done))]
     fn event(&mut self, number: usize) -> Option<Event>
         requires { number < length self.old.guests.items }
         ensures apart { IsApart self.old.guests.items self.new.guests.items number }
         ensures event { (place : Option Guest) → slice_get self.old.guests.items number ≡ Some place → result ≡ event_in number place }
         ensures told { (g : Guest) → slice_get self.old.guests.items number ≡ Some (Some g) → result ≢ None
             → TellsIn self.old.clock.latest g.connection (slice_get self.new.guests.items number) }
+        ensures news { (g next : Guest) → slice_get self.old.guests.items number ≡ Some (Some g) → result ≢ None
+            → slice_get self.new.guests.items number ≡ Some (Some next)
+            → news_of next ≡ (g.confirmed, is_some (waiting_message g.connection.conversation.side) || g.heard_of) }
+        ensures known { EachSame known_of self.old.guests.items self.new.guests.items }
         ensures none { result ≡ None → (k : ℕ) → slice_get self.new.guests.items k ≡ slice_get self.old.guests.items k }
         ensures passed { result ≡ None → self.new.agenda
             ≡ record self.old.agenda { events = with_turn self.old.agenda.events number false } }
@@ -643,13 +620,20 @@ impl Host {
         let event = event?;
         let done = is_done_in(&self.guests[number]);
         note(self.guests.as_slice(), &mut self.agenda, number);
-        self.settle(number, done);
+        settle_in(
+            &mut self.register,
+            &mut self.guests,
+            &mut self.agenda,
+            number,
+            done,
+        );
         Some(event)
     }
 
     /// The next thing that the program is told. A `None`: there is nothing, until something is done again.
     pub fn next_event(&mut self) -> Option<Event>
         ensures told { IfSome result (λ e. IsNextEvent self.old.clock.latest self.old.guests.items self.new.guests.items e) }
+        ensures known { EachSame known_of self.old.guests.items self.new.guests.items }
         ensures none { result ≡ None → HasNoEvent self.old.guests.items }
         ensures unchanged { result ≡ None → (k : ℕ) → slice_get self.new.guests.items k ≡ slice_get self.old.guests.items k }
         ensures set_up { StaysSetUp self.old self.new }
@@ -663,11 +647,12 @@ impl Host {
     }
 
     /// Does what is due of the connection with this number.
-    #[tactic(auto, using(crate::proofs::Going::each_stays, crate::proofs::Going::each_kept, crate::proofs::Registered::still_registered))]
+    #[tactic(auto, using(crate::proofs::Going::each_stays, crate::proofs::Going::each_kept, crate::proofs::Registered::still_registered, crate::proofs::Undone::still_not_done))]
     fn act(&mut self, now: u64, number: usize)
         ensures goes { EachGoes self.old.guests.items self.new.guests.items }
         ensures keeps { EachKeeps self.old.guests.items self.new.guests.items }
         ensures strays { self.new.strays ≡ self.old.strays }
+        ensures known { EachSame all_known_of self.old.guests.items self.new.guests.items }
         ensures acts { now < last_time → (g : Guest) → slice_get self.old.guests.items number ≡ Some (Some g)
             → ActsIn now g.connection (slice_get self.new.guests.items number) }
         ensures apart { IsApart self.old.guests.items self.new.guests.items number }
@@ -678,7 +663,13 @@ impl Host {
         }
         let done = act_in(&mut self.guests[number], now);
         note(self.guests.as_slice(), &mut self.agenda, number);
-        self.settle(number, done);
+        settle_in(
+            &mut self.register,
+            &mut self.guests,
+            &mut self.agenda,
+            number,
+            done,
+        );
     }
 
     /// Does what is due, of each connection.
@@ -686,6 +677,7 @@ impl Host {
         ensures goes { EachGoes self.old.guests.items self.new.guests.items }
         ensures keeps { EachKeeps self.old.guests.items self.new.guests.items }
         ensures strays { self.new.strays ≡ self.old.strays }
+        ensures known { EachSame all_known_of self.old.guests.items self.new.guests.items }
         ensures acts { now < last_time → EachActs now self.old.guests.items self.new.guests.items }
         ensures set_up { StaysSetUp self.old self.new }
     {
@@ -698,7 +690,7 @@ impl Host {
     }
 
     /// The next packet of the connection with this number, which has had its turn.
-    #[tactic(auto, using(crate::proofs::Registered::still_registered))]
+    #[tactic(auto, using(crate::proofs::Registered::still_registered, crate::proofs::Undone::still_not_done))]
     fn packet(&mut self, now: u64, number: usize) -> Result<Option<Outgoing>, HostFault>
         requires { number < length self.old.guests.items }
         ensures goes { EachGoes self.old.guests.items self.new.guests.items }
@@ -709,6 +701,7 @@ impl Host {
         ensures strays { self.new.strays ≡ self.old.strays }
         ensures fault { OnErr result (result ≡ Err NoMemory) }
         ensures steps { EachSteps now self.old.guests.items self.new.guests.items }
+        ensures known { EachSame all_known_of self.old.guests.items self.new.guests.items }
         ensures set_up { StaysSetUp self.old self.new }
     {
         let made = packet_in(&mut self.guests[number], self.alloc, now);
@@ -732,6 +725,7 @@ impl Host {
         ensures keeps { (self.old.strays.waiting ≢ []) ⊎ ((o : Outgoing) → result ≢ Ok (Some o))
             → EachKeeps self.old.guests.items self.new.guests.items }
         ensures goes { EachGoes self.old.guests.items self.new.guests.items }
+        ensures known { EachSame all_known_of self.old.guests.items self.new.guests.items }
         ensures none { result ≡ Ok None → HasNoPacket self.new.guests.items }
         ensures fault { OnErr result (result ≡ Err NoMemory) }
         ensures due { let time = max self.old.clock.latest now in time < last_time

@@ -8,7 +8,7 @@ ghost use Rattle.xns_spp.specs.Ends.{is_ours_at};
 ghost use Rattle.xns_spp.specs.Packet.{IsSppPacket, spp_packet_of};
 ghost use Rattle.xns_host.specs.Events.{event_in, event_of};
 ghost use Rattle.xns_host.specs.Hosting.{HasHeard, HasToldIn, HearsIn, IsAllNoted, IsApart, IsAsked, IsGiven, IsNotServed, IsNotedBut};
-ghost use Rattle.xns_host.specs.Hosting.{IsThere, LedTo, WentOn, facts_in, is_done};
+ghost use Rattle.xns_host.specs.Hosting.{IsNotDoneIn, IsThere, LedTo, WentOn, facts_in, is_done};
 ghost use Rattle.xns_spp.specs.Held.{StandsFor};
 ghost use Rattle.xns_spp.specs.State.{State};
 ghost use Rattle.xns_host.specs.Ours.{IsOf, IsToOpen};
@@ -146,6 +146,31 @@ pub fn forget_in(
     }
 }
 
+/// Forgets the connection with this number, if it is done.
+pub fn settle_in(
+    register: &mut Register,
+    guests: &mut Vec<Option<Guest>>,
+    agenda: &mut Agenda,
+    number: usize,
+    done: bool,
+)
+    requires within { number < length guests.old.items }
+    requires sized { length guests.old.items ≡ length agenda.old.dues }
+    requires noted { IsAllNoted agenda.old guests.old.items }
+    requires registered { IsAllRegistered register.old guests.old.items }
+    ensures noted { IsAllNoted agenda.new guests.new.items }
+    ensures sized { length agenda.new.dues ≡ length agenda.old.dues }
+    ensures room { length guests.new.items ≡ length guests.old.items }
+    ensures registered { IsAllRegistered register.new guests.new.items }
+    ensures apart { IsApart guests.old.items guests.new.items number }
+    ensures gone { done ≡ true → slice_get guests.new.items number ≡ Some None }
+    ensures kept { done ≡ false → guests.new.items ≡ guests.old.items }
+{
+    if done {
+        forget_in(register, guests, agenda, number);
+    }
+}
+
 /// Puts a new connection, which the register knows, into its place, whose old one gives way.
 pub fn put_in(
     register: &mut Register,
@@ -190,6 +215,7 @@ pub fn call_in(
     ensures known { known_in slot.new ≡ known_in slot.old }
     ensures news { news_in slot.new ≡ news_in slot.old }
     ensures fits { (g : Guest) → slot.old ≡ Some g → FitsEnd g → FitsEndIn slot.new }
+    ensures not_done { IsNotDoneIn slot.old → IsNotDoneIn slot.new }
 {
     let Some(guest) = slot else {
         return Err(HostFault::NoConnection { number });
@@ -216,6 +242,7 @@ pub fn answer_in(
     ensures known { known_in slot.new ≡ known_in slot.old }
     ensures news { news_in slot.new ≡ news_in slot.old }
     ensures fits { (g : Guest) → slot.old ≡ Some g → FitsEnd g → FitsEndIn slot.new }
+    ensures not_done { IsNotDoneIn slot.old → IsNotDoneIn slot.new }
 {
     let Some(guest) = slot else {
         return Err(HostFault::NoConnection { number });
@@ -232,6 +259,7 @@ pub fn act_in(slot: &mut Option<Guest>, now: u64) -> bool
     ensures known { known_in slot.new ≡ known_in slot.old }
     ensures news { news_in slot.new ≡ news_in slot.old }
     ensures fits { (g : Guest) → slot.old ≡ Some g → FitsEnd g → FitsEndIn slot.new }
+    ensures not_done { is_done slot.new ≡ false → IsNotDoneIn slot.old → IsNotDoneIn slot.new }
     ensures acts { now < last_time → (g : Guest) → slot.old ≡ Some g → HasActedIn now g.connection slot.new }
 {
     let Some(guest) = slot else {
@@ -252,6 +280,7 @@ pub fn not_served_in(slot: &mut Option<Guest>, now: u64, quote: &OpeningQuote) -
     ensures known { known_in slot.new ≡ known_in slot.old }
     ensures news { news_in slot.new ≡ news_in slot.old }
     ensures fits { (g : Guest) → slot.old ≡ Some g → FitsEnd g → FitsEndIn slot.new }
+    ensures not_done { IsNotDoneIn slot.old → IsNotDoneIn slot.new }
 {
     let Some(guest) = slot else {
         return false;
@@ -272,7 +301,7 @@ pub fn hear_in(
     packet: &SppPacket,
 ) -> bool
     requires { IsSppPacket packet.now }
-    ensures hears { (b : List ℕ) → spp_packet_of b ≡ Ok packet.now → HearsIn now b (Some slot.old) (Some slot.new) }
+    ensures hears { (b : List ℕ) → spp_packet_of b ≡ Ok packet.now → HearsIn now b confirms (Some slot.old) (Some slot.new) }
     ensures heard { (b : List ℕ) (g : Guest) (s : State) → spp_packet_of b ≡ Ok packet.now → slot.old ≡ Some g
         → StandsFor g.connection.conversation.endpoint s → is_ours_at s.ends packet.now ≡ true
         → (result ≡ true) × HasHeard b confirms g slot.new }
@@ -280,6 +309,7 @@ pub fn hear_in(
     ensures unchanged { result ≡ false → slot.new ≡ slot.old }
     ensures known { known_in slot.new ≡ known_in slot.old }
     ensures fits { (g : Guest) → slot.old ≡ Some g → FitsEnd g → FitsEndIn slot.new }
+    ensures not_done { IsNotDoneIn slot.old → IsNotDoneIn slot.new }
 {
     let Some(guest) = slot else {
         return false;
@@ -301,6 +331,7 @@ pub fn event_in(slot: &mut Option<Guest>, alloc: Global, now: u64, number: usize
     ensures none { result ≡ None → slot.new ≡ slot.old }
     ensures known { known_in slot.new ≡ known_in slot.old }
     ensures fits { (g : Guest) → slot.old ≡ Some g → FitsEnd g → FitsEndIn slot.new }
+    ensures not_done { is_done slot.new ≡ false → IsNotDoneIn slot.old → IsNotDoneIn slot.new }
 {
     let Some(guest) = slot else {
         return None;
@@ -337,6 +368,7 @@ pub fn packet_in(
     ensures known { known_in slot.new ≡ known_in slot.old }
     ensures news { news_in slot.new ≡ news_in slot.old }
     ensures fits { (g : Guest) → slot.old ≡ Some g → FitsEnd g → FitsEndIn slot.new }
+    ensures not_done { IsNotDoneIn slot.old → IsNotDoneIn slot.new }
     ensures steps { (g : Guest) → slot.old ≡ Some g → StepsIn now g.connection (Some slot.new) }
 {
     let Some(guest) = slot else {
@@ -366,6 +398,7 @@ pub fn close_in(
     ensures known { known_in slot.new ≡ known_in slot.old }
     ensures news { news_in slot.new ≡ news_in slot.old }
     ensures fits { (g : Guest) → slot.old ≡ Some g → FitsEnd g → FitsEndIn slot.new }
+    ensures not_done { IsNotDoneIn slot.old → IsNotDoneIn slot.new }
 {
     let Some(guest) = slot else {
         return Err(HostFault::NoConnection { number });

@@ -1,6 +1,9 @@
 use Rattle.xns_host.proofs.Going.{keeps_by, keeps_moved}
 use Rattle.std.proofs.Common.{refl}
 use Rattle.xns_host.proofs.Ends.{goes_fits}
+use Rattle.std.proofs.Common.{subst}
+use Rattle.xns_host.specs.Hosting.{IsNotDoneIn}
+use Rattle.xns_host.proofs.Undone.{not_done_act}
 use Rattle.xns_host.proofs.slots.act_in.Goals as goal
 
 pub returns-clause-keeps : goal.returns-clause-keeps
@@ -9,3 +12,11 @@ returns-clause-keeps c = λ g is.
 
 pub returns-clause-fits : goal.returns-clause-fits
 returns-clause-fits c = λ g is fits. goes_fits c.args.slot.now g c.in-Some.guest _ c.in-Some.is is refl c.act.ensures.goes fits
+
+pub returns-in_default-clause-not_done : goal.returns-in_default-clause-not_done
+returns-in_default-clause-not_done c = λ left was. was
+
+pub returns-clause-not_done : goal.returns-clause-not_done
+returns-clause-not_done c = λ left was.
+    not_done_act c.args.now c.in-Some.guest.connection c.act.new.self c.act.result c.act.ensures.act c.act.ensures.told (λ not. (c.act.ensures.same not).1)
+    c.act.ensures.wait left (subst IsNotDoneIn c.in-Some.is was)

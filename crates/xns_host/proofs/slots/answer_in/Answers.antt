@@ -8,6 +8,7 @@ use Rattle.xns_host.specs.Story.{Story, asked_of}
 use Rattle.xns_host.specs.declared.guest.Guest.{Guest}
 use Rattle.xns_host.proofs.Ends.{asked_of_one, from_fits}
 use Rattle.xns_host.proofs.Going.{by_guest}
+use Rattle.xns_host.specs.Hosting.{IsNotDoneIn}
 use Rattle.xns_host.proofs.slots.answer_in.Goals as goal
 
 pub returns-clause-fits : goal.returns-clause-fits
@@ -25,3 +26,12 @@ returns-clause-answered c = λ g k is asked good.
     → WentOn x.connection (λ (h : Story). record h { answers = h.answers ++ answer_message c.args.answer k c.args.words.now ∷ [] }) (Some c.answer.new.self))
     c.args.slot.now g c.in-Some.guest c.in-Some.is is
     (λ waits. (c.in_ok-answer.ensures.answered k waits refl, c.answer.ensures.wanted, c.in_ok-answer.ensures.replied refl, c.in_ok-answer.ensures.closes k waits refl)) asked
+
+pub returns-clause-not_done : goal.returns-clause-not_done
+returns-clause-not_done c = λ was. c.answer.ensures.not_done (subst IsNotDoneIn c.in-Some.is was)
+
+pub returns-in_default-clause-not_done : goal.returns-in_default-clause-not_done
+returns-in_default-clause-not_done c = λ was. was
+
+pub returns-in_err-answer-clause-not_done : goal.returns-in_err-answer-clause-not_done
+returns-in_err-answer-clause-not_done c = λ was. c.answer.ensures.not_done (subst IsNotDoneIn c.in-Some.is was)

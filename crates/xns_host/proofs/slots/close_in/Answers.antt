@@ -2,6 +2,8 @@ use Rattle.xns_host.specs.Hosting.{ClosesFrom}
 use Rattle.xns_host.specs.declared.guest.Guest.{Guest}
 use Rattle.xns_host.proofs.Going.{by_guest, goes_by, replied_by}
 use Rattle.xns_host.proofs.Ends.{goes_fits}
+use Rattle.std.proofs.Common.{subst}
+use Rattle.xns_host.specs.Hosting.{IsNotDoneIn}
 use Rattle.xns_host.proofs.slots.close_in.Goals as goal
 
 pub returns-clause-closed : goal.returns-clause-closed
@@ -15,3 +17,9 @@ returns-clause-closed c = λ g is. (
 
 pub returns-clause-fits : goal.returns-clause-fits
 returns-clause-fits c = λ g is fits. goes_fits c.args.slot.now g c.in-Some.guest _ c.in-Some.is is c.close.ensures.known c.close.ensures.goes fits
+
+pub returns-clause-not_done : goal.returns-clause-not_done
+returns-clause-not_done c = λ was. c.close.ensures.not_done (subst IsNotDoneIn c.in-Some.is was)
+
+pub returns-in_default-clause-not_done : goal.returns-in_default-clause-not_done
+returns-in_default-clause-not_done c = λ was. was

@@ -7,6 +7,9 @@ use Rattle.xns_host.proofs.Going.{by_guest}
 use Rattle.std.proofs.Common.{refl}
 use Rattle.xns_host.specs.Story.{with_handed}
 use Rattle.xns_host.proofs.Ends.{from_fits, handed_still}
+use Rattle.std.proofs.Common.{subst}
+use Rattle.xns_host.specs.Hosting.{IsNotDoneIn}
+use Rattle.xns_host.proofs.Undone.{not_done_steps, not_done_told}
 use Rattle.xns_host.proofs.slots.event_in.Goals as goal
 
 pub returns-in_err-why-clause-none : goal.returns-in_err-why-clause-none
@@ -39,3 +42,23 @@ returns-in-Some-take_message-clause-fits c = λ g is fits.
     from_fits c.args.slot.now g c.in-Some.guest _ (λ s. with_handed c.in-Some.guest.connection.conversation.side s c.in-Some-take_message.message)
     (handed_still c.in-Some.guest.connection.conversation.side c.in-Some-take_message.message) c.in-Some.is is refl
     (λ s tells. c.take_message.ensures.handed s c.in-Some-take_message.message tells c.in-Some-take_message.is) fits
+
+pub returns-in_default-clause-not_done : goal.returns-in_default-clause-not_done
+returns-in_default-clause-not_done c = λ left was. was
+
+pub returns-in-Some-take_message-clause-not_done : goal.returns-in-Some-take_message-clause-not_done
+returns-in-Some-take_message-clause-not_done c = λ left was.
+    not_done_steps _ c.in-Some.guest.connection c.take_message.new.self c.take_message.ensures.told c.take_message.ensures.closed
+    c.take_message.ensures.steps (subst IsNotDoneIn c.in-Some.is was)
+
+pub returns-clause-not_done : goal.returns-clause-not_done
+returns-clause-not_done c = λ left was.
+    not_done_told c.take_message.new.self c.take_why.new.self c.take_why.ensures.rest c.take_why.ensures.told left
+    (not_done_steps _ c.in-Some.guest.connection c.take_message.new.self c.take_message.ensures.told c.take_message.ensures.closed
+    c.take_message.ensures.steps (subst IsNotDoneIn c.in-Some.is was))
+
+pub returns-in_err-why-clause-not_done : goal.returns-in_err-why-clause-not_done
+returns-in_err-why-clause-not_done c = λ left was.
+    not_done_told c.take_message.new.self c.take_why.new.self c.take_why.ensures.rest c.take_why.ensures.told left
+    (not_done_steps _ c.in-Some.guest.connection c.take_message.new.self c.take_message.ensures.told c.take_message.ensures.closed
+    c.take_message.ensures.steps (subst IsNotDoneIn c.in-Some.is was))

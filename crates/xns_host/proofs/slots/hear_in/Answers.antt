@@ -5,6 +5,7 @@ use Rattle.xns_host.proofs.Hearing.{has_heard, heard_or_not}
 use Rattle.std.proofs.Common.{[], ◌++◌}
 use Rattle.xns_spp.specs.Packet.{spp_packet_spelling}
 use Rattle.xns_host.proofs.Ends.{received_fits}
+use Rattle.xns_host.specs.Hosting.{IsNotDoneIn}
 use Rattle.xns_host.proofs.slots.hear_in.Goals as goal
 
 pub returns-in_default-clause-hears : goal.returns-in_default-clause-hears
@@ -12,12 +13,12 @@ returns-in_default-clause-hears c = λ b read. nothing
 
 pub returns-then-not-is_ours-clause-hears : goal.returns-then-not-is_ours-clause-hears
 returns-then-not-is_ours-clause-hears c = λ b read.
-    subst (λ (p : Option Guest). HearsIn c.args.now b (Some c.args.slot.now) (Some p)) c.in-Some.is nothing
+    subst (λ (p : Option Guest). HearsIn c.args.now b c.args.confirms (Some c.args.slot.now) (Some p)) c.in-Some.is nothing
 
 pub returns-clause-hears : goal.returns-clause-hears
 returns-clause-hears c = λ b read.
-    heard_or_not c.args.now b c.args.packet.now c.args.slot.now c.in-Some.guest c.receive.new.self c.receive.result read c.in-Some.is
-    c.receive.ensures.hears c.receive.ensures.steps c.receive.ensures.unchanged
+    heard_or_not c.args.now b c.args.packet.now c.args.confirms c.args.slot.now c.in-Some.guest c.receive.new.self c.receive.result read c.in-Some.is
+    c.receive.ensures.hears c.receive.ensures.steps c.receive.ensures.known c.receive.ensures.news c.receive.ensures.unchanged
 
 pub returns-clause-heard : goal.returns-clause-heard
 returns-clause-heard c = λ b g s read is stands ours.
@@ -41,3 +42,12 @@ returns-clause-ours c = λ yes. record {
   there = ap Some c.in-Some.is;
   is = λ s stands. let e = c.is_ours.ensures s stands in search rules;
 }
+
+pub returns-clause-not_done : goal.returns-clause-not_done
+returns-clause-not_done c = λ was. c.receive.ensures.not_done (subst IsNotDoneIn c.in-Some.is was)
+
+pub returns-in_default-clause-not_done : goal.returns-in_default-clause-not_done
+returns-in_default-clause-not_done c = λ was. was
+
+pub returns-then-not-is_ours-clause-not_done : goal.returns-then-not-is_ours-clause-not_done
+returns-then-not-is_ours-clause-not_done c = λ was. subst IsNotDoneIn c.in-Some.is was

@@ -6,6 +6,7 @@ use Rattle.xns_agenda.specs.Waiting.{StepsAt, lingering, still as steps_still}
 use Rattle.xns_host.proofs.Going.{by_guest, goes_by, not_open}
 use Rattle.xns_host.proofs.Leading.{goes_not}
 use Rattle.xns_host.proofs.Ends.{goes_fits}
+use Rattle.xns_host.specs.Hosting.{IsNotDoneIn}
 use Rattle.xns_host.proofs.slots.not_served_in.Goals as goal
 
 pub returns-then-not-is_opened_by-clause-goes : goal.returns-then-not-is_opened_by-clause-goes
@@ -51,3 +52,12 @@ returns-clause-ours c = λ yes. record {
   there = ap Some c.in-Some.is;
   is = λ s stands. let e = c.is_opened_by.ensures s stands in search rules;
 }
+
+pub returns-clause-not_done : goal.returns-clause-not_done
+returns-clause-not_done c = λ was. c.not_served.ensures.not_done (subst IsNotDoneIn c.in-Some.is was)
+
+pub returns-in_default-clause-not_done : goal.returns-in_default-clause-not_done
+returns-in_default-clause-not_done c = λ was. was
+
+pub returns-then-not-is_opened_by-clause-not_done : goal.returns-then-not-is_opened_by-clause-not_done
+returns-then-not-is_opened_by-clause-not_done c = λ was. subst IsNotDoneIn c.in-Some.is was

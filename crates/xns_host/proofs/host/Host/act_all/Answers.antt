@@ -2,15 +2,18 @@ use Rattle.std.proofs.Common.{◌∙◌, refl, rules, arith}
 use Rattle.xns_agenda.specs.Times.{HasNoneBy}
 use Rattle.xns_host.proofs.Done.{at_first, done_early, done_last, one_more}
 use Rattle.xns_host.proofs.Going.{all_then, each_kept, each_stays, each_then, keeping}
+use Rattle.xns_host.specs.Knowing.{all_known_of}
+use Rattle.xns_host.proofs.Known.{known_same, same_then}
 use Rattle.xns_host.proofs.host.Host.act_all.Goals as goal
 
 pub loop-init : goal.loop-init
 loop-init c = (
   refl,
   each_stays c.args.self.now.guests.items c.args.self.now.guests.items refl,
-  λ more. at_first c.args.now c.args.self.now.guests.items,
+  λ more. at_first c.args.now c.args.self.now.guests.items c.args.self.now.not_done,
   each_kept c.args.self.now.guests.items c.args.self.now.guests.items refl,
   search rules,
+  known_same c.args.self.now.guests.items c.args.self.now.guests.items refl,
 )
 
 pub loop-preserved : goal.loop-preserved
@@ -21,6 +24,7 @@ loop-preserved c = (
       c.loop.counter (c.loop.invariant.2 more) c.loop.self.noted c.loop.self.sized c.in-Some.ensures.some (c.act.ensures.acts more) c.act.ensures.apart,
   all_then keeping c.args.self.now.guests.items c.loop.self.guests.items c.act.new.self.guests.items c.loop.invariant.3 c.act.ensures.keeps,
   search rules,
+  same_then all_known_of c.args.self.now.guests.items c.loop.self.guests.items c.act.new.self.guests.items c.loop.invariant.5 c.act.ensures.known,
 )
 
 pub returns-in_default-clause-acts : goal.returns-in_default-clause-acts

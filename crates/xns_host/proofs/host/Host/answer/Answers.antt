@@ -7,6 +7,7 @@ use Rattle.xns_host.proofs.Hearing.{guest_in, put_there}
 use Rattle.std.specs.Prelude.{slice_set}
 use Rattle.xns_host.proofs.Done.{each_still, told_step}
 use Rattle.xns_host.proofs.Noting.{kept_but}
+use Rattle.xns_host.proofs.Known.{all_known_set, known_same}
 use Rattle.xns_host.proofs.host.Host.answer.Goals as goal
 
 pub note-requires-clause-others : goal.note-requires-clause-others
@@ -32,3 +33,16 @@ returns-clause-answered c = λ g k place here asked good there.
     put_there (λ (p : Option Guest). WentOn g.connection (λ (h : Story). record h { answers = h.answers ++ answer_message c.args.answer k c.args.words.now ∷ [] }) p)
     c.args.self.now.guests.items c.args.number c.answer_in.new.slot place (omega arith) there
     (c.in_ok-answer_in.ensures.answered g k (guest_in c.args.self.now.guests.items c.args.number c.index_mut.result.now g (omega arith) (search rules) here) asked refl)
+
+pub returns-then-number-len-clause-known : goal.returns-then-number-len-clause-known
+returns-then-number-len-clause-known c = known_same c.args.self.now.guests.items c.args.self.now.guests.items refl
+
+pub returns-clause-known : goal.returns-clause-known
+returns-clause-known c =
+    all_known_set c.args.self.now.guests.items (slice_set c.args.self.now.guests.items c.args.number c.answer_in.new.slot) c.args.number
+    c.index_mut.result.now c.answer_in.new.slot (omega arith) (search rules) refl c.answer_in.ensures.known c.answer_in.ensures.news
+
+pub returns-in_err-answer_in-clause-known : goal.returns-in_err-answer_in-clause-known
+returns-in_err-answer_in-clause-known c =
+    all_known_set c.args.self.now.guests.items (slice_set c.args.self.now.guests.items c.args.number c.answer_in.new.slot) c.args.number
+    c.index_mut.result.now c.answer_in.new.slot (omega arith) (search rules) refl c.answer_in.ensures.known c.answer_in.ensures.news

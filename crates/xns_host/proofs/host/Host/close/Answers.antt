@@ -2,6 +2,7 @@ use Rattle.std.proofs.Common.{refl, rules, arith}
 use Rattle.std.specs.Prelude.{slice_set}
 use Rattle.xns_host.proofs.Done.{each_still, told_step}
 use Rattle.xns_host.proofs.Noting.{kept_but}
+use Rattle.xns_host.proofs.Known.{all_known_set, known_same}
 use Rattle.xns_host.proofs.host.Host.close.Goals as goal
 
 pub note-requires-clause-others : goal.note-requires-clause-others
@@ -21,3 +22,16 @@ pub returns-in_err-close_in-clause-steps : goal.returns-in_err-close_in-clause-s
 returns-in_err-close_in-clause-steps c =
     told_step c.tell-now.result _ c.args.self.now.guests.items (slice_set c.args.self.now.guests.items c.args.number c.close_in.new.slot) c.args.number
     c.index_mut.result.now c.close_in.new.slot c.tell-now.ensures.result (omega arith) (search rules) refl c.close_in.ensures.steps
+
+pub returns-then-number-len-clause-known : goal.returns-then-number-len-clause-known
+returns-then-number-len-clause-known c = known_same c.args.self.now.guests.items c.args.self.now.guests.items refl
+
+pub returns-clause-known : goal.returns-clause-known
+returns-clause-known c =
+    all_known_set c.args.self.now.guests.items (slice_set c.args.self.now.guests.items c.args.number c.close_in.new.slot) c.args.number
+    c.index_mut.result.now c.close_in.new.slot (omega arith) (search rules) refl c.close_in.ensures.known c.close_in.ensures.news
+
+pub returns-in_err-close_in-clause-known : goal.returns-in_err-close_in-clause-known
+returns-in_err-close_in-clause-known c =
+    all_known_set c.args.self.now.guests.items (slice_set c.args.self.now.guests.items c.args.number c.close_in.new.slot) c.args.number
+    c.index_mut.result.now c.close_in.new.slot (omega arith) (search rules) refl c.close_in.ensures.known c.close_in.ensures.news

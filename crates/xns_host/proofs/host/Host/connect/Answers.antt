@@ -8,6 +8,7 @@ use Rattle.xns_host.specs.Story.{new_story}
 use Rattle.xns_host.specs.Telling.{Tells}
 use Rattle.xns_host.proofs.Waking.{all_in_use, gets_place, no_room, not_both}
 use Rattle.xns_host.proofs.Registered.{all_joined, joined, opened_by_none}
+use Rattle.xns_host.proofs.Undone.{came_not_done, not_done_new}
 use Rattle.xns_host.proofs.host.Host.connect.Goals as goal
 
 pub put_in-requires-clause-registered : goal.put_in-requires-clause-registered
@@ -79,3 +80,8 @@ returns-clause-full c = λ none.
     = gets_place c.args.self.now.agenda c.args.self.now.guests.items c.args.self.now.noted c.place.ensures.room c.args.self.now.sized
     (c.place.ensures.some c.in-Some.number c.in-Some.is) in
     absurd (not_both c.args.self.now.guests.items none place)
+
+pub invariant_of-self-2-clause-not_done : goal.invariant_of-self-2-clause-not_done
+invariant_of-self-2-clause-not_done c =
+    came_not_done c.args.self.now.guests.items c.put_in.new.guests.items c.in-Some.number _ c.args.self.now.not_done c.put_in.ensures.apart c.put_in.ensures.there
+    (not_done_new c.in-Ok.connection c.in-Ok.ensures.fresh.0)

@@ -14,7 +14,7 @@ note-requires-clause-others c =
 
 pub returns-clause-hears : goal.returns-clause-hears
 returns-clause-hears c = λ b read.
-    hears_set c.args.now b c.args.self.now.guests.items (slice_set c.args.self.now.guests.items c.args.number c.hear_in-heard.new.slot) c.args.number
+    hears_set c.args.now b c.args.confirms c.args.self.now.guests.items (slice_set c.args.self.now.guests.items c.args.number c.hear_in-heard.new.slot) c.args.number
     c.index_mut.result.now c.hear_in-heard.new.slot (omega arith) (search rules) refl (c.hear_in-heard.ensures.hears b read)
 
 pub returns-clause-apart : goal.returns-clause-apart

@@ -3,6 +3,7 @@ use Rattle.std.proofs.lemmas.List.{length-replicate}
 use Rattle.xns_host.specs.declared.guest.Guest.{Guest}
 use Rattle.xns_host.proofs.Noting.{empty_noted}
 use Rattle.xns_host.proofs.Registered.{nobody_registered}
+use Rattle.xns_host.proofs.Undone.{none_done}
 use Rattle.xns_host.proofs.host.Host.made.Goals as goal
 
 pub invariant_of-result : goal.invariant_of-result
@@ -16,4 +17,5 @@ invariant_of-result c =
       noted = empty_noted c.in_ok-new-2.field-0 c.in_ok-no_guests.field-0.items c.args.settings.connections c.in_ok-new-2.ensures.nobody c.in_ok-no_guests.ensures;
       registered = nobody_registered c.in_ok-new.field-0 c.in_ok-no_guests.field-0.items c.args.settings.connections c.in_ok-no_guests.ensures
           c.in_ok-new.ensures.free c.in_ok-new.ensures.nobody;
+      not_done = none_done c.in_ok-no_guests.field-0.items c.args.settings.connections c.in_ok-no_guests.ensures;
     }

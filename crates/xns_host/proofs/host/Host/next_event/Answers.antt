@@ -3,6 +3,8 @@ use Rattle.xns_host.specs.Hosting.{TellsIn}
 use Rattle.xns_agenda.specs.Turns.{HasNoTurn}
 use Rattle.xns_agenda.specs.declared.clock.Clock.{Clock}
 use Rattle.xns_host.proofs.Fetching.{next_told, no_event}
+use Rattle.xns_host.specs.Knowing.{known_of}
+use Rattle.xns_host.proofs.Known.{same_all, same_then}
 use Rattle.xns_host.proofs.host.Host.next_event.Goals as goal
 
 pub returns-in-Some-event-clause-told : goal.returns-in-Some-event-clause-told
@@ -11,9 +13,18 @@ returns-in-Some-event-clause-told c =
     next_told c.args.self.now.clock.latest c.args.self.now.guests.items c.loop-number.self.guests.items c.event.new.self.guests.items c.in-Some.number
     c.in-Some-event.event c.loop-number.invariant.0 less (λ place there. sym c.in-Some-event.is ∙ c.event.ensures.event place there)
     (λ g there. subst (λ (k : Clock). TellsIn k.latest g.connection (slice_get c.event.new.self.guests.items c.in-Some.number))
-    c.loop-number.invariant.1.2 (c.event.ensures.told g there (λ none. cc))) c.event.ensures.apart
+    c.loop-number.invariant.1.2 (c.event.ensures.told g there (λ none. cc)))
+    (λ g there next at. c.event.ensures.news g next there (λ none. cc) at) c.event.ensures.apart
 
 pub returns-clause-none : goal.returns-clause-none
 returns-clause-none c = λ z.
     let none : HasNoTurn c.loop-number.self.agenda.events = search rules in
     no_event c.loop-number.self.agenda c.args.self.now.guests.items c.loop-number.self.guests.items c.loop-number.self.noted c.loop-number.invariant.0 none
+
+pub returns-in-Some-event-clause-known : goal.returns-in-Some-event-clause-known
+returns-in-Some-event-clause-known c =
+    same_then known_of c.args.self.now.guests.items c.loop-number.self.guests.items c.event.new.self.guests.items
+    (same_all known_of c.args.self.now.guests.items c.loop-number.self.guests.items c.loop-number.invariant.0) c.event.ensures.known
+
+pub returns-clause-known : goal.returns-clause-known
+returns-clause-known c = same_all known_of c.args.self.now.guests.items c.loop-number.self.guests.items c.loop-number.invariant.0

@@ -6,6 +6,8 @@ use Rattle.xns_host.specs.declared.outgoing.Outgoing.{Outgoing}
 use Rattle.xns_host.proofs.Done.{at_time, due_first, due_then}
 use Rattle.xns_host.proofs.Fetching.{no_packet, packet_less}
 use Rattle.xns_host.proofs.Going.{all_then, each_then, given_then, keeping}
+use Rattle.xns_host.specs.Knowing.{all_known_of}
+use Rattle.xns_host.proofs.Known.{same_then}
 use Rattle.xns_host.proofs.host.Host.next_packet.Goals as goal
 
 pub returns-in-Some-clause-due : goal.returns-in-Some-clause-due
@@ -36,6 +38,7 @@ loop-number-init c = (
   search rules,
   λ early. due_first c.tell-now.result c.args.self.now.guests.items c.act_all.new.self.guests.items (c.act_all.ensures.acts early),
   search rules,
+  c.act_all.ensures.known,
 )
 
 pub returns-in_err-packet-clause-stray : goal.returns-in_err-packet-clause-stray
@@ -99,4 +102,16 @@ loop-number-preserved c =
       λ more. due_then _ c.args.self.now.guests.items c.loop-number.self.guests.items c.packet.new.self.guests.items (c.loop-number.invariant.3 more)
           c.packet.ensures.steps,
       search rules,
+      same_then all_known_of c.args.self.now.guests.items c.loop-number.self.guests.items c.packet.new.self.guests.items c.loop-number.invariant.5
+          c.packet.ensures.known,
     )
+
+pub returns-in_err-packet-clause-known : goal.returns-in_err-packet-clause-known
+returns-in_err-packet-clause-known c =
+    same_then all_known_of c.args.self.now.guests.items c.loop-number.self.guests.items c.packet.new.self.guests.items c.loop-number.invariant.5
+    c.packet.ensures.known
+
+pub returns-in-Some-2-clause-known : goal.returns-in-Some-2-clause-known
+returns-in-Some-2-clause-known c =
+    same_then all_known_of c.args.self.now.guests.items c.loop-number.self.guests.items c.packet.new.self.guests.items c.loop-number.invariant.5
+    c.packet.ensures.known

@@ -7,6 +7,7 @@ use Rattle.xns_host.proofs.Done.{each_step, each_still}
 use Rattle.xns_host.proofs.Going.{each_set}
 use Rattle.xns_host.proofs.Hearing.{put_there, there_in}
 use Rattle.xns_host.proofs.Noting.{kept_but, same_place}
+use Rattle.xns_host.proofs.Known.{all_known_set, known_same}
 use Rattle.xns_host.proofs.host.Host.not_served.Goals as goal
 
 pub note-requires-clause-others : goal.note-requires-clause-others
@@ -47,3 +48,12 @@ returns-clause-apart c =
 pub returns-clause-ours : goal.returns-clause-ours
 returns-clause-ours c = λ yes.
     there_in _ c.args.self.now.guests.items c.args.number c.index_mut.result.now (omega arith) (search rules) (c.not_served_in-closed.ensures.ours yes)
+
+pub returns-then-number-len-clause-known : goal.returns-then-number-len-clause-known
+returns-then-number-len-clause-known c = known_same c.args.self.now.guests.items c.args.self.now.guests.items refl
+
+pub returns-clause-known : goal.returns-clause-known
+returns-clause-known c =
+    all_known_set c.args.self.now.guests.items (slice_set c.args.self.now.guests.items c.args.number c.not_served_in-closed.new.slot) c.args.number
+    c.index_mut.result.now c.not_served_in-closed.new.slot (omega arith) (search rules) refl c.not_served_in-closed.ensures.known
+    c.not_served_in-closed.ensures.news

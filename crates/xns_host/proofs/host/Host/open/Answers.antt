@@ -8,6 +8,7 @@ use Rattle.xns_host.specs.Telling.{Tells}
 use Rattle.xns_host.specs.declared.peer.Peer.{Peer}
 use Rattle.xns_host.proofs.Waking.{gets_place}
 use Rattle.xns_host.proofs.Registered.{all_joined, joined_opened, opened_by, unentered}
+use Rattle.xns_host.proofs.Undone.{came_not_done, not_done_new}
 use Rattle.xns_host.proofs.host.Host.open.Goals as goal
 
 pub invariant_of-self : goal.invariant_of-self
@@ -21,6 +22,7 @@ invariant_of-self c =
       noted = c.args.self.now.noted;
       registered = unentered c.args.self.now.register c.enter.new.self c.args.self.now.guests.items c.enter.ensures.identifiers unchanged
           c.args.self.now.registered;
+      not_done = c.args.self.now.not_done;
     }
 
 pub put_in-requires-clause-registered : goal.put_in-requires-clause-registered
@@ -80,3 +82,8 @@ returns-clause-opened c = record {
     heard_of = refl;
   };
 }
+
+pub invariant_of-self-2-clause-not_done : goal.invariant_of-self-2-clause-not_done
+invariant_of-self-2-clause-not_done c =
+    came_not_done c.args.self.now.guests.items c.put_in.new.guests.items c.in_ok-number.number _ c.args.self.now.not_done c.put_in.ensures.apart c.put_in.ensures.there
+    (not_done_new c.in-Ok.connection c.in-Ok.ensures.fresh.0)

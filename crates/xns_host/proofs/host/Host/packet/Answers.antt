@@ -7,6 +7,7 @@ use Rattle.xns_host.proofs.Apart.{set_there}
 use Rattle.xns_host.proofs.Done.{each_step}
 use Rattle.xns_host.proofs.Going.{all_set, each_set, given_there, keeping}
 use Rattle.xns_host.proofs.Noting.{kept_but, rested_but}
+use Rattle.xns_host.proofs.Known.{all_known_set}
 use Rattle.xns_host.proofs.host.Host.packet.Goals as goal
 
 pub note-requires-clause-others : goal.note-requires-clause-others
@@ -61,3 +62,13 @@ pub returns-in-Err-clause-goes : goal.returns-in-Err-clause-goes
 returns-in-Err-clause-goes c =
     each_set c.args.self.now.guests.items (slice_set c.args.self.now.guests.items c.args.number c.packet_in-made.new.slot) c.args.number
     c.index_mut.result.now c.packet_in-made.new.slot c.requires (search rules) refl c.packet_in-made.ensures.known c.packet_in-made.ensures.goes
+
+pub returns-in-Ok-clause-known : goal.returns-in-Ok-clause-known
+returns-in-Ok-clause-known c =
+    all_known_set c.args.self.now.guests.items (slice_set c.args.self.now.guests.items c.args.number c.packet_in-made.new.slot) c.args.number
+    c.index_mut.result.now c.packet_in-made.new.slot c.requires (search rules) refl c.packet_in-made.ensures.known c.packet_in-made.ensures.news
+
+pub returns-in-Err-clause-known : goal.returns-in-Err-clause-known
+returns-in-Err-clause-known c =
+    all_known_set c.args.self.now.guests.items (slice_set c.args.self.now.guests.items c.args.number c.packet_in-made.new.slot) c.args.number
+    c.index_mut.result.now c.packet_in-made.new.slot c.requires (search rules) refl c.packet_in-made.ensures.known c.packet_in-made.ensures.news

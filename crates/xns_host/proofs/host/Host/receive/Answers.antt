@@ -20,6 +20,7 @@ pub returns-in-3-clause-became : goal.returns-in-3-clause-became
 returns-in-3-clause-became c =
     goes c.refused.ensures.goes
     (subst (λ (t : ℕ). EachSteps t c.args.self.now.guests.items c.refused.new.self.guests.items) c.tell-now.ensures.result c.refused.ensures.steps)
+    c.refused.ensures.known
 
 pub returns-in-3-clause-refused : goal.returns-in-3-clause-refused
 returns-in-3-clause-refused c = λ p taken n g place at by there here.

@@ -6,6 +6,7 @@ use Rattle.xns_host.specs.Register.{owner_in}
 use Rattle.xns_host.specs.declared.opening_quote.OpeningQuote.{OpeningQuote}
 use Rattle.xns_host.proofs.Done.{each_still}
 use Rattle.xns_host.proofs.Ends.{end_id}
+use Rattle.xns_host.proofs.Known.{known_same}
 use Rattle.xns_host.proofs.host.Host.refused.Goals as goal
 
 pub returns-clause-closed : goal.returns-clause-closed
@@ -52,3 +53,12 @@ returns-clause-ours c = λ kind yes. record {
   there = subst (λ (m : ℕ). IsThere (IsToOpen c.in-Some.quote) (slice_get c.args.self.now.guests.items m)) c.from.ensures
       (c.not_served.ensures.ours yes);
 }
+
+pub returns-then-ne-clause-known : goal.returns-then-ne-clause-known
+returns-then-ne-clause-known c = known_same c.args.self.now.guests.items c.args.self.now.guests.items refl
+
+pub returns-in_default-clause-known : goal.returns-in_default-clause-known
+returns-in_default-clause-known c = known_same c.args.self.now.guests.items c.args.self.now.guests.items refl
+
+pub returns-in_default-owner-clause-known : goal.returns-in_default-owner-clause-known
+returns-in_default-owner-clause-known c = known_same c.args.self.now.guests.items c.args.self.now.guests.items refl

@@ -3,7 +3,7 @@ use Rattle.std.specs.Prelude.{◌==◌, not}
 use Rattle.xns_idp.specs.Packet.{packet_model}
 use Rattle.xns_spp.specs.Ends.{is_ours_at}
 use Rattle.xns_spp.specs.Packet.{SppPacketModel}
-use Rattle.xns_host.specs.Hosting.{HasHeard, IsThere, confirms, hears}
+use Rattle.xns_host.specs.Hosting.{EachHears, HasHeard, IsThere, confirms, hears}
 use Rattle.xns_host.specs.Ours.{IsOf, IsOpener, named_in, names, opens}
 use Rattle.xns_host.proofs.Hearing.{finds, found_is_named, nothing_came, one_spelled, spelled, the_packet}
 use Rattle.xns_host.proofs.host.Host.sequenced.Goals as goal
@@ -18,7 +18,10 @@ returns-then-ne-clause-became c = λ b taken read.
 
 pub returns-in-Some-clause-became : goal.returns-in-Some-clause-became
 returns-in-Some-clause-became c = λ b taken read.
-    hears (c.hear.ensures.hears b (spelled b (packet_model c.args.carrier.now) taken c.in-Ok.packet read c.carried_packet.ensures.value c.in-Ok.is))
+    let is = spelled b (packet_model c.args.carrier.now) taken c.in-Ok.packet read c.carried_packet.ensures.value c.in-Ok.is in
+    let id : c.packet.inside.header.target_id ≡ c.in-Ok.packet.header.target_id = search rules in
+    hears c.in-Ok.packet is
+    (subst (λ (m : ℕ). EachHears c.args.now b (not (m == 0)) c.args.self.now.guests.items c.hear.new.self.guests.items) id (c.hear.ensures.hears b is))
 
 pub returns-in-None-clause-became : goal.returns-in-None-clause-became
 returns-in-None-clause-became c = λ b taken read.
