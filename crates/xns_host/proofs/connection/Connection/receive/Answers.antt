@@ -42,3 +42,9 @@ pub returns-clause-word : goal.returns-clause-word
 returns-clause-word c = λ s b stands read owed.
     c.settled.ensures.word (word_heard c.args.self.now.owed c.note.new.owed c.args.self.now.wait s b c.in_ok-input.input
     (c.in_ok-input.ensures.answer s b stands read) (λ yes. (c.note.ensures.foreign yes).1) c.note.ensures.word ∙ owed)
+
+pub returns-clause-quiet : goal.returns-clause-quiet
+returns-clause-quiet c = λ s v b stands read none new less.
+    c.settled.ensures.quiet (word_heard c.args.self.now.owed c.note.new.owed c.args.self.now.wait s b c.in_ok-input.input
+    (c.in_ok-input.ensures.answer s b stands read) (λ yes. (c.note.ensures.foreign yes).1) c.note.ensures.word ∙ none)
+    (after_receive s b) v (c.in_ok-input.ensures.stands s b stands read) new less
