@@ -46,3 +46,7 @@ replies_end items = list_any (λ x. x.stream == end_reply_stream) items
 pub record Knows (c : Closing) (items : List Item) : Type 0 where
   pub wanted : c.reply_wanted ≡ asks_end items
   pub heard : c.reply_heard ≡ replies_end items
+
+-- what this end said of closing, and whether it reads, is as it was
+abbrev pub StaysSaid : (old new : Closing) → Type 0
+StaysSaid old new = (new.wanted ≡ old.wanted) × (new.deaf ≡ old.deaf) × (new.end_sent ≡ old.end_sent) × (new.reply_sent ≡ old.reply_sent)

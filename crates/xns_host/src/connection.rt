@@ -1,6 +1,6 @@
 //! A conversation with its waits.
 
-ghost use Rattle.std.specs.Prelude.{◌≡◌, ◌≢◌, ◌<◌, ◌&&◌, ◌||◌, ◌∷◌, ◌++◌, [], ℕ, List, not, nat_lt, if◌then◌else◌, true, false};
+ghost use Rattle.std.specs.Prelude.{◌≡◌, ◌≢◌, ◌<◌, ◌≤◌, ◌&&◌, ◌||◌, ◌∷◌, ◌++◌, [], ℕ, List, not, nat_lt, if◌then◌else◌, true, false};
 ghost use Rattle.std.specs.Prelude.{IfOk, OnOk, OnErr, Some, None, Ok};
 ghost use Rattle.std.specs.Option.{is_some};
 ghost use Rattle.courier_messages.specs.declared.message.Message.{Message};
@@ -10,7 +10,7 @@ ghost use Rattle.xns_spp.specs.Ends.{is_open, is_ours_at};
 ghost use Rattle.xns_spp.specs.Held.{StandsFor};
 ghost use Rattle.xns_spp.specs.Packet.{IsSppPacket, spp_packet_of};
 ghost use Rattle.xns_spp.specs.Receiving.{after_receive, StoresBytes};
-ghost use Rattle.xns_spp.specs.Sending.{tick_answer};
+ghost use Rattle.xns_spp.specs.Sending.{tick_answer, waiting_count, flush_answer};
 ghost use Rattle.xns_spp.specs.State.{State, initiator_state, responder_state};
 ghost use Rattle.xns_spp.specs.Telling.{own_name, peer_name, resend_answer, told_answer, unacknowledged_count};
 ghost use Rattle.xns_host.specs.Closed.{ClosesBy};
@@ -112,6 +112,8 @@ fn after_moving(
         deaf = conversation.new.closing.deaf;
       };
     } }
+    ensures given_up { closed.old ≡ None → closed.new ≢ None
+        → conversation.new ≡ record conversation.old { closing = record conversation.old.closing { deaf = true } } }
 {
     if closed.is_some() {
         return;
@@ -159,6 +161,10 @@ fn settled(
     ensures said { owed.new.moving ≡ false → HasSaidEnd conversation.new }
     ensures replied { owed.new.moving ≡ false → closed.new ≡ closed.old → HasSaidReply conversation.new }
     ensures why { ClosesBy conversation.old (λ h. h) conversation.new owed.new.moving closed.old closed.new }
+    ensures quiet { owed.old.word ≡ false → (s v : State) → StandsFor conversation.old.endpoint s → StandsFor conversation.new.endpoint v
+        → waiting_count s ≤ waiting_count v → owed.new.word ≡ false }
+    ensures wanted { conversation.new.closing.wanted ≡ conversation.old.closing.wanted }
+    ensures unasked { conversation.old.closing.wanted ≡ false → conversation.new.closing.end_sent ≡ conversation.old.closing.end_sent }
 {
     let waiting = conversation.endpoint.waiting();
     let moved = conversation.settle(alloc);
@@ -187,6 +193,7 @@ fn note(input: Input, more: bool, left: bool, owed: &mut Owed, wait: &mut Wait, 
     ensures beside { (owed.new.asks ≡ owed.old.asks) × (owed.new.moving ≡ owed.old.moving) }
     ensures open_due { is_open_due wait.old.due ≡ true → is_open_due wait.new.due ≡ true }
     ensures closed_due { is_closed_due wait.old.due ≡ true → is_closed_due wait.new.due ≡ true }
+    ensures fresh { owed.new.fresh ≡ owed.old.fresh }
 {
     if is_foreign(input.dropped) {
         return;
@@ -251,6 +258,7 @@ impl Connection {
         ensures owed { (result.owed.again ≡ again) × (result.owed.fresh ≡ true) }
         ensures wait { (s : State) → StandsFor endpoint s → result.wait ≡ after_step (new_waiting pace now) (waits s) now }
         ensures begun { StepsAt now (new_waiting pace now) result.wait }
+        ensures owes { (result.owed.word ≡ false) × (result.owed.asks ≡ false) × (result.owed.moving ≡ false) }
     {
         let conversation = Conversation::new(alloc, endpoint, side);
         let mut wait = Wait::new(pace, now);
@@ -287,6 +295,7 @@ impl Connection {
         ensures open { IfOk result (λ t. (t.closed ≡ None) × (t.owed.again ≡ true)) }
         ensures fresh { IfOk result (λ t. (t.told ≡ false) × (t.owed.fresh ≡ true)) }
         ensures begun { IfOk result (λ t. IsBegun settings.now now t.wait) }
+        ensures owes { IfOk result (λ t. (t.owed.word ≡ false) × (t.owed.asks ≡ false) × (t.owed.moving ≡ false)) }
     {
         courier_sessions::laws::a_session_is_its_conversation();
         let endpoint = Endpoint::initiator(
@@ -329,6 +338,7 @@ impl Connection {
         ensures open { IfOk result (λ t. (t.closed ≡ None) × (t.owed.again ≡ false)) }
         ensures fresh { IfOk result (λ t. (t.told ≡ false) × (t.owed.fresh ≡ true)) }
         ensures begun { IfOk result (λ t. IsBegun settings.now now t.wait) }
+        ensures owes { IfOk result (λ t. (t.owed.word ≡ false) × (t.owed.asks ≡ false) × (t.owed.moving ≡ false)) }
     {
         courier_sessions::laws::a_server_session_is_its_conversation();
         let endpoint = Endpoint::responder(
@@ -365,6 +375,12 @@ impl Connection {
         ensures steps { StepsAt now self.old.wait self.new.wait }
         ensures why { ClosesBy self.old.conversation (λ h. h) self.new.conversation self.new.owed.moving
             self.old.closed self.new.closed }
+        ensures room { OwesRoom self.old.conversation.endpoint self.new.conversation.endpoint self.new.owed.word }
+        ensures read { self.new.owed.moving ≡ false → self.new.closed ≡ self.old.closed
+            → ReadsAll self.old.conversation self.new.conversation }
+        ensures said { self.new.owed.moving ≡ false → HasSaidEnd self.new.conversation }
+        ensures replied { self.new.owed.moving ≡ false → self.new.closed ≡ self.old.closed → HasSaidReply self.new.conversation }
+        ensures unwanted { self.new.conversation.closing.wanted ≡ self.old.conversation.closing.wanted }
     {
         settled(
             &mut self.conversation,
@@ -406,6 +422,13 @@ impl Connection {
         ensures unchanged { OnErr result (self.new ≡ self.old) }
         ensures memory { OnErr result ((s : State) (b : List ℕ) → StandsFor self.old.conversation.endpoint s
             → spp_packet_of b ≡ Ok packet.now → StoresBytes s b) }
+        ensures quiet { OnOk result ((s v : State) (b : List ℕ) → StandsFor self.old.conversation.endpoint s → spp_packet_of b ≡ Ok packet.now
+            → (owed_heard self.old.owed self.old.wait s b).word ≡ false → StandsFor self.new.conversation.endpoint v
+            → waiting_count (after_receive s b) ≤ waiting_count v → self.new.owed.word ≡ false) }
+        ensures waits { OnOk result ((s v : State) (b : List ℕ) → StandsFor self.old.conversation.endpoint s → spp_packet_of b ≡ Ok packet.now
+            → self.new.closed ≡ None → StandsFor self.new.conversation.endpoint v
+            → self.new.wait ≡ after_step (wait_heard self.old.wait s b now) (waits v) now) }
+        ensures unwanted { self.new.conversation.closing.wanted ≡ self.old.conversation.closing.wanted }
     {
         let before = self.conversation.endpoint.unacknowledged();
         let was_open = self.conversation.endpoint.is_open();
@@ -438,6 +461,15 @@ impl Connection {
             self.old.closed self.new.closed }
         ensures fresh { self.old.owed.fresh ≡ true → self.new.owed.fresh ≡ true }
         ensures steps { StepsAt now self.old.wait self.new.wait }
+        ensures room { OwesRoom self.old.conversation.endpoint self.new.conversation.endpoint self.new.owed.word }
+        ensures calm { self.old.owed.moving ≡ true → self.new.owed.moving ≡ false
+            → drains self.new.conversation.side self.new.conversation.closing ≡ false → Calm self.old.conversation self.new.conversation }
+        ensures read { self.old.owed.moving ≡ true → self.new.owed.moving ≡ false → self.new.closed ≡ self.old.closed
+            → ReadsAll self.old.conversation self.new.conversation }
+        ensures said { self.old.owed.moving ≡ true → self.new.owed.moving ≡ false → HasSaidEnd self.new.conversation }
+        ensures replied { self.old.owed.moving ≡ true → self.new.owed.moving ≡ false → self.new.closed ≡ self.old.closed
+            → HasSaidReply self.new.conversation }
+        ensures unwanted { self.new.conversation.closing.wanted ≡ self.old.conversation.closing.wanted }
     {
         if !self.owed.moving {
             return;
@@ -458,6 +490,9 @@ impl Connection {
         ensures given_up { result ≡ GiveUp → (self.old.closed ≡ None)
             × (self.new.closed ≡ Some (why_given_up self.old.conversation.closing)) }
         ensures told { self.new.told ≡ self.old.told }
+        ensures left { result ≡ GiveUp → self.new.conversation ≡ record self.old.conversation {
+          closing = record self.old.conversation.closing { deaf = true };
+        } }
     {
         let act = self.wait.act(now);
         self.owed = owed_after(self.owed, act);
@@ -481,6 +516,9 @@ impl Connection {
             → (self.new.closed ≡ Some NotServed) × (self.new.wait ≡ lingering self.old.wait now) }
         ensures steps { StepsAt now self.old.wait self.new.wait }
         ensures told { self.new.told ≡ self.old.told }
+        ensures left { self.old.closed ≡ None → self.new.closed ≢ None → self.new.conversation ≡ record self.old.conversation {
+          closing = record self.old.conversation.closing { deaf = true };
+        } }
     {
         if self.conversation.endpoint.is_open() {
             return;
@@ -521,6 +559,21 @@ impl Connection {
         ensures closed { self.old.closed ≢ None → self.new.closed ≡ self.old.closed }
         ensures told { self.new.told ≡ self.old.told }
         ensures steps { StepsAt now self.old.wait self.new.wait }
+        ensures moved { self.old.owed.moving ≡ true → self.new.owed.moving ≡ false → (mid : Conversation) × Goes self.old.conversation mid
+            × (drains mid.side mid.closing ≡ false → Calm self.old.conversation mid) × HasSaidEnd mid
+            × (self.new.closed ≡ self.old.closed → ReadsAll self.old.conversation mid × HasSaidReply mid)
+            × Goes mid self.new.conversation }
+        ensures silent { self.old.owed.moving ≡ false → self.old.owed.again ≡ false → self.old.owed.asks ≡ false → self.old.owed.word ≡ false
+            → self.old.conversation.packets.items ≡ [] → (s : State) → StandsFor self.old.conversation.endpoint s → flush_answer s ≡ []
+            → IfOk result (λ o. o ≡ None) }
+        ensures waits { self.old.owed.moving ≡ false → self.new.closed ≡ None → (s : State)
+            → StandsFor self.new.conversation.endpoint s → self.new.wait ≡ after_step self.old.wait (waits s) now }
+        ensures kept { self.old.owed.moving ≡ false → self.new.closed ≢ None → self.new.wait ≡ self.old.wait }
+        ensures unwanted { self.new.conversation.closing.wanted ≡ self.old.conversation.closing.wanted }
+        ensures kept_word { self.old.owed.word ≡ true → self.new.owed.word ≡ false → self.old.conversation.packets.items ≡ [] }
+        ensures refused { OnErr result ((self.old.owed.word ≡ true → self.new.owed.word ≡ true) × (self.new.owed.asks ≡ self.old.owed.asks)
+            × (self.old.owed.fresh ≡ true → self.new.owed.fresh ≡ true)) }
+        ensures unasked { (self.old.owed.again ≡ false → self.new.owed.again ≡ false) × (self.old.owed.asks ≡ false → self.new.owed.asks ≡ false) }
     {
         self.move_owed(alloc, now);
         let packet = self.conversation.next_packet(alloc, &mut self.owed);
@@ -563,6 +616,13 @@ impl Connection {
         ensures fresh { result ≡ Ok tt → self.new.owed.fresh ≡ true }
         ensures room { OwesRoom self.old.conversation.endpoint self.new.conversation.endpoint self.new.owed.word }
         ensures unchanged { OnErr result (self.new ≡ self.old) }
+        ensures owed { (self.new.owed.again ≡ self.old.owed.again) × (self.new.owed.asks ≡ self.old.owed.asks) }
+        ensures word { self.old.owed.word ≡ true → self.new.owed.word ≡ true }
+        ensures waits { result ≡ Ok tt → self.new.closed ≡ None → (s : State) → StandsFor self.new.conversation.endpoint s
+            → self.new.wait ≡ after_step self.old.wait (waits s) now }
+        ensures kept { self.old.closed ≢ None → self.new.wait ≡ self.old.wait }
+        ensures lingers { self.old.closed ≡ None → self.new.closed ≢ None → self.new.wait ≡ lingering self.old.wait now }
+        ensures unwanted { self.new.conversation.closing.wanted ≡ self.old.conversation.closing.wanted }
     {
         self.conversation
             .call(alloc, program, version, procedure, words)?;
@@ -611,6 +671,13 @@ impl Connection {
         ensures fresh { result ≡ Ok tt → self.new.owed.fresh ≡ true }
         ensures room { OwesRoom self.old.conversation.endpoint self.new.conversation.endpoint self.new.owed.word }
         ensures unchanged { OnErr result (self.new ≡ self.old) }
+        ensures owed { (self.new.owed.again ≡ self.old.owed.again) × (self.new.owed.asks ≡ self.old.owed.asks) }
+        ensures word { self.old.owed.word ≡ true → self.new.owed.word ≡ true }
+        ensures waits { result ≡ Ok tt → self.new.closed ≡ None → (s : State) → StandsFor self.new.conversation.endpoint s
+            → self.new.wait ≡ after_step self.old.wait (waits s) now }
+        ensures kept { self.old.closed ≢ None → self.new.wait ≡ self.old.wait }
+        ensures lingers { self.old.closed ≡ None → self.new.closed ≢ None → self.new.wait ≡ lingering self.old.wait now }
+        ensures unwanted { self.new.conversation.closing.wanted ≡ self.old.conversation.closing.wanted }
     {
         self.conversation.answer(alloc, kind, words)?;
         settled(
@@ -643,6 +710,12 @@ impl Connection {
         ensures steps { StepsAt now self.old.wait self.new.wait }
         ensures fresh { self.new.owed.fresh ≡ true }
         ensures room { OwesRoom self.old.conversation.endpoint self.new.conversation.endpoint self.new.owed.word }
+        ensures owed { (self.new.owed.again ≡ self.old.owed.again) × (self.new.owed.asks ≡ self.old.owed.asks) }
+        ensures word { self.old.owed.word ≡ true → self.new.owed.word ≡ true }
+        ensures waits { self.new.closed ≡ None → (s : State) → StandsFor self.new.conversation.endpoint s
+            → self.new.wait ≡ after_step self.old.wait (waits s) now }
+        ensures kept { self.old.closed ≢ None → self.new.wait ≡ self.old.wait }
+        ensures lingers { self.old.closed ≡ None → self.new.closed ≢ None → self.new.wait ≡ lingering self.old.wait now }
     {
         self.conversation.close();
         settled(
@@ -682,6 +755,9 @@ impl Connection {
         ensures fresh { self.new.owed.fresh ≡ false → (self.new.owed ≡ self.old.owed)
             × (self.new.conversation.endpoint ≡ self.old.conversation.endpoint) }
         ensures none { result ≡ None → self.new ≡ self.old }
+        ensures owed { (self.new.owed.again ≡ self.old.owed.again) × (self.new.owed.asks ≡ self.old.owed.asks) }
+        ensures word { self.old.owed.word ≡ true → self.new.owed.word ≡ true }
+        ensures unwanted { self.new.conversation.closing.wanted ≡ self.old.conversation.closing.wanted }
     {
         let message = self.conversation.take_message()?;
         if !self.owed.moving && self.conversation.is_calm() {

@@ -12,7 +12,7 @@ ghost use Rattle.xns_spp.specs.Sending.{send_answer, after_send, flush_answer, t
 ghost use Rattle.std.specs.Option.{option_to_list};
 ghost use Rattle.xns_spp.specs.State.{State};
 ghost use Rattle.xns_spp.specs.Telling.{resend_answer, told_answer};
-ghost use Rattle.xns_host.specs.Closing.{closing_item, noted, drains};
+ghost use Rattle.xns_host.specs.Closing.{StaysSaid, closing_item, noted, drains};
 ghost use Rattle.xns_host.specs.Refusing.{Answers};
 ghost use Rattle.xns_host.specs.declared.closing.TheConstants.Closing.{NONE};
 ghost use Rattle.xns_host.specs.Story.{Story, asked_of, waiting_message, with_handed};
@@ -107,7 +107,8 @@ impl Conversation {
         ensures drains { drains self.new.side self.new.closing ≡ true }
         ensures fewer { (s v : State) → StandsFor self.old.endpoint s → StandsFor self.new.endpoint v
             → waiting_count v ≤ waiting_count s - 1 }
-        ensures beside { (self.new.side ≡ self.old.side) × (self.new.closing.deaf ≡ self.old.closing.deaf) }
+        ensures side { self.new.side ≡ self.old.side }
+        ensures kept { StaysSaid self.old.closing self.new.closing }
     {
         xns_spp::laws::the_next_item_is_handed_up();
         let Some(item) = self.endpoint.take() else {
@@ -122,7 +123,8 @@ impl Conversation {
         ensures goes { Goes self.old self.new }
         ensures packets { self.new.packets ≡ self.old.packets }
         ensures read { (h : Story) → Tells self.old h → NoneWaits self.new.endpoint }
-        ensures beside { (self.new.side ≡ self.old.side) × (self.new.closing.deaf ≡ self.old.closing.deaf) }
+        ensures side { self.new.side ≡ self.old.side }
+        ensures kept { StaysSaid self.old.closing self.new.closing }
     {
         for turn in 0..self.endpoint.waiting() {
             self.take_one();
@@ -135,7 +137,8 @@ impl Conversation {
         ensures packets { self.new.packets ≡ self.old.packets }
         ensures idle { drains self.new.side self.new.closing ≡ false → self.new ≡ self.old }
         ensures read { ReadsAll self.old self.new }
-        ensures beside { (self.new.side ≡ self.old.side) × (self.new.closing.deaf ≡ self.old.closing.deaf) }
+        ensures side { self.new.side ≡ self.old.side }
+        ensures kept { StaysSaid self.old.closing self.new.closing }
     {
         if self.drains() {
             self.drain();
@@ -179,7 +182,9 @@ impl Conversation {
         ensures waiting { (s v : State) → StandsFor self.old.endpoint s → StandsFor self.new.endpoint v
             → waiting_count v ≡ waiting_count s }
         ensures replied { HasSaidReply self.new }
-        ensures beside { (self.new.side ≡ self.old.side) × (self.new.closing.deaf ≡ self.old.closing.deaf) }
+        ensures side { self.new.side ≡ self.old.side }
+        ensures unasked { owes_reply self.old ≡ false → self.new ≡ self.old }
+        ensures closing { self.new.closing ≡ record self.old.closing { reply_sent = self.new.closing.reply_sent } }
     {
         xns_spp::laws::items_are_accepted_or_change_nothing();
         if !self.owes_reply() {
@@ -196,7 +201,9 @@ impl Conversation {
         ensures packets { self.new.packets ≡ self.old.packets }
         ensures idle { drains self.new.side self.new.closing ≡ false → self.new ≡ self.old }
         ensures said { HasSaidEnd self.new }
-        ensures beside { (self.new.side ≡ self.old.side) × (self.new.closing.deaf ≡ self.old.closing.deaf) }
+        ensures side { self.new.side ≡ self.old.side }
+        ensures unasked { owes_end self.old ≡ false → self.new ≡ self.old }
+        ensures closing { self.new.closing ≡ record self.old.closing { end_sent = self.new.closing.end_sent } }
     {
         xns_spp::laws::items_are_accepted_or_change_nothing();
         if !self.owes_end() {
@@ -215,6 +222,7 @@ impl Conversation {
         ensures reads { OnOk result ((h : Story) → Tells self.old h → drains self.old.side self.old.closing ≡ false
             → drains self.new.side self.new.closing ≡ false) }
         ensures refused { IfErr result (λ e. GoesUntil self.old (λ h. h) e) }
+        ensures closing { self.new.closing ≡ self.old.closing }
     {
         if self.drains() {
             return Ok(());
@@ -230,7 +238,9 @@ impl Conversation {
         ensures read { ReadsAll self.old self.new }
         ensures said { HasSaidEnd self.new }
         ensures replied { HasSaidReply self.new }
-        ensures beside { (self.new.side ≡ self.old.side) × (self.new.closing.deaf ≡ self.old.closing.deaf) }
+        ensures side { self.new.side ≡ self.old.side }
+        ensures kept { (self.new.closing.wanted ≡ self.old.closing.wanted) × (self.new.closing.deaf ≡ self.old.closing.deaf) }
+        ensures unasked { owes_end self.old ≡ false → self.new.closing.end_sent ≡ self.old.closing.end_sent }
     {
         self.say_end(alloc);
         self.drain_out();
@@ -253,6 +263,9 @@ impl Conversation {
         ensures packets { self.new.packets ≡ self.old.packets }
         ensures good { moved ≡ Ok tt → self.new ≡ self.old }
         ensures deaf { moved ≢ Ok tt → moved ≢ Err NoMemory → drains self.new.side self.new.closing ≡ true }
+        ensures memory { moved ≡ Err NoMemory → self.new ≡ self.old }
+        ensures given_up { moved ≢ Ok tt → moved ≢ Err NoMemory
+            → self.new ≡ record self.old { closing = record self.old.closing { deaf = true } } }
     {
         match moved {
             Ok(()) | Err(FeedRefusal::NoMemory) => {}
@@ -271,6 +284,10 @@ impl Conversation {
         ensures replied { result ≢ Err NoMemory → HasSaidReply self.new }
         ensures reads { OnOk result (ReadsOn self.old self.new) }
         ensures refused { IfErr result (λ e. GoesUntil self.old (λ h. h) e) }
+        ensures wanted { self.new.closing.wanted ≡ self.old.closing.wanted }
+        ensures heard { (result ≡ Ok tt → self.new.closing.deaf ≡ self.old.closing.deaf)
+            × (result ≡ Err NoMemory → self.new.closing.deaf ≡ self.old.closing.deaf) }
+        ensures unasked { self.old.closing.wanted ≡ false → self.new.closing.end_sent ≡ self.old.closing.end_sent }
     {
         let moved = self.converse(alloc);
         self.mark(moved);
@@ -453,6 +470,12 @@ impl Conversation {
         ensures word { owed.old.word ≡ true → result ≡ Ok None → owed.new.word ≡ true }
         ensures beside { (owed.new.asks ≡ owed.old.asks) × (owed.new.moving ≡ owed.old.moving) × (owed.new.fresh ≡ owed.old.fresh) }
         ensures refused { OnErr result (owed.new ≡ owed.old) }
+        ensures kept { owed.old.word ≡ true → owed.new.word ≡ false → (owed.old.again ≡ true) × (owed.new.again ≡ false)
+            × (self.old.packets.items ≡ []) }
+        ensures unasked { (owed.old.again ≡ false → owed.new.again ≡ false) × (owed.old.word ≡ false → owed.new.word ≡ false) }
+        ensures idle { owed.old.again ≡ false → self.new ≡ record self.old { packets = self.new.packets } }
+        ensures silent { self.old.packets.items ≡ [] → owed.old.again ≡ false → result ≡ Ok None }
+        ensures empty { result ≡ Ok None → (self.old.packets.items ≡ []) × (owed.new.word ≡ owed.old.word) }
     {
         if let Some(packet) = self.fetch() {
             return Ok(Some(packet));
@@ -473,6 +496,7 @@ impl Conversation {
         ensures gives { self.now.packets.items ≡ [] → IfOk result (λ o. Gives self.now self.now o) }
         ensures beside { (owed.new.again ≡ owed.old.again) × (owed.new.moving ≡ owed.old.moving) }
         ensures refused { OnErr result (owed.new ≡ owed.old) }
+        ensures silent { owed.old.asks ≡ false → owed.old.word ≡ false → result ≡ Ok None }
     {
         if !owed.asks && !owed.word {
             owed.fresh = owed.moving;
@@ -510,6 +534,9 @@ impl Conversation {
             → told_answer s owed.old.asks ≡ None }
         ensures beside { (owed.new.again ≡ owed.old.again) × (owed.new.moving ≡ owed.old.moving) }
         ensures refused { OnErr result (owed.new ≡ owed.old) }
+        ensures unasked { (owed.old.asks ≡ false → owed.new.asks ≡ false) × (owed.old.word ≡ false → owed.new.word ≡ false) }
+        ensures silent { owed.old.asks ≡ false → owed.old.word ≡ false → (s : State) → StandsFor self.old.endpoint s → flush_answer s ≡ []
+            → IfOk result (λ o. o ≡ None) }
     {
         self.flush(alloc)?;
         if let Some(packet) = self.fetch() {
@@ -543,6 +570,12 @@ impl Conversation {
         ensures word { owed.old.word ≡ true → result ≡ Ok None → (s : State) → StandsFor self.new.endpoint s
             → told_answer s owed.old.asks ≡ None }
         ensures moving { owed.new.moving ≡ owed.old.moving }
+        ensures unasked { (owed.old.again ≡ false → owed.new.again ≡ false) × (owed.old.asks ≡ false → owed.new.asks ≡ false)
+            × (owed.old.word ≡ false → owed.new.word ≡ false) }
+        ensures silent { self.old.packets.items ≡ [] → owed.old.again ≡ false → owed.old.asks ≡ false → owed.old.word ≡ false
+            → (s : State) → StandsFor self.old.endpoint s → flush_answer s ≡ [] → IfOk result (λ o. o ≡ None) }
+        ensures kept { owed.old.word ≡ true → owed.new.word ≡ false → self.old.packets.items ≡ [] }
+        ensures refused { OnErr result ((owed.new.word ≡ owed.old.word) × (owed.new.asks ≡ owed.old.asks) × (owed.new.fresh ≡ owed.old.fresh)) }
     {
         if let Some(packet) = self.older_packet(alloc, owed)? {
             return Ok(Some(packet));

@@ -13,4 +13,5 @@ returns c = record {
   same = λ z. (refl, refl);
   given_up = λ z. absurd (c.in_default.not-GiveUp z);
   told = refl;
+  left = λ z. absurd (c.in_default.not-GiveUp z);
 }

@@ -1,3 +1,8 @@
+use Rattle.xns_agenda.specs.Waiting.{after_step}
+use Rattle.xns_host.specs.Telling.{waits}
+use Rattle.std.proofs.Common.{subst}
+use Rattle.xns_spp.specs.Held.{StandsFor}
+use Rattle.xns_host.specs.declared.connection.Connection.{Connection}
 use Rattle.xns_host.proofs.Done.{steps_then}
 use Rattle.xns_host.proofs.Leading.{goes_then}
 use Rattle.xns_host.proofs.Giving.{moves_and_gives, moves_and_none}
@@ -48,3 +53,28 @@ returns-clause-why c = λ was. (
   c.next_packet-packet.ensures.goes,
   subst (λ (b : Bool). ClosesBy c.args.self.now.conversation (λ h. h) c.move_owed.new.self.conversation b c.args.self.now.closed c.move_owed.new.self.closed) (sym c.next_packet-packet.ensures.moving) (c.move_owed.ensures.why was),
 )
+
+pub returns-clause-moved : goal.returns-clause-moved
+returns-clause-moved c = λ was is.
+    let m = sym c.next_packet-packet.ensures.moving ∙ is in (
+      c.move_owed.new.self.conversation,
+      c.move_owed.ensures.goes,
+      (λ free. c.move_owed.ensures.calm was m free),
+      c.move_owed.ensures.said was m,
+      (λ same. (c.move_owed.ensures.read was m same, c.move_owed.ensures.replied was m same)),
+      c.next_packet-packet.ensures.goes,
+    )
+
+pub returns-clause-silent : goal.returns-clause-silent
+returns-clause-silent c = λ calm again asks word packets s stands none.
+    let same = c.move_owed.ensures.idle calm in
+    c.next_packet-packet.ensures.silent (ap (λ (t : Connection). t.conversation.packets.items) same ∙ packets) (c.move_owed.ensures.owed.0 ∙ again)
+    (c.move_owed.ensures.owed.1 ∙ asks) (ap (λ (t : Connection). t.owed.word) same ∙ word) s
+    (subst (λ (t : Connection). StandsFor t.conversation.endpoint s) (sym same) stands) none
+
+pub returns-clause-waits : goal.returns-clause-waits
+returns-clause-waits c = λ calm free s stands.
+    c.wait_unless.ensures.waits free s stands ∙ ap (λ (t : Connection). after_step t.wait (waits s) c.args.now) (c.move_owed.ensures.idle calm)
+
+pub returns-clause-kept : goal.returns-clause-kept
+returns-clause-kept c = λ calm shut. c.wait_unless.ensures.kept shut ∙ ap (λ (t : Connection). t.wait) (c.move_owed.ensures.idle calm)

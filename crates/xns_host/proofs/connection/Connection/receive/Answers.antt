@@ -48,3 +48,9 @@ returns-clause-word c = λ s b stands read owed.
 pub returns-clause-why : goal.returns-clause-why
 returns-clause-why c = λ b read.
     closes_from (λ (h : Story). record h { state = after_receive h.state b }) (λ h tells. c.in_ok-input.ensures.tells h b tells read) (cc) c.settled.ensures.why
+
+pub returns-clause-quiet : goal.returns-clause-quiet
+returns-clause-quiet c = λ s v b stands read none new less.
+    c.settled.ensures.quiet (word_heard c.args.self.now.owed c.note.new.owed c.args.self.now.wait s b c.in_ok-input.input
+    (c.in_ok-input.ensures.answer s b stands read) (λ yes. (c.note.ensures.foreign yes).1) c.note.ensures.word ∙ none)
+    (after_receive s b) v (c.in_ok-input.ensures.stands s b stands read) new less

@@ -4,20 +4,20 @@ use Rattle.xns_host.proofs.Waits.{same_waiting}
 use Rattle.xns_host.proofs.conversation.Conversation.drain.Goals as goal
 
 pub loop-turn-init : goal.loop-turn-init
-loop-turn-init c = (goes_not c.args.self.now, c.requires, refl, λ h tells s stands. let same = same_waiting s h.state stands tells.stands in omega (arith, same), refl, refl)
+loop-turn-init c = (goes_not c.args.self.now, c.requires, refl, (refl, refl, refl, refl), λ h tells s stands. let same = same_waiting s h.state stands tells.stands in omega (arith, same), refl)
 
 pub loop-turn-preserved : goal.loop-turn-preserved
 loop-turn-preserved c = (
   goes_then c.loop-turn.invariant.0 c.take_one.ensures.goes,
   c.take_one.ensures.drains,
   c.take_one.ensures.packets ∙ c.loop-turn.invariant.2,
+  (c.take_one.ensures.kept.0 ∙ c.loop-turn.invariant.3.0, c.take_one.ensures.kept.1 ∙ c.loop-turn.invariant.3.1, c.take_one.ensures.kept.2 ∙ c.loop-turn.invariant.3.2, c.take_one.ensures.kept.3 ∙ c.loop-turn.invariant.3.3),
   λ h tells s stands.
       let x = c.loop-turn.invariant.0.on h tells in
-      let before = c.loop-turn.invariant.3 h tells x.0.state x.1.stands in
+      let before = c.loop-turn.invariant.4 h tells x.0.state x.1.stands in
       let one = c.take_one.ensures.fewer x.0.state s x.1.stands stands in
       omega (arith, before, one),
-  c.take_one.ensures.beside.0 ∙ c.loop-turn.invariant.4,
-  c.take_one.ensures.beside.1 ∙ c.loop-turn.invariant.5,
+  c.take_one.ensures.side ∙ c.loop-turn.invariant.5,
 )
 
 pub returns-clause-goes : goal.returns-clause-goes
@@ -25,12 +25,15 @@ returns-clause-goes c = c.loop-turn.invariant.0
 
 pub returns-clause-read : goal.returns-clause-read
 returns-clause-read c = λ h tells s stands.
-    let last = c.loop-turn.invariant.3 h tells s stands in
+    let last = c.loop-turn.invariant.4 h tells s stands in
     let size = c.waiting-turn-end.ensures h.state tells.stands in
     omega (arith, last, size)
 
 pub returns-clause-packets : goal.returns-clause-packets
 returns-clause-packets c = c.loop-turn.invariant.2
 
-pub returns-clause-beside : goal.returns-clause-beside
-returns-clause-beside c = (c.loop-turn.invariant.4, c.loop-turn.invariant.5)
+pub returns-clause-side : goal.returns-clause-side
+returns-clause-side c = c.loop-turn.invariant.5
+
+pub returns-clause-kept : goal.returns-clause-kept
+returns-clause-kept c = c.loop-turn.invariant.3

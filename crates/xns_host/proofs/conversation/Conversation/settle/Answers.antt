@@ -17,4 +17,4 @@ returns-clause-read c = λ good h tells yes.
     c.close_up.ensures.read x.0 x.1 yes
 
 pub returns-clause-reads : goal.returns-clause-reads
-returns-clause-reads c = settle_reads c.args.self.now c.converse-moved.new.self c.mark.new.self c.close_up.new.self c.converse-moved.result c.converse-moved.ensures.reads c.mark.ensures.good c.close_up.ensures.beside.0 c.close_up.ensures.beside.1
+returns-clause-reads c = settle_reads c.args.self.now c.converse-moved.new.self c.mark.new.self c.close_up.new.self c.converse-moved.result c.converse-moved.ensures.reads c.mark.ensures.good c.close_up.ensures.side c.close_up.ensures.kept.1

@@ -28,3 +28,6 @@ returns-clause-fewer c = λ s v old new. takes_one c.the_next_item_is_handed_up.
 
 pub returns-in_default-clause-fewer : goal.returns-in_default-clause-fewer
 returns-in_default-clause-fewer c = λ s v old new. takes_one c.the_next_item_is_handed_up.ensures s v (c.take.ensures.stands s old) new
+
+pub returns-clause-kept : goal.returns-clause-kept
+returns-clause-kept c = let b = beside c.args.self.now.closing c.noted-self.result c.in-Some.item.stream c.noted-self.ensures in (b.wanted, b.deaf, b.end, b.reply)
