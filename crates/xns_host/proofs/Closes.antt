@@ -1,5 +1,5 @@
 -- Why a connection is closed, or is not, after its items moved.
-use Rattle.std.proofs.Common.{◌≡◌, ◌∙◌, ap, sym, refl, subst, Bool, true, false, Option, Some, None, Result, Ok, Err, IfErr, OnOk}
+use Rattle.std.proofs.Common.{◌≡◌, ◌∙◌, ap, sym, refl, subst, Bool, true, false, Option, Some, None, Result, Ok, Err, IfErr}
 use Rattle.std.specs.Prelude.{◌&&◌, ◌||◌, ◌==◌, if◌then◌else◌}
 use Rattle.courier_sessions.specs.declared.feed_refusal.FeedRefusal.{FeedRefusal}
 use Rattle.courier_sessions.specs.declared.feed_refusal.FeedRefusal.TheVariants.{NoMemory}
@@ -10,12 +10,12 @@ use Rattle.xns_host.specs.Closed.{ClosesBy}
 use Rattle.xns_host.specs.Closing.{drains}
 use Rattle.xns_host.specs.Connecting.{why_after, why_over}
 use Rattle.xns_host.specs.Story.{Story, is_stopped}
-use Rattle.xns_host.specs.Telling.{Goes, GoesUntil, ReadsOn, Tells, is_over}
+use Rattle.xns_host.specs.Telling.{Goes, GoesUntil, IsUnrefused, ReadsOn, Tells, is_over}
 use Rattle.xns_host.specs.declared.closing.Closing.{Closing}
 use Rattle.xns_host.specs.declared.conversation.Conversation.{Conversation}
 use Rattle.xns_host.specs.declared.why.Why.{Why}
 use Rattle.xns_host.proofs.Leading.{goes_on}
-use Rattle.xns_host.proofs.Tellings.{if_err, on_ok}
+use Rattle.xns_host.proofs.Tellings.{if_err}
 
 -- whether what comes is read does not say why it is closed
 deaf_or_not : (c : Closing) (deaf : Bool) (s : State) (moved : Result (Unit {0}) FeedRefusal)
@@ -25,7 +25,7 @@ deaf_or_not c deaf s (Err e) = refl
 
 -- the items of old moved to mid, and then only whether it reads was changed
 pub closes : (old mid new : Conversation) (moved : Result (Unit {0}) FeedRefusal) (moving : Bool) (was closed : Option Why)
-    → IfErr moved (λ e. GoesUntil old (λ h. h) e) → OnOk moved (ReadsOn old mid)
+    → IfErr moved (λ e. GoesUntil old (λ h. h) e) → (IsUnrefused moved → ReadsOn old mid)
     → new ≡ record mid { closing = record mid.closing { deaf = new.closing.deaf } } → (closed ≡ was → new ≡ mid)
     → (was ≡ None → (s : State) → StandsFor mid.endpoint s → closed ≡ why_after mid.closing (is_over mid.closing s) moved)
     → (moving ≡ true → moved ≡ Err NoMemory) → (moved ≡ Err NoMemory → moving ≡ true)
@@ -33,7 +33,7 @@ pub closes : (old mid new : Conversation) (moved : Result (Unit {0}) FeedRefusal
 closes old mid new moved moving was closed refused reads same stays why short noted = record {
   moved = moved;
   refused = refused;
-  reads = on_ok (ReadsOn old mid) (closed ≡ was → ReadsOn old new) moved (λ r kept. subst (ReadsOn old) (sym (stays kept)) r) reads;
+  reads = λ fine kept. subst (ReadsOn old) (sym (stays kept)) (reads fine);
   why = λ none s stands.
       let deaf : Bool = new.closing.deaf in
       let there : StandsFor mid.endpoint s = subst (λ (t : Conversation). StandsFor t.endpoint s) same stands in
@@ -49,7 +49,7 @@ pub closes_from : {old mid new : Conversation} {moving : Bool} {was closed : Opt
 closes_from {old = old} {mid = mid} {new = new} {was = was} {closed = closed} base done same p = record {
   moved = p.moved;
   refused = if_err (λ e. GoesUntil mid (λ h. h) e) (λ e. GoesUntil old base e) p.moved (λ e u. record { on = λ h tells. u.on (base h) (done h tells) }) p.refused;
-  reads = on_ok (closed ≡ was → ReadsOn mid new) (closed ≡ was → ReadsOn old new) p.moved (λ r kept h tells d none. r kept (base h) (done h tells) (same ∙ d) none) p.reads;
+  reads = λ fine kept h tells d none. p.reads fine kept (base h) (done h tells) (same ∙ d) none;
   why = p.why;
   short = p.short;
   noted = p.noted;
@@ -62,7 +62,7 @@ closes_on {old = old} {mid = mid} {new = new} {was = was} {closed = closed} goes
   moved = p.moved;
   refused = if_err (λ e. GoesUntil mid (λ h. h) e) (λ e. GoesUntil old (λ h. h) e) p.moved
       (λ e u. record { on = λ h tells. let x = goes.on h tells in let y = u.on x.0 x.1 in (y.0, y.1, y.2, goes_on h x.0 y.1 x.2 y.3, y.4, y.5) }) p.refused;
-  reads = on_ok (closed ≡ was → ReadsOn mid new) (closed ≡ was → ReadsOn old new) p.moved (λ r kept h tells d none. let x = goes.on h tells in r kept x.0 x.1 (same ∙ d) none) p.reads;
+  reads = λ fine kept h tells d none. let x = goes.on h tells in p.reads fine kept x.0 x.1 (same ∙ d) none;
   why = p.why;
   short = p.short;
   noted = p.noted;
@@ -80,7 +80,7 @@ pub closes_calm : {old new : Conversation} {moving : Bool} {was closed : Option 
 closes_calm {new = new} base free none same = record {
   moved = Ok tt;
   refused = tt;
-  reads = λ kept h tells d z. free;
+  reads = λ fine kept h tells d z. free;
   why = λ is s stands.
       let over = not_over new.closing s (is_stopped new.side) new.closing.end_sent new.closing.reply_sent new.closing.deaf refl free in
       same ∙ is ∙ sym (ap (λ (b : Bool). if b then Some (why_over new.closing) else None) over);

@@ -385,7 +385,17 @@ server_all next gives feeds_one a n e f (Err x) still pumped = tt
 
 -- ---- up to where an item is refused
 
-pub caller_refuses : TheNextItemIsHandedUp → CallerGives → CallerFeeds → (t n : Talk) (e f : Held) (r : Result (Unit {0}) FeedRefusal) → t.failed ≡ false → ((s : State) → StandsFor e s → Pumped caller_side (t, s) r n f) → IfErr r (λ x. MovesUntil (Calls t) e x f)
+-- want of memory leaves the side as it was
+short_at : {S : Type 0} (side : PumpSide S) (t : S) (o : Option Item) (e : FeedRefusal) (n : S) → Refuses side t o e n → e ≡ NoMemory → n ≡ t
+short_at side t None e n r short = absurd r
+short_at side t (Some x) Busy n r short = absurd r
+short_at side t (Some x) NoMemory n r short = r.0
+short_at side t (Some x) Stopped n r short = r.0
+short_at side t (Some x) TooLong n r short = r.0
+short_at side t (Some x) Attention n r short = absurd (cc)
+short_at side t (Some x) (Fault f) n r short = absurd (cc)
+
+pub caller_refuses : TheNextItemIsHandedUp → CallerGives → CallerFeeds → (t n : Talk) (e f : Held) (r : Result (Unit {0}) FeedRefusal) → t.failed ≡ false → ((s : State) → StandsFor e s → Pumped caller_side (t, s) r n f) → IfErr r (λ x. MovesUntil (Calls t) e x (Calls n) f)
 caller_refuses next gives feeds_one t n e f (Ok u) still pumped = tt
 caller_refuses next gives feeds_one t n e f (Err x) still pumped = record {
   on = λ h flows.
@@ -400,9 +410,13 @@ caller_refuses next gives feeds_one t n e f (Err x) still pumped = record {
         after.going,
         refused x (n, p.settled),
       );
+  going = λ short h flows.
+      let p = pumped h.state flows.stands in
+      ap (λ (v : Talk). v.failed) (short_at caller_side p.last.0 (take_answer p.last.1) x n p.settled.1 short)
+      ∙ (caller_last next gives feeds_one h t n e f (Err x) still flows p).going;
 }
 
-pub server_refuses : TheNextItemIsHandedUp → ServerGives → ServerFeeds → (a n : Answering) (e f : Held) (r : Result (Unit {0}) FeedRefusal) → a.failed ≡ false → ((s : State) → StandsFor e s → Pumped server_side (a, s) r n f) → IfErr r (λ x. MovesUntil (Answers a) e x f)
+pub server_refuses : TheNextItemIsHandedUp → ServerGives → ServerFeeds → (a n : Answering) (e f : Held) (r : Result (Unit {0}) FeedRefusal) → a.failed ≡ false → ((s : State) → StandsFor e s → Pumped server_side (a, s) r n f) → IfErr r (λ x. MovesUntil (Answers a) e x (Answers n) f)
 server_refuses next gives feeds_one a n e f (Ok u) still pumped = tt
 server_refuses next gives feeds_one a n e f (Err x) still pumped = record {
   on = λ h flows.
@@ -417,14 +431,24 @@ server_refuses next gives feeds_one a n e f (Err x) still pumped = record {
         after.going,
         refused x (n, p.settled),
       );
+  going = λ short h flows.
+      let p = pumped h.state flows.stands in
+      ap (λ (v : Answering). v.failed) (short_at server_side p.last.0 (take_answer p.last.1) x n p.settled.1 short)
+      ∙ (server_last next gives feeds_one h a n e f (Err x) still flows p).going;
 }
 
-pub until_then : {s t : Side} {e f g : Held} {x : FeedRefusal} → Moves s e t f → MovesUntil t f x g → MovesUntil s e x g
-until_then p q = record { on = λ h flows. let k = p.on h flows in let z = q.on k.0 k.1 in (z.0, z.1, z.2, goes_on h k.0 z.1 k.2 z.3, z.4, z.5) }
+pub until_then : {s t u : Side} {e f g : Held} {x : FeedRefusal} → Moves s e t f → MovesUntil t f x u g → MovesUntil s e x u g
+until_then p q = record {
+  on = λ h flows. let k = p.on h flows in let z = q.on k.0 k.1 in (z.0, z.1, z.2, goes_on h k.0 z.1 k.2 z.3, z.4, z.5);
+  going = λ short h flows. let k = p.on h flows in q.going short k.0 k.1;
+}
 
 -- memory is refused to the reject of a call
-pub unrejects : {s t : Side} {e f : Held} → MovesAll s e t f → IsUnlisted t → MovesUntil s e NoMemory f
-unrejects {t = t} p unlisted = record { on = λ h flows. let x = p.on h flows in (t, x.0, x.1, x.2, p.going h flows, unrejected unlisted) }
+pub unrejects : {s t u : Side} {e f : Held} → MovesAll s e t f → u ≡ t → IsUnlisted t → MovesUntil s e NoMemory u f
+unrejects {t = t} p same unlisted = record {
+  on = λ h flows. let x = p.on h flows in (t, x.0, x.1, x.2, p.going h flows, unrejected unlisted);
+  going = λ short h flows. ap is_stopped same ∙ p.going h flows;
+}
 
 pub all_moves : {s t : Side} {e f : Held} → MovesAll s e t f → Moves s e t f
 all_moves p = record { on = λ h flows. let x = p.on h flows in (x.0, x.1, x.2) }

@@ -23,7 +23,7 @@ use Rattle.xns_spp.specs.Telling.{after_resend}
 use Rattle.xns_spp.specs.declared.item.Item.{Item}
 use Rattle.xns_host.specs.Story.{Story, SideHas, Flows, Runs, start, sends, takes, flushes, resends, Moves, is_stopped, with_handed, new_story, Calms, MovesUntil}
 use Rattle.xns_host.specs.Closing.{drains, closing_items, closing_item, put_if, end_stream, end_reply_stream, noted, asks_end, replies_end, Knows}
-use Rattle.xns_host.specs.Telling.{Tells, Goes, Rested, owes_end, owes_reply, Calm, GoesUntil, ReadsOn, drained}
+use Rattle.xns_host.specs.Telling.{Tells, Goes, Rested, owes_end, owes_reply, Calm, GoesUntil, IsUnrefused, ReadsOn, drained}
 use Rattle.xns_host.specs.declared.closing.Closing.{Closing}
 use Rattle.xns_host.specs.declared.closing.TheConstants.Closing.{NONE}
 use Rattle.xns_host.specs.declared.side.Side.{Side}
@@ -262,8 +262,8 @@ conversed t u d closing moves = record {
 }
 
 -- up to where no more is moved
-pub converses_until : (t : Conversation) (f : Held) (e : FeedRefusal) → drains t.side t.closing ≡ false → MovesUntil t.side t.endpoint e f → GoesUntil t (λ h. h) e
-converses_until t f e d until = record {
+pub converses_until : (t : Conversation) (n : Side) (f : Held) (e : FeedRefusal) → drains t.side t.closing ≡ false → MovesUntil t.side t.endpoint e n f → GoesUntil t (λ h. h) e
+converses_until t n f e d until = record {
   on = λ h tells.
       let k = until.on h (flows_of t h d tells) in
       let last : Conversation = record t { side = k.0; endpoint = f } in
@@ -541,10 +541,19 @@ never_free false false z = cc
 
 -- ---- what was read is read on
 
+pub converse_reads : (t : Conversation) (n : Side) (f : Held) (r : Result (Unit {0}) FeedRefusal) → OnOk r (Calms t.side t.endpoint n f)
+    → IfErr r (λ e. MovesUntil t.side t.endpoint e n f) → IsUnrefused r → (h : Story) → Tells t h → drains t.side t.closing ≡ false → drains n t.closing ≡ false
+converse_reads t n f (Ok x) calms until fine h tells d = reads_by t.side n t.closing d (calms.going h (flows_of t h d tells))
+converse_reads t n f (Err e) calms until fine h tells d =
+    let short : Err e ≡ Err NoMemory = fine (λ z. cc) in
+    let is : e ≡ NoMemory = cc in
+    reads_by t.side n t.closing d (until.going is h (flows_of t h d tells))
+
 pub settle_reads : (t u v w : Conversation) (r : Result (Unit {0}) FeedRefusal)
-    → OnOk r ((h : Story) → Tells t h → drains t.side t.closing ≡ false → drains u.side u.closing ≡ false) → (r ≡ Ok tt → v ≡ u)
-    → w.side ≡ v.side → w.closing.deaf ≡ v.closing.deaf → OnOk r (ReadsOn t w)
-settle_reads t u v w (Ok x) reads good same deaf = λ h tells d none.
-    let z : drains v.side v.closing ≡ false = subst (λ (k : Conversation). drains k.side k.closing ≡ false) (sym (good refl)) (reads h tells d) in
-    reads_still v w z same deaf none
-settle_reads t u v w (Err e) reads good same deaf = tt
+    → (IsUnrefused r → (h : Story) → Tells t h → drains t.side t.closing ≡ false → drains u.side u.closing ≡ false)
+    → (r ≡ Ok tt → v ≡ u) → (r ≡ Err NoMemory → v ≡ u) → w.side ≡ v.side → w.closing.deaf ≡ v.closing.deaf → IsUnrefused r → ReadsOn t w
+settle_reads t u v w r reads good short side deaf fine = λ h tells d none.
+    reads_still v w (subst (λ (k : Conversation). drains k.side k.closing ≡ false) (sym (by r refl)) (reads fine h tells d)) side deaf none where
+      by : (q : Result (Unit {0}) FeedRefusal) → r ≡ q → v ≡ u
+      by (Ok x) is = good is
+      by (Err e) is = short (fine (λ z. cc))

@@ -190,7 +190,9 @@ pub data IsHeld (side : Side) (s : State) : FeedRefusal → Type 0 where
   refused : (e : FeedRefusal) → IsRefused side s e → IsHeld side s e
   unrejected : IsUnlisted side → IsHeld side s NoMemory
 
--- whatever a side and its end had done went on so, up to where no more was moved for this reason; till then the side had not stopped
-pub record MovesUntil (side : Side) (endpoint : Held) (e : FeedRefusal) (after : Held) : Type 0 where
+-- whatever a side and its end had done went on so, up to where no more was moved for this reason; till then the side had not stopped, nor
+-- has it where memory was refused
+pub record MovesUntil (side : Side) (endpoint : Held) (e : FeedRefusal) (next : Side) (after : Held) : Type 0 where
   pub on : (h : Story) → Flows side endpoint h
       → (last : Side) × (m : Story) × Flows last after m × GoesOn h m × (is_stopped last ≡ false) × IsHeld last m.state e
+  pub going : e ≡ NoMemory → (h : Story) → Flows side endpoint h → is_stopped next ≡ false

@@ -1,5 +1,5 @@
 -- What a connection has done, with the closing exchange (XSIS 028112, Sequenced Packet Protocol, Termination).
-use Rattle.std.specs.Prelude.{◌≡◌, ◌<◌, ℕ, List, [], ◌++◌, Bool, true, false, not, ◌&&◌, ◌||◌, ◌==◌, nat_lt, if◌then◌else◌, length, take, drop, Option, None, is_ok}
+use Rattle.std.specs.Prelude.{◌≡◌, ◌≢◌, ◌<◌, ℕ, List, [], ◌++◌, Bool, true, false, not, ◌&&◌, ◌||◌, ◌==◌, nat_lt, if◌then◌else◌, length, take, drop, Option, None, Result, Ok, Err, is_ok}
 use Rattle.std.specs.Option.{option_to_list}
 use Rattle.courier_sessions.specs.Answering.{has_items}
 use Rattle.xns_spp.specs.Ends.{is_open}
@@ -10,6 +10,7 @@ use Rattle.xns_spp.specs.Sending.{flush_answer, send_answer, waiting_count}
 use Rattle.xns_spp.specs.State.{State}
 use Rattle.xns_spp.specs.Telling.{told_answer, unacknowledged_count}
 use Rattle.courier_sessions.specs.declared.feed_refusal.FeedRefusal.{FeedRefusal}
+use Rattle.courier_sessions.specs.declared.feed_refusal.FeedRefusal.TheVariants.{NoMemory}
 use Rattle.xns_spp.specs.declared.item.Item.{Item}
 use Rattle.xns_host.specs.Closing.{closing_item, closing_items, drains, end_reply_stream, end_stream, Knows}
 use Rattle.xns_host.specs.Story.{Story, SideHas, GoesOn, made_on, out_of, has_call, IsMoved, IsListed, IsHeld}
@@ -120,6 +121,10 @@ pub record CalmFrom (old new : Conversation) (base : Story → Story) : Type 0 w
 pub record GoesUntil (old : Conversation) (base : Story → Story) (e : FeedRefusal) : Type 0 where
   pub on : (h : Story) → Tells old h → (last : Conversation) × (m : Story) × Tells last m × GoesOn (base h) m
       × (drains last.side last.closing ≡ false) × IsHeld last.side m.state e
+
+-- the side refused no item
+abbrev pub IsUnrefused : Result (Unit {0}) FeedRefusal → Type 0
+IsUnrefused moved = moved ≢ Ok tt → moved ≡ Err NoMemory
 
 -- where the end puts nothing out of the closing exchange, what was read is read on
 abbrev pub ReadsOn : (old new : Conversation) → Type 0

@@ -758,6 +758,10 @@ impl Connection {
         ensures owed { (self.new.owed.again ≡ self.old.owed.again) × (self.new.owed.asks ≡ self.old.owed.asks) }
         ensures word { self.old.owed.word ≡ true → self.new.owed.word ≡ true }
         ensures unwanted { self.new.conversation.closing.wanted ≡ self.old.conversation.closing.wanted }
+        ensures waits { self.new.closed ≡ None → self.new.wait ≢ self.old.wait → (s : State)
+            → StandsFor self.new.conversation.endpoint s → self.new.wait ≡ after_step self.old.wait (waits s) now }
+        ensures kept { self.old.closed ≢ None → self.new.wait ≡ self.old.wait }
+        ensures lingers { self.old.closed ≡ None → self.new.closed ≢ None → self.new.wait ≡ lingering self.old.wait now }
     {
         let message = self.conversation.take_message()?;
         if !self.owed.moving && self.conversation.is_calm() {

@@ -71,7 +71,7 @@ fn noted(closing: Closing, stream: u8) -> Closing
 
 impl Conversation {
     ghost use Rattle.xns_host.specs.Reasons.{call_fault_of, answer_fault_of};
-    ghost use Rattle.xns_host.specs.Telling.{Tells, Goes, GoesUntil, Gives, Rested, Calm, HasSaidEnd, HasSaidReply, NoneWaits, ReadsAll, ReadsOn, owes_end, owes_reply};
+    ghost use Rattle.xns_host.specs.Telling.{Tells, Goes, GoesUntil, Gives, Rested, Calm, HasSaidEnd, HasSaidReply, IsUnrefused, NoneWaits, ReadsAll, ReadsOn, owes_end, owes_reply};
     ghost use Rattle.xns_host.specs.Telling.{waits, is_over, word_answer};
 
     /// One in which nothing was said.
@@ -219,8 +219,8 @@ impl Conversation {
         ensures goes { Goes self.old self.new }
         ensures packets { self.new.packets ≡ self.old.packets }
         ensures calm { result ≡ Ok tt → drains self.new.side self.new.closing ≡ false → Calm self.old self.new }
-        ensures reads { OnOk result ((h : Story) → Tells self.old h → drains self.old.side self.old.closing ≡ false
-            → drains self.new.side self.new.closing ≡ false) }
+        ensures reads { IsUnrefused result → (h : Story) → Tells self.old h → drains self.old.side self.old.closing ≡ false
+            → drains self.new.side self.new.closing ≡ false }
         ensures refused { IfErr result (λ e. GoesUntil self.old (λ h. h) e) }
         ensures closing { self.new.closing ≡ self.old.closing }
     {
@@ -282,7 +282,7 @@ impl Conversation {
         ensures read { result ≢ Err NoMemory → ReadsAll self.old self.new }
         ensures said { result ≢ Err NoMemory → HasSaidEnd self.new }
         ensures replied { result ≢ Err NoMemory → HasSaidReply self.new }
-        ensures reads { OnOk result (ReadsOn self.old self.new) }
+        ensures reads { IsUnrefused result → ReadsOn self.old self.new }
         ensures refused { IfErr result (λ e. GoesUntil self.old (λ h. h) e) }
         ensures wanted { self.new.closing.wanted ≡ self.old.closing.wanted }
         ensures heard { (result ≡ Ok tt → self.new.closing.deaf ≡ self.old.closing.deaf)

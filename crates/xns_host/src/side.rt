@@ -154,7 +154,7 @@ impl Side {
         requires { is_stopped self.old ≡ false }
         ensures moves { Moves self.old endpoint.old self.new endpoint.new }
         ensures all { OnOk result (MovesAll self.old endpoint.old self.new endpoint.new) }
-        ensures refused { IfErr result (λ e. MovesUntil self.old endpoint.old e endpoint.new) }
+        ensures refused { IfErr result (λ e. MovesUntil self.old endpoint.old e self.new endpoint.new) }
         // A call comes only with an item: where as many wait as before, none came.
         ensures calls { has_message self.old ≡ false → OnOk result ((s v : State) → StandsFor endpoint.old s → StandsFor endpoint.new v
             → waiting_count s ≤ waiting_count v → IsListed self.new) }
@@ -190,7 +190,7 @@ impl Side {
         requires { is_stopped self.old ≡ false }
         ensures moves { Moves self.old endpoint.old self.new endpoint.new }
         ensures calms { OnOk result (Calms self.old endpoint.old self.new endpoint.new) }
-        ensures refused { IfErr result (λ e. MovesUntil self.old endpoint.old e endpoint.new) }
+        ensures refused { IfErr result (λ e. MovesUntil self.old endpoint.old e self.new endpoint.new) }
     {
         self.pump(alloc, endpoint)?;
         let mut waiting = endpoint.waiting();

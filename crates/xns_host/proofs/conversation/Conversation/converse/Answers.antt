@@ -1,7 +1,7 @@
 use Rattle.std.proofs.Common.{◌≡◌, ◌∙◌, true, refl, sym}
 use Rattle.xns_host.specs.Closing.{drains}
 use Rattle.xns_host.proofs.Leading.{goes_not}
-use Rattle.xns_host.proofs.Tellings.{conversed, calmed, converses_until, flows_of, if_err, on_ok, reads_by, when_ok}
+use Rattle.xns_host.proofs.Tellings.{conversed, calmed, converse_reads, converses_until, if_err, when_ok}
 use Rattle.xns_host.proofs.conversation.Conversation.converse.Goals as goal
 
 pub returns-then-drains-clause-goes : goal.returns-then-drains-clause-goes
@@ -17,10 +17,8 @@ pub returns-then-drains-clause-calm : goal.returns-then-drains-clause-calm
 returns-then-drains-clause-calm c = λ good free. let z : drains c.args.self.now.side c.args.self.now.closing ≡ true = sym c.drains.ensures ∙ c.if-drains.true in absurd (cc)
 
 pub returns-clause-reads : goal.returns-clause-reads
-returns-clause-reads c =
-    let t = c.args.self.now in
-    on_ok _ _ c.converse.result (λ calms h tells d. reads_by t.side c.converse.new.self t.closing d (calms.going h (flows_of t h d tells))) c.converse.ensures.calms
+returns-clause-reads c = converse_reads c.args.self.now c.converse.new.self c.converse.new.endpoint c.converse.result c.converse.ensures.calms c.converse.ensures.refused
 
 pub returns-clause-refused : goal.returns-clause-refused
 returns-clause-refused c =
-    if_err _ _ c.converse.result (λ e until. converses_until c.args.self.now c.converse.new.endpoint e (sym c.drains.ensures ∙ c.if-drains.false) until) c.converse.ensures.refused
+    if_err _ _ c.converse.result (λ e until. converses_until c.args.self.now c.converse.new.self c.converse.new.endpoint e (sym c.drains.ensures ∙ c.if-drains.false) until) c.converse.ensures.refused

@@ -1,3 +1,4 @@
+use Rattle.std.proofs.Common.{refl}
 use Rattle.xns_host.proofs.Leading.{goes_then}
 use Rattle.xns_host.proofs.Tellings.{settle_calm, settle_reads}
 use Rattle.xns_host.proofs.conversation.Conversation.settle.Goals as goal
@@ -17,4 +18,7 @@ returns-clause-read c = λ good h tells yes.
     c.close_up.ensures.read x.0 x.1 yes
 
 pub returns-clause-reads : goal.returns-clause-reads
-returns-clause-reads c = settle_reads c.args.self.now c.converse-moved.new.self c.mark.new.self c.close_up.new.self c.converse-moved.result c.converse-moved.ensures.reads c.mark.ensures.good c.close_up.ensures.side c.close_up.ensures.kept.1
+returns-clause-reads c = settle_reads c.args.self.now c.converse-moved.new.self c.mark.new.self c.close_up.new.self c.converse-moved.result c.converse-moved.ensures.reads c.mark.ensures.good c.mark.ensures.memory c.close_up.ensures.side c.close_up.ensures.kept.1
+
+pub returns-in-Err-NoMemory-clause-reads : goal.returns-in-Err-NoMemory-clause-reads
+returns-in-Err-NoMemory-clause-reads c = settle_reads c.args.self.now c.converse-moved.new.self c.mark.new.self c.mark.new.self c.converse-moved.result c.converse-moved.ensures.reads c.mark.ensures.good c.mark.ensures.memory refl refl

@@ -18,13 +18,13 @@ returns-then-is_stopped-clause-calms c = calms_never c.loop-alloc.invariant.move
 pub returns-in_err-reject_unlisted-clause-refused : goal.returns-in_err-reject_unlisted-clause-refused
 returns-in_err-reject_unlisted-clause-refused c =
     let is : c.from_residual-in_err-reject_unlisted.result ≡ Err NoMemory = search rules in
-    subst (λ (r : Result (Unit {0}) FeedRefusal). IfErr r (λ (e : FeedRefusal). MovesUntil c.args.self.now c.args.endpoint.now e c.loop-alloc.endpoint)) (sym is)
-    (unrejects c.loop-alloc.invariant.moves c.in_err-reject_unlisted.ensures.memory)
+    subst (λ (r : Result (Unit {0}) FeedRefusal). IfErr r (λ (e : FeedRefusal). MovesUntil c.args.self.now c.args.endpoint.now e c.reject_unlisted.new.self c.loop-alloc.endpoint)) (sym is)
+    (unrejects c.loop-alloc.invariant.moves c.in_err-reject_unlisted.ensures.unchanged c.in_err-reject_unlisted.ensures.memory)
 
 pub returns-in_err-pump-2-clause-refused : goal.returns-in_err-pump-2-clause-refused
 returns-in_err-pump-2-clause-refused c =
     let is : c.from_residual-in_err-pump-2.result ≡ Err c.in_err-pump-2.field-0.0 = search rules in
-    subst (λ (r : Result (Unit {0}) FeedRefusal). IfErr r (λ (e : FeedRefusal). MovesUntil c.args.self.now c.args.endpoint.now e c.pump-in-loop-alloc.new.endpoint)) (sym is) (until_then (moves_on (all_moves c.loop-alloc.invariant.moves) (c.reject_unlisted.ensures.moves c.loop-alloc.endpoint)) c.in_err-pump-2.ensures.refused)
+    subst (λ (r : Result (Unit {0}) FeedRefusal). IfErr r (λ (e : FeedRefusal). MovesUntil c.args.self.now c.args.endpoint.now e c.pump-in-loop-alloc.new.self c.pump-in-loop-alloc.new.endpoint)) (sym is) (until_then (moves_on (all_moves c.loop-alloc.invariant.moves) (c.reject_unlisted.ensures.moves c.loop-alloc.endpoint)) c.in_err-pump-2.ensures.refused)
 
 pub returns-in_err-reject_unlisted-clause-moves : goal.returns-in_err-reject_unlisted-clause-moves
 returns-in_err-reject_unlisted-clause-moves c = moves_on (all_moves c.loop-alloc.invariant.moves) (c.reject_unlisted.ensures.moves c.loop-alloc.endpoint)

@@ -37,11 +37,11 @@ returns-in-Answers-clause-calls c = λ free.
     (ap has_message (sym c.in-Answers.is) ∙ free)
 
 pub returns-in-Calls-clause-refused : goal.returns-in-Calls-clause-refused
-returns-in-Calls-clause-refused c = subst (λ (x : Side). IfErr c.pump.result (λ (e : FeedRefusal). MovesUntil x c.args.endpoint.now e c.pump.new.endpoint)) (sym c.in-Calls.is)
+returns-in-Calls-clause-refused c = subst (λ (x : Side). IfErr c.pump.result (λ (e : FeedRefusal). MovesUntil x c.args.endpoint.now e (Calls c.pump.new.side) c.pump.new.endpoint)) (sym c.in-Calls.is)
     (caller_refuses c.the_next_item_is_handed_up.ensures c.a_session_is_its_conversation.ensures.give c.a_session_is_its_conversation.ensures.feed c.in-Calls.caller c.pump.new.side c.args.endpoint.now c.pump.new.endpoint c.pump.result
     (ap is_stopped (sym c.in-Calls.is) ∙ c.requires) c.pump.ensures)
 
 pub returns-in-Answers-clause-refused : goal.returns-in-Answers-clause-refused
-returns-in-Answers-clause-refused c = subst (λ (x : Side). IfErr c.pump-in-Answers.result (λ (e : FeedRefusal). MovesUntil x c.args.endpoint.now e c.pump-in-Answers.new.endpoint)) (sym c.in-Answers.is)
+returns-in-Answers-clause-refused c = subst (λ (x : Side). IfErr c.pump-in-Answers.result (λ (e : FeedRefusal). MovesUntil x c.args.endpoint.now e (Answers c.pump-in-Answers.new.side) c.pump-in-Answers.new.endpoint)) (sym c.in-Answers.is)
     (server_refuses c.the_next_item_is_handed_up.ensures c.a_server_session_is_its_conversation.ensures.give c.a_server_session_is_its_conversation.ensures.feed c.in-Answers.server c.pump-in-Answers.new.side c.args.endpoint.now c.pump-in-Answers.new.endpoint c.pump-in-Answers.result
     (ap is_stopped (sym c.in-Answers.is) ∙ c.requires) c.pump-in-Answers.ensures)
