@@ -1,4 +1,4 @@
-use Rattle.std.proofs.Common.{◌∙◌, ap, refl, List, Option, None, length}
+use Rattle.std.proofs.Common.{◌∙◌, ap, List, Option, None, length}
 use Rattle.std.proofs.lemmas.List.{length-set}
 use Rattle.xns_host.specs.declared.guest.Guest.{Guest}
 use Rattle.xns_host.proofs.Apart.{set_apart, set_there}
