@@ -1,19 +1,20 @@
 -- A connection: what is due, why it is closed, and what is owed.
-use Rattle.std.specs.Prelude.{ℕ, Bool, true, false, ◌&&◌, ◌||◌, ◌==◌, nat_lt, if◌then◌else◌, List, Option, Some, None, Result, Ok, Err}
+use Rattle.std.specs.Prelude.{◌≡◌, ◌≢◌, ℕ, Bool, true, false, ◌&&◌, ◌||◌, ◌==◌, nat_lt, if◌then◌else◌, List, Option, Some, None, Result, Ok, Err}
 use Rattle.courier_messages.specs.declared.fault.SessionFault.{SessionFault}
 use Rattle.courier_messages.specs.declared.fault.SessionFault.TheVariants.{NoCommonVersion, BadVersions, BadMessage, WrongTransaction}
 use Rattle.courier_messages.specs.declared.fault.SessionFault.TheVariants.{BadReply, Stream, Failed}
 use Rattle.courier_messages.specs.declared.fault.SessionFault.TheVariants as faults
 use Rattle.courier_sessions.specs.declared.feed_refusal.FeedRefusal.{FeedRefusal}
 use Rattle.courier_sessions.specs.declared.feed_refusal.FeedRefusal.TheVariants.{Stopped, Busy, TooLong, Attention, Fault, NoMemory}
+use Rattle.xns_spp.specs.Held.{Held, StandsFor}
 use Rattle.xns_spp.specs.Receiving.{after_receive, input_answer}
 use Rattle.xns_spp.specs.State.{State}
 use Rattle.xns_spp.specs.Telling.{unacknowledged_count}
 use Rattle.xns_spp.specs.declared.dropped.Dropped.{Dropped}
 use Rattle.xns_spp.specs.declared.dropped.Dropped.TheVariants as drops
 use Rattle.xns_host.specs.Closing.{end_stream, end_reply_stream}
-use Rattle.xns_host.specs.Telling.{is_progress}
-use Rattle.xns_agenda.specs.Waiting.{Waiting, after_word}
+use Rattle.xns_host.specs.Telling.{is_progress, waits}
+use Rattle.xns_agenda.specs.Waiting.{Waiting, after_step, after_word, lingering}
 use Rattle.xns_agenda.specs.declared.act.Act.{Act}
 use Rattle.xns_agenda.specs.declared.act.Act.TheVariants.{Nothing, Again, Ask, GiveUp, Forget}
 use Rattle.xns_host.specs.declared.closing.Closing.{Closing}
@@ -92,6 +93,16 @@ owed_after o Again = record o { again = true; fresh = true }
 owed_after o Ask = record o { asks = true; fresh = true }
 owed_after o GiveUp = o
 owed_after o Forget = o
+
+-- what was owed is owed still, and nothing came to it but a word, if any
+abbrev pub StaysOwed : (old new : Owed) → Type 0
+StaysOwed old new = (new.again ≡ old.again) × (new.asks ≡ old.asks) × (old.word ≡ true → new.word ≡ true)
+
+-- what is waited for after a step of this moment: where that closed the connection, to be forgotten; one that was closed waits as before
+abbrev pub WaitsOn : (endpoint : Held) → (was closed : Option Why) → (old new : Waiting) → (now : ℕ) → Type 0
+WaitsOn endpoint was closed old new now =
+    (closed ≡ None → (s : State) → StandsFor endpoint s → new ≡ after_step old (waits s) now)
+    × (was ≢ None → new ≡ old) × (was ≡ None → closed ≢ None → new ≡ lingering old now)
 
 -- ---- what came
 

@@ -16,6 +16,7 @@ ghost use Rattle.xns_spp.specs.Telling.{own_name, peer_name, resend_answer, told
 ghost use Rattle.xns_host.specs.Closed.{ClosesBy};
 ghost use Rattle.xns_host.specs.Closing.{drains};
 ghost use Rattle.xns_host.specs.Connecting.{is_again, is_open_due, is_closed_due, why_given_up, why_after, owed_after, owed_heard, is_foreign, wait_heard};
+ghost use Rattle.xns_host.specs.Connecting.{StaysOwed, WaitsOn};
 ghost use Rattle.xns_host.specs.Reasons.{call_fault_of, answer_fault_of};
 ghost use Rattle.xns_host.specs.Refusing.{Answers};
 ghost use Rattle.xns_host.specs.Settings.{IsBegun, IsFit};
@@ -616,12 +617,8 @@ impl Connection {
         ensures fresh { result ≡ Ok tt → self.new.owed.fresh ≡ true }
         ensures room { OwesRoom self.old.conversation.endpoint self.new.conversation.endpoint self.new.owed.word }
         ensures unchanged { OnErr result (self.new ≡ self.old) }
-        ensures owed { (self.new.owed.again ≡ self.old.owed.again) × (self.new.owed.asks ≡ self.old.owed.asks) }
-        ensures word { self.old.owed.word ≡ true → self.new.owed.word ≡ true }
-        ensures waits { result ≡ Ok tt → self.new.closed ≡ None → (s : State) → StandsFor self.new.conversation.endpoint s
-            → self.new.wait ≡ after_step self.old.wait (waits s) now }
-        ensures kept { self.old.closed ≢ None → self.new.wait ≡ self.old.wait }
-        ensures lingers { self.old.closed ≡ None → self.new.closed ≢ None → self.new.wait ≡ lingering self.old.wait now }
+        ensures owed { StaysOwed self.old.owed self.new.owed }
+        ensures waits { result ≡ Ok tt → WaitsOn self.new.conversation.endpoint self.old.closed self.new.closed self.old.wait self.new.wait now }
         ensures unwanted { self.new.conversation.closing.wanted ≡ self.old.conversation.closing.wanted }
     {
         self.conversation
@@ -671,12 +668,8 @@ impl Connection {
         ensures fresh { result ≡ Ok tt → self.new.owed.fresh ≡ true }
         ensures room { OwesRoom self.old.conversation.endpoint self.new.conversation.endpoint self.new.owed.word }
         ensures unchanged { OnErr result (self.new ≡ self.old) }
-        ensures owed { (self.new.owed.again ≡ self.old.owed.again) × (self.new.owed.asks ≡ self.old.owed.asks) }
-        ensures word { self.old.owed.word ≡ true → self.new.owed.word ≡ true }
-        ensures waits { result ≡ Ok tt → self.new.closed ≡ None → (s : State) → StandsFor self.new.conversation.endpoint s
-            → self.new.wait ≡ after_step self.old.wait (waits s) now }
-        ensures kept { self.old.closed ≢ None → self.new.wait ≡ self.old.wait }
-        ensures lingers { self.old.closed ≡ None → self.new.closed ≢ None → self.new.wait ≡ lingering self.old.wait now }
+        ensures owed { StaysOwed self.old.owed self.new.owed }
+        ensures waits { result ≡ Ok tt → WaitsOn self.new.conversation.endpoint self.old.closed self.new.closed self.old.wait self.new.wait now }
         ensures unwanted { self.new.conversation.closing.wanted ≡ self.old.conversation.closing.wanted }
     {
         self.conversation.answer(alloc, kind, words)?;
@@ -710,12 +703,8 @@ impl Connection {
         ensures steps { StepsAt now self.old.wait self.new.wait }
         ensures fresh { self.new.owed.fresh ≡ true }
         ensures room { OwesRoom self.old.conversation.endpoint self.new.conversation.endpoint self.new.owed.word }
-        ensures owed { (self.new.owed.again ≡ self.old.owed.again) × (self.new.owed.asks ≡ self.old.owed.asks) }
-        ensures word { self.old.owed.word ≡ true → self.new.owed.word ≡ true }
-        ensures waits { self.new.closed ≡ None → (s : State) → StandsFor self.new.conversation.endpoint s
-            → self.new.wait ≡ after_step self.old.wait (waits s) now }
-        ensures kept { self.old.closed ≢ None → self.new.wait ≡ self.old.wait }
-        ensures lingers { self.old.closed ≡ None → self.new.closed ≢ None → self.new.wait ≡ lingering self.old.wait now }
+        ensures owed { StaysOwed self.old.owed self.new.owed }
+        ensures waits { WaitsOn self.new.conversation.endpoint self.old.closed self.new.closed self.old.wait self.new.wait now }
     {
         self.conversation.close();
         settled(
@@ -755,8 +744,7 @@ impl Connection {
         ensures fresh { self.new.owed.fresh ≡ false → (self.new.owed ≡ self.old.owed)
             × (self.new.conversation.endpoint ≡ self.old.conversation.endpoint) }
         ensures none { result ≡ None → self.new ≡ self.old }
-        ensures owed { (self.new.owed.again ≡ self.old.owed.again) × (self.new.owed.asks ≡ self.old.owed.asks) }
-        ensures word { self.old.owed.word ≡ true → self.new.owed.word ≡ true }
+        ensures owed { StaysOwed self.old.owed self.new.owed }
         ensures unwanted { self.new.conversation.closing.wanted ≡ self.old.conversation.closing.wanted }
         ensures waits { self.new.closed ≡ None → self.new.wait ≢ self.old.wait → (s : State)
             → StandsFor self.new.conversation.endpoint s → self.new.wait ≡ after_step self.old.wait (waits s) now }
