@@ -164,7 +164,8 @@ pub fn settle_in(
     ensures registered { IsAllRegistered register.new guests.new.items }
     ensures apart { IsApart guests.old.items guests.new.items number }
     ensures gone { done ≡ true → slice_get guests.new.items number ≡ Some None }
-    ensures kept { done ≡ false → guests.new.items ≡ guests.old.items }
+    ensures left { done ≡ true → HasLeft register.old register.new (slice_get guests.old.items number) }
+    ensures kept { done ≡ false → (guests.new.items ≡ guests.old.items) × (register.new ≡ register.old) }
 {
     if done {
         forget_in(register, guests, agenda, number);
