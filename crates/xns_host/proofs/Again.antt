@@ -6,7 +6,7 @@ use Rattle.std.proofs.lemmas.Grind.{get_or_default_zero}
 use Rattle.std.proofs.lemmas.List.Quantifiers.{position-Some}
 use Rattle.std.proofs.lemmas.List.Sorted.{IsPermutation-append_comm, length_permutation}
 use Rattle.std.proofs.lemmas.Option.{get_or_from_slice_get}
-use Rattle.xns_host.specs.Identifiers.{Ids, IsOrder, Turn, Given, none, gives, releases, HadTurn, is_free, most_id}
+use Rattle.xns_host.specs.Identifiers.{Ids, IsOrder, Turn, Given, none, gives, keeps, HadTurn, is_free, most_id}
 use Rattle.xns_host.proofs.Ordered.{permuted}
 
 -- ---- the order after a turn
@@ -113,15 +113,24 @@ record Next (ids : List ℕ) (turn : Turn) (after : List Turn) (end : Ids) : Typ
 
 next_turn : {a c : Ids} {turns : List Turn} (turn : Turn) (after : List Turn) → Given a turns c → turns ≡ turn ∷ after → Next a.ahead turn after c
 next_turn turn after none e = absurd (cc)
-next_turn turn after (releases id more) e = next_turn turn after more e
-next_turn {a} {c} turn after (gives {b = b} {turns = turns} place number id first g more) e =
+next_turn {a} turn after (keeps {b = b} same more) e =
+    let n = next_turn turn after more e in
+    record {
+      place = n.place;
+      first = subst (λ (ids : List ℕ). position (is_free turn.owners) ids ≡ Some n.place) same n.first;
+      there = subst (λ (ids : List ℕ). slice_get ids n.place ≡ Some turn.given) same n.there;
+      now = n.now;
+      order = n.order ∙ ap (λ (ids : List ℕ). turned (n.place + 1) ids) same;
+      goes_on = n.goes_on;
+    }
+next_turn {a} {c} turn after (gives {b = b} {turns = turns} id t more) e =
     let same : record { given = id; owners = a.owners } ≡ turn = ap (λ (l : List Turn). get_or l 0 turn) e in
     record {
-      place = place;
-      first = subst (λ (t : Turn). position (is_free t.owners) a.ahead ≡ Some place) same first;
-      there = subst (λ (t : Turn). slice_get a.ahead place ≡ Some t.given) same g.there;
+      place = t.place;
+      first = subst (λ (u : Turn). position (is_free u.owners) a.ahead ≡ Some t.place) same t.first;
+      there = subst (λ (u : Turn). slice_get a.ahead t.place ≡ Some u.given) same t.there;
       now = b;
-      order = g.turned;
+      order = t.turned;
       goes_on = subst (λ (l : List Turn). Given b l c) (ap (λ (l : List Turn). drop 1 l) e) more;
     }
 

@@ -13,7 +13,7 @@ use Rattle.std.proofs.lemmas.List.{get_or-set_other, length-set}
 use Rattle.std.proofs.lemmas.List.Quantifiers.{position-Some}
 use Rattle.std.proofs.lemmas.Map.Lookups.{exact_bytes, exact_unsigned}
 use Rattle.std.proofs.lemmas.Option.{get_or_from_slice_get, same_Some, slice_get_read}
-use Rattle.xns_host.specs.Identifiers.{Gives, Ids, IsNext, is_free}
+use Rattle.xns_host.specs.Identifiers.{Gives, Ids, IsNext, StaysInOrder, TurnsOver, is_free}
 use Rattle.xns_host.specs.Register.{owner_in, peer_cmp}
 use Rattle.xns_host.specs.Hosting.{IsThere}
 use Rattle.xns_host.specs.Knowing.{Known, known_in, known_of}
@@ -368,6 +368,13 @@ took r s number id (Some x) next given some owner peers =
           ∙ get_or-set_other r.identifiers.owners x k (Some number) None (λ e. other (e ∙ same));
       peers = peers;
     }
+
+-- the identifier that came next was given, and none after it
+pub turned_over : (a b c : Ids) (number id : ℕ) (x : Option ℕ) → IsNext a id → IsGiven a b number x → IsSome a x → StaysInOrder b c → (i : ℕ) × TurnsOver a c i
+turned_over a b c number id None next given some same = absurd (some next.place next.first refl)
+turned_over a b c number id (Some x) next given some same =
+    let gives : Gives a b next.place number x = given next.place next.first in
+    (x, record { place = next.place; first = next.first; there = gives.there; turned = same ∙ gives.turned })
 
 pub joined : (r s : Register) (number id : ℕ) (x : Option ℕ) → IsNext r.identifiers id → IsGiven r.identifiers s.identifiers number x
     → IsSome r.identifiers x → IfSome x (λ i. owner_in s.identifiers i ≡ Some number) → s.peers ≡ r.peers → HasJoined r s number id

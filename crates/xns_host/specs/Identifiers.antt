@@ -51,18 +51,32 @@ pub record Gives (old new : Ids) (place number id : ℕ) : Type 0 where
 
 -- ---- one after another
 
+-- the one that came next was given, and comes again after all others
+pub record TurnsOver (old new : Ids) (id : ℕ) : Type 0 where
+  pub place : ℕ
+  pub first : position (is_free old.owners) old.ahead ≡ Some place
+  pub there : slice_get old.ahead place ≡ Some id
+  pub turned : new.ahead ≡ drop (place + 1) old.ahead ++ take (place + 1) old.ahead
+
+-- none was given: they come in the order in which they came
+abbrev pub StaysInOrder : (old new : Ids) → Type 0
+StaysInOrder old new = new.ahead ≡ old.ahead
+
+-- at most one was given
+abbrev pub GivesOneAtMost : (old new : Ids) → Type 0
+GivesOneAtMost old new = StaysInOrder old new ⊎ ((id : ℕ) × TurnsOver old new id)
+
 -- an identifier was given, and who had which one then
 pub record Turn : Type 0 where
   pub given : ℕ
   pub owners : List (Option ℕ)
 
--- from one moment to another identifiers are given at these turns, in order, and any are released in between
+-- from one moment to another identifiers are given at these turns, in order, whoever has which one in between
 pub data Given : Ids → List Turn → Ids → Type 0 where
   none : {a : Ids} → Given a [] a
-  gives : {a b c : Ids} {turns : List Turn} (place number id : ℕ) → position (is_free a.owners) a.ahead ≡ Some place
-      → Gives a b place number id → Given b turns c → Given a (record { given = id; owners = a.owners } ∷ turns) c
-  releases : {a b : Ids} {turns : List Turn} (id : ℕ) → Given (record a { owners = slice_set a.owners id None }) turns b
-      → Given a turns b
+  gives : {a b c : Ids} {turns : List Turn} (id : ℕ) → TurnsOver a b id → Given b turns c
+      → Given a (record { given = id; owners = a.owners } ∷ turns) c
+  keeps : {a b c : Ids} {turns : List Turn} → StaysInOrder a b → Given b turns c → Given a turns c
 
 -- this one was given then, or was in use
 abbrev pub HadTurn : ℕ → Turn → Type 0

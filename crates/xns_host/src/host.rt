@@ -28,6 +28,7 @@ ghost use Rattle.xns_host.specs.Refusing.{Answers};
 ghost use Rattle.xns_host.specs.Settings.{IsFit, most_connections, wrong_setting};
 ghost use Rattle.xns_agenda.specs.Turns.{with_turn};
 ghost use Rattle.xns_host.specs.Hosting.{ActsIn, DoesDue, EachActs, EachSame, EachSteps, HasNoneDone};
+ghost use Rattle.xns_host.specs.Identifiers.{GivesOneAtMost, StaysInOrder, TurnsOver};
 ghost use Rattle.xns_host.specs.Knowing.{all_known_of, known_of, news_of};
 ghost use Rattle.xns_host.specs.Services.{Serves, most_services, programs_at};
 ghost use Rattle.xns_agenda.specs.Waiting.{last_time};
@@ -170,6 +171,7 @@ impl Host {
         ensures agenda { self.new.agenda ≡ self.old.agenda }
         ensures same { IsSameHost self.old self.new }
         ensures clock { self.new.clock ≡ self.old.clock }
+        ensures order { StaysInOrder self.old.register.identifiers self.new.register.identifiers }
     {
         self.services.serve(self.alloc, socket, programs)
     }
@@ -195,6 +197,8 @@ impl Host {
         ensures fault { OnErr result ((result ≡ Err NoRoom) ⊎ (result ≡ Err NoMemory)) }
         ensures unchanged { OnErr result ((k : ℕ) → slice_get self.new.guests.items k ≡ slice_get self.old.guests.items k) }
         ensures agenda { OnErr result (self.new.agenda ≡ self.old.agenda) }
+        ensures order { OnErr result (StaysInOrder self.old.register.identifiers self.new.register.identifiers) }
+        ensures turned { IfOk result (λ n. (id : ℕ) × TurnsOver self.old.register.identifiers self.new.register.identifiers id) }
         ensures set_up { StaysSetUpAt now self.old self.new }
     {
         let now = self.clock.tell(now);
@@ -255,6 +259,7 @@ impl Host {
         ensures agenda { OnErr result (self.new.agenda ≡ self.old.agenda) }
         ensures steps { EachSteps (max self.old.clock.latest now) self.old.guests.items self.new.guests.items }
         ensures known { EachSame all_known_of self.old.guests.items self.new.guests.items }
+        ensures order { StaysInOrder self.old.register.identifiers self.new.register.identifiers }
         ensures set_up { StaysSetUpAt now self.old self.new }
     {
         let now = self.clock.tell(now);
@@ -299,6 +304,7 @@ impl Host {
         ensures agenda { OnErr result (self.new.agenda ≡ self.old.agenda) }
         ensures steps { EachSteps (max self.old.clock.latest now) self.old.guests.items self.new.guests.items }
         ensures known { EachSame all_known_of self.old.guests.items self.new.guests.items }
+        ensures order { StaysInOrder self.old.register.identifiers self.new.register.identifiers }
         ensures set_up { StaysSetUpAt now self.old self.new }
     {
         let now = self.clock.tell(now);
@@ -329,6 +335,7 @@ impl Host {
         ensures agenda { OnErr result (self.new.agenda ≡ self.old.agenda) }
         ensures steps { EachSteps (max self.old.clock.latest now) self.old.guests.items self.new.guests.items }
         ensures known { EachSame all_known_of self.old.guests.items self.new.guests.items }
+        ensures order { StaysInOrder self.old.register.identifiers self.new.register.identifiers }
         ensures set_up { StaysSetUpAt now self.old self.new }
     {
         let now = self.clock.tell(now);
@@ -362,6 +369,7 @@ impl Host {
             → slice_get self.new.guests.items n ≡ Some place → (result ≡ true) × HasHeard bytes.now (confirms p) g place }
         ensures ours { result ≡ true → IsOurs self.old bytes.now }
         ensures opener { (p : SppPacketModel) → spp_packet_of bytes.now ≡ Ok p → IsOpener self.old p → result ≡ true }
+        ensures order { GivesOneAtMost self.old.register.identifiers self.new.register.identifiers }
         ensures set_up { StaysSetUpAt now self.old self.new }
     {
         let now = self.clock.tell(now);
@@ -385,6 +393,7 @@ impl Host {
         ensures ours { result ≡ true → IsAnswered (address_in self.old.network self.old.host echo_socket) (packet_model packet.now) }
         ensures guests { self.new.guests ≡ self.old.guests }
         ensures agenda { self.new.agenda ≡ self.old.agenda }
+        ensures order { StaysInOrder self.old.register.identifiers self.new.register.identifiers }
         ensures set_up { StaysSetUp self.old self.new }
     {
         let own = self.address(ECHO_SOCKET);
@@ -407,6 +416,7 @@ impl Host {
         ensures known { EachSame all_known_of self.old.guests.items self.new.guests.items }
         ensures one { ChangesOne self.old.guests.items self.new.guests.items }
         ensures unchanged { result ≡ false → (k : ℕ) → slice_get self.new.guests.items k ≡ slice_get self.old.guests.items k }
+        ensures order { StaysInOrder self.old.register.identifiers self.new.register.identifiers }
         ensures set_up { StaysSetUp self.old self.new }
     {
         if packet.target.host != self.host {
@@ -433,6 +443,7 @@ impl Host {
         ensures known { EachSame all_known_of self.old.guests.items self.new.guests.items }
         ensures apart { IsApart self.old.guests.items self.new.guests.items number }
         ensures unchanged { result ≡ false → (k : ℕ) → slice_get self.new.guests.items k ≡ slice_get self.old.guests.items k }
+        ensures order { StaysInOrder self.old.register.identifiers self.new.register.identifiers }
         ensures set_up { StaysSetUp self.old self.new }
     {
         if number >= self.guests.len() {
@@ -460,6 +471,7 @@ impl Host {
             → spp_packet_of b ≡ Ok p → IsOpener self.old p → result ≡ true }
         ensures one { ChangesOne self.old.guests.items self.new.guests.items }
         ensures unchanged { result ≡ false → (k : ℕ) → slice_get self.new.guests.items k ≡ slice_get self.old.guests.items k }
+        ensures order { GivesOneAtMost self.old.register.identifiers self.new.register.identifiers }
         ensures set_up { StaysSetUp self.old self.new }
     {
         let Ok(packet) = carried_packet(carrier) else {
@@ -492,6 +504,7 @@ impl Host {
         ensures ours { result ≡ true → IsThere (IsOf packet.now) (slice_get self.old.guests.items number) }
         ensures apart { IsApart self.old.guests.items self.new.guests.items number }
         ensures unchanged { result ≡ false → (k : ℕ) → slice_get self.new.guests.items k ≡ slice_get self.old.guests.items k }
+        ensures order { StaysInOrder self.old.register.identifiers self.new.register.identifiers }
         ensures set_up { StaysSetUp self.old self.new }
     {
         if number >= self.guests.len() {
@@ -519,6 +532,7 @@ impl Host {
             → result ≡ true }
         ensures one { ChangesOne self.old.guests.items self.new.guests.items }
         ensures unchanged { result ≡ false → (k : ℕ) → slice_get self.new.guests.items k ≡ slice_get self.old.guests.items k }
+        ensures order { GivesOneAtMost self.old.register.identifiers self.new.register.identifiers }
         ensures set_up { StaysSetUp self.old self.new }
     {
         let Some((peer, peer_id)) = packet.opener() else {
@@ -555,6 +569,8 @@ impl Host {
         ensures opened { IfSome result (λ n. IsThere (IsAnswering self.old.settings self.old.register.identifiers
             (address_in self.old.network self.old.host socket) peer peer_id via now programs.items) (slice_get self.new.guests.items n)) }
         ensures unchanged { result ≡ None → (k : ℕ) → slice_get self.new.guests.items k ≡ slice_get self.old.guests.items k }
+        ensures order { result ≡ None → StaysInOrder self.old.register.identifiers self.new.register.identifiers }
+        ensures turned { IfSome result (λ n. (id : ℕ) × TurnsOver self.old.register.identifiers self.new.register.identifiers id) }
         ensures set_up { StaysSetUp self.old self.new }
     {
         if peer_id == 0 {
@@ -612,6 +628,7 @@ impl Host {
         ensures none { result ≡ None → (k : ℕ) → slice_get self.new.guests.items k ≡ slice_get self.old.guests.items k }
         ensures passed { result ≡ None → self.new.agenda
             ≡ record self.old.agenda { events = with_turn self.old.agenda.events number false } }
+        ensures order { StaysInOrder self.old.register.identifiers self.new.register.identifiers }
         ensures set_up { StaysSetUp self.old self.new }
     {
         let now = self.clock.latest();
@@ -636,6 +653,7 @@ impl Host {
         ensures known { EachSame known_of self.old.guests.items self.new.guests.items }
         ensures none { result ≡ None → HasNoEvent self.old.guests.items }
         ensures unchanged { result ≡ None → (k : ℕ) → slice_get self.new.guests.items k ≡ slice_get self.old.guests.items k }
+        ensures order { StaysInOrder self.old.register.identifiers self.new.register.identifiers }
         ensures set_up { StaysSetUp self.old self.new }
     {
         while let Some(number) = self.agenda.first_event() {
@@ -656,6 +674,7 @@ impl Host {
         ensures acts { now < last_time → (g : Guest) → slice_get self.old.guests.items number ≡ Some (Some g)
             → ActsIn now g.connection (slice_get self.new.guests.items number) }
         ensures apart { IsApart self.old.guests.items self.new.guests.items number }
+        ensures order { StaysInOrder self.old.register.identifiers self.new.register.identifiers }
         ensures set_up { StaysSetUp self.old self.new }
     {
         if number >= self.guests.len() {
@@ -679,6 +698,7 @@ impl Host {
         ensures strays { self.new.strays ≡ self.old.strays }
         ensures known { EachSame all_known_of self.old.guests.items self.new.guests.items }
         ensures acts { now < last_time → EachActs now self.old.guests.items self.new.guests.items }
+        ensures order { StaysInOrder self.old.register.identifiers self.new.register.identifiers }
         ensures set_up { StaysSetUp self.old self.new }
     {
         for _ in 0..self.guests.len() {
@@ -702,6 +722,7 @@ impl Host {
         ensures fault { OnErr result (result ≡ Err NoMemory) }
         ensures steps { EachSteps now self.old.guests.items self.new.guests.items }
         ensures known { EachSame all_known_of self.old.guests.items self.new.guests.items }
+        ensures order { StaysInOrder self.old.register.identifiers self.new.register.identifiers }
         ensures set_up { StaysSetUp self.old self.new }
     {
         let made = packet_in(&mut self.guests[number], self.alloc, now);
@@ -730,6 +751,7 @@ impl Host {
         ensures fault { OnErr result (result ≡ Err NoMemory) }
         ensures due { let time = max self.old.clock.latest now in time < last_time
             → DoesDue time self.old.guests.items self.new.guests.items }
+        ensures order { StaysInOrder self.old.register.identifiers self.new.register.identifiers }
         ensures set_up { StaysSetUpAt now self.old self.new }
     {
         let now = self.clock.tell(now);

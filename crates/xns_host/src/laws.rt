@@ -18,7 +18,7 @@ ghost use Rattle.xns_host.specs.Telling.{Tells};
 ghost use Rattle.xns_host.specs.declared.conversation.Conversation.{Conversation};
 ghost use Rattle.xns_host.specs.declared.side.Side.TheVariants.{Calls, Answers};
 
-/// Before an identifier is given again, each other one is given, or is in use when one is given, whatever is released in between.
+/// Before an identifier is given again, each other one is given, or is in use when one is given, whoever has which one in between.
 pub fn an_identifier_comes_again_behind_all_others()
     ensures { (start now : Ids) (before since later : List Turn) (once again : Turn) (id : ℕ) → IsOrder start.ahead
         → Given start (before ++ once ∷ since ++ again ∷ later) now → again.given ≡ once.given → 1 ≤ id → id ≤ most_id

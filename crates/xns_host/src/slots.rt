@@ -13,6 +13,7 @@ ghost use Rattle.xns_spp.specs.Held.{StandsFor};
 ghost use Rattle.xns_spp.specs.State.{State};
 ghost use Rattle.xns_host.specs.Ours.{IsOf, IsToOpen};
 ghost use Rattle.xns_host.specs.Quotes.{is_opened_by};
+ghost use Rattle.xns_host.specs.Identifiers.{StaysInOrder};
 ghost use Rattle.xns_host.specs.Knowing.{known_in, news_in};
 ghost use Rattle.xns_host.specs.Registered.{FitsEnd, FitsEndIn, HasLeft, HasRegistered, IsAllRegistered};
 ghost use Rattle.xns_host.specs.Story.{asked_of, waiting_message};
@@ -136,6 +137,7 @@ pub fn forget_in(
     ensures sized { length agenda.new.dues ≡ length agenda.old.dues }
     ensures gone { guests.new.items ≡ slice_set guests.old.items number None }
     ensures left { HasLeft register.old register.new (slice_get guests.old.items number) }
+    ensures order { StaysInOrder register.old.identifiers register.new.identifiers }
 {
     let Some(guest) = vacate(guests, agenda, number) else {
         return;
@@ -166,6 +168,7 @@ pub fn settle_in(
     ensures gone { done ≡ true → slice_get guests.new.items number ≡ Some None }
     ensures left { done ≡ true → HasLeft register.old register.new (slice_get guests.old.items number) }
     ensures kept { done ≡ false → (guests.new.items ≡ guests.old.items) × (register.new ≡ register.old) }
+    ensures order { StaysInOrder register.old.identifiers register.new.identifiers }
 {
     if done {
         forget_in(register, guests, agenda, number);
@@ -190,6 +193,7 @@ pub fn put_in(
     ensures apart { IsApart guests.old.items guests.new.items number }
     ensures there { slice_get guests.new.items number ≡ Some (Some guest) }
     ensures registered { IsAllRegistered register.new guests.new.items }
+    ensures order { StaysInOrder register.old.identifiers register.new.identifiers }
 {
     forget_in(register, guests, agenda, number);
     fill(guests, agenda, number, guest);

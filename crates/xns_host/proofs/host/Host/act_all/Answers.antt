@@ -14,6 +14,7 @@ loop-init c = (
   each_kept c.args.self.now.guests.items c.args.self.now.guests.items refl,
   search rules,
   known_same c.args.self.now.guests.items c.args.self.now.guests.items refl,
+  refl,
 )
 
 pub loop-preserved : goal.loop-preserved
@@ -25,6 +26,7 @@ loop-preserved c = (
   all_then keeping c.args.self.now.guests.items c.loop.self.guests.items c.act.new.self.guests.items c.loop.invariant.3 c.act.ensures.keeps,
   search rules,
   same_then all_known_of c.args.self.now.guests.items c.loop.self.guests.items c.act.new.self.guests.items c.loop.invariant.5 c.act.ensures.known,
+  c.act.ensures.order ∙ c.loop.invariant.6,
 )
 
 pub returns-in_default-clause-acts : goal.returns-in_default-clause-acts

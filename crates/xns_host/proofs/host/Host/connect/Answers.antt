@@ -7,7 +7,7 @@ use Rattle.xns_host.specs.Settings.{IsBegun}
 use Rattle.xns_host.specs.Story.{new_story}
 use Rattle.xns_host.specs.Telling.{Tells}
 use Rattle.xns_host.proofs.Waking.{all_in_use, gets_place, no_room, not_both}
-use Rattle.xns_host.proofs.Registered.{all_joined, joined, opened_by_none}
+use Rattle.xns_host.proofs.Registered.{all_joined, joined, opened_by_none, turned_over}
 use Rattle.xns_host.proofs.Undone.{came_not_done, not_done_new}
 use Rattle.xns_host.proofs.host.Host.connect.Goals as goal
 
@@ -85,3 +85,8 @@ pub invariant_of-self-2-clause-not_done : goal.invariant_of-self-2-clause-not_do
 invariant_of-self-2-clause-not_done c =
     came_not_done c.args.self.now.guests.items c.put_in.new.guests.items c.in-Some.number _ c.args.self.now.not_done c.put_in.ensures.apart c.put_in.ensures.there
     (not_done_new c.in-Ok.connection c.in-Ok.ensures.fresh.0)
+
+pub returns-clause-turned : goal.returns-clause-turned
+returns-clause-turned c =
+    turned_over c.args.self.now.register.identifiers c.take.new.self.identifiers c.put_in.new.register.identifiers _ c.in-Some-next.id c.take.result
+    c.in-Some-next.ensures.next c.take.ensures.given c.take.ensures.some c.put_in.ensures.order

@@ -1,11 +1,13 @@
 use Rattle.std.proofs.Common.{◌≡◌, ℕ, slice_get}
 use Rattle.std.specs.Prelude.{count_by}
 use Rattle.std.specs.Option.{is_some}
+use Rattle.xns_host.specs.Identifiers.{StaysInOrder}
 use Rattle.xns_host.specs.Standing.{StaysSetUp}
 use Rattle.xns_host.proofs.host.Host.next_event.Given as goal
 
 abbrev pub invariant-loop-number : goal.invariant-loop-number
 invariant-loop-number l = ((k : ℕ) → slice_get l.self.guests.items k ≡ slice_get l.fn.self.guests.items k) × StaysSetUp l.fn.self l.self
+    × StaysInOrder l.fn.self.register.identifiers l.self.register.identifiers
 
 abbrev pub decreases-loop-number : goal.decreases-loop-number
 decreases-loop-number l = count_by is_some l.self.agenda.events.tickets

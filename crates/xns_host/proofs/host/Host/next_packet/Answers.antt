@@ -1,4 +1,4 @@
-use Rattle.std.proofs.Common.{◌≡◌, [], inl, inr, refl, rules, subst, None, Option, Some, Ok}
+use Rattle.std.proofs.Common.{◌≡◌, ◌∙◌, [], inl, inr, refl, rules, subst, None, Option, Some, Ok}
 use Rattle.std.specs.Prelude.{IfSome}
 use Rattle.xns_host.specs.Hosting.{IsNextPacket}
 use Rattle.xns_agenda.specs.Turns.{HasNoTurn}
@@ -39,6 +39,7 @@ loop-number-init c = (
   λ early. due_first c.tell-now.result c.args.self.now.guests.items c.act_all.new.self.guests.items (c.act_all.ensures.acts early),
   search rules,
   c.act_all.ensures.known,
+  c.act_all.ensures.order,
 )
 
 pub returns-in_err-packet-clause-stray : goal.returns-in_err-packet-clause-stray
@@ -104,6 +105,7 @@ loop-number-preserved c =
       search rules,
       same_then all_known_of c.args.self.now.guests.items c.loop-number.self.guests.items c.packet.new.self.guests.items c.loop-number.invariant.5
           c.packet.ensures.known,
+      c.packet.ensures.order ∙ c.loop-number.invariant.6,
     )
 
 pub returns-in_err-packet-clause-known : goal.returns-in_err-packet-clause-known

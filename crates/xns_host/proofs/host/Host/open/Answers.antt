@@ -7,8 +7,9 @@ use Rattle.xns_host.specs.Story.{new_story}
 use Rattle.xns_host.specs.Telling.{Tells}
 use Rattle.xns_host.specs.declared.peer.Peer.{Peer}
 use Rattle.xns_host.proofs.Waking.{gets_place}
-use Rattle.xns_host.proofs.Registered.{all_joined, joined_opened, opened_by, unentered}
+use Rattle.xns_host.proofs.Registered.{all_joined, joined_opened, opened_by, turned_over, unentered}
 use Rattle.xns_host.proofs.Undone.{came_not_done, not_done_new}
+use Rattle.xns_host.specs.Identifiers.{Ids, IsNext, TurnsOver}
 use Rattle.xns_host.proofs.host.Host.open.Goals as goal
 
 pub invariant_of-self : goal.invariant_of-self
@@ -87,3 +88,9 @@ pub invariant_of-self-2-clause-not_done : goal.invariant_of-self-2-clause-not_do
 invariant_of-self-2-clause-not_done c =
     came_not_done c.args.self.now.guests.items c.put_in.new.guests.items c.in_ok-number.number _ c.args.self.now.not_done c.put_in.ensures.apart c.put_in.ensures.there
     (not_done_new c.in-Ok.connection c.in-Ok.ensures.fresh.0)
+
+pub returns-clause-turned : goal.returns-clause-turned
+returns-clause-turned c =
+    subst (λ (a : Ids). (i : ℕ) × TurnsOver a c.put_in.new.register.identifiers i) c.enter.ensures.identifiers
+    (turned_over c.enter.new.self.identifiers c.take.new.self.identifiers c.put_in.new.register.identifiers _ c.in_ok-id.id c.take.result
+    (subst (λ (a : Ids). IsNext a c.in_ok-id.id) (sym c.enter.ensures.identifiers) c.in_ok-id.ensures.next) c.take.ensures.given c.take.ensures.some c.put_in.ensures.order)

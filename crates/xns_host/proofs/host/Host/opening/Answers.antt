@@ -1,4 +1,4 @@
-use Rattle.std.proofs.Common.{◌≡◌, ℕ, refl, rules, subst, None, slice_get}
+use Rattle.std.proofs.Common.{◌≡◌, ℕ, refl, rules, subst, None, slice_get, ◌∙◌, inr}
 use Rattle.xns_spp.specs.Held.{StandsFor}
 use Rattle.xns_spp.specs.State.{State, responder_state}
 use Rattle.xns_host.specs.Hosting.{address_in, opens}
@@ -44,3 +44,8 @@ pub returns-in_default-open-clause-became : goal.returns-in_default-open-clause-
 returns-in_default-open-clause-became c = λ b read.
     let none : c.open.result ≡ None = search rules in
     nothing_came c.args.now _ b c.args.self.now.guests.items c.open.new.self.guests.items (c.open.ensures.unchanged none)
+
+pub returns-in-Some-open-clause-order : goal.returns-in-Some-open-clause-order
+returns-in-Some-open-clause-order c =
+    let t = c.in-Some-open.ensures.turned in
+    inr (t.0, record { place = t.1.place; first = t.1.first; there = t.1.there; turned = c.hear.ensures.order ∙ t.1.turned })
