@@ -1,7 +1,10 @@
 -- What is fetched of a host is given, or stays.
-use Rattle.std.proofs.Common.{◌≡◌, ◌≢◌, ◌<◌, ◌≤◌, ℕ, List, length, Some, None, ◌⊎◌, inl, inr, refl, sym, ap, ◌∙◌, subst, arith}
+use Rattle.std.proofs.Common.{◌≡◌, ◌≢◌, ◌<◌, ◌≤◌, ℕ, List, length, Option, Some, None, inl, inr, refl, sym, ap, ◌∙◌, subst, arith}
 use Rattle.std.proofs.lemmas.Bool.{cases_lt}
-use Rattle.xns_host.specs.Hosting.{IsNextEvent}
+use Rattle.xns_agenda.specs.Waiting.{still}
+use Rattle.xns_host.specs.Hosting.{EachSame, EachSteps, IsNextEvent, StepsIn}
+use Rattle.xns_host.specs.Knowing.{all_known_of}
+use Rattle.xns_host.specs.declared.guest.Guest.{Guest}
 use Rattle.xns_host.specs.declared.event.Event.{Event}
 use Rattle.xns_host.specs.declared.host.Host.{Host}
 use Rattle.xns_host.specs.declared.outgoing.Outgoing.{Outgoing}
@@ -66,3 +69,10 @@ packet_short p b old new had written way number is room put short unchanged = (
   λ none. let y = subst (λ (x : List ℕ). length old < length x → (number ≡ short_buffer) × (written ≡ length x)) is short none in
       (y.0, y.1, subst (λ (x : List ℕ). length old < length x → new ≡ old) is unchanged none, refl),
 )
+
+-- where nothing is done, each connection is known as it was, and its waits stay
+pub known_still : (gs : List (Option Guest)) → EachSame all_known_of gs gs
+known_still gs = λ k h there. record { guest = h; there = there; is = refl }
+
+pub steps_still : (now : ℕ) (gs : List (Option Guest)) → EachSteps now gs gs
+steps_still now gs = λ k g there. subst (λ (p : Option (Option Guest)). StepsIn now g.connection p) (sym there) still

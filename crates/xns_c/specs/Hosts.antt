@@ -1,8 +1,14 @@
 -- What becomes of a host that C holds.
-use Rattle.std.specs.Prelude.{◌≡◌, ◌≢◌, ◌⊎◌, ◌<◌, ◌≤◌, ℕ, false, ◌==◌, if◌then◌else◌, List, length, max, Option, Some, None, slice_get}
+use Rattle.std.specs.Prelude.{◌≡◌, ◌≢◌, ◌⊎◌, ◌<◌, ◌≤◌, ℕ, false, ◌==◌, if◌then◌else◌, List, [], ◌∷◌, ◌++◌, length, max, Option, Some, None, Ok, slice_get}
 use Rattle.courier_messages.specs.RawCalls.{RawCall}
 use Rattle.courier_sessions.specs.declared.answer.Answer.{Answer}
 use Rattle.xns_idp.specs.declared.address.Address.{Address}
+use Rattle.xns_spp.specs.Packet.{SppPacketModel, spp_packet_of}
+use Rattle.xns_host.specs.Hosting as hosting
+use Rattle.xns_host.specs.Hosting.{EachSame, EachSteps, HasHeard, IsAsked, IsOpened, IsPacketOf, WentOn, confirms}
+use Rattle.xns_host.specs.Knowing.{all_known_of}
+use Rattle.xns_host.specs.Story.{asked_of}
+use Rattle.courier_sessions.specs.Answering.{answer_message}
 use Rattle.xns_host.specs.Hosting.{IsApart, IsConnected, IsNextEvent, ChangesOne, HasNoEvent, HasNoPacket, HasNoRoom, Wants}
 use Rattle.xns_host.specs.Hosting.{has_guest, address_in}
 use Rattle.xns_host.specs.Reasons.{call_fault_of, answer_fault_of}
@@ -36,11 +42,14 @@ IsNew (Some k) most = (length k.host.guests.items ≡ most) × (k.event ≡ None
 
 -- ---- calls that name a connection
 
--- no other connection is changed; where the call is refused, none is, and nothing that is to be done
-pub record Names (k n : KeptHost) (number result : ℕ) : Type 0 where
+-- no other connection is changed; where the call is refused, none is, and nothing that is to be done; each is known as it was, and its
+-- waits come by steps of the latest time that was told
+pub record Names (k n : KeptHost) (now number result : ℕ) : Type 0 where
   pub apart : IsApart k.host.guests.items n.host.guests.items number
   pub unchanged : result ≢ ok → (i : ℕ) → guest_at n i ≡ guest_at k i
   pub agenda : result ≢ ok → n.host.agenda ≡ k.host.agenda
+  pub known : EachSame all_known_of k.host.guests.items n.host.guests.items
+  pub steps : EachSteps (max k.host.clock.latest now) k.host.guests.items n.host.guests.items
   pub packet : n.packet ≡ k.packet
 
 -- what is told where this is the reason against it: memory is refused only where there is none
@@ -52,8 +61,11 @@ pub record TellsOf (k : KeptHost) (number : ℕ) (fault : Conversation → Optio
   pub none : has_guest (guest_at k number) ≡ false → result ≡ no_connection
   pub some : (g : Guest) → guest_at k number ≡ Some (Some g) → Tells (fault g.connection.conversation) result
 
-pub record Calls (k n : KeptHost) (number : ℕ) (call : RawCall) (result : ℕ) : Type 0 where
-  pub names : Names k n number result
+-- the connection goes on from where it is with that call made
+pub record Calls (k n : KeptHost) (now number : ℕ) (call : RawCall) (result : ℕ) : Type 0 where
+  pub names : Names k n now number result
+  pub called : (g : Guest) (place : Option Guest) → guest_at k number ≡ Some (Some g) → result ≡ ok → guest_at n number ≡ Some place
+      → WentOn g.connection (λ h. record h { made = h.made ++ call ∷ [] }) place
   pub told : TellsOf k number (λ t. call_fault_of t call) result
   pub event : n.event ≡ k.event
 
@@ -65,14 +77,20 @@ unless_of (Some e) number = if event_number e == number then None else Some e
 abbrev pub kept_after : Option Event → ℕ → ℕ → Option Event
 kept_after event number result = if result == ok then unless_of event number else event
 
-pub record AnswersCall (k n : KeptHost) (number : ℕ) (answer : Option Answer) (words : List ℕ) (result : ℕ) : Type 0 where
-  pub names : Names k n number result
+-- or with that answer given
+pub record AnswersCall (k n : KeptHost) (now number : ℕ) (answer : Option Answer) (words : List ℕ) (result : ℕ) : Type 0 where
+  pub names : Names k n now number result
+  pub answered : (a : Answer) (g : Guest) (transaction : ℕ) (place : Option Guest) → answer ≡ Some a → guest_at k number ≡ Some (Some g)
+      → asked_of g.connection.conversation.side ≡ Some transaction → result ≡ ok → guest_at n number ≡ Some place
+      → WentOn g.connection (λ h. record h { answers = h.answers ++ answer_message a transaction words ∷ [] }) place
   pub bad : answer ≡ None → result ≡ bad_argument
   pub told : (a : Answer) → answer ≡ Some a → TellsOf k number (λ t. answer_fault_of t a words) result
   pub event : n.event ≡ kept_after k.event number result
 
-pub record Closes (k n : KeptHost) (number result : ℕ) : Type 0 where
-  pub names : Names k n number result
+-- or asked to close
+pub record Closes (k n : KeptHost) (now number result : ℕ) : Type 0 where
+  pub names : Names k n now number result
+  pub closed : (g : Guest) (place : Option Guest) → guest_at k number ≡ Some (Some g) → guest_at n number ≡ Some place → IsAsked g.connection place
   pub none : has_guest (guest_at k number) ≡ false → result ≡ no_connection
   pub event : n.event ≡ kept_after k.event number result
 
@@ -88,9 +106,14 @@ pub record Serves (k n : KeptHost) : Type 0 where
   pub agenda : n.host.agenda ≡ k.host.agenda
   pub kept : StaysKept k n
 
--- a packet that is not for the host changes no connection, and one that is changes one at most
-pub record Receives (k n : KeptHost) (result : ℕ) : Type 0 where
+-- a packet that is not for the host changes no connection, and one that is changes one at most; what became of the connections by these
+-- bytes, and one that they are for has heard them
+pub record Receives (k n : KeptHost) (now way : ℕ) (bytes : List ℕ) (result : ℕ) : Type 0 where
   pub answer : (result ≡ ok) ⊎ (result ≡ nothing)
+  pub became : hosting.Receives (max k.host.clock.latest now) (IsOpened k.host.services.programs k.host.settings k.host.register.identifiers
+      k.host.network k.host.host way (max k.host.clock.latest now)) bytes k.host.guests.items n.host.guests.items
+  pub heard : (p : SppPacketModel) (i : ℕ) (g : Guest) (place : Option Guest) → spp_packet_of bytes ≡ Ok p → IsPacketOf k.host.host p g
+      → guest_at k i ≡ Some (Some g) → guest_at n i ≡ Some place → (result ≡ ok) × HasHeard bytes (confirms p) g place
   pub one : ChangesOne k.host.guests.items n.host.guests.items
   pub unchanged : result ≡ nothing → (i : ℕ) → guest_at n i ≡ guest_at k i
   pub kept : StaysKept k n

@@ -148,7 +148,7 @@ pub extern "C" fn xns_host_call(
     words: &[u16],
 ) -> u32
     ensures calls { Does (kept_of handle.old) (kept_of handle.new) result
-        (λ k n. Calls k n number (words_call program version procedure words.now) result) }
+        (λ k n. Calls k n now number (words_call program version procedure words.now) result) }
 {
     let Some(mut kept) = handle.take(alloc) else {
         return NO_HOST;
@@ -174,7 +174,7 @@ pub extern "C" fn xns_host_answer(
     words: &[u16],
 ) -> u32
     ensures answers { Does (kept_of handle.old) (kept_of handle.new) result
-        (λ k n. AnswersCall k n number (answer_in kind code) words.now result) }
+        (λ k n. AnswersCall k n now number (answer_in kind code) words.now result) }
 {
     let Some(mut kept) = handle.take(alloc) else {
         return NO_HOST;
@@ -194,7 +194,7 @@ pub extern "C" fn xns_host_close(
     now: u64,
     number: usize,
 ) -> u32
-    ensures closes { Does (kept_of handle.old) (kept_of handle.new) result (λ k n. Closes k n number result) }
+    ensures closes { Does (kept_of handle.old) (kept_of handle.new) result (λ k n. Closes k n now number result) }
 {
     let Some(mut kept) = handle.take(alloc) else {
         return NO_HOST;
@@ -215,7 +215,7 @@ pub extern "C" fn xns_host_receive(
     via: u32,
     bytes: &[u8],
 ) -> u32
-    ensures receives { Does (kept_of handle.old) (kept_of handle.new) result (λ k n. Receives k n result) }
+    ensures receives { Does (kept_of handle.old) (kept_of handle.new) result (λ k n. Receives k n now via bytes.now result) }
 {
     let Some(mut kept) = handle.take(alloc) else {
         return NO_HOST;

@@ -96,7 +96,7 @@ impl KeptHost {
         procedure: u16,
         words: &[u16],
     ) -> u32
-        ensures { Calls self.old self.new number (words_call program version procedure words.now) result }
+        ensures { Calls self.old self.new now number (words_call program version procedure words.now) result }
     {
         host_told(
             self.host
@@ -121,7 +121,7 @@ impl KeptHost {
 
     /// Answers the call that was handed, or is kept, which then goes.
     pub fn answer(&mut self, now: u64, number: usize, kind: u8, code: u16, words: &[u16]) -> u32
-        ensures { AnswersCall self.old self.new number (answer_in kind code) words.now result }
+        ensures { AnswersCall self.old self.new now number (answer_in kind code) words.now result }
     {
         let Some(answer) = answer_in(kind, code) else {
             return BAD_ARGUMENT;
@@ -133,7 +133,7 @@ impl KeptHost {
 
     /// Closes a connection. What is kept of it goes.
     pub fn close(&mut self, now: u64, number: usize) -> u32
-        ensures { Closes self.old self.new number result }
+        ensures { Closes self.old self.new now number result }
     {
         let result = host_told(self.host.close(now, number));
         self.let_go(number, result);
@@ -142,7 +142,7 @@ impl KeptHost {
 
     /// Takes a packet in. `NOTHING`: it was not for the host.
     pub fn receive(&mut self, now: u64, via: u32, bytes: &[u8]) -> u32
-        ensures { Receives self.old self.new result }
+        ensures { Receives self.old self.new now via bytes.now result }
     {
         if self.host.receive(now, via, bytes) {
             OK
