@@ -1,8 +1,9 @@
 -- What is fetched of a host is given, or stays.
-use Rattle.std.proofs.Common.{◌≡◌, ◌≢◌, ◌<◌, ◌≤◌, ℕ, List, length, Option, Some, None, inl, inr, refl, sym, ap, ◌∙◌, subst, arith}
+use Rattle.std.proofs.Common.{◌≡◌, ◌≢◌, ◌<◌, ◌≤◌, ℕ, List, [], ◌∷◌, length, max, slice_get, Option, Result, Ok, IfOk, IfSome, Some, None, inl, inr, refl, sym, ap, ◌∙◌, subst, arith}
 use Rattle.std.proofs.lemmas.Bool.{cases_lt}
 use Rattle.xns_agenda.specs.Waiting.{still}
-use Rattle.xns_host.specs.Hosting.{EachSame, EachSteps, IsNextEvent, StepsIn}
+use Rattle.xns_host.specs.Hosting.{EachSame, EachSteps, IsApart, IsNextEvent, IsNextPacket, StepsIn}
+use Rattle.xns_host.specs.declared.host_fault.HostFault.{HostFault}
 use Rattle.xns_host.specs.Knowing.{all_known_of}
 use Rattle.xns_host.specs.declared.guest.Guest.{Guest}
 use Rattle.xns_host.specs.declared.event.Event.{Event}
@@ -10,7 +11,7 @@ use Rattle.xns_host.specs.declared.host.Host.{Host}
 use Rattle.xns_host.specs.declared.outgoing.Outgoing.{Outgoing}
 use Rattle.xns_c.specs.Events.{EventIsGiven}
 use Rattle.xns_c.specs.Given.{IsPut}
-use Rattle.xns_c.specs.Hosts.{FetchesEvent, FetchesPacket, GivesPacket, left_of}
+use Rattle.xns_c.specs.Hosts.{FetchesEvent, FetchesPacket, GivesPacket, IsNextOut, Names, left_of}
 use Rattle.xns_c.specs.Results.{ok, nothing, short_buffer}
 use Rattle.xns_c.specs.declared.event.XnsEvent.{XnsEvent}
 use Rattle.xns_c.specs.declared.kept_host.KeptHost.{KeptHost}
@@ -38,12 +39,30 @@ is_told p old new had written way via number given is = elim (cases_lt (length o
   | inr fits ↦ absurd (omega (arith, is, (given.0 fits).0))
 ]
 
+out_of_same : (k n m : KeptHost) (x : Outgoing) → m.host ≡ n.host → IsNextOut k n x → IsNextOut k m x
+out_of_same k n m x host (inl stray) = inl stray
+out_of_same k n m x host (inr given) = inr (subst (λ (h : Host). IsNextPacket k.host.guests.items h.guests.items x) (sym host) given)
+
+-- the host gave it
+pub gave_out : (k n : KeptHost) (r : Result (Option Outgoing) HostFault) (p : Outgoing)
+    → ((o : Outgoing) (os : List Outgoing) → k.host.strays.waiting ≡ o ∷ os → r ≡ Ok (Some o))
+    → (k.host.strays.waiting ≡ [] → IfOk r (λ made. IfSome made (IsNextPacket k.host.guests.items n.host.guests.items)))
+    → r ≡ Ok (Some p) → IsNextOut k n p
+gave_out k n r p stray given is = by k.host.strays.waiting refl where
+  by : (ws : List Outgoing) → k.host.strays.waiting ≡ ws → IsNextOut k n p
+  by [] none = inr (subst (λ (q : Result (Option Outgoing) HostFault). IfOk q (λ made. IfSome made (IsNextPacket k.host.guests.items n.host.guests.items))) is (given none))
+  by (o ∷ os) some =
+      let both : Ok (Some o) ≡ Ok (Some p) = sym (stray o os some) ∙ is in
+      let same : o ≡ p = cc in
+      inl (os, some ∙ ap (λ (x : Outgoing). x ∷ os) same)
+
 -- the same of a packet
 pub packet_fetched : (k n m : KeptHost) (p : Outgoing) (old new : List ℕ) (had written way via number : ℕ)
-    → n.packet ≡ Some p → ((x : Outgoing) → k.packet ≡ Some x → n ≡ k) → n.event ≡ k.event → GivesPacket (Some p) old new had written way via number
+    → n.packet ≡ Some p → ((x : Outgoing) → k.packet ≡ Some x → n ≡ k) → ((x : Outgoing) → k.packet ≡ None → n.packet ≡ Some x → IsNextOut k n x) → n.event ≡ k.event → GivesPacket (Some p) old new had written way via number
     → m.host ≡ n.host → m.packet ≡ left_of (Some p) number → m.event ≡ n.event → FetchesPacket k m old new had written way via number
-packet_fetched k n m p old new had written way via number there kept event given host left same = record {
+packet_fetched k n m p old new had written way via number there kept told event given host left same = record {
   found = Some p;
+  told = λ x no is. out_of_same k n m x host (told x no (there ∙ is));
   rested = λ is. absurd (is_told p old new had written way via number given is);
   kept = λ x is. (sym there ∙ (ap (λ (y : KeptHost). y.packet) (kept x is) ∙ is), host ∙ ap (λ (y : KeptHost). y.host) (kept x is));
   given = given;
@@ -76,3 +95,17 @@ known_still gs = λ k h there. record { guest = h; there = there; is = refl }
 
 pub steps_still : (now : ℕ) (gs : List (Option Guest)) → EachSteps now gs gs
 steps_still now gs = λ k g there. subst (λ (p : Option (Option Guest)). StepsIn now g.connection p) (sym there) still
+
+-- what a host did for a call that names a connection, whatever became of the event that is kept
+pub named : (k n : KeptHost) (host : Host) (now number result : ℕ) → n.host ≡ host → n.packet ≡ k.packet
+    → IsApart k.host.guests.items host.guests.items number → (result ≢ ok → (i : ℕ) → slice_get host.guests.items i ≡ slice_get k.host.guests.items i)
+    → (result ≢ ok → host.agenda ≡ k.host.agenda) → EachSame all_known_of k.host.guests.items host.guests.items
+    → EachSteps (max k.host.clock.latest now) k.host.guests.items host.guests.items → Names k n now number result
+named k n host now number result same packet apart unchanged agenda known steps = record {
+  apart = subst (λ (h : Host). IsApart k.host.guests.items h.guests.items number) (sym same) apart;
+  unchanged = λ refused i. ap (λ (h : Host). slice_get h.guests.items i) same ∙ unchanged refused i;
+  agenda = λ refused. ap (λ (h : Host). h.agenda) same ∙ agenda refused;
+  known = subst (λ (h : Host). EachSame all_known_of k.host.guests.items h.guests.items) (sym same) known;
+  steps = subst (λ (h : Host). EachSteps (max k.host.clock.latest now) k.host.guests.items h.guests.items) (sym same) steps;
+  packet = packet;
+}

@@ -5,7 +5,7 @@ use Rattle.courier_sessions.specs.declared.answer.Answer.{Answer}
 use Rattle.xns_idp.specs.declared.address.Address.{Address}
 use Rattle.xns_spp.specs.Packet.{SppPacketModel, spp_packet_of}
 use Rattle.xns_host.specs.Hosting as hosting
-use Rattle.xns_host.specs.Hosting.{EachSame, EachSteps, HasHeard, IsAsked, IsOpened, IsPacketOf, WentOn, confirms}
+use Rattle.xns_host.specs.Hosting.{EachSame, EachSteps, HasHeard, IsAsked, IsNextPacket, IsOpened, IsPacketOf, WentOn, confirms}
 use Rattle.xns_host.specs.Knowing.{all_known_of}
 use Rattle.xns_host.specs.Story.{asked_of}
 use Rattle.courier_sessions.specs.Answering.{answer_message}
@@ -168,10 +168,16 @@ GivesPacket (Some p) old new had written way via result =
     (length p.packet ≤ length old → (result ≡ ok) × IsPut p.packet old new written × (via ≡ p.via))
     × (length old < length p.packet → (result ≡ short_buffer) × (written ≡ length p.packet) × (new ≡ old) × (via ≡ way))
 
--- a packet that is kept is the next one; where there is none, no connection has one that may be to go out
+-- the packet is the first of the stray replies, or one that a connection gave
+abbrev pub IsNextOut : (k n : KeptHost) → Outgoing → Type 0
+IsNextOut k n p = ((others : List Outgoing) × (k.host.strays.waiting ≡ p ∷ others)) ⊎ IsNextPacket k.host.guests.items n.host.guests.items p
+
+-- a packet that is kept is the next one; where none is kept it is one that the host gives, and where there is none, no connection has one
+-- that may be to go out
 pub record FetchesPacket (k n : KeptHost) (old new : List ℕ) (had written way via result : ℕ) : Type 0 where
   pub found : Option Outgoing
   pub kept : (p : Outgoing) → k.packet ≡ Some p → (found ≡ Some p) × (n.host ≡ k.host)
+  pub told : (p : Outgoing) → k.packet ≡ None → found ≡ Some p → IsNextOut k n p
   pub rested : result ≡ nothing → HasNoPacket n.host.guests.items
   pub given : GivesPacket found old new had written way via result
   pub left : n.packet ≡ left_of found result

@@ -10,7 +10,7 @@ ghost use Rattle.xns_host.specs.declared.outgoing.Outgoing.{Outgoing};
 ghost use Rattle.xns_host.specs.declared.setting.Setting.{Setting};
 ghost use Rattle.xns_c.specs.Heads.{answer_in};
 ghost use Rattle.xns_c.specs.Hosts.{Calls, AnswersCall, Closes, Connects, Serves, Receives, Wakes, FetchesEvent, FetchesPacket};
-ghost use Rattle.xns_c.specs.Hosts.{kept_after};
+ghost use Rattle.xns_c.specs.Hosts.{IsNextOut, kept_after};
 ghost use Rattle.xns_c.specs.Results.{ok};
 ghost use Rattle.xns_c.specs.Structs.{address_in};
 
@@ -184,6 +184,7 @@ impl KeptHost {
         ensures kept { (p : Outgoing) → self.old.packet ≡ Some p → (result ≡ Ok tt) × (self.new ≡ self.old) }
         ensures event { self.new.event ≡ self.old.event }
         ensures none { OnErr result (self.new.packet ≡ None) }
+        ensures told { (p : Outgoing) → self.old.packet ≡ None → self.new.packet ≡ Some p → IsNextOut self.old self.new p }
         ensures rested { result ≡ Ok tt → self.new.packet ≡ None → HasNoPacket self.new.host.guests.items }
     {
         if self.packet.is_none() {
