@@ -13,6 +13,9 @@ use Rattle.item_world.specs.World.{World}
 use Rattle.item_world.specs.declared.side.Side.{Side}
 use Rattle.item_world.specs.declared.side.Side.TheVariants.{A, B}
 use Rattle.xns_spp.specs.Packet.{SppPacketModel, spp_packet_of}
+use Rattle.xns_host.specs.Deeds as deeds
+use Rattle.xns_host.specs.Deeds.{Deed, with_answer}
+use Rattle.xns_host.specs.Step.{Promises, Step}
 use Rattle.xns_host.specs.Acting.{Acts, idling, calling, handing, answering}
 use Rattle.xns_host.specs.Closing.{drains}
 use Rattle.xns_host.specs.Living.{Deeds, GoesFrom}
@@ -20,7 +23,7 @@ use Rattle.xns_host.specs.Reasons.{answer_fault_of}
 use Rattle.xns_host.specs.Refusing.{answer_fault, side_answer_fault, Answers as Refusals}
 use Rattle.xns_host.specs.Story.{Story, GoesOn, asked_of, waiting_message, with_handed}
 use Rattle.xns_host.specs.Telling.{Tells, Goes, Gives, MovesAndGives, Hears}
-use Rattle.xns_agenda.specs.Waiting.{HearsAt}
+use Rattle.xns_agenda.specs.Waiting.{HearsAt, StepsAt, still}
 use Rattle.xns_host.specs.declared.connection.Connection.{Connection}
 use Rattle.xns_host.specs.declared.conversation.Conversation.{Conversation}
 use Rattle.xns_host.specs.declared.host_fault.HostFault.{HostFault}
@@ -204,11 +207,29 @@ pub pair_unchanged : {X E : Type 0} (p : Pair) (c d : Connection) (side : Side) 
 pair_unchanged p c d side (Ok x) is same = tt
 pair_unchanged p c d side (Err e) is same = put_back p side d (same ∙ is)
 
-pub pair_calls : (p : Pair) (c d : Connection) (side : Side) (call : RawCall) (r : Result (Unit {0}) HostFault) → c ≡ connection_at p side → d.conversation.packets ≡ c.conversation.packets
-    → ((h : Story) → Tells c.conversation h → r ≡ Ok tt → (m : Story) × Tells d.conversation m × GoesOn (record h { made = h.made ++ call ∷ [] }) m)
-    → OnOk r (Steps p (with_connection p side d) side (one_call_more call) [])
-pair_calls p c d side call (Ok u) is same on = pair_acts p c d side (one_call_more call) (λ h. record h { made = h.made ++ call ∷ [] }) is same (λ h l. calling call) (λ h tells. on h tells refl)
-pair_calls p c d side call (Err e) is same on = tt
+pub pair_calls : (p : Pair) (c d : Connection) (side : Side) (now : ℕ) (call : RawCall) (r : Result (Unit {0}) HostFault) → c ≡ connection_at p side
+    → OnOk r (Step now (deeds.made call) c d) → OnOk r (Promises now (deeds.made call) c d) → OnOk r (Steps p (with_connection p side d) side (one_call_more call) [])
+pair_calls p c d side now call (Ok u) is step promises =
+    pair_acts p c d side (one_call_more call) (λ h. record h { made = h.made ++ call ∷ [] }) is step.packets (λ h l. calling call) promises.story
+pair_calls p c d side now call (Err e) is step promises = tt
+
+pub pair_closes : (p : Pair) (c d : Connection) (side : Side) (now : ℕ) → c ≡ connection_at p side → Step now deeds.asked c d → Promises now deeds.asked c d
+    → Steps p (with_connection p side d) side no_more []
+pair_closes p c d side now is step promises = pair_acts p c d side no_more (λ h. h) is step.packets (λ h l. idling) promises.story
+
+-- its waits come by steps of that moment, or stay
+pub waits_on : {E : Type 0} (now : ℕ) (deed : Deed) (c d : Connection) (r : Result (Unit {0}) E) → OnOk r (Promises now deed c d) → OnErr r (d ≡ c)
+    → StepsAt now c.wait d.wait
+waits_on now deed c d (Ok u) promises same = promises.steps
+waits_on now deed c d (Err e) promises same = subst (λ (x : Connection). StepsAt now c.wait x.wait) (sym same) still
+
+waits_there : (x y z : Connection) (now : ℕ) → x ≡ y → StepsAt now x.wait z.wait → StepsAt now y.wait z.wait
+waits_there x y z now same steps = subst (λ (k : Connection). StepsAt now k.wait z.wait) same steps
+
+pub one_waits : (p : Pair) (c d : Connection) (side : Side) (now : ℕ) → c ≡ connection_at p side → StepsAt now c.wait d.wait
+    → StepsAt now (connection_at p side).wait (connection_at (with_connection p side d) side).wait
+one_waits p c d A now is steps = waits_there c (connection_at p A) d now is steps
+one_waits p c d B now is steps = waits_there c (connection_at p B) d now is steps
 
 asked_in : (o : Option ℕ) (kind : Answer) (words : List ℕ) → answer_fault (answer_refusal o kind words) ≡ None → (k : ℕ) × (o ≡ Some k)
 asked_in None kind words e = absurd (cc)
@@ -224,16 +245,18 @@ asked c kind words e = by (drains c.side c.closing) e where
   by true e = absurd (cc)
   by false e = side_asked c.side kind words e
 
-pub pair_answers : (p : Pair) (c d : Connection) (side : Side) (kind : Answer) (words : List ℕ) (r : Result (Unit {0}) HostFault) → c ≡ connection_at p side → d.conversation.packets ≡ c.conversation.packets → Refusals (answer_fault_of c.conversation kind words) r
-    → ((h : Story) (k : ℕ) → Tells c.conversation h → asked_of c.conversation.side ≡ Some k → r ≡ Ok tt → (m : Story) × Tells d.conversation m × GoesOn (record h { answers = h.answers ++ answer_message kind k words ∷ [] }) m)
+pub pair_answers : (p : Pair) (c d : Connection) (side : Side) (now : ℕ) (kind : Answer) (words : List ℕ) (r : Result (Unit {0}) HostFault) → c ≡ connection_at p side
+    → Refusals (answer_fault_of c.conversation kind words) r → OnOk r (Step now (deeds.gave kind words) c d) → OnOk r (Promises now (deeds.gave kind words) c d)
     → OnOk r ((k : ℕ) × (asked_of (connection_at p side).conversation.side ≡ Some k) × Steps p (with_connection p side d) side (one_answer_more (answer_message kind k words)) [])
-pair_answers p c d side kind words (Ok u) is same none on =
+pair_answers p c d side now kind words (Ok u) is none step promises =
     let some = asked c.conversation kind words none in (
       some.0,
       subst (λ (k : Connection). asked_of k.conversation.side ≡ Some some.0) is some.1,
-      pair_acts p c d side (one_answer_more (answer_message kind some.0 words)) (λ h. record h { answers = h.answers ++ answer_message kind some.0 words ∷ [] }) is same (λ h l. answering kind some.0 words some.1) (λ h tells. on h some.0 tells some.1 refl),
+      pair_acts p c d side (one_answer_more (answer_message kind some.0 words)) (λ h. record h { answers = h.answers ++ answer_message kind some.0 words ∷ [] }) is step.packets
+          (λ h l. answering kind some.0 words some.1)
+          (λ h tells. subst (λ (o : Option ℕ). (m : Story) × Tells d.conversation m × GoesOn (with_answer o kind words h) m) some.1 (promises.story h tells)),
     )
-pair_answers p c d side kind words (Err e) is same none on = tt
+pair_answers p c d side now kind words (Err e) is none step promises = tt
 
 pub pair_hands : (p : Pair) (c d : Connection) (side : Side) (r : Option Message) → c ≡ connection_at p side → d.conversation.packets ≡ c.conversation.packets → r ≡ waiting_message c.conversation.side
     → ((h : Story) (m : Message) → Tells c.conversation h → r ≡ Some m → (n : Story) × Tells d.conversation n × GoesOn (with_handed c.conversation.side h m) n)

@@ -1,17 +1,21 @@
 -- What is fetched of a host is given, or stays.
-use Rattle.std.proofs.Common.{◌≡◌, ◌≢◌, ◌<◌, ◌≤◌, ℕ, List, [], ◌∷◌, length, max, slice_get, Option, Result, Ok, IfOk, IfSome, Some, None, inl, inr, refl, sym, ap, ◌∙◌, subst, arith}
+use Rattle.std.proofs.Common.{◌≡◌, ◌≢◌, ◌<◌, ◌≤◌, ℕ, List, [], ◌∷◌, length, max, slice_get, Option, Result, Ok, Err, false, IfOk, IfSome, Some, None, inl, inr, refl, sym, ap, ◌∙◌, subst, arith}
 use Rattle.std.proofs.lemmas.Bool.{cases_lt}
-use Rattle.xns_agenda.specs.Waiting.{still}
-use Rattle.xns_host.specs.Hosting.{EachSame, EachSteps, IsApart, IsNextEvent, IsNextPacket, StepsIn}
+use Rattle.xns_host.specs.Deeds.{Deed}
+use Rattle.xns_host.specs.Hosting.{IsNextEvent, IsNextPacket, has_guest}
+use Rattle.xns_host.specs.Refusing.{Answers}
+use Rattle.xns_host.specs.Turn.{Turn}
+use Rattle.xns_host.specs.declared.conversation.Conversation.{Conversation}
+use Rattle.xns_host.specs.declared.host_fault.HostFault.TheVariants.{NoConnection}
+use Rattle.xns_c.specs.Faults.{host_told}
 use Rattle.xns_host.specs.declared.host_fault.HostFault.{HostFault}
-use Rattle.xns_host.specs.Knowing.{all_known_of}
 use Rattle.xns_host.specs.declared.guest.Guest.{Guest}
 use Rattle.xns_host.specs.declared.event.Event.{Event}
 use Rattle.xns_host.specs.declared.host.Host.{Host}
 use Rattle.xns_host.specs.declared.outgoing.Outgoing.{Outgoing}
 use Rattle.xns_c.specs.Events.{EventIsGiven}
 use Rattle.xns_c.specs.Given.{IsPut}
-use Rattle.xns_c.specs.Hosts.{FetchesEvent, FetchesPacket, GivesPacket, IsNextOut, Names, left_of}
+use Rattle.xns_c.specs.Hosts.{FetchesEvent, FetchesPacket, GivesPacket, IsNextOut, Turns, left_of}
 use Rattle.xns_c.specs.Results.{ok, nothing, short_buffer}
 use Rattle.xns_c.specs.declared.event.XnsEvent.{XnsEvent}
 use Rattle.xns_c.specs.declared.kept_host.KeptHost.{KeptHost}
@@ -89,23 +93,17 @@ packet_short p b old new had written way number is room put short unchanged = (
       (y.0, y.1, subst (λ (x : List ℕ). length old < length x → new ≡ old) is unchanged none, refl),
 )
 
--- where nothing is done, each connection is known as it was, and its waits stay
-pub known_still : (gs : List (Option Guest)) → EachSame all_known_of gs gs
-known_still gs = λ k h there. record { guest = h; there = there; is = refl }
-
-pub steps_still : (now : ℕ) (gs : List (Option Guest)) → EachSteps now gs gs
-steps_still now gs = λ k g there. subst (λ (p : Option (Option Guest)). StepsIn now g.connection p) (sym there) still
-
 -- what a host did for a call that names a connection, whatever became of the event that is kept
-pub named : (k n : KeptHost) (host : Host) (now number result : ℕ) → n.host ≡ host → n.packet ≡ k.packet
-    → IsApart k.host.guests.items host.guests.items number → (result ≢ ok → (i : ℕ) → slice_get host.guests.items i ≡ slice_get k.host.guests.items i)
-    → (result ≢ ok → host.agenda ≡ k.host.agenda) → EachSame all_known_of k.host.guests.items host.guests.items
-    → EachSteps (max k.host.clock.latest now) k.host.guests.items host.guests.items → Names k n now number result
-named k n host now number result same packet apart unchanged agenda known steps = record {
-  apart = subst (λ (h : Host). IsApart k.host.guests.items h.guests.items number) (sym same) apart;
-  unchanged = λ refused i. ap (λ (h : Host). slice_get h.guests.items i) same ∙ unchanged refused i;
-  agenda = λ refused. ap (λ (h : Host). h.agenda) same ∙ agenda refused;
-  known = subst (λ (h : Host). EachSame all_known_of k.host.guests.items h.guests.items) (sym same) known;
-  steps = subst (λ (h : Host). EachSteps (max k.host.clock.latest now) k.host.guests.items h.guests.items) (sym same) steps;
+pub turned : (k n : KeptHost) (host : Host) (now number : ℕ) (deed : Deed) (fault : Conversation → Option HostFault) (answer : Result (Unit {0}) HostFault) (result : ℕ)
+    → n.host ≡ host → n.packet ≡ k.packet → result ≡ host_told answer → Turn now number deed answer k.host host
+    → (has_guest (slice_get k.host.guests.items number) ≡ false → answer ≡ Err (NoConnection number))
+    → ((g : Guest) → slice_get k.host.guests.items number ≡ Some (Some g) → Answers (fault g.connection.conversation) answer)
+    → Turns k n now number deed fault result
+turned k n host now number deed fault answer result same packet told turn none refused = record {
+  answer = answer;
+  told = told;
+  turn = subst (λ (h : Host). Turn now number deed answer k.host h) (sym same) turn;
+  none = none;
+  refused = refused;
   packet = packet;
 }

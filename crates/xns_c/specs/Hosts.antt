@@ -1,14 +1,14 @@
 -- What becomes of a host that C holds.
-use Rattle.std.specs.Prelude.{◌≡◌, ◌≢◌, ◌⊎◌, ◌<◌, ◌≤◌, ℕ, false, ◌==◌, if◌then◌else◌, List, [], ◌∷◌, ◌++◌, length, max, Option, Some, None, Ok, slice_get}
+use Rattle.std.specs.Prelude.{◌≡◌, ◌≢◌, ◌⊎◌, ◌<◌, ◌≤◌, ℕ, false, ◌==◌, if◌then◌else◌, List, [], ◌∷◌, ◌++◌, length, max, Option, Some, None, Result, Ok, Err, slice_get}
 use Rattle.courier_messages.specs.RawCalls.{RawCall}
 use Rattle.courier_sessions.specs.declared.answer.Answer.{Answer}
 use Rattle.xns_idp.specs.declared.address.Address.{Address}
 use Rattle.xns_spp.specs.Packet.{SppPacketModel, spp_packet_of}
 use Rattle.xns_host.specs.Hosting as hosting
-use Rattle.xns_host.specs.Hosting.{EachSame, EachSteps, HasHeard, IsAsked, IsNextPacket, IsOpened, IsPacketOf, WentOn, confirms}
-use Rattle.xns_host.specs.Knowing.{all_known_of}
-use Rattle.xns_host.specs.Story.{asked_of}
-use Rattle.courier_sessions.specs.Answering.{answer_message}
+use Rattle.xns_host.specs.Hosting.{HasHeard, IsNextPacket, IsOpened, IsPacketOf, confirms}
+use Rattle.xns_host.specs.Deeds.{Deed, asked, gave, made}
+use Rattle.xns_host.specs.Refusing.{Answers}
+use Rattle.xns_host.specs.Turn.{Turn}
 use Rattle.xns_host.specs.Hosting.{IsApart, IsConnected, IsNextEvent, ChangesOne, HasNoEvent, HasNoPacket, HasNoRoom, Wants}
 use Rattle.xns_host.specs.Hosting.{has_guest, address_in}
 use Rattle.xns_host.specs.Reasons.{call_fault_of, answer_fault_of}
@@ -16,9 +16,10 @@ use Rattle.xns_host.specs.declared.conversation.Conversation.{Conversation}
 use Rattle.xns_host.specs.declared.event.Event.{Event}
 use Rattle.xns_host.specs.declared.guest.Guest.{Guest}
 use Rattle.xns_host.specs.declared.host_fault.HostFault.{HostFault}
+use Rattle.xns_host.specs.declared.host_fault.HostFault.TheVariants.{NoConnection}
 use Rattle.xns_host.specs.declared.outgoing.Outgoing.{Outgoing}
 use Rattle.xns_c.specs.Events.{EventIsGiven, event_number}
-use Rattle.xns_c.specs.Faults.{unless_fault}
+use Rattle.xns_c.specs.Faults.{host_told}
 use Rattle.xns_c.specs.Given.{IsPut}
 use Rattle.xns_c.specs.Results.{ok, nothing, no_memory, short_buffer, bad_argument, no_host, no_connection, no_slot}
 use Rattle.xns_c.specs.Settings.{never}
@@ -42,32 +43,14 @@ IsNew (Some k) most = (length k.host.guests.items ≡ most) × (k.event ≡ None
 
 -- ---- calls that name a connection
 
--- no other connection is changed; where the call is refused, none is, and nothing that is to be done; each is known as it was, and its
--- waits come by steps of the latest time that was told
-pub record Names (k n : KeptHost) (now number result : ℕ) : Type 0 where
-  pub apart : IsApart k.host.guests.items n.host.guests.items number
-  pub unchanged : result ≢ ok → (i : ℕ) → guest_at n i ≡ guest_at k i
-  pub agenda : result ≢ ok → n.host.agenda ≡ k.host.agenda
-  pub known : EachSame all_known_of k.host.guests.items n.host.guests.items
-  pub steps : EachSteps (max k.host.clock.latest now) k.host.guests.items n.host.guests.items
+-- the host made this turn, and the answer is told; what is kept of packets stays
+pub record Turns (k n : KeptHost) (now number : ℕ) (deed : Deed) (fault : Conversation → Option HostFault) (result : ℕ) : Type 0 where
+  pub answer : Result (Unit {0}) HostFault
+  pub told : result ≡ host_told answer
+  pub turn : Turn now number deed answer k.host n.host
+  pub none : has_guest (guest_at k number) ≡ false → answer ≡ Err (NoConnection number)
+  pub refused : (g : Guest) → guest_at k number ≡ Some (Some g) → Answers (fault g.connection.conversation) answer
   pub packet : n.packet ≡ k.packet
-
--- what is told where this is the reason against it: memory is refused only where there is none
-abbrev pub Tells : Option HostFault → ℕ → Type 0
-Tells fault result = (result ≢ no_memory → result ≡ unless_fault fault) × (result ≡ no_memory → fault ≡ None)
-
--- the same of the connection with a number
-pub record TellsOf (k : KeptHost) (number : ℕ) (fault : Conversation → Option HostFault) (result : ℕ) : Type 0 where
-  pub none : has_guest (guest_at k number) ≡ false → result ≡ no_connection
-  pub some : (g : Guest) → guest_at k number ≡ Some (Some g) → Tells (fault g.connection.conversation) result
-
--- the connection goes on from where it is with that call made
-pub record Calls (k n : KeptHost) (now number : ℕ) (call : RawCall) (result : ℕ) : Type 0 where
-  pub names : Names k n now number result
-  pub called : (g : Guest) (place : Option Guest) → guest_at k number ≡ Some (Some g) → result ≡ ok → guest_at n number ≡ Some place
-      → WentOn g.connection (λ h. record h { made = h.made ++ call ∷ [] }) place
-  pub told : TellsOf k number (λ t. call_fault_of t call) result
-  pub event : n.event ≡ k.event
 
 -- the event that is kept goes where it is of a connection whose call was answered, or that was closed
 abbrev pub unless_of : Option Event → ℕ → Option Event
@@ -77,21 +60,20 @@ unless_of (Some e) number = if event_number e == number then None else Some e
 abbrev pub kept_after : Option Event → ℕ → ℕ → Option Event
 kept_after event number result = if result == ok then unless_of event number else event
 
--- or with that answer given
+-- that call was made
+pub record Calls (k n : KeptHost) (now number : ℕ) (call : RawCall) (result : ℕ) : Type 0 where
+  pub turns : Turns k n now number (made call) (λ t. call_fault_of t call) result
+  pub event : n.event ≡ k.event
+
+-- that answer was given; one that is none changes nothing
 pub record AnswersCall (k n : KeptHost) (now number : ℕ) (answer : Option Answer) (words : List ℕ) (result : ℕ) : Type 0 where
-  pub names : Names k n now number result
-  pub answered : (a : Answer) (g : Guest) (transaction : ℕ) (place : Option Guest) → answer ≡ Some a → guest_at k number ≡ Some (Some g)
-      → asked_of g.connection.conversation.side ≡ Some transaction → result ≡ ok → guest_at n number ≡ Some place
-      → WentOn g.connection (λ h. record h { answers = h.answers ++ answer_message a transaction words ∷ [] }) place
-  pub bad : answer ≡ None → result ≡ bad_argument
-  pub told : (a : Answer) → answer ≡ Some a → TellsOf k number (λ t. answer_fault_of t a words) result
+  pub turns : (a : Answer) → answer ≡ Some a → Turns k n now number (gave a words) (λ t. answer_fault_of t a words) result
+  pub bad : answer ≡ None → (result ≡ bad_argument) × (n ≡ k)
   pub event : n.event ≡ kept_after k.event number result
 
--- or asked to close
+-- it was asked to close
 pub record Closes (k n : KeptHost) (now number result : ℕ) : Type 0 where
-  pub names : Names k n now number result
-  pub closed : (g : Guest) (place : Option Guest) → guest_at k number ≡ Some (Some g) → guest_at n number ≡ Some place → IsAsked g.connection place
-  pub none : has_guest (guest_at k number) ≡ false → result ≡ no_connection
+  pub turns : Turns k n now number asked (λ t. None) result
   pub event : n.event ≡ kept_after k.event number result
 
 -- ---- other calls

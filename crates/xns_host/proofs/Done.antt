@@ -4,6 +4,9 @@ use Rattle.std.specs.Prelude.{◌&&◌, nat_le, slice_set, if◌then◌else◌}
 use Rattle.std.specs.Option.{is_none, is_some}
 use Rattle.std.proofs.lemmas.Bool.{le-leb, leb-false, lt-leb}
 use Rattle.xns_agenda.specs.Agenda.{Plan}
+use Rattle.xns_host.specs.Deeds.{Parts, acted_by}
+use Rattle.xns_host.specs.Deeds as deeds
+use Rattle.xns_host.specs.Step.{parts_of}
 use Rattle.xns_host.specs.Connecting.{owed_after}
 use Rattle.xns_host.specs.Hosting.{ActsIn, DoesDue, EachActs, EachSteps, StepsIn, HasActed, HasActedIn, HasNoneDone, IsAllNoted, IsApart, StaysIn, facts_in, forgotten, is_done, may_go, stays}
 use Rattle.xns_agenda.specs.Times.{HasNoneBy, IsFirstBy}
@@ -74,12 +77,8 @@ no_act w (AgainAt t) now after = not_by (nat_le t now) (unless_silent w Again) (
 no_act w (AskAt t) now after = not_by (nat_le t now) (unless_silent w Ask) (lt-leb t now (after t refl))
 no_act w (ForgetAt t) now after = not_by (nat_le t now) Forget (lt-leb t now (after t refl))
 
--- and nothing more is owed
-owes_on : (o : Owed) (w : Waiting) (now : ℕ) → IsDueAfter now w.due → owed_after o (act_at w now) ≡ o
-owes_on o w now after = ap (λ (a : Act). owed_after o a) (no_act w w.due now after)
-
-nothing_acts : (w : Waiting) (now : ℕ) → IsDueAfter now w.due → after_act w now ≡ w
-nothing_acts w now after = idle_by w w.due now after
+nothing_more : (p : Parts) (now : ℕ) → IsDueAfter now p.wait.due → deeds.acted p now ≡ p
+nothing_more p now after = ap (λ (a : Act). acted_by p a now) (no_act p.wait p.wait.due now after)
 
 -- ---- in how many places something is due
 
@@ -172,7 +171,7 @@ none_due now (g ∷ gs) none (suc k) p there = none_due now gs (omega (arith, no
 
 -- what is due of the one connection now leads to what it leads to of the other
 abbrev Leads : ℕ → (c d : Connection) → Type 0
-Leads now c d = (after_act d.wait now ≡ after_act c.wait now) × (owed_after d.owed (act_at d.wait now) ≡ owed_after c.owed (act_at c.wait now))
+Leads now c d = deeds.acted (parts_of d) now ≡ deeds.acted (parts_of c) now
 
 -- what is due of the connection in this place now leads to what it led to at first
 record WillAct (now : ℕ) (c : Connection) (place : Option (Option Guest)) : Type 0 where
@@ -190,7 +189,7 @@ pub at_first : (now : ℕ) (first : Places) → HasNoneDone first → SoFar now 
 at_first now first all = record {
   will = λ k g there. record {
     next = g.connection;
-    will = (refl, refl);
+    will = refl;
     stays = subst (λ (q : Option (Option Guest)). StaysIn g.connection q) (sym there) (stays g refl);
     gone = λ go. absurd (not_gone_yet g.connection (all.each k g there) go);
   };
@@ -224,14 +223,11 @@ then_will now c g place next_place will there acted =
     by will.next place will.will refl will.stays where
       after : (d : Connection) → g.connection ≡ d → Leads now c d → WillAct now c next_place
       after d here leads =
-          let next_wait : after_act acted.next.wait now ≡ after_act c.wait now
-          = nothing_acts acted.next.wait now acted.acts.later ∙ acted.acts.wait ∙ ap (λ (x : Connection). after_act x.wait now) here ∙ leads.0 in
-          let next_owed : owed_after acted.next.owed (act_at acted.next.wait now) ≡ owed_after c.owed (act_at c.wait now)
-          = owes_on acted.next.owed acted.next.wait now acted.acts.later ∙ acted.acts.owed
-          ∙ ap (λ (x : Connection). owed_after x.owed (act_at x.wait now)) here ∙ leads.1 in
+          let next_parts : deeds.acted (parts_of acted.next) now ≡ deeds.acted (parts_of c) now
+          = nothing_more (parts_of acted.next) now acted.acts.later ∙ acted.acts.parts ∙ ap (λ (x : Connection). deeds.acted (parts_of x) now) here ∙ leads in
           record {
             next = acted.next;
-            will = (next_wait, next_owed);
+            will = next_parts;
             stays = acted.stays;
             gone = acted.gone;
           }
@@ -270,8 +266,7 @@ at_last : (now : ℕ) (first gs : Places) (rounds : ℕ) → SoFar now first gs 
 at_last now first gs rounds before none = λ k g there. let w = before.will k g there in by k g w.next w.will _ refl w.stays w.gone where
   acted : (c d : Connection) → Leads now c d → IsDueAfter now d.wait.due → HasActed now c d
   acted c d leads after = record {
-    wait = sym (nothing_acts d.wait now after) ∙ leads.0;
-    owed = sym (owes_on d.owed d.wait now after) ∙ leads.1;
+    parts = sym (nothing_more (parts_of d) now after) ∙ leads;
     later = after;
   }
 

@@ -7,7 +7,8 @@ use Rattle.xns_idp.specs.Packet.{same_place}
 use Rattle.xns_spp.specs.Ends.{is_open}
 use Rattle.xns_spp.specs.State.{State}
 use Rattle.xns_spp.specs.Telling.{own_name}
-use Rattle.xns_host.specs.Hosting.{Each, EachGoes, EachKeeps, HasReplied, HasToldIn, IsApart, IsGiven, IsNextPacket, LedIn, LedTo, StaysIn, TellsIn}
+use Rattle.xns_host.specs.Step.{HasReplied}
+use Rattle.xns_host.specs.Hosting.{Each, EachGoes, EachKeeps, HasToldIn, IsApart, IsGiven, IsNextPacket, LedIn, LedTo, StaysIn, TellsIn}
 use Rattle.xns_host.specs.Hosting.{forgotten, is_done, may_go, stays}
 use Rattle.xns_host.specs.Quotes.{is_opened_by}
 use Rattle.xns_host.specs.Knowing.{known_in}

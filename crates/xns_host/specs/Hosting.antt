@@ -15,8 +15,7 @@ use Rattle.xns_spp.specs.Packet.{SppPacketModel, spp_packet_of}
 use Rattle.xns_spp.specs.Receiving.{StoresBytes, after_receive}
 use Rattle.xns_spp.specs.State.{State, initiator_state, responder_state}
 use Rattle.xns_agenda.specs.Agenda.{Plan, IsNoted}
-use Rattle.xns_host.specs.Closed.{ClosesBy}
-use Rattle.xns_host.specs.Connecting.{owed_after}
+use Rattle.xns_host.specs.Deeds.{acted}
 use Rattle.xns_host.specs.Events.{event_in}
 use Rattle.xns_host.specs.Identifiers.{Ids, IsNext, is_free}
 use Rattle.courier_messages.specs.declared.message.Message.{Message}
@@ -24,12 +23,13 @@ use Rattle.xns_host.specs.Living.{GoesFrom}
 use Rattle.xns_host.specs.Quotes.{is_opened_by, quoted_opening}
 use Rattle.xns_host.specs.Knowing.{all_known_of, known_of, news_of}
 use Rattle.xns_host.specs.Services.{programs_at}
+use Rattle.xns_host.specs.Step.{ClosesFrom, HasReplied, StaysAsked, parts_of}
 use Rattle.xns_host.specs.Settings.{IsBegun}
 use Rattle.xns_host.specs.Story.{Story, has_message, new_story, waiting_message, with_handed}
-use Rattle.xns_host.specs.Telling.{Tells, Goes, HasSaidEnd, HasSaidReply, Hears, Keeps, MovesAndGives}
+use Rattle.xns_host.specs.Telling.{Tells, Goes, HasSaidEnd, Hears, Keeps, MovesAndGives}
 use Rattle.xns_agenda.specs.Times.{IsBy}
 use Rattle.xns_agenda.specs.Turns.{has_turn}
-use Rattle.xns_agenda.specs.Waiting.{HearsAt, IsDueAfter, StepsAt, act_at, after_act, due_time, lingering}
+use Rattle.xns_agenda.specs.Waiting.{HearsAt, IsDueAfter, StepsAt, due_time, lingering}
 use Rattle.xns_host.specs.declared.connection.Connection.{Connection}
 use Rattle.xns_host.specs.declared.conversation.Conversation.{Conversation}
 use Rattle.xns_host.specs.declared.event.Event.{Event}
@@ -118,18 +118,6 @@ pub record IsThere (P : Guest → Type 0) (place : Option (Option Guest)) : Type
 abbrev pub EachSame : {X : Type 0} → (Guest → X) → (old new : List (Option Guest)) → Type 0
 EachSame what old new = (k : ℕ) (h : Guest) → slice_get new k ≡ Some (Some h) → IsThere (λ g. what h ≡ what g) (slice_get old k)
 
--- once it was asked to close it stays asked
-abbrev pub StaysAsked : (old new : Conversation) → Type 0
-StaysAsked old new = old.closing.wanted ≡ true → new.closing.wanted ≡ true
-
--- a connection owes no EndReply any longer, unless memory was refused while items moved, or this step closed it
-abbrev pub HasReplied : (old new : Connection) → Type 0
-HasReplied old new = new.owed.moving ≡ false → new.closed ≡ old.closed → HasSaidReply new.conversation
-
--- after this was done its items moved, and so it was closed, if it was
-abbrev pub ClosesFrom : (old new : Connection) → (Story → Story) → Type 0
-ClosesFrom old new deed = ClosesBy old.conversation deed new.conversation new.owed.moving old.closed new.closed
-
 -- the connection in this place went on from where that one was when the program had done this, whatever it had done before
 abbrev pub WentOn : Connection → (Story → Story) → Option Guest → Type 0
 WentOn c deed None = ⊥
@@ -172,10 +160,9 @@ EachGoes old new = Each Goes old new
 abbrev pub EachKeeps : (old new : List (Option Guest)) → Type 0
 EachKeeps old new = Each Keeps old new
 
--- what was due of the connection at this time was done, it owes what that says, and nothing of it is due then
+-- what was due of the connection at this time was done, and nothing of it is due then
 pub record HasActed (now : ℕ) (c next : Connection) : Type 0 where
-  pub wait : next.wait ≡ after_act c.wait now
-  pub owed : next.owed ≡ owed_after c.owed (act_at c.wait now)
+  pub parts : parts_of next ≡ acted (parts_of c) now
   pub later : IsDueAfter now next.wait.due
 
 -- it is the one in this place

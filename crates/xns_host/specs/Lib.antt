@@ -3,11 +3,14 @@ pub mod Agreeing
 pub mod Closed
 pub mod Closing
 pub mod Connecting
+pub mod Deeds
 pub mod Events
+pub mod Giving
 pub mod Hosting
 pub mod Identifiers
 pub mod Knowing
 pub mod Living
+pub mod Moving
 pub mod Ours
 pub mod Quotes
 pub mod Reasons
@@ -17,6 +20,9 @@ pub mod Registered
 pub mod Services
 pub mod Settings
 pub mod Standing
+pub mod Step
 pub mod Story
 pub mod Strays
 pub mod Telling
+pub mod Turn
+pub mod Went

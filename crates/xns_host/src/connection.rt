@@ -1,7 +1,8 @@
 //! A conversation with its waits.
 
 ghost use Rattle.std.specs.Prelude.{◌≡◌, ◌≢◌, ◌<◌, ◌≤◌, ◌&&◌, ◌||◌, ◌∷◌, ◌++◌, [], ℕ, List, not, nat_lt, if◌then◌else◌, true, false};
-ghost use Rattle.std.specs.Prelude.{IfOk, OnOk, OnErr, Some, None, Ok};
+ghost use Rattle.std.specs.Prelude.{IfOk, OnOk, OnErr, Some, None, Ok, Err};
+ghost use Rattle.courier_sessions.specs.declared.feed_refusal.FeedRefusal.TheVariants.{NoMemory};
 ghost use Rattle.std.specs.Option.{is_some};
 ghost use Rattle.courier_messages.specs.declared.message.Message.{Message};
 ghost use Rattle.courier_messages.specs.RawCalls.{words_call};
@@ -20,6 +21,7 @@ ghost use Rattle.xns_host.specs.Connecting.{StaysOwed, WaitsOn};
 ghost use Rattle.xns_host.specs.Reasons.{call_fault_of, answer_fault_of};
 ghost use Rattle.xns_host.specs.Refusing.{Answers};
 ghost use Rattle.xns_host.specs.Settings.{IsBegun, IsFit};
+ghost use Rattle.xns_host.specs.Deeds.{GoesOnBy, acted, asked, gave, heard, is_starved, made, nothing, unserved};
 ghost use Rattle.xns_host.specs.Story.{Story, GoesOn, new_story, asked_of, waiting_message, with_handed, has_message};
 ghost use Rattle.xns_host.specs.Telling.{Tells, Goes, MovesAndGives, Rested, Calm, CalmFrom, HasSaidEnd, HasSaidReply, Hears, OwesRoom, ReadsAll, waits, is_over};
 ghost use Rattle.xns_agenda.specs.Waiting.{HearsAt, IsDueAfter, StepsAt, act_at, after_act, after_step, after_word, last_time, lingering, new_waiting};
@@ -129,6 +131,15 @@ fn after_moving(
     wait_on(conversation, wait, now);
 }
 
+/// Whether memory was refused while items moved.
+fn is_starved(moved: Result<(), FeedRefusal>) -> bool
+    ensures value { result ≡ is_starved moved }
+    ensures yes { result ≡ true → moved ≡ Err NoMemory }
+    ensures none { result ≡ false → moved ≢ Err NoMemory }
+{
+    matches!(moved, Err(FeedRefusal::NoMemory))
+}
+
 /// Moves what can move; notes why the connection is closed then, if it is, and what is waited for.
 fn settled(
     conversation: &mut Conversation,
@@ -166,10 +177,11 @@ fn settled(
         → waiting_count s ≤ waiting_count v → owed.new.word ≡ false }
     ensures wanted { conversation.new.closing.wanted ≡ conversation.old.closing.wanted }
     ensures unasked { conversation.old.closing.wanted ≡ false → conversation.new.closing.end_sent ≡ conversation.old.closing.end_sent }
+    ensures moved { GoesOnBy now conversation.old conversation.new owed.old owed.new closed.old closed.new wait.old wait.new }
 {
     let waiting = conversation.endpoint.waiting();
     let moved = conversation.settle(alloc);
-    owed.moving = matches!(moved, Err(FeedRefusal::NoMemory));
+    owed.moving = is_starved(moved);
     owed.word = owed.word || conversation.endpoint.waiting() < waiting;
     owed.fresh = true;
     after_moving(conversation, moved, closed, wait, now);
@@ -242,6 +254,7 @@ fn wait_unless(conversation: &Conversation, closed: Option<Why>, wait: &mut Wait
 
 impl Connection {
     ghost use Rattle.xns_host.specs.declared.closing.TheConstants.Closing.{NONE};
+    ghost use Rattle.xns_host.specs.Step.{GivesNext, Hands, MovesOwed, Promises, Step, parts_of};
 
     fn new(
         alloc: Global,
@@ -381,6 +394,7 @@ impl Connection {
             → ReadsAll self.old.conversation self.new.conversation }
         ensures said { self.new.owed.moving ≡ false → HasSaidEnd self.new.conversation }
         ensures replied { self.new.owed.moving ≡ false → self.new.closed ≡ self.old.closed → HasSaidReply self.new.conversation }
+        ensures step { Step now nothing self.old self.new }
         ensures unwanted { self.new.conversation.closing.wanted ≡ self.old.conversation.closing.wanted }
     {
         settled(
@@ -430,6 +444,7 @@ impl Connection {
             → self.new.closed ≡ None → StandsFor self.new.conversation.endpoint v
             → self.new.wait ≡ after_step (wait_heard self.old.wait s b now) (waits v) now) }
         ensures unwanted { self.new.conversation.closing.wanted ≡ self.old.conversation.closing.wanted }
+        ensures step { OnOk result ((b : List ℕ) → spp_packet_of b ≡ Ok packet.now → Step now (heard b) self.old self.new) }
     {
         let before = self.conversation.endpoint.unacknowledged();
         let was_open = self.conversation.endpoint.is_open();
@@ -470,6 +485,7 @@ impl Connection {
         ensures said { self.old.owed.moving ≡ true → self.new.owed.moving ≡ false → HasSaidEnd self.new.conversation }
         ensures replied { self.old.owed.moving ≡ true → self.new.owed.moving ≡ false → self.new.closed ≡ self.old.closed
             → HasSaidReply self.new.conversation }
+        ensures moved { MovesOwed self.old.owed.moving now self.old self.new }
         ensures unwanted { self.new.conversation.closing.wanted ≡ self.old.conversation.closing.wanted }
     {
         if !self.owed.moving {
@@ -494,6 +510,7 @@ impl Connection {
         ensures left { result ≡ GiveUp → self.new.conversation ≡ record self.old.conversation {
           closing = record self.old.conversation.closing { deaf = true };
         } }
+        ensures step { parts_of self.new ≡ acted (parts_of self.old) now }
     {
         let act = self.wait.act(now);
         self.owed = owed_after(self.owed, act);
@@ -520,6 +537,7 @@ impl Connection {
         ensures left { self.old.closed ≡ None → self.new.closed ≢ None → self.new.conversation ≡ record self.old.conversation {
           closing = record self.old.conversation.closing { deaf = true };
         } }
+        ensures step { (s : State) → StandsFor self.old.conversation.endpoint s → parts_of self.new ≡ unserved (parts_of self.old) s now }
     {
         if self.conversation.endpoint.is_open() {
             return;
@@ -574,6 +592,7 @@ impl Connection {
         ensures kept_word { self.old.owed.word ≡ true → self.new.owed.word ≡ false → self.old.conversation.packets.items ≡ [] }
         ensures refused { OnErr result ((self.old.owed.word ≡ true → self.new.owed.word ≡ true) × (self.new.owed.asks ≡ self.old.owed.asks)
             × (self.old.owed.fresh ≡ true → self.new.owed.fresh ≡ true)) }
+        ensures step { GivesNext now result self.old self.new }
         ensures unasked { (self.old.owed.again ≡ false → self.new.owed.again ≡ false) × (self.old.owed.asks ≡ false → self.new.owed.asks ≡ false) }
     {
         self.move_owed(alloc, now);
@@ -594,32 +613,10 @@ impl Connection {
         procedure: u16,
         words: &[u16],
     ) -> Result<(), HostFault>
-        ensures answer { Answers (call_fault_of self.old.conversation (words_call program version procedure words.now)) result }
-        ensures called { (h : Story) → Tells self.old.conversation h → result ≡ Ok tt → (m : Story) × Tells self.new.conversation m
-            × GoesOn (record h { made = h.made ++ words_call program version procedure words.now ∷ [] }) m }
-        ensures wanted { self.old.conversation.closing.wanted ≡ true → self.new.conversation.closing.wanted ≡ true }
-        ensures calm { result ≡ Ok tt → self.new.owed.moving ≡ false
-            → drains self.new.conversation.side self.new.conversation.closing ≡ false
-            → CalmFrom self.old.conversation self.new.conversation
-            (λ h. record h { made = h.made ++ words_call program version procedure words.now ∷ [] }) }
-        ensures read { result ≡ Ok tt → self.new.owed.moving ≡ false → self.new.closed ≡ self.old.closed
-            → ReadsAll self.old.conversation self.new.conversation }
-        ensures said { result ≡ Ok tt → self.new.owed.moving ≡ false → HasSaidEnd self.new.conversation }
-        ensures replied { result ≡ Ok tt → self.new.owed.moving ≡ false → self.new.closed ≡ self.old.closed
-            → HasSaidReply self.new.conversation }
-        ensures why { result ≡ Ok tt → ClosesBy self.old.conversation
-            (λ h. record h { made = h.made ++ words_call program version procedure words.now ∷ [] }) self.new.conversation
-            self.new.owed.moving self.old.closed self.new.closed }
-        ensures closed { self.old.closed ≢ None → self.new.closed ≡ self.old.closed }
-        ensures packets { self.new.conversation.packets ≡ self.old.conversation.packets }
-        ensures told { self.new.told ≡ self.old.told }
-        ensures steps { StepsAt now self.old.wait self.new.wait }
-        ensures fresh { result ≡ Ok tt → self.new.owed.fresh ≡ true }
-        ensures room { OwesRoom self.old.conversation.endpoint self.new.conversation.endpoint self.new.owed.word }
+        ensures refused { Answers (call_fault_of self.old.conversation (words_call program version procedure words.now)) result }
+        ensures step { OnOk result (Step now (made (words_call program version procedure words.now)) self.old self.new) }
+        ensures promises { OnOk result (Promises now (made (words_call program version procedure words.now)) self.old self.new) }
         ensures unchanged { OnErr result (self.new ≡ self.old) }
-        ensures owed { StaysOwed self.old.owed self.new.owed }
-        ensures waits { result ≡ Ok tt → WaitsOn self.new.conversation.endpoint self.old.closed self.new.closed self.old.wait self.new.wait now }
-        ensures unwanted { self.new.conversation.closing.wanted ≡ self.old.conversation.closing.wanted }
     {
         self.conversation
             .call(alloc, program, version, procedure, words)?;
@@ -644,33 +641,10 @@ impl Connection {
         kind: Answer,
         words: &[u16],
     ) -> Result<(), HostFault>
-        ensures answer { Answers (answer_fault_of self.old.conversation kind words.now) result }
-        ensures answered { (h : Story) (k : ℕ) → Tells self.old.conversation h → asked_of self.old.conversation.side ≡ Some k
-            → result ≡ Ok tt → (m : Story) × Tells self.new.conversation m
-            × GoesOn (record h { answers = h.answers ++ answer_message kind k words.now ∷ [] }) m }
-        ensures wanted { self.old.conversation.closing.wanted ≡ true → self.new.conversation.closing.wanted ≡ true }
-        ensures calm { (k : ℕ) → asked_of self.old.conversation.side ≡ Some k → result ≡ Ok tt → self.new.owed.moving ≡ false
-            → drains self.new.conversation.side self.new.conversation.closing ≡ false
-            → CalmFrom self.old.conversation self.new.conversation
-            (λ h. record h { answers = h.answers ++ answer_message kind k words.now ∷ [] }) }
-        ensures read { (k : ℕ) → asked_of self.old.conversation.side ≡ Some k → result ≡ Ok tt → self.new.owed.moving ≡ false
-            → self.new.closed ≡ self.old.closed → ReadsAll self.old.conversation self.new.conversation }
-        ensures said { result ≡ Ok tt → self.new.owed.moving ≡ false → HasSaidEnd self.new.conversation }
-        ensures replied { result ≡ Ok tt → self.new.owed.moving ≡ false → self.new.closed ≡ self.old.closed
-            → HasSaidReply self.new.conversation }
-        ensures why { (k : ℕ) → asked_of self.old.conversation.side ≡ Some k → result ≡ Ok tt → ClosesBy self.old.conversation
-            (λ h. record h { answers = h.answers ++ answer_message kind k words.now ∷ [] }) self.new.conversation
-            self.new.owed.moving self.old.closed self.new.closed }
-        ensures closed { self.old.closed ≢ None → self.new.closed ≡ self.old.closed }
-        ensures packets { self.new.conversation.packets ≡ self.old.conversation.packets }
-        ensures told { self.new.told ≡ self.old.told }
-        ensures steps { StepsAt now self.old.wait self.new.wait }
-        ensures fresh { result ≡ Ok tt → self.new.owed.fresh ≡ true }
-        ensures room { OwesRoom self.old.conversation.endpoint self.new.conversation.endpoint self.new.owed.word }
+        ensures refused { Answers (answer_fault_of self.old.conversation kind words.now) result }
+        ensures step { OnOk result (Step now (gave kind words.now) self.old self.new) }
+        ensures promises { OnOk result (Promises now (gave kind words.now) self.old self.new) }
         ensures unchanged { OnErr result (self.new ≡ self.old) }
-        ensures owed { StaysOwed self.old.owed self.new.owed }
-        ensures waits { result ≡ Ok tt → WaitsOn self.new.conversation.endpoint self.old.closed self.new.closed self.old.wait self.new.wait now }
-        ensures unwanted { self.new.conversation.closing.wanted ≡ self.old.conversation.closing.wanted }
     {
         self.conversation.answer(alloc, kind, words)?;
         settled(
@@ -686,25 +660,8 @@ impl Connection {
 
     /// Closes once all that it has to say is said.
     pub fn close(&mut self, alloc: Global, now: u64)
-        ensures goes { Goes self.old.conversation self.new.conversation }
-        ensures asked { self.new.conversation.closing.wanted ≡ true }
-        ensures packets { self.new.conversation.packets ≡ self.old.conversation.packets }
-        ensures calm { self.new.owed.moving ≡ false → drains self.new.conversation.side self.new.conversation.closing ≡ false
-            → Calm self.old.conversation self.new.conversation }
-        ensures read { self.new.owed.moving ≡ false → self.new.closed ≡ self.old.closed
-            → ReadsAll self.old.conversation self.new.conversation }
-        ensures said { self.new.owed.moving ≡ false → HasSaidEnd self.new.conversation }
-        ensures replied { self.new.owed.moving ≡ false → self.new.closed ≡ self.old.closed
-            → HasSaidReply self.new.conversation }
-        ensures why { ClosesBy self.old.conversation (λ h. h) self.new.conversation self.new.owed.moving
-            self.old.closed self.new.closed }
-        ensures closed { self.old.closed ≢ None → self.new.closed ≡ self.old.closed }
-        ensures told { self.new.told ≡ self.old.told }
-        ensures steps { StepsAt now self.old.wait self.new.wait }
-        ensures fresh { self.new.owed.fresh ≡ true }
-        ensures room { OwesRoom self.old.conversation.endpoint self.new.conversation.endpoint self.new.owed.word }
-        ensures owed { StaysOwed self.old.owed self.new.owed }
-        ensures waits { WaitsOn self.new.conversation.endpoint self.old.closed self.new.closed self.old.wait self.new.wait now }
+        ensures step { Step now asked self.old self.new }
+        ensures promises { Promises now asked self.old self.new }
     {
         self.conversation.close();
         settled(
@@ -750,6 +707,7 @@ impl Connection {
             → StandsFor self.new.conversation.endpoint s → self.new.wait ≡ after_step self.old.wait (waits s) now }
         ensures kept { self.old.closed ≢ None → self.new.wait ≡ self.old.wait }
         ensures lingers { self.old.closed ≡ None → self.new.closed ≢ None → self.new.wait ≡ lingering self.old.wait now }
+        ensures step { Hands now self.old self.new }
     {
         let message = self.conversation.take_message()?;
         if !self.owed.moving && self.conversation.is_calm() {

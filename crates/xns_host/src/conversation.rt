@@ -1,6 +1,6 @@
 //! An endpoint, its side, and the closing exchange between both.
 
-ghost use Rattle.std.specs.Prelude.{◌≡◌, ◌≢◌, ◌≤◌, ◌-◌, ℕ, [], ◌∷◌, ◌++◌, List, true, false, is_ok, IfErr, IfOk, OnOk, OnErr, Some, None, Ok, Err};
+ghost use Rattle.std.specs.Prelude.{◌≡◌, ◌≢◌, ◌⊎◌, ◌||◌, ◌≤◌, ◌-◌, ℕ, [], ◌∷◌, ◌++◌, List, true, false, is_ok, IfErr, IfOk, OnOk, OnErr, Some, None, Ok, Err};
 ghost use Rattle.courier_messages.specs.declared.message.Message.{Message};
 ghost use Rattle.courier_messages.specs.RawCalls.{words_call};
 ghost use Rattle.courier_sessions.specs.declared.feed_refusal.FeedRefusal.TheVariants.{NoMemory};
@@ -8,11 +8,14 @@ ghost use Rattle.courier_sessions.specs.Answering.{answer_message};
 ghost use Rattle.xns_spp.specs.Held.{StandsFor};
 ghost use Rattle.xns_spp.specs.Packet.{IsSppPacket, spp_packet_of};
 ghost use Rattle.xns_spp.specs.Receiving.{input_answer, after_receive, StoresBytes};
-ghost use Rattle.xns_spp.specs.Sending.{send_answer, after_send, flush_answer, tick_answer, waiting_count};
+ghost use Rattle.xns_spp.specs.Sending.{send_answer, after_flush, after_send, flush_answer, tick_answer, waiting_count};
 ghost use Rattle.std.specs.Option.{option_to_list};
 ghost use Rattle.xns_spp.specs.State.{State};
-ghost use Rattle.xns_spp.specs.Telling.{resend_answer, told_answer};
+ghost use Rattle.xns_spp.specs.Telling.{after_resend, resend_answer, told_answer};
 ghost use Rattle.xns_host.specs.Closing.{StaysSaid, closing_item, noted, drains};
+ghost use Rattle.xns_host.specs.Giving.{Giving, GivesAs, IsGiving, IsShort, flushed, giving, has_packets, newer, next_of, older};
+ghost use Rattle.xns_host.specs.Moving.{IsAt, Moves, Scene, Settles, closed_up, drained_out, ended, is_calm, replied, scene, taken_many, taken_one};
+ghost use Rattle.xns_host.specs.Deeds.{side_answered, side_called, side_taken};
 ghost use Rattle.xns_host.specs.Refusing.{Answers};
 ghost use Rattle.xns_host.specs.declared.closing.TheConstants.Closing.{NONE};
 ghost use Rattle.xns_host.specs.Story.{Story, asked_of, waiting_message, with_handed};
@@ -108,6 +111,7 @@ impl Conversation {
         ensures fewer { (s v : State) → StandsFor self.old.endpoint s → StandsFor self.new.endpoint v
             → waiting_count v ≤ waiting_count s - 1 }
         ensures side { self.new.side ≡ self.old.side }
+        ensures at { (s : State) → StandsFor self.old.endpoint s → IsAt self.new (taken_one (scene self.old s)) }
         ensures kept { StaysSaid self.old.closing self.new.closing }
     {
         xns_spp::laws::the_next_item_is_handed_up();
@@ -124,6 +128,7 @@ impl Conversation {
         ensures packets { self.new.packets ≡ self.old.packets }
         ensures read { (h : Story) → Tells self.old h → NoneWaits self.new.endpoint }
         ensures side { self.new.side ≡ self.old.side }
+        ensures at { (s : State) → StandsFor self.old.endpoint s → IsAt self.new (taken_many (waiting_count s) (scene self.old s)) }
         ensures kept { StaysSaid self.old.closing self.new.closing }
     {
         for turn in 0..self.endpoint.waiting() {
@@ -138,6 +143,7 @@ impl Conversation {
         ensures idle { drains self.new.side self.new.closing ≡ false → self.new ≡ self.old }
         ensures read { ReadsAll self.old self.new }
         ensures side { self.new.side ≡ self.old.side }
+        ensures at { (s : State) → StandsFor self.old.endpoint s → IsAt self.new (drained_out (scene self.old s)) }
         ensures kept { StaysSaid self.old.closing self.new.closing }
     {
         if self.drains() {
@@ -184,6 +190,7 @@ impl Conversation {
         ensures replied { HasSaidReply self.new }
         ensures side { self.new.side ≡ self.old.side }
         ensures unasked { owes_reply self.old ≡ false → self.new ≡ self.old }
+        ensures at { (s : State) → StandsFor self.old.endpoint s → IsAt self.new (replied (scene self.old s)) }
         ensures closing { self.new.closing ≡ record self.old.closing { reply_sent = self.new.closing.reply_sent } }
     {
         xns_spp::laws::items_are_accepted_or_change_nothing();
@@ -203,6 +210,7 @@ impl Conversation {
         ensures said { HasSaidEnd self.new }
         ensures side { self.new.side ≡ self.old.side }
         ensures unasked { owes_end self.old ≡ false → self.new ≡ self.old }
+        ensures at { (s : State) → StandsFor self.old.endpoint s → IsAt self.new (ended (scene self.old s)) }
         ensures closing { self.new.closing ≡ record self.old.closing { end_sent = self.new.closing.end_sent } }
     {
         xns_spp::laws::items_are_accepted_or_change_nothing();
@@ -222,6 +230,7 @@ impl Conversation {
         ensures reads { IsUnrefused result → (h : Story) → Tells self.old h → drains self.old.side self.old.closing ≡ false
             → drains self.new.side self.new.closing ≡ false }
         ensures refused { IfErr result (λ e. GoesUntil self.old (λ h. h) e) }
+        ensures moves { (s : State) → StandsFor self.old.endpoint s → (x : Scene) × IsAt self.new x × Moves (scene self.old s) result x }
         ensures closing { self.new.closing ≡ self.old.closing }
     {
         if self.drains() {
@@ -239,6 +248,7 @@ impl Conversation {
         ensures said { HasSaidEnd self.new }
         ensures replied { HasSaidReply self.new }
         ensures side { self.new.side ≡ self.old.side }
+        ensures at { (s : State) → StandsFor self.old.endpoint s → IsAt self.new (closed_up (scene self.old s)) }
         ensures kept { (self.new.closing.wanted ≡ self.old.closing.wanted) × (self.new.closing.deaf ≡ self.old.closing.deaf) }
         ensures unasked { owes_end self.old ≡ false → self.new.closing.end_sent ≡ self.old.closing.end_sent }
     {
@@ -284,6 +294,7 @@ impl Conversation {
         ensures replied { result ≢ Err NoMemory → HasSaidReply self.new }
         ensures reads { IsUnrefused result → ReadsOn self.old self.new }
         ensures refused { IfErr result (λ e. GoesUntil self.old (λ h. h) e) }
+        ensures settles { (s : State) → StandsFor self.old.endpoint s → (x : Scene) × IsAt self.new x × Settles (scene self.old s) result x }
         ensures wanted { self.new.closing.wanted ≡ self.old.closing.wanted }
         ensures heard { (result ≡ Ok tt → self.new.closing.deaf ≡ self.old.closing.deaf)
             × (result ≡ Err NoMemory → self.new.closing.deaf ≡ self.old.closing.deaf) }
@@ -300,6 +311,7 @@ impl Conversation {
 
     /// Whether nothing can move, and nothing is to be said or read of closing.
     pub fn is_calm(&self) -> bool
+        ensures value { (s : State) → StandsFor self.now.endpoint s → result ≡ is_calm (scene self.now s) }
         ensures calm { result ≡ true → Calm self.now self.now }
         ensures open { result ≡ true → drains self.now.side self.now.closing ≡ false }
         ensures closing { result ≡ true → (owes_end self.now ≡ false) × (owes_reply self.now ≡ false) }
@@ -371,6 +383,8 @@ impl Conversation {
         ensures answer { Answers (call_fault_of self.old (words_call program version procedure words.now)) result }
         ensures called { (h : Story) → Tells self.old h → result ≡ Ok tt
             → Tells self.new (record h { made = h.made ++ words_call program version procedure words.now ∷ [] }) }
+        ensures is { result ≡ Ok tt
+            → self.new ≡ record self.old { side = side_called self.old.side (words_call program version procedure words.now) } }
         ensures closing { self.new.closing ≡ self.old.closing }
         ensures drains { drains self.new.side self.new.closing ≡ drains self.old.side self.old.closing }
         ensures endpoint { self.new.endpoint ≡ self.old.endpoint }
@@ -392,6 +406,7 @@ impl Conversation {
         ensures answer { Answers (answer_fault_of self.old answer words.now) result }
         ensures answered { (h : Story) (k : ℕ) → Tells self.old h → asked_of self.old.side ≡ Some k → result ≡ Ok tt
             → Tells self.new (record h { answers = h.answers ++ answer_message answer k words.now ∷ [] }) }
+        ensures is { result ≡ Ok tt → self.new ≡ record self.old { side = side_answered self.old.side answer words.now } }
         ensures closing { self.new.closing ≡ self.old.closing }
         ensures drains { drains self.new.side self.new.closing ≡ drains self.old.side self.old.closing }
         ensures endpoint { self.new.endpoint ≡ self.old.endpoint }
@@ -408,6 +423,7 @@ impl Conversation {
     pub fn take_message(&mut self) -> Option<PiecedMessage>
         ensures message { result ≡ waiting_message self.old.side }
         ensures handed { (h : Story) (m : Message) → Tells self.old h → result ≡ Some m → Tells self.new (with_handed self.old.side h m) }
+        ensures is { self.new ≡ record self.old { side = side_taken self.old.side } }
         ensures closing { self.new.closing ≡ self.old.closing }
         ensures drains { drains self.new.side self.new.closing ≡ drains self.old.side self.old.closing }
         ensures endpoint { self.new.endpoint ≡ self.old.endpoint }
@@ -425,6 +441,7 @@ impl Conversation {
         ensures side { (self.new.side ≡ self.old.side) × (self.new.closing ≡ self.old.closing) }
         ensures rested { OnOk result (Rested self.old self.new) }
         ensures packets { OnOk result ((s : State) → StandsFor self.old.endpoint s → self.new.packets.items ≡ flush_answer s) }
+        ensures stands { OnOk result ((s : State) → StandsFor self.old.endpoint s → StandsFor self.new.endpoint (after_flush s)) }
         ensures unchanged { OnErr result (self.new ≡ self.old) }
     {
         xns_spp::laws::other_steps_accept_and_hand_up_nothing();
@@ -440,6 +457,7 @@ impl Conversation {
         ensures side { (self.new.side ≡ self.old.side) × (self.new.closing ≡ self.old.closing) }
         ensures packets { self.new.packets.items ≡ self.old.packets.items }
         ensures gives { self.old.packets.items ≡ [] → IfOk result (λ o. Gives self.old self.new o) }
+        ensures stands { OnOk result ((s : State) → StandsFor self.old.endpoint s → StandsFor self.new.endpoint (after_resend s)) }
         ensures unchanged { OnErr result (self.new ≡ self.old) }
     {
         xns_spp::laws::other_steps_accept_and_hand_up_nothing();
@@ -475,6 +493,8 @@ impl Conversation {
         ensures unasked { (owed.old.again ≡ false → owed.new.again ≡ false) × (owed.old.word ≡ false → owed.new.word ≡ false) }
         ensures idle { owed.old.again ≡ false → self.new ≡ record self.old { packets = self.new.packets } }
         ensures silent { self.old.packets.items ≡ [] → owed.old.again ≡ false → result ≡ Ok None }
+        ensures at { IfOk result (λ p. (s : State) → StandsFor self.old.endpoint s → GivesAs (older (giving self.old owed.old s)) p self.new owed.new) }
+        ensures stays { OnErr result ((s : State) → StandsFor self.old.endpoint s → IsGiving self.new owed.new (giving self.old owed.old s)) }
         ensures empty { result ≡ Ok None → (self.old.packets.items ≡ []) × (owed.new.word ≡ owed.old.word) }
     {
         if let Some(packet) = self.fetch() {
@@ -511,7 +531,8 @@ impl Conversation {
 
     /// Whether another packet is to go out after one that went out for the first time.
     fn has_more(&self, owed: &Owed) -> bool
-        ensures { result ≡ false → (self.now.packets.items ≡ []) × (owed.now.asks ≡ false) × (owed.now.moving ≡ false) }
+        ensures value { result ≡ owed.now.moving || (owed.now.asks || has_packets self.now.packets.items) }
+        ensures none { result ≡ false → (self.now.packets.items ≡ []) × (owed.now.asks ≡ false) × (owed.now.moving ≡ false) }
     {
         owed.moving || owed.asks || !self.packets.is_empty()
     }
@@ -535,6 +556,9 @@ impl Conversation {
         ensures beside { (owed.new.again ≡ owed.old.again) × (owed.new.moving ≡ owed.old.moving) }
         ensures refused { OnErr result (owed.new ≡ owed.old) }
         ensures unasked { (owed.old.asks ≡ false → owed.new.asks ≡ false) × (owed.old.word ≡ false → owed.new.word ≡ false) }
+        ensures at { IfOk result (λ p. (s : State) → StandsFor self.old.endpoint s → GivesAs (newer (giving self.old owed.old s)) p self.new owed.new) }
+        ensures short { OnErr result ((s : State) → StandsFor self.old.endpoint s → IsGiving self.new owed.new (giving self.old owed.old s)
+            ⊎ IsGiving self.new owed.new (flushed (giving self.old owed.old s))) }
         ensures silent { owed.old.asks ≡ false → owed.old.word ≡ false → (s : State) → StandsFor self.old.endpoint s → flush_answer s ≡ []
             → IfOk result (λ o. o ≡ None) }
     {
@@ -574,6 +598,9 @@ impl Conversation {
             × (owed.old.word ≡ false → owed.new.word ≡ false) }
         ensures silent { self.old.packets.items ≡ [] → owed.old.again ≡ false → owed.old.asks ≡ false → owed.old.word ≡ false
             → (s : State) → StandsFor self.old.endpoint s → flush_answer s ≡ [] → IfOk result (λ o. o ≡ None) }
+        ensures at { IfOk result (λ p. (s : State) → StandsFor self.old.endpoint s → GivesAs (next_of (giving self.old owed.old s)) p self.new owed.new) }
+        ensures short { OnErr result ((s : State) → StandsFor self.old.endpoint s → (y : Giving) × IsShort (giving self.old owed.old s) y
+            × IsGiving self.new owed.new y) }
         ensures kept { owed.old.word ≡ true → owed.new.word ≡ false → self.old.packets.items ≡ [] }
         ensures refused { OnErr result ((owed.new.word ≡ owed.old.word) × (owed.new.asks ≡ owed.old.asks) × (owed.new.fresh ≡ owed.old.fresh)) }
     {

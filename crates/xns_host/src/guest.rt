@@ -1,21 +1,21 @@
 //! A connection in its place at a host.
 
-ghost use Rattle.std.specs.Prelude.{◌≡◌, ℕ, List, [], ◌∷◌, ◌++◌, ◌||◌, OnErr, OnOk, Ok, None, Some, true, false};
-ghost use Rattle.xns_host.specs.Hosting.{ClosesFrom, HasReplied, IsNotDone, StaysAsked, facts_of, lingers_since, may_go, stranger_since};
-ghost use Rattle.courier_messages.specs.RawCalls.{words_call};
+ghost use Rattle.std.specs.Prelude.{◌≡◌, ℕ, List, ◌||◌, OnErr, OnOk, Ok, None, Some, true, false};
+ghost use Rattle.xns_host.specs.Hosting.{IsNotDone, facts_of, lingers_since, may_go, stranger_since};
 ghost use Rattle.xns_spp.specs.Ends.{is_open};
 ghost use Rattle.xns_spp.specs.Held.{StandsFor};
 ghost use Rattle.xns_spp.specs.Packet.{IsSppPacket, spp_packet_of};
 ghost use Rattle.xns_spp.specs.Receiving.{StoresBytes, after_receive};
 ghost use Rattle.xns_spp.specs.State.{State};
+ghost use Rattle.courier_messages.specs.RawCalls.{words_call};
+ghost use Rattle.xns_host.specs.Deeds.{asked, gave, made};
 ghost use Rattle.xns_host.specs.Quotes.{is_opened_by};
-ghost use Rattle.xns_host.specs.Knowing.{known_of, news_of};
 ghost use Rattle.xns_host.specs.Reasons.{call_fault_of, answer_fault_of};
 ghost use Rattle.xns_host.specs.Refusing.{Answers};
-ghost use Rattle.courier_sessions.specs.Answering.{answer_message};
-ghost use Rattle.xns_host.specs.Living.{GoesFrom};
-ghost use Rattle.xns_host.specs.Story.{asked_of};
-ghost use Rattle.xns_host.specs.Telling.{Goes, HasSaidEnd, Hears};
+ghost use Rattle.xns_host.specs.Went.{GuestStep};
+ghost use Rattle.xns_host.specs.Step.{ClosesFrom, HasReplied};
+ghost use Rattle.xns_host.specs.Knowing.{known_of, news_of};
+ghost use Rattle.xns_host.specs.Telling.{Goes, Hears};
 ghost use Rattle.xns_agenda.specs.Waiting.{HearsAt, StepsAt, lingering};
 ghost use Rattle.xns_host.specs.declared.why.Why.TheVariants.{NotServed};
 
@@ -87,22 +87,12 @@ impl Guest {
         procedure: u16,
         words: &[u16],
     ) -> Result<(), HostFault>
-        ensures answer { Answers (call_fault_of self.old.connection.conversation (words_call program version procedure words.now)) result }
-        ensures called { result ≡ Ok tt → GoesFrom self.old.connection.conversation self.new.connection.conversation
-            (λ h. record h { made = h.made ++ words_call program version procedure words.now ∷ [] }) }
-        ensures wanted { StaysAsked self.old.connection.conversation self.new.connection.conversation }
-        ensures steps { StepsAt now self.old.connection.wait self.new.connection.wait }
-        ensures replied { result ≡ Ok tt → HasReplied self.old.connection self.new.connection }
-        ensures closes { result ≡ Ok tt → ClosesFrom self.old.connection self.new.connection
-            (λ h. record h { made = h.made ++ words_call program version procedure words.now ∷ [] }) }
+        ensures refused { Answers (call_fault_of self.old.connection.conversation (words_call program version procedure words.now)) result }
+        ensures step { OnOk result (GuestStep now (made (words_call program version procedure words.now)) self.old self.new) }
         ensures unchanged { OnErr result (self.new ≡ self.old) }
-        ensures known { known_of self.new ≡ known_of self.old }
-        ensures news { news_of self.new ≡ news_of self.old }
-        ensures not_done { IsNotDone self.old.connection → IsNotDone self.new.connection }
     {
         self.connection
-            .call(alloc, now, program, version, procedure, words)?;
-        Ok(())
+            .call(alloc, now, program, version, procedure, words)
     }
 
     /// Answers the call that was handed.
@@ -113,36 +103,16 @@ impl Guest {
         answer: Answer,
         words: &[u16],
     ) -> Result<(), HostFault>
-        ensures answer { Answers (answer_fault_of self.old.connection.conversation answer words.now) result }
-        ensures answered { (k : ℕ) → asked_of self.old.connection.conversation.side ≡ Some k → result ≡ Ok tt
-            → GoesFrom self.old.connection.conversation self.new.connection.conversation
-            (λ h. record h { answers = h.answers ++ answer_message answer k words.now ∷ [] }) }
-        ensures wanted { StaysAsked self.old.connection.conversation self.new.connection.conversation }
-        ensures steps { StepsAt now self.old.connection.wait self.new.connection.wait }
-        ensures replied { result ≡ Ok tt → HasReplied self.old.connection self.new.connection }
-        ensures closes { (k : ℕ) → asked_of self.old.connection.conversation.side ≡ Some k → result ≡ Ok tt
-            → ClosesFrom self.old.connection self.new.connection
-            (λ h. record h { answers = h.answers ++ answer_message answer k words.now ∷ [] }) }
+        ensures refused { Answers (answer_fault_of self.old.connection.conversation answer words.now) result }
+        ensures step { OnOk result (GuestStep now (gave answer words.now) self.old self.new) }
         ensures unchanged { OnErr result (self.new ≡ self.old) }
-        ensures known { known_of self.new ≡ known_of self.old }
-        ensures news { news_of self.new ≡ news_of self.old }
-        ensures not_done { IsNotDone self.old.connection → IsNotDone self.new.connection }
     {
-        self.connection.answer(alloc, now, answer, words)?;
-        Ok(())
+        self.connection.answer(alloc, now, answer, words)
     }
 
     /// Closes the connection once all that it has to say is said.
     pub fn close(&mut self, alloc: Global, now: u64)
-        ensures goes { Goes self.old.connection.conversation self.new.connection.conversation }
-        ensures asked { self.new.connection.conversation.closing.wanted ≡ true }
-        ensures said { self.new.connection.owed.moving ≡ false → HasSaidEnd self.new.connection.conversation }
-        ensures replied { HasReplied self.old.connection self.new.connection }
-        ensures closes { ClosesFrom self.old.connection self.new.connection (λ h. h) }
-        ensures known { known_of self.new ≡ known_of self.old }
-        ensures news { news_of self.new ≡ news_of self.old }
-        ensures not_done { IsNotDone self.old.connection → IsNotDone self.new.connection }
-        ensures steps { StepsAt now self.old.connection.wait self.new.connection.wait }
+        ensures { GuestStep now asked self.old self.new }
     {
         self.connection.close(alloc, now);
     }

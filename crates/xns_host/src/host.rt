@@ -29,6 +29,7 @@ ghost use Rattle.xns_host.specs.Settings.{IsFit, most_connections, wrong_setting
 ghost use Rattle.xns_agenda.specs.Turns.{with_turn};
 ghost use Rattle.xns_host.specs.Hosting.{ActsIn, DoesDue, EachActs, EachSame, EachSteps, HasNoneDone};
 ghost use Rattle.xns_host.specs.Identifiers.{GivesOneAtMost, StaysInOrder, TurnsOver};
+ghost use Rattle.xns_host.specs.Deeds.{asked, gave, made};
 ghost use Rattle.xns_host.specs.Knowing.{all_known_of, known_of, news_of};
 ghost use Rattle.xns_host.specs.Services.{Serves, most_services, programs_at};
 ghost use Rattle.xns_agenda.specs.Waiting.{last_time};
@@ -48,8 +49,8 @@ use crate::register::Register;
 use crate::services::Services;
 use crate::settings::Settings;
 use crate::slots::{
-    act_in, answer_in, call_in, close_in, count, event_in, hear_in, is_done_in, no_guests,
-    not_served_in, note, packet_in, put_in, settle_in,
+    act_in, count, event_in, hear_in, is_done_in, no_guests, not_served_in, note, packet_in,
+    put_in, settle_in,
 };
 use crate::strays::Strays;
 use courier_sessions::{Answer, Program};
@@ -94,6 +95,7 @@ pub struct Host {
 impl Host {
     ghost use Rattle.xns_host.specs.Ours.{IsOf, IsOpener, IsOurs, IsToOpen, QuotesOurs};
     ghost use Rattle.xns_host.specs.Standing.{IsNewHost, IsSameHost, StaysSetUp, StaysSetUpAt};
+    ghost use Rattle.xns_host.specs.Turn.{Turn};
 
     /// A host at this address, without services and connections. The identifiers of its connections come in an order that the secret
     /// gives.
@@ -171,6 +173,7 @@ impl Host {
         ensures agenda { self.new.agenda ≡ self.old.agenda }
         ensures same { IsSameHost self.old self.new }
         ensures clock { self.new.clock ≡ self.old.clock }
+        ensures strays { self.new.strays ≡ self.old.strays }
         ensures order { StaysInOrder self.old.register.identifiers self.new.register.identifiers }
     {
         self.services.serve(self.alloc, socket, programs)
@@ -199,6 +202,7 @@ impl Host {
         ensures agenda { OnErr result (self.new.agenda ≡ self.old.agenda) }
         ensures order { OnErr result (StaysInOrder self.old.register.identifiers self.new.register.identifiers) }
         ensures turned { IfOk result (λ n. (id : ℕ) × TurnsOver self.old.register.identifiers self.new.register.identifiers id) }
+        ensures strays { self.new.strays ≡ self.old.strays }
         ensures set_up { StaysSetUpAt now self.old self.new }
     {
         let now = self.clock.tell(now);
@@ -238,7 +242,7 @@ impl Host {
     /// An `Err`, which changes nothing, is [`HostFault::NoConnection`], [`HostFault::PeerCalls`] where the peer opened it,
     /// [`HostFault::Closing`] where it is closed or was asked to close, [`HostFault::Busy`] while a call waits or its answer was not
     /// fetched, [`HostFault::TooLong`] over 65,530 words, or [`HostFault::NoMemory`].
-    #[tactic(auto, using(crate::proofs::Noting::put_back, crate::proofs::Registered::still_registered, crate::proofs::Undone::still_not_done))]
+    #[tactic(auto, using(crate::proofs::Noting::put_back, crate::proofs::Turns::slot_registered, crate::proofs::Turns::slot_not_done))]
     pub fn call(
         &mut self,
         now: u64,
@@ -248,34 +252,19 @@ impl Host {
         procedure: u16,
         words: &[u16],
     ) -> Result<(), HostFault>
-        ensures apart { IsApart self.old.guests.items self.new.guests.items number }
         ensures none { has_guest (slice_get self.old.guests.items number) ≡ false → result ≡ Err (NoConnection number) }
-        ensures answer { (g : Guest) → slice_get self.old.guests.items number ≡ Some (Some g)
+        ensures refused { (g : Guest) → slice_get self.old.guests.items number ≡ Some (Some g)
             → Answers (call_fault_of g.connection.conversation (words_call program version procedure words.now)) result }
-        ensures called { (g : Guest) (place : Option Guest) → slice_get self.old.guests.items number ≡ Some (Some g) → result ≡ Ok tt
-            → slice_get self.new.guests.items number ≡ Some place
-            → WentOn g.connection (λ h. record h { made = h.made ++ words_call program version procedure words.now ∷ [] }) place }
-        ensures unchanged { OnErr result ((k : ℕ) → slice_get self.new.guests.items k ≡ slice_get self.old.guests.items k) }
-        ensures agenda { OnErr result (self.new.agenda ≡ self.old.agenda) }
-        ensures steps { EachSteps (max self.old.clock.latest now) self.old.guests.items self.new.guests.items }
-        ensures known { EachSame all_known_of self.old.guests.items self.new.guests.items }
-        ensures order { StaysInOrder self.old.register.identifiers self.new.register.identifiers }
-        ensures set_up { StaysSetUpAt now self.old self.new }
+        ensures turn { Turn now number (made (words_call program version procedure words.now)) result self.old self.new }
     {
         let now = self.clock.tell(now);
         if number >= self.guests.len() {
             return Err(HostFault::NoConnection { number });
         }
-        call_in(
-            &mut self.guests[number],
-            self.alloc,
-            now,
-            number,
-            program,
-            version,
-            procedure,
-            words,
-        )?;
+        let Some(guest) = &mut self.guests[number] else {
+            return Err(HostFault::NoConnection { number });
+        };
+        guest.call(self.alloc, now, program, version, procedure, words)?;
         note(self.guests.as_slice(), &mut self.agenda, number);
         Ok(())
     }
@@ -285,7 +274,7 @@ impl Host {
     /// An `Err`, which changes nothing, is [`HostFault::NoConnection`], [`HostFault::NoCall`] where no call was handed that is not
     /// answered, [`HostFault::Closing`] where the connection is closed, [`HostFault::TooLong`] over 131,072 bytes, or
     /// [`HostFault::NoMemory`].
-    #[tactic(auto, using(crate::proofs::Noting::put_back, crate::proofs::Registered::still_registered, crate::proofs::Undone::still_not_done))]
+    #[tactic(auto, using(crate::proofs::Noting::put_back, crate::proofs::Turns::slot_registered, crate::proofs::Turns::slot_not_done))]
     pub fn answer(
         &mut self,
         now: u64,
@@ -293,56 +282,38 @@ impl Host {
         answer: Answer,
         words: &[u16],
     ) -> Result<(), HostFault>
-        ensures apart { IsApart self.old.guests.items self.new.guests.items number }
         ensures none { has_guest (slice_get self.old.guests.items number) ≡ false → result ≡ Err (NoConnection number) }
-        ensures answer { (g : Guest) → slice_get self.old.guests.items number ≡ Some (Some g)
+        ensures refused { (g : Guest) → slice_get self.old.guests.items number ≡ Some (Some g)
             → Answers (answer_fault_of g.connection.conversation answer words.now) result }
-        ensures answered { (g : Guest) (k : ℕ) (place : Option Guest) → slice_get self.old.guests.items number ≡ Some (Some g)
-            → asked_of g.connection.conversation.side ≡ Some k → result ≡ Ok tt → slice_get self.new.guests.items number ≡ Some place
-            → WentOn g.connection (λ h. record h { answers = h.answers ++ answer_message answer k words.now ∷ [] }) place }
-        ensures unchanged { OnErr result ((k : ℕ) → slice_get self.new.guests.items k ≡ slice_get self.old.guests.items k) }
-        ensures agenda { OnErr result (self.new.agenda ≡ self.old.agenda) }
-        ensures steps { EachSteps (max self.old.clock.latest now) self.old.guests.items self.new.guests.items }
-        ensures known { EachSame all_known_of self.old.guests.items self.new.guests.items }
-        ensures order { StaysInOrder self.old.register.identifiers self.new.register.identifiers }
-        ensures set_up { StaysSetUpAt now self.old self.new }
+        ensures turn { Turn now number (gave answer words.now) result self.old self.new }
     {
         let now = self.clock.tell(now);
         if number >= self.guests.len() {
             return Err(HostFault::NoConnection { number });
         }
-        answer_in(
-            &mut self.guests[number],
-            self.alloc,
-            now,
-            number,
-            answer,
-            words,
-        )?;
+        let Some(guest) = &mut self.guests[number] else {
+            return Err(HostFault::NoConnection { number });
+        };
+        guest.answer(self.alloc, now, answer, words)?;
         note(self.guests.as_slice(), &mut self.agenda, number);
         Ok(())
     }
 
     /// Closes a connection once all that it has to say is said. An `Err`, which changes nothing, is [`HostFault::NoConnection`].
-    #[tactic(auto, using(crate::proofs::Noting::put_back, crate::proofs::Registered::still_registered, crate::proofs::Undone::still_not_done))]
+    #[tactic(auto, using(crate::proofs::Noting::put_back, crate::proofs::Turns::slot_registered, crate::proofs::Turns::slot_not_done))]
     pub fn close(&mut self, now: u64, number: usize) -> Result<(), HostFault>
-        ensures apart { IsApart self.old.guests.items self.new.guests.items number }
         ensures none { has_guest (slice_get self.old.guests.items number) ≡ false → result ≡ Err (NoConnection number) }
         ensures some { (g : Guest) → slice_get self.old.guests.items number ≡ Some (Some g) → result ≡ Ok tt }
-        ensures closed { (g : Guest) (place : Option Guest) → slice_get self.old.guests.items number ≡ Some (Some g)
-            → slice_get self.new.guests.items number ≡ Some place → IsAsked g.connection place }
-        ensures unchanged { OnErr result ((k : ℕ) → slice_get self.new.guests.items k ≡ slice_get self.old.guests.items k) }
-        ensures agenda { OnErr result (self.new.agenda ≡ self.old.agenda) }
-        ensures steps { EachSteps (max self.old.clock.latest now) self.old.guests.items self.new.guests.items }
-        ensures known { EachSame all_known_of self.old.guests.items self.new.guests.items }
-        ensures order { StaysInOrder self.old.register.identifiers self.new.register.identifiers }
-        ensures set_up { StaysSetUpAt now self.old self.new }
+        ensures turn { Turn now number asked result self.old self.new }
     {
         let now = self.clock.tell(now);
         if number >= self.guests.len() {
             return Err(HostFault::NoConnection { number });
         }
-        close_in(&mut self.guests[number], self.alloc, now, number)?;
+        let Some(guest) = &mut self.guests[number] else {
+            return Err(HostFault::NoConnection { number });
+        };
+        guest.close(self.alloc, now);
         note(self.guests.as_slice(), &mut self.agenda, number);
         Ok(())
     }
@@ -370,6 +341,8 @@ impl Host {
         ensures ours { result ≡ true → IsOurs self.old bytes.now }
         ensures opener { (p : SppPacketModel) → spp_packet_of bytes.now ≡ Ok p → IsOpener self.old p → result ≡ true }
         ensures order { GivesOneAtMost self.old.register.identifiers self.new.register.identifiers }
+        ensures strays { ((p : PacketModel) (taken : ℕ) → packet_of bytes.now ≡ Ok (p, taken)
+            → IsAnswered (address_in self.old.network self.old.host echo_socket) p → ⊥) → self.new.strays ≡ self.old.strays }
         ensures set_up { StaysSetUpAt now self.old self.new }
     {
         let now = self.clock.tell(now);
@@ -391,6 +364,7 @@ impl Host {
             × MayHaveStray self.old.strays self.new.strays (stray_of via
             (echo_reply (address_in self.old.network self.old.host echo_socket) (packet_model packet.now))) }
         ensures ours { result ≡ true → IsAnswered (address_in self.old.network self.old.host echo_socket) (packet_model packet.now) }
+        ensures strays { (IsAnswered (address_in self.old.network self.old.host echo_socket) (packet_model packet.now) → ⊥) → self.new.strays ≡ self.old.strays }
         ensures guests { self.new.guests ≡ self.old.guests }
         ensures agenda { self.new.agenda ≡ self.old.agenda }
         ensures order { StaysInOrder self.old.register.identifiers self.new.register.identifiers }
@@ -417,6 +391,7 @@ impl Host {
         ensures one { ChangesOne self.old.guests.items self.new.guests.items }
         ensures unchanged { result ≡ false → (k : ℕ) → slice_get self.new.guests.items k ≡ slice_get self.old.guests.items k }
         ensures order { StaysInOrder self.old.register.identifiers self.new.register.identifiers }
+        ensures strays { self.new.strays ≡ self.old.strays }
         ensures set_up { StaysSetUp self.old self.new }
     {
         if packet.target.host != self.host {
@@ -444,6 +419,7 @@ impl Host {
         ensures apart { IsApart self.old.guests.items self.new.guests.items number }
         ensures unchanged { result ≡ false → (k : ℕ) → slice_get self.new.guests.items k ≡ slice_get self.old.guests.items k }
         ensures order { StaysInOrder self.old.register.identifiers self.new.register.identifiers }
+        ensures strays { self.new.strays ≡ self.old.strays }
         ensures set_up { StaysSetUp self.old self.new }
     {
         if number >= self.guests.len() {
@@ -472,6 +448,7 @@ impl Host {
         ensures one { ChangesOne self.old.guests.items self.new.guests.items }
         ensures unchanged { result ≡ false → (k : ℕ) → slice_get self.new.guests.items k ≡ slice_get self.old.guests.items k }
         ensures order { GivesOneAtMost self.old.register.identifiers self.new.register.identifiers }
+        ensures strays { self.new.strays ≡ self.old.strays }
         ensures set_up { StaysSetUp self.old self.new }
     {
         let Ok(packet) = carried_packet(carrier) else {
@@ -505,6 +482,7 @@ impl Host {
         ensures apart { IsApart self.old.guests.items self.new.guests.items number }
         ensures unchanged { result ≡ false → (k : ℕ) → slice_get self.new.guests.items k ≡ slice_get self.old.guests.items k }
         ensures order { StaysInOrder self.old.register.identifiers self.new.register.identifiers }
+        ensures strays { self.new.strays ≡ self.old.strays }
         ensures set_up { StaysSetUp self.old self.new }
     {
         if number >= self.guests.len() {
@@ -533,6 +511,7 @@ impl Host {
         ensures one { ChangesOne self.old.guests.items self.new.guests.items }
         ensures unchanged { result ≡ false → (k : ℕ) → slice_get self.new.guests.items k ≡ slice_get self.old.guests.items k }
         ensures order { GivesOneAtMost self.old.register.identifiers self.new.register.identifiers }
+        ensures strays { self.new.strays ≡ self.old.strays }
         ensures set_up { StaysSetUp self.old self.new }
     {
         let Some((peer, peer_id)) = packet.opener() else {
@@ -571,6 +550,7 @@ impl Host {
         ensures unchanged { result ≡ None → (k : ℕ) → slice_get self.new.guests.items k ≡ slice_get self.old.guests.items k }
         ensures order { result ≡ None → StaysInOrder self.old.register.identifiers self.new.register.identifiers }
         ensures turned { IfSome result (λ n. (id : ℕ) × TurnsOver self.old.register.identifiers self.new.register.identifiers id) }
+        ensures strays { self.new.strays ≡ self.old.strays }
         ensures set_up { StaysSetUp self.old self.new }
     {
         if peer_id == 0 {
@@ -629,6 +609,7 @@ impl Host {
         ensures passed { result ≡ None → self.new.agenda
             ≡ record self.old.agenda { events = with_turn self.old.agenda.events number false } }
         ensures order { StaysInOrder self.old.register.identifiers self.new.register.identifiers }
+        ensures strays { self.new.strays ≡ self.old.strays }
         ensures set_up { StaysSetUp self.old self.new }
     {
         let now = self.clock.latest();
@@ -654,6 +635,7 @@ impl Host {
         ensures none { result ≡ None → HasNoEvent self.old.guests.items }
         ensures unchanged { result ≡ None → (k : ℕ) → slice_get self.new.guests.items k ≡ slice_get self.old.guests.items k }
         ensures order { StaysInOrder self.old.register.identifiers self.new.register.identifiers }
+        ensures strays { self.new.strays ≡ self.old.strays }
         ensures set_up { StaysSetUp self.old self.new }
     {
         while let Some(number) = self.agenda.first_event() {

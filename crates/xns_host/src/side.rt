@@ -9,6 +9,8 @@ ghost use Rattle.xns_spp.specs.Sending.{waiting_count};
 ghost use Rattle.xns_spp.specs.State.{State};
 ghost use Rattle.xns_host.specs.Story.{Story, SideHas, Moves, MovesAll, Calms, IsListed, IsUnlisted, MovesUntil, is_stopped, out_of, asked_of, has_call};
 ghost use Rattle.xns_host.specs.Story.{has_message, waiting_message, with_handed};
+ghost use Rattle.xns_host.specs.Moving.{Converses, Pumps, Rejects};
+ghost use Rattle.xns_host.specs.Deeds.{side_answered, side_called, side_taken};
 ghost use Rattle.xns_host.specs.Refusing.{Answers, side_call_fault, side_answer_fault, call_result, answer_result};
 
 use crate::host_fault::HostFault;
@@ -107,6 +109,7 @@ impl Side {
         ensures answer { Answers (side_call_fault self.old (words_call program version procedure words.now)) result }
         ensures called { (h : Story) → SideHas h self.old → is_stopped self.old ≡ false → result ≡ Ok tt
             → SideHas (record h { made = h.made ++ words_call program version procedure words.now ∷ [] }) self.new }
+        ensures is { result ≡ Ok tt → self.new ≡ side_called self.old (words_call program version procedure words.now) }
         ensures stopped { is_stopped self.new ≡ is_stopped self.old }
         ensures unchanged { OnErr result (self.new ≡ self.old) }
     {
@@ -124,6 +127,7 @@ impl Side {
         ensures answer { Answers (side_answer_fault self.old answer words.now) result }
         ensures answered { (h : Story) (k : ℕ) → SideHas h self.old → is_stopped self.old ≡ false → asked_of self.old ≡ Some k
             → result ≡ Ok tt → SideHas (record h { answers = h.answers ++ answer_message answer k words.now ∷ [] }) self.new }
+        ensures is { result ≡ Ok tt → self.new ≡ side_answered self.old answer words.now }
         ensures stopped { is_stopped self.new ≡ is_stopped self.old }
         ensures unchanged { OnErr result (self.new ≡ self.old) }
     {
@@ -138,6 +142,7 @@ impl Side {
     pub fn take_message(&mut self) -> Option<PiecedMessage>
         ensures message { result ≡ waiting_message self.old }
         ensures handed { (h : Story) (m : Message) → SideHas h self.old → result ≡ Some m → SideHas (with_handed self.old h m) self.new }
+        ensures is { self.new ≡ side_taken self.old }
         ensures stopped { is_stopped self.new ≡ is_stopped self.old }
         ensures none { result ≡ None → self.new ≡ self.old }
     {
@@ -155,6 +160,7 @@ impl Side {
         ensures moves { Moves self.old endpoint.old self.new endpoint.new }
         ensures all { OnOk result (MovesAll self.old endpoint.old self.new endpoint.new) }
         ensures refused { IfErr result (λ e. MovesUntil self.old endpoint.old e self.new endpoint.new) }
+        ensures pumps { (s : State) → StandsFor endpoint.old s → Pumps self.old s result self.new endpoint.new }
         // A call comes only with an item: where as many wait as before, none came.
         ensures calls { has_message self.old ≡ false → OnOk result ((s v : State) → StandsFor endpoint.old s → StandsFor endpoint.new v
             → waiting_count s ≤ waiting_count v → IsListed self.new) }
@@ -173,6 +179,7 @@ impl Side {
         ensures moves { (e : Held) → Moves self.old e self.new e }
         ensures listed { result ≡ Ok false → (self.new ≡ self.old) × IsListed self.old }
         ensures gone { result ≡ Ok true → has_message self.new ≡ false }
+        ensures rejects { result ≡ Ok true → Rejects self.old self.new }
         ensures stopped { is_stopped self.new ≡ is_stopped self.old }
         ensures memory { OnErr result (IsUnlisted self.old) }
         ensures unchanged { OnErr result (self.new ≡ self.old) }
@@ -191,6 +198,7 @@ impl Side {
         ensures moves { Moves self.old endpoint.old self.new endpoint.new }
         ensures calms { OnOk result (Calms self.old endpoint.old self.new endpoint.new) }
         ensures refused { IfErr result (λ e. MovesUntil self.old endpoint.old e self.new endpoint.new) }
+        ensures converses { (s : State) → StandsFor endpoint.old s → Converses self.old s result self.new endpoint.new }
     {
         self.pump(alloc, endpoint)?;
         let mut waiting = endpoint.waiting();

@@ -1,6 +1,6 @@
 //! What is done of one of a host's connections, in its place.
 
-ghost use Rattle.std.specs.Prelude.{◌≡◌, ◌≢◌, ◌<◌, ◌∷◌, ◌++◌, ◌||◌, ℕ, List, [], Option, length, false, IfOk, IfSome, OnErr, Some, None, Ok, Err};
+ghost use Rattle.std.specs.Prelude.{◌≡◌, ◌≢◌, ◌<◌, ◌∷◌, ◌++◌, ◌||◌, ℕ, List, [], Option, length, false, IfOk, IfSome, OnErr, OnOk, Some, None, Ok, Err};
 ghost use Rattle.std.specs.Prelude.{count_by, replicate, slice_get, slice_set, true};
 ghost use Rattle.std.specs.Option.{is_some};
 ghost use Rattle.courier_messages.specs.RawCalls.{words_call};
@@ -21,6 +21,7 @@ ghost use Rattle.xns_host.specs.Telling.{Goes, Keeps};
 ghost use Rattle.courier_sessions.specs.Answering.{answer_message};
 ghost use Rattle.xns_host.specs.Reasons.{call_fault_of, answer_fault_of};
 ghost use Rattle.xns_host.specs.Refusing.{Answers};
+ghost use Rattle.xns_agenda.specs.Agenda.{noted};
 ghost use Rattle.xns_agenda.specs.Turns.{with_turn};
 ghost use Rattle.xns_host.specs.Hosting.{HasActedIn, StepsIn};
 ghost use Rattle.xns_agenda.specs.Waiting.{last_time};
@@ -30,7 +31,6 @@ ghost use Rattle.xns_host.specs.declared.host_fault.HostFault.TheVariants.{NoCon
 
 use crate::event::Event;
 use crate::guest::Guest;
-use crate::host_fault::HostFault;
 use crate::opening_quote::OpeningQuote;
 use crate::outgoing::Outgoing;
 use crate::register::Register;
@@ -87,6 +87,7 @@ pub fn note(guests: &[Option<Guest>], agenda: &mut Agenda, number: usize)
     ensures sized { length agenda.new.dues ≡ length agenda.old.dues }
     ensures packets { (place : Option Guest) → slice_get guests.now number ≡ Some place
         → agenda.new.packets ≡ with_turn agenda.old.packets number (facts_in place).has_packet }
+    ensures is { (place : Option Guest) → slice_get guests.now number ≡ Some place → agenda.new ≡ noted agenda.old number (facts_in place) }
 {
     let facts = facts_in(&guests[number]);
     agenda.note(number, facts);
@@ -197,63 +198,6 @@ pub fn put_in(
 {
     forget_in(register, guests, agenda, number);
     fill(guests, agenda, number, guest);
-}
-
-/// Puts out a call on the connection of a place.
-pub fn call_in(
-    slot: &mut Option<Guest>,
-    alloc: Global,
-    now: u64,
-    number: usize,
-    program: u32,
-    version: u16,
-    procedure: u16,
-    words: &[u16],
-) -> Result<(), HostFault>
-    ensures none { slot.old ≡ None → result ≡ Err (NoConnection number) }
-    ensures answer { (g : Guest) → slot.old ≡ Some g → Answers
-        (call_fault_of g.connection.conversation (words_call program version procedure words.now)) result }
-    ensures called { (g : Guest) → slot.old ≡ Some g → result ≡ Ok tt → WentOn g.connection
-        (λ h. record h { made = h.made ++ words_call program version procedure words.now ∷ [] }) slot.new }
-    ensures steps { (g : Guest) → slot.old ≡ Some g → StepsIn now g.connection (Some slot.new) }
-    ensures unchanged { OnErr result (slot.new ≡ slot.old) }
-    ensures known { known_in slot.new ≡ known_in slot.old }
-    ensures news { news_in slot.new ≡ news_in slot.old }
-    ensures fits { (g : Guest) → slot.old ≡ Some g → FitsEnd g → FitsEndIn slot.new }
-    ensures not_done { IsNotDoneIn slot.old → IsNotDoneIn slot.new }
-{
-    let Some(guest) = slot else {
-        return Err(HostFault::NoConnection { number });
-    };
-    guest.call(alloc, now, program, version, procedure, words)?;
-    Ok(())
-}
-
-/// Answers the call that was handed of the connection of a place.
-pub fn answer_in(
-    slot: &mut Option<Guest>,
-    alloc: Global,
-    now: u64,
-    number: usize,
-    answer: Answer,
-    words: &[u16],
-) -> Result<(), HostFault>
-    ensures none { slot.old ≡ None → result ≡ Err (NoConnection number) }
-    ensures answer { (g : Guest) → slot.old ≡ Some g → Answers (answer_fault_of g.connection.conversation answer words.now) result }
-    ensures answered { (g : Guest) (k : ℕ) → slot.old ≡ Some g → asked_of g.connection.conversation.side ≡ Some k → result ≡ Ok tt
-        → WentOn g.connection (λ h. record h { answers = h.answers ++ answer_message answer k words.now ∷ [] }) slot.new }
-    ensures steps { (g : Guest) → slot.old ≡ Some g → StepsIn now g.connection (Some slot.new) }
-    ensures unchanged { OnErr result (slot.new ≡ slot.old) }
-    ensures known { known_in slot.new ≡ known_in slot.old }
-    ensures news { news_in slot.new ≡ news_in slot.old }
-    ensures fits { (g : Guest) → slot.old ≡ Some g → FitsEnd g → FitsEndIn slot.new }
-    ensures not_done { IsNotDoneIn slot.old → IsNotDoneIn slot.new }
-{
-    let Some(guest) = slot else {
-        return Err(HostFault::NoConnection { number });
-    };
-    guest.answer(alloc, now, answer, words)?;
-    Ok(())
 }
 
 /// Does what is due of the connection of a place; whether it may be forgotten then.
@@ -386,30 +330,6 @@ pub fn packet_in(
         None if guest.connection.has_packet() => Err(AllocError),
         None => Ok(None),
     }
-}
-
-/// Closes the connection of a place.
-pub fn close_in(
-    slot: &mut Option<Guest>,
-    alloc: Global,
-    now: u64,
-    number: usize,
-) -> Result<(), HostFault>
-    ensures none { slot.old ≡ None → result ≡ Err (NoConnection number) }
-    ensures some { slot.old ≢ None → result ≡ Ok tt }
-    ensures closed { (g : Guest) → slot.old ≡ Some g → IsAsked g.connection slot.new }
-    ensures steps { (g : Guest) → slot.old ≡ Some g → StepsIn now g.connection (Some slot.new) }
-    ensures unchanged { OnErr result (slot.new ≡ slot.old) }
-    ensures known { known_in slot.new ≡ known_in slot.old }
-    ensures news { news_in slot.new ≡ news_in slot.old }
-    ensures fits { (g : Guest) → slot.old ≡ Some g → FitsEnd g → FitsEndIn slot.new }
-    ensures not_done { IsNotDoneIn slot.old → IsNotDoneIn slot.new }
-{
-    let Some(guest) = slot else {
-        return Err(HostFault::NoConnection { number });
-    };
-    guest.close(alloc, now);
-    Ok(())
 }
 
 /// What the program is told of a message of the connection with this number.

@@ -5,6 +5,12 @@ use Rattle.xns_host.specs.declared.conversation.Conversation.{Conversation}
 use Rattle.xns_host.proofs.Leading.{goes_then}
 use Rattle.xns_host.proofs.Tellings.{drains_still, undrained}
 use Rattle.xns_host.proofs.Closes.{closes}
+use Rattle.xns_host.proofs.Steps.{goes_on_by}
+use Rattle.std.proofs.Common.{◌≢◌, ap, refl, None}
+use Rattle.xns_spp.specs.Held.{StandsFor}
+use Rattle.xns_spp.specs.Sending.{waiting_count}
+use Rattle.xns_spp.specs.State.{State}
+use Rattle.xns_host.specs.Deeds.{is_starved, owed_moved}
 use Rattle.xns_host.proofs.connection.settled.Goals as goal
 
 pub after_moving-requires-clause-deaf : goal.after_moving-requires-clause-deaf
@@ -38,3 +44,10 @@ returns-clause-replied c = λ still kept.
 pub returns-clause-why : goal.returns-clause-why
 returns-clause-why c = closes c.args.conversation.now c.settle-moved.new.self c.after_moving.new.conversation c.settle-moved.result _ c.args.closed.now c.after_moving.new.closed
     c.settle-moved.ensures.refused c.settle-moved.ensures.reads c.after_moving.ensures.rest c.after_moving.ensures.stays c.after_moving.ensures.why (search rules) (search rules)
+
+pub returns-clause-moved : goal.returns-clause-moved
+returns-clause-moved c =
+    goes_on_by c.args.now c.args.conversation.now c.settle-moved.new.self c.after_moving.new.conversation c.settle-moved.result c.args.owed.now _ c.args.closed.now c.after_moving.new.closed
+    c.args.wait.now c.after_moving.new.wait c.settle-moved.ensures.settles c.after_moving.ensures.given_up c.after_moving.ensures.stays c.after_moving.ensures.endpoint
+    c.after_moving.ensures.closed c.after_moving.ensures.why c.after_moving.ensures.waits c.after_moving.ensures.kept c.after_moving.ensures.lingers
+    (λ s u here there. search rules)

@@ -1,8 +1,15 @@
-use Rattle.host_world.proofs.Paired.{pair_answers, pair_unchanged}
+use Rattle.xns_host.specs.Deeds.{gave}
+use Rattle.host_world.proofs.Paired.{pair_answers, pair_unchanged, one_waits, waits_on}
 use Rattle.host_world.proofs.pair.Pair.answer.Goals as goal
 
 pub returns-clause-steps : goal.returns-clause-steps
-returns-clause-steps c = pair_answers c.args.self.now c.at.result.now c.answer.new.self c.args.side c.args.kind c.args.words.now c.answer.result c.at.ensures.value c.answer.ensures.packets c.answer.ensures.answer c.answer.ensures.answered
+returns-clause-steps c =
+    pair_answers c.args.self.now c.at.result.now c.answer.new.self c.args.side c.args.now c.args.kind c.args.words.now c.answer.result c.at.ensures.value c.answer.ensures.refused c.answer.ensures.step c.answer.ensures.promises
+
+pub returns-clause-waits : goal.returns-clause-waits
+returns-clause-waits c =
+    one_waits c.args.self.now c.at.result.now c.answer.new.self c.args.side c.args.now c.at.ensures.value
+    (waits_on c.args.now (gave c.args.kind c.args.words.now) c.at.result.now c.answer.new.self c.answer.result c.answer.ensures.promises c.answer.ensures.unchanged)
 
 pub returns-clause-unchanged : goal.returns-clause-unchanged
 returns-clause-unchanged c = pair_unchanged c.args.self.now c.at.result.now c.answer.new.self c.args.side c.answer.result c.at.ensures.value c.answer.ensures.unchanged

@@ -1,9 +1,16 @@
 use Rattle.courier_messages.specs.RawCalls.{words_call}
-use Rattle.host_world.proofs.Paired.{pair_calls, pair_unchanged}
+use Rattle.xns_host.specs.Deeds.{made}
+use Rattle.host_world.proofs.Paired.{pair_calls, pair_unchanged, one_waits, waits_on}
 use Rattle.host_world.proofs.pair.Pair.call.Goals as goal
 
 pub returns-clause-steps : goal.returns-clause-steps
-returns-clause-steps c = pair_calls c.args.self.now c.at.result.now c.call.new.self c.args.side (words_call c.args.program c.args.version c.args.procedure c.args.words.now) c.call.result c.at.ensures.value c.call.ensures.packets c.call.ensures.called
+returns-clause-steps c =
+    pair_calls c.args.self.now c.at.result.now c.call.new.self c.args.side c.args.now (words_call c.args.program c.args.version c.args.procedure c.args.words.now) c.call.result c.at.ensures.value c.call.ensures.step c.call.ensures.promises
+
+pub returns-clause-waits : goal.returns-clause-waits
+returns-clause-waits c =
+    one_waits c.args.self.now c.at.result.now c.call.new.self c.args.side c.args.now c.at.ensures.value
+    (waits_on c.args.now (made (words_call c.args.program c.args.version c.args.procedure c.args.words.now)) c.at.result.now c.call.new.self c.call.result c.call.ensures.promises c.call.ensures.unchanged)
 
 pub returns-clause-unchanged : goal.returns-clause-unchanged
 returns-clause-unchanged c = pair_unchanged c.args.self.now c.at.result.now c.call.new.self c.args.side c.call.result c.at.ensures.value c.call.ensures.unchanged

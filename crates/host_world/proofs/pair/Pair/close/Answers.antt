@@ -1,5 +1,8 @@
-use Rattle.host_world.proofs.Paired.{pair_goes}
+use Rattle.host_world.proofs.Paired.{pair_closes, one_waits}
 use Rattle.host_world.proofs.pair.Pair.close.Goals as goal
 
 pub returns-clause-steps : goal.returns-clause-steps
-returns-clause-steps c = pair_goes c.args.self.now c.at.result.now c.close.new.self c.args.side c.at.ensures.value c.close.ensures.packets c.close.ensures.goes
+returns-clause-steps c = pair_closes c.args.self.now c.at.result.now c.close.new.self c.args.side c.args.now c.at.ensures.value c.close.ensures.step c.close.ensures.promises
+
+pub returns-clause-waits : goal.returns-clause-waits
+returns-clause-waits c = one_waits c.args.self.now c.at.result.now c.close.new.self c.args.side c.args.now c.at.ensures.value c.close.ensures.promises.steps

@@ -1,5 +1,7 @@
 use Rattle.std.proofs.Common.{refl}
 use Rattle.xns_host.proofs.Leading.{goes_not}
+use Rattle.xns_host.specs.Step.{parts_of}
+use Rattle.xns_host.proofs.Steps.{acts_by}
 use Rattle.xns_host.proofs.connection.Connection.act.Goals as goal
 
 pub returns : goal.returns
@@ -14,4 +16,5 @@ returns c = record {
   given_up = λ z. absurd (c.in_default.not-GiveUp z);
   told = refl;
   left = λ z. absurd (c.in_default.not-GiveUp z);
+  step = acts_by (parts_of c.args.self.now) c.act-act.result c.act-act.new.self c.owed_after-self.result c.args.now c.act-act.ensures.act c.act-act.ensures.after c.owed_after-self.ensures c.in_default.not-GiveUp;
 }

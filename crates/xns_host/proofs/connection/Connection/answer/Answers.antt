@@ -1,18 +1,11 @@
-use Rattle.xns_host.proofs.Leading.{calm_from}
-use Rattle.std.proofs.Common.{◌∙◌, ◌++◌, ◌∷◌, [], refl, subst}
+use Rattle.std.proofs.Common.{◌∙◌, ap, refl, subst}
 use Rattle.xns_spp.specs.Held.{Held, StandsFor}
-use Rattle.courier_sessions.specs.Answering.{answer_message}
-use Rattle.std.proofs.Common.{subst}
-use Rattle.xns_spp.specs.Held.{Held}
-use Rattle.xns_host.specs.Telling.{OwesRoom}
-use Rattle.xns_host.proofs.Owing.{same_room}
-use Rattle.xns_host.proofs.Closes.{closes_from}
-use Rattle.xns_host.specs.Story.{Story}
+use Rattle.xns_host.specs.Deeds.{gave}
+use Rattle.xns_host.specs.Moving.{scene}
+use Rattle.xns_host.specs.declared.closing.Closing.{Closing}
+use Rattle.xns_host.specs.declared.conversation.Conversation.{Conversation}
+use Rattle.xns_host.proofs.Steps.{answer_tells, promised, step_by, was_asked}
 use Rattle.xns_host.proofs.connection.Connection.answer.Goals as goal
-
-pub returns-clause-answered : goal.returns-clause-answered
-returns-clause-answered c = λ h k tells asked done.
-    c.settled.ensures.goes.on (record h { answers = h.answers ++ answer_message c.args.kind k c.args.words.now ∷ [] }) (c.in_ok-answer.ensures.answered h k tells asked refl)
 
 pub invariant_of-self : goal.invariant_of-self
 invariant_of-self c = record {
@@ -22,19 +15,18 @@ invariant_of-self c = record {
   deaf = λ some. c.answer.ensures.drains ∙ c.args.self.now.deaf some;
 }
 
-pub returns-clause-calm : goal.returns-clause-calm
-returns-clause-calm c = λ k asked good still free. calm_from (λ h tells. c.in_ok-answer.ensures.answered h k tells asked refl) (c.settled.ensures.calm still free)
+pub returns-clause-step : goal.returns-clause-step
+returns-clause-step c =
+    let k = c.in_ok-answer.ensures in
+    step_by c.args.now (gave c.args.kind c.args.words.now) c.args.self.now _ c.answer.new.self k.endpoint
+    (λ s. ap (λ (t : Conversation). scene t s) (k.is refl)) (λ s. refl) (λ s. refl) c.settled.ensures.moved (c.settled.ensures.packets ∙ k.packets) refl c.settled.ensures.closed
 
-pub returns-clause-read : goal.returns-clause-read
-returns-clause-read c = λ k asked good still same h tells yes.
-    c.settled.ensures.read still same (record h { answers = h.answers ++ answer_message c.args.kind k c.args.words.now ∷ [] }) (c.in_ok-answer.ensures.answered h k tells asked refl) yes
-
-pub returns-clause-room : goal.returns-clause-room
-returns-clause-room c = subst (λ (e : Held). OwesRoom e c.settled.new.conversation.endpoint c.settled.new.owed.word) c.in_ok-answer.ensures.endpoint c.settled.ensures.room
-
-pub returns-in_err-answer-clause-room : goal.returns-in_err-answer-clause-room
-returns-in_err-answer-clause-room c = same_room _ _ _ c.answer.ensures.endpoint
-
-pub returns-clause-why : goal.returns-clause-why
-returns-clause-why c = λ k asked good.
-    closes_from (λ (h : Story). record h { answers = h.answers ++ answer_message c.args.kind k c.args.words.now ∷ [] }) (λ h tells. c.in_ok-answer.ensures.answered h k tells asked refl) c.in_ok-answer.ensures.drains c.settled.ensures.why
+pub returns-clause-promises : goal.returns-clause-promises
+returns-clause-promises c =
+    let k = c.in_ok-answer.ensures in
+    let e = c.settled.ensures in
+    let t = c.args.self.now.conversation in
+    let asked = was_asked t c.args.kind c.args.words.now k.answer in
+    promised c.args.now (gave c.args.kind c.args.words.now) c.args.self.now _ c.answer.new.self
+    (λ h tells. answer_tells t c.answer.new.self c.args.kind c.args.words.now h asked.0 asked.1 (k.answered h asked.0 tells asked.1 refl))
+    k.endpoint k.drains (ap (λ (x : Closing). x.wanted) k.closing) e.goes e.calm e.read e.said e.replied e.why e.steps e.room e.wanted

@@ -1,3 +1,4 @@
+use Rattle.std.proofs.Common.{refl}
 use Rattle.xns_agenda.specs.Waiting.{after_step}
 use Rattle.xns_host.specs.Telling.{waits}
 use Rattle.std.proofs.Common.{subst}
@@ -10,6 +11,7 @@ use Rattle.xns_host.proofs.Tellings.{rested_then}
 use Rattle.std.proofs.Common.{◌∙◌, ap, sym, subst, Bool}
 use Rattle.xns_host.specs.Closed.{ClosesBy}
 use Rattle.xns_spp.specs.Telling.{told_answer}
+use Rattle.xns_host.proofs.Nexts.{unless_closed}
 use Rattle.xns_host.proofs.connection.Connection.next_packet.Goals as goal
 
 pub returns-clause-steps : goal.returns-clause-steps
@@ -78,3 +80,16 @@ returns-clause-waits c = λ calm free s stands.
 
 pub returns-clause-kept : goal.returns-clause-kept
 returns-clause-kept c = λ calm shut. c.wait_unless.ensures.kept shut ∙ ap (λ (t : Connection). t.wait) (c.move_owed.ensures.idle calm)
+
+pub returns-clause-step : goal.returns-clause-step
+returns-clause-step c = record {
+  mid = c.move_owed.new.self;
+  moved = c.move_owed.ensures.moved;
+  gave = c.next_packet-packet.ensures.at;
+  short = c.next_packet-packet.ensures.short;
+  beside = c.next_packet-packet.ensures.side;
+  closed = refl;
+  told = refl;
+  waits = λ s stands. unless_closed c.next_packet-packet.new.self.endpoint s c.move_owed.new.self.closed c.move_owed.new.self.wait c.wait_unless.new.wait c.args.now stands
+      c.wait_unless.ensures.waits c.wait_unless.ensures.kept;
+}

@@ -2,11 +2,16 @@ use Rattle.xns_host.proofs.Leading.{calm_from}
 use Rattle.xns_spp.specs.Receiving.{after_receive}
 use Rattle.xns_host.proofs.Done.{hears_at}
 use Rattle.xns_host.proofs.Tellings.{still_wanted}
-use Rattle.std.proofs.Common.{◌∙◌, ap, ℕ}
+use Rattle.std.proofs.Common.{◌∙◌, ap, refl, ℕ}
 use Rattle.std.specs.Prelude.{nat_lt}
 use Rattle.xns_host.proofs.Owing.{again_heard, progress_is, waits_heard, word_heard}
 use Rattle.xns_host.proofs.Closes.{closes_from}
 use Rattle.xns_host.specs.Story.{Story}
+use Rattle.std.proofs.Common.{◌≡◌}
+use Rattle.xns_spp.specs.Held.{StandsFor}
+use Rattle.xns_spp.specs.State.{State}
+use Rattle.xns_host.specs.Telling.{is_progress}
+use Rattle.xns_host.proofs.Steps.{heard_by, owed_is_heard, wait_is_heard}
 use Rattle.xns_host.proofs.connection.Connection.receive.Goals as goal
 
 pub returns-clause-tells : goal.returns-clause-tells
@@ -54,3 +59,18 @@ returns-clause-quiet c = λ s v b stands read none new less.
     c.settled.ensures.quiet (word_heard c.args.self.now.owed c.note.new.owed c.args.self.now.wait s b c.in_ok-input.input
     (c.in_ok-input.ensures.answer s b stands read) (λ yes. (c.note.ensures.foreign yes).1) c.note.ensures.word ∙ none)
     (after_receive s b) v (c.in_ok-input.ensures.stands s b stands read) new less
+
+pub returns-clause-step : goal.returns-clause-step
+returns-clause-step c = λ b read.
+    let k = c.in_ok-input.ensures in
+    let n = c.note.ensures in
+    let more_is : (s : State) → StandsFor c.args.self.now.conversation.endpoint s → c.is_progress-more.result ≡ is_progress s (after_receive s b) = λ s stands.
+    progress_is s (after_receive s b) c.unacknowledged-before.result c.is_open-was_open.result c.is_progress-more.result (c.unacknowledged-before.ensures s stands) (c.is_open-was_open.ensures s stands)
+    (c.is_progress-more.ensures (after_receive s b) (k.stands s b stands read)) in
+    heard_by c.args.now b c.args.self.now _ c.receive.new.self c.note.new.owed c.note.new.wait (λ s stands. k.stands s b stands read) k.beside.0 k.beside.1
+    (λ s stands. owed_is_heard c.args.self.now.owed c.note.new.owed c.args.self.now.wait s b c.in_ok-input.input c.is_progress-more.result (nat_lt 0 c.unacknowledged-left.result)
+    (k.answer s b stands read) (more_is s stands) (ap (λ (n : ℕ). nat_lt 0 n) (c.unacknowledged-left.ensures (after_receive s b) (k.stands s b stands read)))
+    (λ yes. (n.foreign yes).1) n.word n.again n.beside.0 n.beside.1 n.fresh)
+    (λ s stands. wait_is_heard c.args.self.now.wait c.note.new.wait s b c.in_ok-input.input c.is_progress-more.result c.args.now
+    (k.answer s b stands read) (more_is s stands) (λ yes. (n.foreign yes).0) n.wait)
+    c.settled.ensures.moved (c.settled.ensures.packets ∙ k.packets) refl c.settled.ensures.closed

@@ -1,11 +1,18 @@
 use Rattle.xns_host.proofs.Leading.{calm_from, stays}
 use Rattle.xns_host.specs.Story.{with_handed}
 use Rattle.std.proofs.Common.{refl, subst}
-use Rattle.xns_spp.specs.Held.{Held}
+use Rattle.xns_spp.specs.Held.{Held, StandsFor}
 use Rattle.xns_host.specs.Telling.{OwesRoom}
 use Rattle.xns_host.proofs.Owing.{same_room}
 use Rattle.xns_host.proofs.Closes.{closes_calm, closes_from}
 use Rattle.xns_host.specs.Story.{Story}
+use Rattle.std.proofs.Common.{◌≡◌, ◌∙◌, ap, sym, false, None}
+use Rattle.std.specs.Prelude.{not, ◌&&◌}
+use Rattle.xns_host.specs.Deeds.{done, took}
+use Rattle.xns_host.specs.Moving.{is_calm, scene}
+use Rattle.xns_host.specs.declared.conversation.Conversation.{Conversation}
+use Rattle.xns_host.proofs.Steps.{first_no, hands_on, second_no, step_by}
+use Rattle.xns_host.proofs.connection.Connection.take_message.Goals.{else-not-self-via-then-not-self+else-is_calm, else-not-self-via-else-not-self}
 use Rattle.xns_host.proofs.connection.Connection.take_message.Goals as goal
 
 pub returns-then-is_calm-clause-handed : goal.returns-then-is_calm-clause-handed
@@ -37,3 +44,20 @@ returns-then-is_calm-clause-why c = λ m is. closes_calm (λ (h : Story). with_h
 
 pub returns-clause-why : goal.returns-clause-why
 returns-clause-why c = λ m is. closes_from (λ (h : Story). with_handed c.args.self.now.conversation.side h m) (λ h tells. c.in_ok-message.ensures.handed h m tells is) c.in_ok-message.ensures.drains c.settled.ensures.why
+
+pub returns-clause-step : goal.returns-clause-step
+returns-clause-step c =
+    let k = c.in_ok-message.ensures in
+    record {
+      none = λ z. absurd (cc);
+      some = λ waits s stands.
+          let same = ap (λ (t : Conversation). scene t s) k.is in
+          let busy : (not c.args.self.now.owed.moving && is_calm (done took (scene c.args.self.now.conversation s))) ≡ false =
+          elim c.else-not-self.branch [
+            | else-not-self-via-then-not-self+else-is_calm w ↦ second_no (not c.args.self.now.owed.moving) _ (ap is_calm (sym same) ∙ (sym (w.is_calm.ensures.value s (subst (λ (e : Held). StandsFor e s) (sym k.endpoint) stands)) ∙ w.if-is_calm.false))
+            | else-not-self-via-else-not-self w ↦ first_no (not c.args.self.now.owed.moving) _ (cc)
+          ] in
+          hands_on c.args.now c.args.self.now _ _ busy
+          (step_by c.args.now took c.args.self.now _ c.take_message.new.self k.endpoint (λ s. ap (λ (t : Conversation). scene t s) k.is) (λ s. refl) (λ s. refl)
+          c.settled.ensures.moved (c.settled.ensures.packets ∙ k.packets) refl c.settled.ensures.closed);
+    }

@@ -2,6 +2,8 @@ use Rattle.std.proofs.Common.{◌∙◌, subst, sym}
 use Rattle.xns_host.specs.Telling.{HasSaidEnd}
 use Rattle.xns_host.proofs.Leading.{goes_then}
 use Rattle.xns_host.proofs.Tellings.{undrained}
+use Rattle.xns_host.specs.Moving.{drained_out, replied}
+use Rattle.xns_host.proofs.Scenes.{then_at}
 use Rattle.xns_host.proofs.conversation.Conversation.close_up.Goals as goal
 
 pub returns-clause-goes : goal.returns-clause-goes
@@ -25,3 +27,6 @@ returns-clause-said c = λ owes.
     let z = undrained c.say_reply.new.self owes in
     let same = c.say_reply.ensures.idle z ∙ c.drain_out.ensures.idle (c.say_reply.ensures.goes.still z) in
     subst HasSaidEnd (sym same) c.say_end.ensures.said owes
+
+pub returns-clause-at : goal.returns-clause-at
+returns-clause-at c = λ s stands. then_at replied (then_at drained_out (c.say_end.ensures.at s stands) c.drain_out.ensures.at) c.say_reply.ensures.at

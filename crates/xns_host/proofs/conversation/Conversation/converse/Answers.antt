@@ -2,6 +2,9 @@ use Rattle.std.proofs.Common.{◌≡◌, ◌∙◌, true, refl, sym}
 use Rattle.xns_host.specs.Closing.{drains}
 use Rattle.xns_host.proofs.Leading.{goes_not}
 use Rattle.xns_host.proofs.Tellings.{conversed, calmed, converse_reads, converses_until, if_err, when_ok}
+use Rattle.xns_host.specs.Moving.{drains_only, converses, scene}
+use Rattle.xns_host.proofs.Rounds.{converses_end}
+use Rattle.xns_host.proofs.Scenes.{at_first}
 use Rattle.xns_host.proofs.conversation.Conversation.converse.Goals as goal
 
 pub returns-then-drains-clause-goes : goal.returns-then-drains-clause-goes
@@ -22,3 +25,15 @@ returns-clause-reads c = converse_reads c.args.self.now c.converse.new.self c.co
 pub returns-clause-refused : goal.returns-clause-refused
 returns-clause-refused c =
     if_err _ _ c.converse.result (λ e until. converses_until c.args.self.now c.converse.new.self c.converse.new.endpoint e (sym c.drains.ensures ∙ c.if-drains.false) until) c.converse.ensures.refused
+
+pub returns-then-drains-clause-moves : goal.returns-then-drains-clause-moves
+returns-then-drains-clause-moves c = λ s stands. (scene c.args.self.now s, at_first c.args.self.now s stands, drains_only (sym c.drains.ensures ∙ c.if-drains.true))
+
+pub returns-clause-moves : goal.returns-clause-moves
+returns-clause-moves c = λ s stands.
+    let led = c.converse.ensures.converses s stands in
+    let end = converses_end led in (
+      record { side = c.converse.new.self; closing = c.args.self.now.closing; state = end.0 },
+      record { stands = end.1; side = refl; closing = refl },
+      converses end.0 (sym c.drains.ensures ∙ c.if-drains.false) led end.1,
+    )

@@ -1,10 +1,14 @@
-use Rattle.std.proofs.Common.{◌∙◌, refl, arith}
+use Rattle.std.proofs.Common.{◌≡◌, ◌∙◌, ℕ, refl, sym, subst, arith, rules}
+use Rattle.xns_spp.specs.Sending.{waiting_count}
+use Rattle.xns_host.specs.Moving.{IsAt, Scene, scene, taken_one, taken_many}
+use Rattle.xns_host.proofs.Scenes.{at_first, many_more, then_at}
 use Rattle.xns_host.proofs.Leading.{goes_not, goes_then}
 use Rattle.xns_host.proofs.Waits.{same_waiting}
 use Rattle.xns_host.proofs.conversation.Conversation.drain.Goals as goal
 
 pub loop-turn-init : goal.loop-turn-init
-loop-turn-init c = (goes_not c.args.self.now, c.requires, refl, (refl, refl, refl, refl), λ h tells s stands. let same = same_waiting s h.state stands tells.stands in omega (arith, same), refl)
+unfolding taken_many
+loop-turn-init c = (goes_not c.args.self.now, c.requires, refl, (refl, refl, refl, refl), λ h tells s stands. let same = same_waiting s h.state stands tells.stands in omega (arith, same), refl, λ s stands. at_first c.args.self.now s stands)
 
 pub loop-turn-preserved : goal.loop-turn-preserved
 loop-turn-preserved c = (
@@ -18,6 +22,9 @@ loop-turn-preserved c = (
       let one = c.take_one.ensures.fewer x.0.state s x.1.stands stands in
       omega (arith, before, one),
   c.take_one.ensures.side ∙ c.loop-turn.invariant.5,
+  λ s stands.
+      subst (λ (x : Scene). IsAt c.take_one.new.self x) (sym (many_more c.loop-turn.turn (scene c.args.self.now s)))
+      (then_at taken_one (c.loop-turn.invariant.6 s stands) c.take_one.ensures.at),
 )
 
 pub returns-clause-goes : goal.returns-clause-goes
@@ -37,3 +44,8 @@ returns-clause-side c = c.loop-turn.invariant.5
 
 pub returns-clause-kept : goal.returns-clause-kept
 returns-clause-kept c = c.loop-turn.invariant.3
+
+pub returns-clause-at : goal.returns-clause-at
+returns-clause-at c = λ s stands.
+    let all : c.loop-turn.turn ≡ waiting_count s = search rules in
+    subst (λ (n : ℕ). IsAt c.loop-turn.self (taken_many n (scene c.args.self.now s))) all (c.loop-turn.invariant.6 s stands)

@@ -5,6 +5,12 @@ use Rattle.xns_host.specs.Telling.{Gives}
 use Rattle.xns_host.proofs.Giving.{then_gives, then_none}
 use Rattle.std.proofs.Common.{ap, sym, Bool, Ok}
 use Rattle.xns_spp.specs.Telling.{told_answer}
+use Rattle.std.proofs.Common.{◌≡◌, OnErr, Err, Result, rules}
+use Rattle.std.specs.declared.alloc.AllocError.{AllocError}
+use Rattle.xns_spp.specs.State.{State}
+use Rattle.xns_host.specs.Giving.{Giving, GivesAs, IsGiving, IsShort, at_first, giving, older}
+use Rattle.xns_spp.specs.Held.{StandsFor}
+use Rattle.xns_host.proofs.Nexts.{next_at, next_short}
 use Rattle.xns_host.proofs.conversation.Conversation.next_packet.Goals as goal
 
 pub returns-clause-goes : goal.returns-clause-goes
@@ -36,3 +42,22 @@ returns-clause-asks c = λ was is s stands. c.newer_packet.ensures.asks (c.older
 pub returns-clause-word : goal.returns-clause-word
 returns-clause-word c = λ owed none s stands.
     ap (λ (b : Bool). told_answer s b) (sym c.older_packet.ensures.beside.0) ∙ c.newer_packet.ensures.word (c.in_ok-packet.ensures.word owed (ap (λ (o : Option (List ℕ)). Ok o) c.in_default.is)) none s stands
+
+pub returns-clause-at : goal.returns-clause-at
+returns-clause-at c =
+    next_at c.newer_packet.result c.args.self.now c.older_packet.new.self c.newer_packet.new.self c.args.owed.now c.older_packet.new.owed c.newer_packet.new.owed
+    (λ s stands. subst (λ (p : Option (List ℕ)). GivesAs (older (giving c.args.self.now c.args.owed.now s)) p c.older_packet.new.self c.older_packet.new.owed) c.in_default.is
+    (c.in_ok-packet.ensures.at s stands)) c.newer_packet.ensures.at
+
+pub returns-clause-short : goal.returns-clause-short
+returns-clause-short c =
+    next_short c.newer_packet.result c.args.self.now c.older_packet.new.self c.newer_packet.new.self c.args.owed.now c.older_packet.new.owed c.newer_packet.new.owed
+    (λ s stands. subst (λ (p : Option (List ℕ)). GivesAs (older (giving c.args.self.now c.args.owed.now s)) p c.older_packet.new.self c.older_packet.new.owed) c.in_default.is
+    (c.in_ok-packet.ensures.at s stands)) c.newer_packet.ensures.short
+
+pub returns-in_err-packet-clause-short : goal.returns-in_err-packet-clause-short
+returns-in_err-packet-clause-short c =
+    let is : c.from_residual.result ≡ Err c.in_err-packet.field-0.0 = search rules in
+    subst (λ (r : Result (Option (List ℕ)) AllocError). OnErr r ((s : State) → StandsFor c.args.self.now.endpoint s
+    → (y : Giving) × IsShort (giving c.args.self.now c.args.owed.now s) y × IsGiving c.older_packet.new.self c.older_packet.new.owed y)) (sym is)
+    (λ s stands. (giving c.args.self.now c.args.owed.now s, at_first, c.in_err-packet.ensures.stays s stands))

@@ -7,6 +7,7 @@ use Rattle.xns_host.specs.declared.closing.Closing.{Closing}
 use Rattle.xns_host.specs.declared.conversation.Conversation.{Conversation}
 use Rattle.xns_host.proofs.Leading.{goes_not}
 use Rattle.xns_host.proofs.Tellings.{put_end, not_put, undrained, never_false}
+use Rattle.xns_host.proofs.Scenes.{not_ended}
 use Rattle.xns_host.proofs.conversation.Conversation.say_end.Goals as goal
 
 pub returns-then-put-clause-goes : goal.returns-then-put-clause-goes
@@ -42,3 +43,7 @@ returns-else-put-clause-said c = λ owes s stands.
 
 pub returns-then-not-owes_end-clause-said : goal.returns-then-not-owes_end-clause-said
 returns-then-not-owes_end-clause-said c = λ owes. let no : owes_end c.args.self.now ≡ false = sym c.owes_end.ensures ∙ c.if-not-owes_end.true in absurd (cc)
+
+pub returns-else-put-clause-at : goal.returns-else-put-clause-at
+returns-else-put-clause-at c = λ s stands.
+    not_ended c.args.self.now c.put.new.self s (c.put.ensures.refused c.if-put.false) (sym (c.put.ensures.answer s stands) ∙ c.if-put.false) stands

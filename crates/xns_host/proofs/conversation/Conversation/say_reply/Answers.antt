@@ -8,6 +8,7 @@ use Rattle.xns_host.specs.Story.{is_stopped}
 use Rattle.xns_host.specs.declared.conversation.Conversation.{Conversation}
 use Rattle.xns_host.proofs.Waits.{same_waiting, sends_one, drains_owed, stays_true}
 use Rattle.xns_host.proofs.Tellings.{put_reply, not_put, unsent_reply, never_free}
+use Rattle.xns_host.proofs.Scenes.{not_replied}
 use Rattle.xns_host.proofs.conversation.Conversation.say_reply.Goals as goal
 
 pub returns-then-put-clause-goes : goal.returns-then-put-clause-goes
@@ -62,3 +63,7 @@ returns-else-put-clause-replied c = λ owes s stands.
 pub returns-then-not-owes_reply-clause-replied : goal.returns-then-not-owes_reply-clause-replied
 returns-then-not-owes_reply-clause-replied c = λ owes.
     let no : owes_reply c.args.self.now ≡ false = sym c.owes_reply.ensures ∙ c.if-not-owes_reply.true in absurd (cc)
+
+pub returns-else-put-clause-at : goal.returns-else-put-clause-at
+returns-else-put-clause-at c = λ s stands.
+    not_replied c.args.self.now c.put.new.self s (c.put.ensures.refused c.if-put.false) (sym (c.put.ensures.answer s stands) ∙ c.if-put.false) stands

@@ -1,6 +1,8 @@
+use Rattle.std.proofs.Common.{rules}
 use Rattle.std.proofs.Common.{refl}
 use Rattle.xns_host.proofs.Leading.{goes_then}
 use Rattle.xns_host.proofs.Tellings.{settle_calm, settle_reads}
+use Rattle.xns_host.proofs.Scenes.{settled_at}
 use Rattle.xns_host.proofs.conversation.Conversation.settle.Goals as goal
 
 pub returns-in-Err-NoMemory-clause-goes : goal.returns-in-Err-NoMemory-clause-goes
@@ -22,3 +24,8 @@ returns-clause-reads c = settle_reads c.args.self.now c.converse-moved.new.self 
 
 pub returns-in-Err-NoMemory-clause-reads : goal.returns-in-Err-NoMemory-clause-reads
 returns-in-Err-NoMemory-clause-reads c = settle_reads c.args.self.now c.converse-moved.new.self c.mark.new.self c.mark.new.self c.converse-moved.result c.converse-moved.ensures.reads c.mark.ensures.good c.mark.ensures.memory refl refl
+
+pub returns-clause-settles : goal.returns-clause-settles
+returns-clause-settles c = λ s stands.
+    settled_at c.args.self.now c.converse-moved.new.self c.mark.new.self c.close_up.new.self s c.converse-moved.result (c.converse-moved.ensures.moves s stands)
+    c.mark.ensures.good c.mark.ensures.given_up (λ starved. absurd (search rules)) c.close_up.ensures.at

@@ -1,48 +1,52 @@
-use Rattle.std.proofs.Common.{◌++◌, ◌∷◌, [], Option, refl, rules, arith}
-use Rattle.courier_sessions.specs.Answering.{answer_message}
-use Rattle.xns_host.specs.Hosting.{WentOn}
-use Rattle.xns_host.specs.Story.{Story}
+use Rattle.std.proofs.Common.{subst, None, ◌≡◌, ◌<◌, ◌∙◌, ap, refl, sym, ℕ, length, rules, arith, slice_get, slice_set, get_or, Some, Ok, true, false}
+use Rattle.xns_host.specs.Deeds.{gave}
+use Rattle.xns_host.specs.Reasons.{answer_fault_of}
+use Rattle.xns_host.specs.Hosting.{has_guest}
 use Rattle.xns_host.specs.declared.guest.Guest.{Guest}
-use Rattle.xns_host.proofs.Hearing.{guest_in, put_there}
-use Rattle.std.specs.Prelude.{slice_set}
-use Rattle.xns_host.proofs.Done.{each_still, told_step}
+use Rattle.xns_host.specs.Went.{Went}
 use Rattle.xns_host.proofs.Noting.{kept_but}
-use Rattle.xns_host.proofs.Known.{all_known_set, known_same}
+use Rattle.xns_host.proofs.Turns.{gave_still, in_place, is_there, not_none, one_guest, set_apart, slot_known, slot_not_done, slot_registered, went_set}
 use Rattle.xns_host.proofs.host.Host.answer.Goals as goal
 
 pub note-requires-clause-others : goal.note-requires-clause-others
 note-requires-clause-others c =
-    kept_but c.args.self.now.agenda c.args.self.now.guests.items c.as_slice.result.now c.args.number c.index_mut.result.now c.answer_in.new.slot
-    c.args.self.now.noted (omega arith) (search rules) (search rules) (search rules)
+    let w = in_place c.tell-now.result (gave c.args.answer c.args.words.now) c.index_mut.result.now c.in-Some.guest c.answer.new.self c.in-Some.is (c.in_ok-answer.ensures.step) in
+    kept_but c.args.self.now.agenda c.args.self.now.guests.items c.as_slice.result.now c.args.number c.index_mut.result.now (Some c.answer.new.self)
+    c.args.self.now.noted (omega arith) (search rules) (search rules) (slot_known c.tell-now.result (gave c.args.answer c.args.words.now) (Ok tt) c.index_mut.result.now (Some c.answer.new.self) w tt)
 
-pub returns-then-number-len-clause-steps : goal.returns-then-number-len-clause-steps
-returns-then-number-len-clause-steps c = each_still _ c.args.self.now.guests.items c.args.self.now.guests.items (λ k. refl)
+pub invariant_of-self-2-clause-registered : goal.invariant_of-self-2-clause-registered
+invariant_of-self-2-clause-registered c =
+    let w = in_place c.tell-now.result (gave c.args.answer c.args.words.now) c.index_mut.result.now c.in-Some.guest c.answer.new.self c.in-Some.is (c.in_ok-answer.ensures.step) in
+    slot_registered c.tell-now.result (gave c.args.answer c.args.words.now) (Ok tt) c.args.self.now.register c.args.self.now.guests.items c.args.number c.index_mut.result.now (Some c.answer.new.self)
+    c.args.self.now.registered (gave_still c.args.answer c.args.words.now) w tt (search rules) (omega arith)
 
-pub returns-clause-steps : goal.returns-clause-steps
-returns-clause-steps c =
-    told_step c.tell-now.result _ c.args.self.now.guests.items (slice_set c.args.self.now.guests.items c.args.number c.answer_in.new.slot) c.args.number
-    c.index_mut.result.now c.answer_in.new.slot c.tell-now.ensures.result (omega arith) (search rules) refl c.answer_in.ensures.steps
+pub invariant_of-self-2-clause-not_done : goal.invariant_of-self-2-clause-not_done
+invariant_of-self-2-clause-not_done c =
+    let w = in_place c.tell-now.result (gave c.args.answer c.args.words.now) c.index_mut.result.now c.in-Some.guest c.answer.new.self c.in-Some.is (c.in_ok-answer.ensures.step) in
+    slot_not_done c.tell-now.result (gave c.args.answer c.args.words.now) (Ok tt) c.args.self.now.guests.items c.args.number c.index_mut.result.now (Some c.answer.new.self)
+    c.args.self.now.not_done w tt (search rules) (omega arith)
 
-pub returns-in_err-answer_in-clause-steps : goal.returns-in_err-answer_in-clause-steps
-returns-in_err-answer_in-clause-steps c =
-    told_step c.tell-now.result _ c.args.self.now.guests.items (slice_set c.args.self.now.guests.items c.args.number c.answer_in.new.slot) c.args.number
-    c.index_mut.result.now c.answer_in.new.slot c.tell-now.ensures.result (omega arith) (search rules) refl c.answer_in.ensures.steps
+pub returns-clause-none : goal.returns-clause-none
+returns-clause-none c = λ none.
+    let there = not_none c.args.self.now.guests.items c.args.number c.in-Some.guest
+    (is_there c.args.self.now.guests.items c.args.number c.index_mut.result.now c.in-Some.guest (omega arith) (search rules) c.in-Some.is) in
+    absurd (cc)
 
-pub returns-clause-answered : goal.returns-clause-answered
-returns-clause-answered c = λ g k place here asked good there.
-    put_there (λ (p : Option Guest). WentOn g.connection (λ (h : Story). record h { answers = h.answers ++ answer_message c.args.answer k c.args.words.now ∷ [] }) p)
-    c.args.self.now.guests.items c.args.number c.answer_in.new.slot place (omega arith) there
-    (c.in_ok-answer_in.ensures.answered g k (guest_in c.args.self.now.guests.items c.args.number c.index_mut.result.now g (omega arith) (search rules) here) asked refl)
+pub returns-clause-turn : goal.returns-clause-turn
+returns-clause-turn c =
+    let w = in_place c.tell-now.result (gave c.args.answer c.args.words.now) c.index_mut.result.now c.in-Some.guest c.answer.new.self c.in-Some.is (c.in_ok-answer.ensures.step) in
+    record {
+      went = went_set c.tell-now.result _ (gave c.args.answer c.args.words.now) c.args.self.now.guests.items c.args.number c.index_mut.result.now (Some c.answer.new.self) c.tell-now.ensures.result
+          (omega arith) (search rules) w;
+      apart = set_apart c.args.self.now.guests.items c.args.number (Some c.answer.new.self);
+      noted = λ place there. c.note.ensures.is place (search rules);
+      unchanged = tt;
+      unnoted = tt;
+      frame = record { clock = c.tell-now.ensures.latest ∙ c.tell-now.ensures.result; network = refl; host = refl; settings = refl; services = refl; register = refl; strays = refl };
+    }
 
-pub returns-then-number-len-clause-known : goal.returns-then-number-len-clause-known
-returns-then-number-len-clause-known c = known_same c.args.self.now.guests.items c.args.self.now.guests.items refl
-
-pub returns-clause-known : goal.returns-clause-known
-returns-clause-known c =
-    all_known_set c.args.self.now.guests.items (slice_set c.args.self.now.guests.items c.args.number c.answer_in.new.slot) c.args.number
-    c.index_mut.result.now c.answer_in.new.slot (omega arith) (search rules) refl c.answer_in.ensures.known c.answer_in.ensures.news
-
-pub returns-in_err-answer_in-clause-known : goal.returns-in_err-answer_in-clause-known
-returns-in_err-answer_in-clause-known c =
-    all_known_set c.args.self.now.guests.items (slice_set c.args.self.now.guests.items c.args.number c.answer_in.new.slot) c.args.number
-    c.index_mut.result.now c.answer_in.new.slot (omega arith) (search rules) refl c.answer_in.ensures.known c.answer_in.ensures.news
+pub returns-clause-refused : goal.returns-clause-refused
+returns-clause-refused c = λ g there.
+    let here = is_there c.args.self.now.guests.items c.args.number c.index_mut.result.now c.in-Some.guest (omega arith) (search rules) c.in-Some.is in
+    let same : c.in-Some.guest ≡ g = one_guest c.args.self.now.guests.items c.args.number c.in-Some.guest g here there in
+    subst (λ (x : Guest). answer_fault_of x.connection.conversation c.args.answer c.args.words.now ≡ None) same c.in_ok-answer.ensures.refused

@@ -1,37 +1,53 @@
-use Rattle.std.proofs.Common.{refl, rules, arith}
-use Rattle.std.specs.Prelude.{slice_set}
-use Rattle.xns_host.proofs.Done.{each_still, told_step}
+use Rattle.std.proofs.Common.{subst, None, ◌≡◌, ◌<◌, ◌∙◌, ap, refl, sym, ℕ, length, rules, arith, slice_get, slice_set, get_or, Some, Ok, true, false}
+use Rattle.courier_messages.specs.RawCalls.{words_call}
+use Rattle.xns_host.specs.Deeds.{made}
+use Rattle.xns_host.specs.Reasons.{call_fault_of}
+use Rattle.xns_host.specs.Hosting.{has_guest}
+use Rattle.xns_host.specs.declared.guest.Guest.{Guest}
+use Rattle.xns_host.specs.Went.{Went}
 use Rattle.xns_host.proofs.Noting.{kept_but}
-use Rattle.xns_host.proofs.Known.{all_known_set, known_same}
+use Rattle.xns_host.proofs.Turns.{gave_still, in_place, is_there, not_none, one_guest, set_apart, slot_known, slot_not_done, slot_registered, went_set}
 use Rattle.xns_host.proofs.host.Host.call.Goals as goal
 
 pub note-requires-clause-others : goal.note-requires-clause-others
 note-requires-clause-others c =
-    kept_but c.args.self.now.agenda c.args.self.now.guests.items c.as_slice.result.now c.args.number c.index_mut.result.now c.call_in.new.slot
-    c.args.self.now.noted (omega arith) (search rules) (search rules) (search rules)
+    let w = in_place c.tell-now.result (made (words_call c.args.program c.args.version c.args.procedure c.args.words.now)) c.index_mut.result.now c.in-Some.guest c.call.new.self c.in-Some.is (c.in_ok-call.ensures.step) in
+    kept_but c.args.self.now.agenda c.args.self.now.guests.items c.as_slice.result.now c.args.number c.index_mut.result.now (Some c.call.new.self)
+    c.args.self.now.noted (omega arith) (search rules) (search rules) (slot_known c.tell-now.result (made (words_call c.args.program c.args.version c.args.procedure c.args.words.now)) (Ok tt) c.index_mut.result.now (Some c.call.new.self) w tt)
 
-pub returns-then-number-len-clause-steps : goal.returns-then-number-len-clause-steps
-returns-then-number-len-clause-steps c = each_still _ c.args.self.now.guests.items c.args.self.now.guests.items (λ k. refl)
+pub invariant_of-self-2-clause-registered : goal.invariant_of-self-2-clause-registered
+invariant_of-self-2-clause-registered c =
+    let w = in_place c.tell-now.result (made (words_call c.args.program c.args.version c.args.procedure c.args.words.now)) c.index_mut.result.now c.in-Some.guest c.call.new.self c.in-Some.is (c.in_ok-call.ensures.step) in
+    slot_registered c.tell-now.result (made (words_call c.args.program c.args.version c.args.procedure c.args.words.now)) (Ok tt) c.args.self.now.register c.args.self.now.guests.items c.args.number c.index_mut.result.now (Some c.call.new.self)
+    c.args.self.now.registered (λ side h. refl) w tt (search rules) (omega arith)
 
-pub returns-clause-steps : goal.returns-clause-steps
-returns-clause-steps c =
-    told_step c.tell-now.result _ c.args.self.now.guests.items (slice_set c.args.self.now.guests.items c.args.number c.call_in.new.slot) c.args.number
-    c.index_mut.result.now c.call_in.new.slot c.tell-now.ensures.result (omega arith) (search rules) refl c.call_in.ensures.steps
+pub invariant_of-self-2-clause-not_done : goal.invariant_of-self-2-clause-not_done
+invariant_of-self-2-clause-not_done c =
+    let w = in_place c.tell-now.result (made (words_call c.args.program c.args.version c.args.procedure c.args.words.now)) c.index_mut.result.now c.in-Some.guest c.call.new.self c.in-Some.is (c.in_ok-call.ensures.step) in
+    slot_not_done c.tell-now.result (made (words_call c.args.program c.args.version c.args.procedure c.args.words.now)) (Ok tt) c.args.self.now.guests.items c.args.number c.index_mut.result.now (Some c.call.new.self)
+    c.args.self.now.not_done w tt (search rules) (omega arith)
 
-pub returns-in_err-call_in-clause-steps : goal.returns-in_err-call_in-clause-steps
-returns-in_err-call_in-clause-steps c =
-    told_step c.tell-now.result _ c.args.self.now.guests.items (slice_set c.args.self.now.guests.items c.args.number c.call_in.new.slot) c.args.number
-    c.index_mut.result.now c.call_in.new.slot c.tell-now.ensures.result (omega arith) (search rules) refl c.call_in.ensures.steps
+pub returns-clause-none : goal.returns-clause-none
+returns-clause-none c = λ none.
+    let there = not_none c.args.self.now.guests.items c.args.number c.in-Some.guest
+    (is_there c.args.self.now.guests.items c.args.number c.index_mut.result.now c.in-Some.guest (omega arith) (search rules) c.in-Some.is) in
+    absurd (cc)
 
-pub returns-then-number-len-clause-known : goal.returns-then-number-len-clause-known
-returns-then-number-len-clause-known c = known_same c.args.self.now.guests.items c.args.self.now.guests.items refl
+pub returns-clause-turn : goal.returns-clause-turn
+returns-clause-turn c =
+    let w = in_place c.tell-now.result (made (words_call c.args.program c.args.version c.args.procedure c.args.words.now)) c.index_mut.result.now c.in-Some.guest c.call.new.self c.in-Some.is (c.in_ok-call.ensures.step) in
+    record {
+      went = went_set c.tell-now.result _ (made (words_call c.args.program c.args.version c.args.procedure c.args.words.now)) c.args.self.now.guests.items c.args.number c.index_mut.result.now (Some c.call.new.self) c.tell-now.ensures.result
+          (omega arith) (search rules) w;
+      apart = set_apart c.args.self.now.guests.items c.args.number (Some c.call.new.self);
+      noted = λ place there. c.note.ensures.is place (search rules);
+      unchanged = tt;
+      unnoted = tt;
+      frame = record { clock = c.tell-now.ensures.latest ∙ c.tell-now.ensures.result; network = refl; host = refl; settings = refl; services = refl; register = refl; strays = refl };
+    }
 
-pub returns-clause-known : goal.returns-clause-known
-returns-clause-known c =
-    all_known_set c.args.self.now.guests.items (slice_set c.args.self.now.guests.items c.args.number c.call_in.new.slot) c.args.number
-    c.index_mut.result.now c.call_in.new.slot (omega arith) (search rules) refl c.call_in.ensures.known c.call_in.ensures.news
-
-pub returns-in_err-call_in-clause-known : goal.returns-in_err-call_in-clause-known
-returns-in_err-call_in-clause-known c =
-    all_known_set c.args.self.now.guests.items (slice_set c.args.self.now.guests.items c.args.number c.call_in.new.slot) c.args.number
-    c.index_mut.result.now c.call_in.new.slot (omega arith) (search rules) refl c.call_in.ensures.known c.call_in.ensures.news
+pub returns-clause-refused : goal.returns-clause-refused
+returns-clause-refused c = λ g there.
+    let here = is_there c.args.self.now.guests.items c.args.number c.index_mut.result.now c.in-Some.guest (omega arith) (search rules) c.in-Some.is in
+    let same : c.in-Some.guest ≡ g = one_guest c.args.self.now.guests.items c.args.number c.in-Some.guest g here there in
+    subst (λ (x : Guest). call_fault_of x.connection.conversation (words_call c.args.program c.args.version c.args.procedure c.args.words.now) ≡ None) same c.in_ok-call.ensures.refused

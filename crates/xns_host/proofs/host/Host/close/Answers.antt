@@ -1,37 +1,44 @@
-use Rattle.std.proofs.Common.{refl, rules, arith}
-use Rattle.std.specs.Prelude.{slice_set}
-use Rattle.xns_host.proofs.Done.{each_still, told_step}
+use Rattle.std.proofs.Common.{◌≡◌, ◌<◌, ◌∙◌, ap, refl, sym, ℕ, length, rules, arith, slice_get, slice_set, get_or, Some, Ok, true, false}
+use Rattle.xns_host.specs.Deeds.{asked}
+use Rattle.xns_host.specs.Hosting.{has_guest}
+use Rattle.xns_host.specs.Went.{Went}
 use Rattle.xns_host.proofs.Noting.{kept_but}
-use Rattle.xns_host.proofs.Known.{all_known_set, known_same}
+use Rattle.xns_host.proofs.Turns.{in_place, is_there, not_none, set_apart, slot_known, slot_not_done, slot_registered, went_set}
 use Rattle.xns_host.proofs.host.Host.close.Goals as goal
 
 pub note-requires-clause-others : goal.note-requires-clause-others
 note-requires-clause-others c =
-    kept_but c.args.self.now.agenda c.args.self.now.guests.items c.as_slice.result.now c.args.number c.index_mut.result.now c.close_in.new.slot
-    c.args.self.now.noted (omega arith) (search rules) (search rules) (search rules)
+    let w = in_place c.tell-now.result asked c.index_mut.result.now c.in-Some.guest c.close.new.self c.in-Some.is c.close.ensures in
+    kept_but c.args.self.now.agenda c.args.self.now.guests.items c.as_slice.result.now c.args.number c.index_mut.result.now (Some c.close.new.self)
+    c.args.self.now.noted (omega arith) (search rules) (search rules) (slot_known c.tell-now.result asked (Ok tt) c.index_mut.result.now (Some c.close.new.self) w tt)
 
-pub returns-then-number-len-clause-steps : goal.returns-then-number-len-clause-steps
-returns-then-number-len-clause-steps c = each_still _ c.args.self.now.guests.items c.args.self.now.guests.items (λ k. refl)
+pub invariant_of-self-2-clause-registered : goal.invariant_of-self-2-clause-registered
+invariant_of-self-2-clause-registered c =
+    let w = in_place c.tell-now.result asked c.index_mut.result.now c.in-Some.guest c.close.new.self c.in-Some.is c.close.ensures in
+    slot_registered c.tell-now.result asked (Ok tt) c.args.self.now.register c.args.self.now.guests.items c.args.number c.index_mut.result.now (Some c.close.new.self)
+    c.args.self.now.registered (λ side h. refl) w tt (search rules) (omega arith)
 
-pub returns-clause-steps : goal.returns-clause-steps
-returns-clause-steps c =
-    told_step c.tell-now.result _ c.args.self.now.guests.items (slice_set c.args.self.now.guests.items c.args.number c.close_in.new.slot) c.args.number
-    c.index_mut.result.now c.close_in.new.slot c.tell-now.ensures.result (omega arith) (search rules) refl c.close_in.ensures.steps
+pub invariant_of-self-2-clause-not_done : goal.invariant_of-self-2-clause-not_done
+invariant_of-self-2-clause-not_done c =
+    let w = in_place c.tell-now.result asked c.index_mut.result.now c.in-Some.guest c.close.new.self c.in-Some.is c.close.ensures in
+    slot_not_done c.tell-now.result asked (Ok tt) c.args.self.now.guests.items c.args.number c.index_mut.result.now (Some c.close.new.self)
+    c.args.self.now.not_done w tt (search rules) (omega arith)
 
-pub returns-in_err-close_in-clause-steps : goal.returns-in_err-close_in-clause-steps
-returns-in_err-close_in-clause-steps c =
-    told_step c.tell-now.result _ c.args.self.now.guests.items (slice_set c.args.self.now.guests.items c.args.number c.close_in.new.slot) c.args.number
-    c.index_mut.result.now c.close_in.new.slot c.tell-now.ensures.result (omega arith) (search rules) refl c.close_in.ensures.steps
+pub returns-clause-none : goal.returns-clause-none
+returns-clause-none c = λ none.
+    let there = not_none c.args.self.now.guests.items c.args.number c.in-Some.guest
+    (is_there c.args.self.now.guests.items c.args.number c.index_mut.result.now c.in-Some.guest (omega arith) (search rules) c.in-Some.is) in
+    absurd (cc)
 
-pub returns-then-number-len-clause-known : goal.returns-then-number-len-clause-known
-returns-then-number-len-clause-known c = known_same c.args.self.now.guests.items c.args.self.now.guests.items refl
-
-pub returns-clause-known : goal.returns-clause-known
-returns-clause-known c =
-    all_known_set c.args.self.now.guests.items (slice_set c.args.self.now.guests.items c.args.number c.close_in.new.slot) c.args.number
-    c.index_mut.result.now c.close_in.new.slot (omega arith) (search rules) refl c.close_in.ensures.known c.close_in.ensures.news
-
-pub returns-in_err-close_in-clause-known : goal.returns-in_err-close_in-clause-known
-returns-in_err-close_in-clause-known c =
-    all_known_set c.args.self.now.guests.items (slice_set c.args.self.now.guests.items c.args.number c.close_in.new.slot) c.args.number
-    c.index_mut.result.now c.close_in.new.slot (omega arith) (search rules) refl c.close_in.ensures.known c.close_in.ensures.news
+pub returns-clause-turn : goal.returns-clause-turn
+returns-clause-turn c =
+    let w = in_place c.tell-now.result asked c.index_mut.result.now c.in-Some.guest c.close.new.self c.in-Some.is c.close.ensures in
+    record {
+      went = went_set c.tell-now.result _ asked c.args.self.now.guests.items c.args.number c.index_mut.result.now (Some c.close.new.self) c.tell-now.ensures.result
+          (omega arith) (search rules) w;
+      apart = set_apart c.args.self.now.guests.items c.args.number (Some c.close.new.self);
+      noted = λ place there. c.note.ensures.is place (search rules);
+      unchanged = tt;
+      unnoted = tt;
+      frame = record { clock = c.tell-now.ensures.latest ∙ c.tell-now.ensures.result; network = refl; host = refl; settings = refl; services = refl; register = refl; strays = refl };
+    }

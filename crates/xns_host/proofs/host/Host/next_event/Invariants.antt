@@ -7,7 +7,7 @@ use Rattle.xns_host.proofs.host.Host.next_event.Given as goal
 
 abbrev pub invariant-loop-number : goal.invariant-loop-number
 invariant-loop-number l = ((k : ℕ) → slice_get l.self.guests.items k ≡ slice_get l.fn.self.guests.items k) × StaysSetUp l.fn.self l.self
-    × StaysInOrder l.fn.self.register.identifiers l.self.register.identifiers
+    × StaysInOrder l.fn.self.register.identifiers l.self.register.identifiers × (l.self.strays ≡ l.fn.self.strays)
 
 abbrev pub decreases-loop-number : goal.decreases-loop-number
 decreases-loop-number l = count_by is_some l.self.agenda.events.tickets

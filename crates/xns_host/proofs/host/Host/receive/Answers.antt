@@ -112,3 +112,6 @@ returns-in_default-kind-clause-opener c = λ p is by.
 pub returns-in_default-clause-opener : goal.returns-in_default-clause-opener
 returns-in_default-clause-opener c = λ p is by.
     absurd (not_read c.args.bytes.now c.decode.result p c.decode.ensures.exact (λ x yes. absurd (search rules)) is)
+
+pub returns-in-2-clause-strays : goal.returns-in-2-clause-strays
+returns-in-2-clause-strays c = λ never. c.echo.ensures.strays (λ asked. never (packet_model c.in-Ok.packet) c.in-Ok.field-0-1 (sym c.in-Ok.ensures.exact) asked)

@@ -1,13 +1,19 @@
-use Rattle.std.proofs.Common.{◌≡◌, Bool, Result, Ok, Err, IfErr, ap, sym, subst, rules}
+use Rattle.std.proofs.Common.{◌≡◌, Bool, Result, Ok, Err, IfErr, ap, sym, subst, rules, arith}
+use Rattle.xns_host.specs.declared.side.Side.{Side}
 use Rattle.courier_sessions.specs.declared.feed_refusal.FeedRefusal.{FeedRefusal}
 use Rattle.courier_sessions.specs.declared.feed_refusal.FeedRefusal.TheVariants.{NoMemory}
-use Rattle.xns_host.specs.Story.{MovesUntil}
+use Rattle.xns_spp.specs.State.{State}
+use Rattle.xns_spp.specs.Held.{StandsFor}
+use Rattle.std.proofs.Common.{true, false}
+use Rattle.xns_host.specs.Moving.{Pumps, once, Converses, calms, starves, refuses}
+use Rattle.xns_host.specs.Story.{MovesUntil, is_stopped}
+use Rattle.xns_host.proofs.Rounds.{one_more, refused_on, rounds_end}
 use Rattle.xns_host.proofs.Coming.{quiet}
 use Rattle.xns_host.proofs.Leading.{moves_on, all_moves, moves_all, calms_at, calms_never, until_then, unrejects}
 use Rattle.xns_host.proofs.side.Side.converse.Goals as goal
 
 pub loop-alloc-init : goal.loop-alloc-init
-loop-alloc-init c = record { moves = c.in_ok-pump.ensures.all; waits = c.waiting-waiting.ensures }
+loop-alloc-init c = record { rounds = λ s stands. once (c.in_ok-pump.ensures.pumps s stands); moves = c.in_ok-pump.ensures.all; waits = c.waiting-waiting.ensures }
 
 pub returns-then-is_stopped-clause-moves : goal.returns-then-is_stopped-clause-moves
 returns-then-is_stopped-clause-moves c = all_moves c.loop-alloc.invariant.moves
@@ -41,7 +47,7 @@ pub returns-in_err-pump-2-clause-moves : goal.returns-in_err-pump-2-clause-moves
 returns-in_err-pump-2-clause-moves c = moves_on (moves_on (all_moves c.loop-alloc.invariant.moves) (c.reject_unlisted.ensures.moves c.loop-alloc.endpoint)) c.pump-in-loop-alloc.ensures.moves
 
 pub loop-alloc-preserved : goal.loop-alloc-preserved
-loop-alloc-preserved c = record { moves = moves_all (moves_on (all_moves c.loop-alloc.invariant.moves) (c.reject_unlisted.ensures.moves c.loop-alloc.endpoint)) c.in_ok-pump-2.ensures.all; waits = c.waiting-left.ensures }
+loop-alloc-preserved c = record { rounds = λ s stands. one_more (c.loop-alloc.invariant.rounds s stands) (c.in_ok-reject_unlisted.ensures.rejects (ap (λ (b : Bool). Ok b) c.if-not-branch.false)) c.in_ok-pump-2.ensures.pumps; moves = moves_all (moves_on (all_moves c.loop-alloc.invariant.moves) (c.reject_unlisted.ensures.moves c.loop-alloc.endpoint)) c.in_ok-pump-2.ensures.all; waits = c.waiting-left.ensures }
 
 pub returns-then-left-waiting-clause-moves : goal.returns-then-left-waiting-clause-moves
 returns-then-left-waiting-clause-moves c = moves_on (moves_on (all_moves c.loop-alloc.invariant.moves) (c.reject_unlisted.ensures.moves c.loop-alloc.endpoint)) c.pump-in-loop-alloc.ensures.moves
@@ -51,3 +57,45 @@ returns-then-left-waiting-clause-calms c =
     quiet c.loop-alloc.waiting c.waiting-left.result c.loop-alloc.invariant.moves (c.reject_unlisted.ensures.moves c.loop-alloc.endpoint) c.in_ok-pump-2.ensures.all
     c.loop-alloc.invariant.waits c.waiting-left.ensures c.if-left-waiting.true
     (c.in_ok-pump-2.ensures.calls (c.in_ok-reject_unlisted.ensures.gone (ap (λ (b : Bool). Ok b) c.if-not-branch.false)))
+
+pub returns-in_err-pump-clause-converses : goal.returns-in_err-pump-clause-converses
+returns-in_err-pump-clause-converses c = λ s stands.
+    let is : c.from_residual.result ≡ Err c.in_err-pump.field-0.0 = search rules in
+    subst (λ (r : Result (Unit {0}) FeedRefusal). Converses c.args.self.now s r c.pump.new.self c.pump.new.endpoint) (sym is)
+    (refuses c.in_err-pump.field-0.0 (c.in_err-pump.ensures.pumps s stands))
+
+pub returns-then-is_stopped-clause-converses : goal.returns-then-is_stopped-clause-converses
+returns-then-is_stopped-clause-converses c = λ s stands.
+    calms (c.loop-alloc.invariant.rounds s stands) (λ going. absurd (cc))
+
+pub returns-in_err-reject_unlisted-clause-converses : goal.returns-in_err-reject_unlisted-clause-converses
+returns-in_err-reject_unlisted-clause-converses c = λ s stands.
+    let is : c.from_residual-in_err-reject_unlisted.result ≡ Err NoMemory = search rules in
+    let same = c.in_err-reject_unlisted.ensures.unchanged in
+    subst (λ (r : Result (Unit {0}) FeedRefusal). Converses c.args.self.now s r c.reject_unlisted.new.self c.loop-alloc.endpoint) (sym is)
+    (subst (λ (n : Side). Converses c.args.self.now s (Err NoMemory) n c.loop-alloc.endpoint) (sym same)
+    (starves (c.loop-alloc.invariant.rounds s stands) c.in_err-reject_unlisted.ensures.memory))
+
+pub returns-then-not-branch-clause-converses : goal.returns-then-not-branch-clause-converses
+returns-then-not-branch-clause-converses c = λ s stands.
+    let k = c.in_ok-reject_unlisted.ensures.listed (ap (λ (b : Bool). Ok b) c.if-not-branch.true) in
+    subst (λ (n : Side). Converses c.args.self.now s (Ok tt) n c.loop-alloc.endpoint) (sym k.0)
+    (calms (c.loop-alloc.invariant.rounds s stands) (λ going. k.1))
+
+pub returns-in_err-pump-2-clause-converses : goal.returns-in_err-pump-2-clause-converses
+returns-in_err-pump-2-clause-converses c = λ s stands.
+    let is : c.from_residual-in_err-pump-2.result ≡ Err c.in_err-pump-2.field-0.0 = search rules in
+    subst (λ (r : Result (Unit {0}) FeedRefusal). Converses c.args.self.now s r c.pump-in-loop-alloc.new.self c.pump-in-loop-alloc.new.endpoint) (sym is)
+    (refused_on c.in_err-pump-2.field-0.0 (c.loop-alloc.invariant.rounds s stands) (c.in_ok-reject_unlisted.ensures.rejects (ap (λ (b : Bool). Ok b) c.if-not-branch.false)) c.in_err-pump-2.ensures.pumps)
+
+pub returns-then-left-waiting-clause-converses : goal.returns-then-left-waiting-clause-converses
+returns-then-left-waiting-clause-converses c = λ s stands.
+    let rejected = c.in_ok-reject_unlisted.ensures.rejects (ap (λ (b : Bool). Ok b) c.if-not-branch.false) in
+    let rounds = c.loop-alloc.invariant.rounds s stands in
+    let x = rounds_end rounds in
+    let all = one_more rounds rejected c.in_ok-pump-2.ensures.pumps in
+    let y = rounds_end all in
+    let is = c.loop-alloc.invariant.waits x.0 x.1 in
+    let was = c.waiting-left.ensures y.0 y.1 in
+    let over = c.if-left-waiting.true in
+    calms all (λ going. c.in_ok-pump-2.ensures.calls (c.in_ok-reject_unlisted.ensures.gone (ap (λ (b : Bool). Ok b) c.if-not-branch.false)) x.0 y.0 x.1 y.1 (omega (arith, is, was, over)))

@@ -5,6 +5,9 @@ use Rattle.xns_host.specs.declared.side.Side.TheVariants.{Answers}
 use Rattle.xns_host.proofs.Coming.{gone, unlisted}
 use Rattle.xns_host.proofs.Handing.{rejected, reject_moves, nothing_moves}
 use Rattle.xns_host.proofs.Leading.{moves_not}
+use Rattle.xns_host.specs.Moving.{Rejects}
+use Rattle.xns_host.proofs.Rounds.{rejects_one}
+use Rattle.std.proofs.Common.{Ok, true}
 use Rattle.xns_host.proofs.side.Side.reject_unlisted.Goals as goal
 
 pub returns-in-Calls-clause-moves : goal.returns-in-Calls-clause-moves
@@ -42,3 +45,9 @@ pub returns-in-Answers-clause-memory : goal.returns-in-Answers-clause-memory
 returns-in-Answers-clause-memory c =
     let r = c.reject_unlisted.ensures in
     subst (λ (x : Side). OnErr c.reject_unlisted.result (IsUnlisted x)) (sym c.in-Answers.is) (unlisted c.in-Answers.server c.reject_unlisted.result r.listed r.none)
+
+pub returns-in-Answers-clause-rejects : goal.returns-in-Answers-clause-rejects
+returns-in-Answers-clause-rejects c = λ was.
+    let r = c.reject_unlisted.ensures in
+    subst (λ (x : Side). Rejects x (Answers c.reject_unlisted.new.self)) (sym c.in-Answers.is)
+    (rejects_one c.in-Answers.server c.reject_unlisted.new.self c.reject_unlisted.result r.rejected r.listed r.none was)

@@ -1,0 +1,96 @@
+-- One step of a connection: something is done, and then what can move moves. It determines every part of the new connection.
+use Rattle.std.specs.Prelude.{◌≡◌, ◌≢◌, ℕ, List, Bool, true, false, not, ◌&&◌, Option, None, Result, IfOk, OnErr}
+use Rattle.courier_sessions.specs.declared.feed_refusal.FeedRefusal.{FeedRefusal}
+use Rattle.xns_agenda.specs.Waiting.{StepsAt}
+use Rattle.xns_spp.specs.Held.{StandsFor}
+use Rattle.xns_spp.specs.State.{State}
+use Rattle.xns_host.specs.Closed.{ClosesBy}
+use Rattle.xns_host.specs.Closing.{drains}
+use Rattle.xns_host.specs.Deeds.{Deed, Moved, Parts, done, nothing, side_taken, took, owed_by, told_by, wait_by, wait_moved, wanted_by}
+use Rattle.std.specs.declared.alloc.AllocError.{AllocError}
+use Rattle.xns_host.specs.Giving.{Giving, GivesAs, IsGiving, IsShort, giving, next_of}
+use Rattle.xns_host.specs.Living.{GoesFrom}
+use Rattle.xns_host.specs.Moving.{is_calm, scene}
+use Rattle.xns_host.specs.Story.{Story, waiting_message}
+use Rattle.xns_host.specs.Telling.{CalmFrom, HasSaidEnd, HasSaidReply, OwesRoom, ReadsAll}
+use Rattle.xns_host.specs.declared.connection.Connection.{Connection}
+use Rattle.xns_host.specs.declared.conversation.Conversation.{Conversation}
+
+-- ---- a step
+
+-- at this time this was done, and then what could move moved
+pub record Step (now : ℕ) (deed : Deed) (old new : Connection) : Type 0 where
+  pub moved : Result (Unit {0}) FeedRefusal
+  pub on : (s : State) → StandsFor old.conversation.endpoint s
+      → Moved now (done deed (scene old.conversation s)) moved new.conversation (owed_by deed old.owed old.wait s) new.owed
+      old.closed new.closed (wait_by deed old.wait s now) new.wait
+  pub packets : new.conversation.packets ≡ old.conversation.packets
+  pub told : new.told ≡ old.told
+  pub stays : old.closed ≢ None → new.closed ≡ old.closed
+
+-- ---- steps that move nothing
+
+-- what a connection is, without what is known of it
+abbrev pub parts_of : Connection → Parts
+parts_of c = record { conversation = c.conversation; wait = c.wait; owed = c.owed; closed = c.closed; told = c.told }
+
+-- the message that waits was handed, and where nothing can move then, that is all
+abbrev pub HandsBy : Bool → (now : ℕ) → (old new : Connection) → Type 0
+HandsBy true now old new =
+    parts_of new ≡ record (parts_of old) { conversation = record old.conversation { side = side_taken old.conversation.side } }
+HandsBy false now old new = Step now took old new
+
+-- the message that waits was handed, if one does
+pub record Hands (now : ℕ) (old new : Connection) : Type 0 where
+  pub none : waiting_message old.conversation.side ≡ None → new ≡ old
+  pub some : waiting_message old.conversation.side ≢ None → (s : State) → StandsFor old.conversation.endpoint s
+      → HandsBy (not old.owed.moving && is_calm (done took (scene old.conversation s))) now old new
+
+-- ---- a packet that goes out
+
+-- what memory was refused for moved, if anything did
+abbrev pub MovesOwed : Bool → (now : ℕ) → (old mid : Connection) → Type 0
+MovesOwed true now old mid = Step now nothing old mid
+MovesOwed false now old mid = mid ≡ old
+
+-- what memory was refused for moved; then the next packet was given, if there is one, and what is waited for then follows; or memory was
+-- refused on the way
+pub record GivesNext (now : ℕ) (result : Result (Option (List ℕ)) AllocError) (old new : Connection) : Type 0 where
+  pub mid : Connection
+  pub moved : MovesOwed old.owed.moving now old mid
+  pub gave : IfOk result (λ p. (s : State) → StandsFor mid.conversation.endpoint s
+      → GivesAs (next_of (giving mid.conversation mid.owed s)) p new.conversation new.owed)
+  pub short : OnErr result ((s : State) → StandsFor mid.conversation.endpoint s → (y : Giving) × IsShort (giving mid.conversation mid.owed s) y
+      × IsGiving new.conversation new.owed y)
+  pub beside : (new.conversation.side ≡ mid.conversation.side) × (new.conversation.closing ≡ mid.conversation.closing)
+  pub closed : new.closed ≡ mid.closed
+  pub told : new.told ≡ mid.told
+  pub waits : (s : State) → StandsFor new.conversation.endpoint s → new.wait ≡ wait_moved mid.closed mid.closed mid.wait s now
+
+-- once it was asked to close it stays asked
+abbrev pub StaysAsked : (old new : Conversation) → Type 0
+StaysAsked old new = old.closing.wanted ≡ true → new.closing.wanted ≡ true
+
+-- a connection owes no EndReply any longer, unless memory was refused while items moved, or this step closed it
+abbrev pub HasReplied : (old new : Connection) → Type 0
+HasReplied old new = new.owed.moving ≡ false → new.closed ≡ old.closed → HasSaidReply new.conversation
+
+-- after this was done its items moved, and so it was closed, if it was
+abbrev pub ClosesFrom : (old new : Connection) → (Story → Story) → Type 0
+ClosesFrom old new deed = ClosesBy old.conversation deed new.conversation new.owed.moving old.closed new.closed
+
+-- ---- what that means for what it has done, and for the peer
+
+-- whatever the connection had done goes on from where it is after that; no item can move, and nothing is to be said or read of closing, unless
+-- memory was refused or the step closed it; and that is why it is closed, if it is
+pub record Promises (now : ℕ) (deed : Deed) (old new : Connection) : Type 0 where
+  pub story : GoesFrom old.conversation new.conversation (told_by deed old.conversation.side)
+  pub wanted : new.conversation.closing.wanted ≡ wanted_by deed old.conversation.closing.wanted
+  pub calm : new.owed.moving ≡ false → drains new.conversation.side new.conversation.closing ≡ false
+      → CalmFrom old.conversation new.conversation (told_by deed old.conversation.side)
+  pub read : new.owed.moving ≡ false → new.closed ≡ old.closed → ReadsAll old.conversation new.conversation
+  pub said : new.owed.moving ≡ false → HasSaidEnd new.conversation
+  pub replied : HasReplied old new
+  pub closes : ClosesFrom old new (told_by deed old.conversation.side)
+  pub steps : StepsAt now old.wait new.wait
+  pub room : OwesRoom old.conversation.endpoint new.conversation.endpoint new.owed.word
