@@ -18,3 +18,4 @@ pub mod Numbered
 pub mod Called
 mod Fronts
 mod Foreseen
+pub mod Apart

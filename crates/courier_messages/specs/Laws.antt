@@ -1,5 +1,5 @@
 -- What the laws of messages speak of, and their statements.
-use Rattle.std.specs.Prelude.{◌≡◌, ◌≤◌, ◌+◌, ◌%◌, [], ◌∷◌, ◌++◌, ◌↔◌, ℕ, List, map, length, false, Some, None, Result, Ok, Err}
+use Rattle.std.specs.Prelude.{◌≡◌, ◌<◌, ◌≤◌, ◌+◌, ◌%◌, [], ◌∷◌, ◌++◌, ◌↔◌, ℕ, List, map, length, false, Some, None, Result, Ok, Err}
 use Rattle.std.specs.List.{All, AllByRecursion, flat_map}
 use Rattle.xns_spp.specs.declared.item.Item.{Item}
 use Rattle.xns_spp.specs.Growth.{Begins}
@@ -133,3 +133,8 @@ AFrontIsHeard = (fed : List Item) (sent : List Message) → AllByRecursion IsSho
 abbrev pub CallsAreHeard : Type 0
 CallsAreHeard = (fed : List Item) (made : List RawCall) → AllByRecursion IsShortCall made → Begins fed (caller_items made)
     → HearsCalls fed made
+
+-- a part of what messages are cut into says fewer messages
+abbrev pub APartSaysLess : Type 0
+APartSaysLess = (fed : List Item) (sent : List Message) → Begins fed (items_of sent) → length fed < length (items_of sent) → 0 < length sent
+    → length (conversation fed) < length sent

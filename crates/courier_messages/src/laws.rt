@@ -3,7 +3,7 @@
 ghost use Rattle.courier_messages.specs.Laws.{MessageIsSpelled, WholeValueIsSpelled, TextIsItsPieces, ConversationIsReadSignBySign};
 ghost use Rattle.courier_messages.specs.Laws.{WhatIsKeptIsBounded, MessageItemsCanBeSent, WhatIsHeardHasNumbers, CutsDoNotMatter};
 ghost use Rattle.courier_messages.specs.Laws.{WhatIsSentIsHeard, AConversationOnlyGrows, SignsRunOn, OneItemMore, AServerHearsOneItemMore};
-ghost use Rattle.courier_messages.specs.Laws.{MoreCallsGoOut, AFrontIsHeard, CallsAreHeard};
+ghost use Rattle.courier_messages.specs.Laws.{MoreCallsGoOut, AFrontIsHeard, CallsAreHeard, APartSaysLess};
 
 use courier_types::laws::words_are_read_whole;
 
@@ -93,4 +93,9 @@ pub fn a_front_is_heard()
 /// Of a prefix of what a caller puts out its first calls are heard, each with its transaction, without a fault.
 pub fn calls_are_heard()
     ensures { CallsAreHeard }
+{}
+
+/// A part of what messages are cut into says fewer messages.
+pub fn a_part_says_less()
+    ensures { APartSaysLess }
 {}

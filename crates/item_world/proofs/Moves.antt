@@ -27,6 +27,19 @@ pub record IsProper (at : Moment) (s : State) (p : SppPacketModel) : Type 0 wher
   pub close : IsCloseTo at meant
   pub sound : IsSound s p meant
 
+-- and that says these numbers
+pub record IsProperAs (at : Moment) (s : State) (p : SppPacketModel) (meant : Meant) : Type 0 where
+  pub fits : IsSppPacket p
+  pub reduced : IsReduced p.header meant
+  pub close : IsCloseTo at meant
+  pub sound : IsSound s p meant
+
+pub proper_as : (at : Moment) (s : State) (p : SppPacketModel) (m : Meant) → IsProperAs at s p m → IsProper at s p
+proper_as at s p m i = record { meant = m; fits = i.fits; reduced = i.reduced; close = i.close; sound = i.sound }
+
+pub as_proper : (at : Moment) (s : State) (p : SppPacketModel) → (i : IsProper at s p) → IsProperAs at s p i.meant
+as_proper at s p i = record { fits = i.fits; reduced = i.reduced; close = i.close; sound = i.sound }
+
 -- what there is room for is close to what was taken
 top_close : EndLaws → (s : State) → IsState s → IsClose (window_top s) (length s.taken)
 top_close laws s fits = record { least = omega (arith, laws.room.least s fits); most = omega (arith, laws.room.most s fits, fits.ends.window_most) }
@@ -60,9 +73,9 @@ sent_close s peer k = record {
 -- ---- packets
 
 -- a packet without an item, as s goes on as t and takes nothing
-pub system_proper : EndLaws → (s t peer : State) (control : ℕ) → Stands s peer → window_top s ≤ window_top t → t.taken ≡ s.taken → control < 256 → has_bit control system_bit ≡ true → IsProper (moment t peer) t (system_packet s control)
-system_proper laws s t peer control k top same h is = record {
-  meant = own_meant s s.sent;
+pub system_proper_as : EndLaws → (s t peer : State) (control : ℕ) → Stands s peer → window_top s ≤ window_top t → t.taken ≡ s.taken → control < 256 → has_bit control system_bit ≡ true
+    → IsProperAs (moment t peer) t (system_packet s control) (own_meant s s.sent)
+system_proper_as laws s t peer control k top same h is = record {
   fits = laws.packets.system_packet s control k.fits h;
   reduced = laws.says.system_fields s control;
   close = record {
@@ -73,10 +86,13 @@ system_proper laws s t peer control k top same h is = record {
   sound = record { carries = λ d. absurd (cc (laws.says.none s control is)); went_out = λ d. absurd (cc (laws.says.none s control is)); acknowledges = omega (arith, ap length same); allows = top };
 }
 
+pub system_proper : EndLaws → (s t peer : State) (control : ℕ) → Stands s peer → window_top s ≤ window_top t → t.taken ≡ s.taken → control < 256 → has_bit control system_bit ≡ true → IsProper (moment t peer) t (system_packet s control)
+system_proper laws s t peer control k top same h is = proper_as (moment t peer) t (system_packet s control) (own_meant s s.sent) (system_proper_as laws s t peer control k top same h is)
+
 -- the packet of an item
-item_proper : EndLaws → (s t peer : State) (i : ℕ) (x : Item) → Stands s peer → Stands t peer → Grows s t → t.taken ≡ s.taken → slice_get s.accepted i ≡ Some x → s.acknowledged ≤ i → i < t.sent → IsProper (moment t peer) t (data_packet s i x)
-item_proper laws s t peer i x k now g same is from to = record {
-  meant = own_meant s i;
+pub item_proper_as : EndLaws → (s t peer : State) (i : ℕ) (x : Item) → Stands s peer → Stands t peer → Grows s t → t.taken ≡ s.taken → slice_get s.accepted i ≡ Some x → s.acknowledged ≤ i → i < t.sent
+    → IsProperAs (moment t peer) t (data_packet s i x) (own_meant s i)
+item_proper_as laws s t peer i x k now g same is from to = record {
   fits = laws.packets.data_packet s i x k.fits is;
   reduced = laws.says.item_fields s i x;
   close = record {
@@ -95,7 +111,10 @@ item_proper laws s t peer i x k now g same is from to = record {
   };
 }
 
-own_proper : EndLaws → (s t peer : State) (p : SppPacketModel) → Stands s peer → Stands t peer → Grows s t → t.taken ≡ s.taken → IsOwnPacket s t p → IsProper (moment t peer) t p
+item_proper : EndLaws → (s t peer : State) (i : ℕ) (x : Item) → Stands s peer → Stands t peer → Grows s t → t.taken ≡ s.taken → slice_get s.accepted i ≡ Some x → s.acknowledged ≤ i → i < t.sent → IsProper (moment t peer) t (data_packet s i x)
+item_proper laws s t peer i x k now g same is from to = proper_as (moment t peer) t (data_packet s i x) (own_meant s i) (item_proper_as laws s t peer i x k now g same is from to)
+
+pub own_proper : EndLaws → (s t peer : State) (p : SppPacketModel) → Stands s peer → Stands t peer → Grows s t → t.taken ≡ s.taken → IsOwnPacket s t p → IsProper (moment t peer) t p
 own_proper laws s t peer p k now g same (inl i) =
     subst (IsProper (moment t peer) t) (sym i.is) (system_proper laws s t peer i.control k g.top same i.small i.system)
 own_proper laws s t peer p k now g same (inr i) =

@@ -1,5 +1,5 @@
 -- What the definitions imply: the statements of the laws, each under the name of its law.
-use Rattle.std.specs.Prelude.{◌≡◌, ◌≤◌, ℕ, true, false, List, [], length, take, fold, All, Some, None, is_ok}
+use Rattle.std.specs.Prelude.{◌≡◌, ◌<◌, ◌≤◌, ℕ, true, false, List, [], length, take, fold, All, Some, None, is_ok}
 use Rattle.std.specs.List.{filter}
 use Rattle.xns_spp.specs.Meant.{as_meant}
 use Rattle.xns_spp.specs.Receiving.{numbers_in, after_receive}
@@ -23,6 +23,7 @@ use Rattle.item_world.specs.World.{World, start, end_of, moved, has_passed, flus
 use Rattle.item_world.specs.World.{handed_at}
 use Rattle.xns_spp.specs.Growth.{Begins}
 use Rattle.item_world.specs.Invariant.{Holds, IsSoundSpelling}
+use Rattle.item_world.specs.Progress.{Linked, Stirs, StirsOut, Finishes, FinishesByEvents}
 
 pub record EachStepKeepsTheOrder : Type 0 where
   pub start : (setup : Setup) → IsSetup setup → IsGood setup → Holds (start setup)
@@ -115,3 +116,16 @@ pub record NetworkLaws : Type 0 where
   pub items : EachStepIsAMove
   pub moves : AMoveIsOfOneEnd
   pub reached : ALandingHasAnEnd
+
+-- from every world that small steps lead to, whatever was lost, repeated or late before, a few plain steps lead to one in which all that
+-- was accepted is handed up and acknowledged
+pub record NoWorldIsStuck : Type 0 where
+  pub starts : (setup : Setup) → Linked (start setup)
+  pub each : (w : World) (s : Step) → IsStep s → Holds w → Linked w → Linked (stepped w s)
+  pub stirs : (w : World) (side : Side) → Holds w → Linked w → Stirs w side
+  pub stirs_out : (w : World) (side : Side) → Holds w → Linked w → (end_of w side).acknowledged < length (end_of w side).accepted → StirsOut w side
+  pub world : (w : World) → Holds w → Linked w → Finishes w
+  pub always : (setup : Setup) (steps : List Step) → IsSetup setup → IsGood setup → All IsStep steps
+      → Finishes (all_stepped (start setup) steps)
+  pub by_events : (setup : Setup) (events : List Event) → IsSetup setup → IsGood setup → All IsEvent events
+      → FinishesByEvents (run (start setup) events)

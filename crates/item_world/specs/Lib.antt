@@ -13,3 +13,4 @@ pub mod Network
 pub mod Play
 pub mod Laws
 pub mod Telling
+pub mod Progress

@@ -2,7 +2,7 @@
 
 ghost use Rattle.item_world.specs.EndLaws.{EndLaws};
 ghost use Rattle.item_world.specs.Laws.{EachStepKeepsTheOrder, ItemsComeInOrder, ForeignBytesChangeNothing, ARestDeliversWhatNeverWas};
-ghost use Rattle.item_world.specs.Laws.{TheBagNeverShrinks, NetworkLaws, EachStepIsAMove, MovesKeepTheOrder};
+ghost use Rattle.item_world.specs.Laws.{TheBagNeverShrinks, NetworkLaws, EachStepIsAMove, MovesKeepTheOrder, NoWorldIsStuck};
 
 use xns_spp::laws::{
     accepted_items_go_out, an_end_only_grows, bounds_hold_after_each_step,
@@ -103,4 +103,13 @@ pub fn network_laws_are_given()
 {
     end_laws_are_given();
     each_step_is_a_move();
+}
+
+/// From every world that small steps lead to, some further ticks, arrivals of packets sent from then on, and takes lead to one in which
+/// each item that either end had accepted is handed up at the other.
+pub fn no_world_is_stuck()
+    ensures { NoWorldIsStuck }
+{
+    end_laws_are_given();
+    each_step_keeps_the_order();
 }

@@ -40,7 +40,7 @@ unfolding last_state
 state_one serving s [] c = refl
 state_one serving s (d ∷ cs) c = state_one serving (after_decision serving s d) cs c
 
-outcomes_length : {S : Type 0} (serving : Serving S) (s : S) (cs : List RawCall) → length (outcomes serving s cs) ≡ length cs
+pub outcomes_length : {S : Type 0} (serving : Serving S) (s : S) (cs : List RawCall) → length (outcomes serving s cs) ≡ length cs
 unfolding outcomes
 outcomes_length serving s [] = refl
 outcomes_length serving s (c ∷ cs) = ap suc (outcomes_length serving (after_decision serving s c) cs)

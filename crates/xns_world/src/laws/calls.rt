@@ -4,15 +4,16 @@ ghost use Rattle.xns_world.specs.CallLaws.{LawsAreGiven, ServerLawsAreGiven};
 ghost use Rattle.courier_calls.specs.Calls.{SeenModel};
 ghost use Rattle.courier_messages.specs.RawCalls.{RawCall};
 ghost use Rattle.xns_world.specs.CallPromises.{CallsComeInOrder, EachStepIsAnEntry, EntriesKeepTheOrder};
+ghost use Rattle.xns_world.specs.CallProgress.{NoPlayIsStuck};
 
 use courier_calls::Service;
 use courier_calls::laws::{
-    an_item_brings_at_most_one_answer, both_sides_agree, first_fault_stays,
+    all_is_answered, an_item_brings_at_most_one_answer, both_sides_agree, first_fault_stays,
     session_items_can_be_sent, what_is_heard_stays,
 };
 use item_world::laws::{
     each_step_keeps_the_order, end_laws_are_given, foreign_bytes_change_nothing,
-    network_laws_are_given,
+    network_laws_are_given, no_world_is_stuck,
 };
 
 /// In every history of a ledger the calls carried out begin those made, the state and the outcomes are theirs, one after another, and the
@@ -36,6 +37,15 @@ pub fn calls_come_in_order<S: Service>()
     ensures { CallsComeInOrder S.serving S.IsServiceState }
 {
     laws_are_given::<S>();
+}
+
+/// From every state that a play can be in some ticks, packets sent from then on, and steps of the sides carry out all calls.
+pub fn no_play_is_stuck<S: Service>()
+    ensures { NoPlayIsStuck S.serving S.IsServiceState }
+{
+    laws_are_given::<S>();
+    no_world_is_stuck();
+    all_is_answered::<S>();
 }
 
 /// The laws of an end, of the network and of the sessions, as the play's proofs take them.

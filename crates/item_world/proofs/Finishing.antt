@@ -1,0 +1,313 @@
+-- From every world some plain steps hand up all that was accepted.
+use Rattle.std.proofs.Common.{◌≡◌, ℕ, zero, suc, ◌+◌, ◌-◌, ◌*◌, ◌<◌, ◌≤◌, Bool, true, false, List, [], ◌∷◌, ◌++◌, length, map, take, nat_lt, Option, Some, None, refl, sym, ◌∙◌, ap, subst, arith, append-nil, length-append}
+use Rattle.std.specs.Prelude.{All, ◌||◌}
+use Rattle.xns_spp.specs.Acceptance.{is_backlog_full}
+use Rattle.xns_spp.specs.Numbers.{most_items}
+use Rattle.std.specs.Option.{option_to_list}
+use Rattle.std.proofs.Math.Nat.{le_refl}
+use Rattle.std.proofs.lemmas.Bool.{ltb-true, ltb-false, ne_eqb}
+use Rattle.std.proofs.lemmas.List.{length-map, length-take}
+use Rattle.std.proofs.lemmas.List.Elements.{All-nil, All-append, All-weaker, All-head, All-tail}
+use Rattle.std.proofs.lemmas.List.Sums.{fold-append}
+use Rattle.xns_spp.specs.Fronts.{begins_length}
+use Rattle.xns_spp.specs.Growth.{Begins}
+use Rattle.xns_spp.specs.Receiving.{receive_answer, after_receive}
+use Rattle.xns_spp.specs.Sending.{is_full, after_tick, tick_answer, handing, take_answer, after_take}
+use Rattle.xns_spp.specs.State.{State, IsState, numbers_of}
+use Rattle.xns_spp.specs.declared.item.Item.{Item}
+use Rattle.item_world.proofs.Later.{all_later}
+use Rattle.item_world.proofs.Onward.{Kept, Advances, advances, Settles, settles}
+use Rattle.item_world.proofs.Sides.{each_end, same_marked, has_landed}
+use Rattle.item_world.specs.EndLaws.{EndLaws}
+use Rattle.item_world.specs.Events.{Step, IsStep, arrival, noise, sending, taking, flushing, ticking, resending, telling, stepped, all_stepped}
+use Rattle.item_world.specs.Going.{Later, as_sent}
+use Rattle.item_world.specs.Invariant.{Holds}
+use Rattle.item_world.specs.Landing.{answered, landing, reached}
+use Rattle.item_world.specs.Progress.{IsPlain, IsDone, pending, Finishes, Linked}
+use Rattle.item_world.specs.Side.{other}
+use Rattle.item_world.specs.World.{World, start, end_of, moved, marked, sent_at, handed_at}
+use Rattle.item_world.specs.declared.emitted.Emitted.{Emitted}
+use Rattle.item_world.specs.declared.setup.Setup.{Setup}
+use Rattle.item_world.specs.declared.side.Side.{Side}
+use Rattle.item_world.specs.declared.side.Side.TheVariants.{A, B}
+
+-- ---- what plain steps leave
+
+-- an end goes on with nothing accepted, and no less handed up and acknowledged
+pub record Works (s t : State) : Type 0 where
+  pub accepted : t.accepted ≡ s.accepted
+  pub handed : s.handed ≤ t.handed
+  pub acknowledged : s.acknowledged ≤ t.acknowledged
+
+pub works_itself : (s : State) → Works s s
+works_itself s = record { accepted = refl; handed = omega arith; acknowledged = omega arith }
+
+pub works_then : (s t u : State) → Works s t → Works t u → Works s u
+works_then s t u a b = record { accepted = b.accepted ∙ a.accepted; handed = omega (arith, a.handed, b.handed); acknowledged = omega (arith, a.acknowledged, b.acknowledged) }
+
+abbrev pub Ongoing : World → World → Type 0
+Ongoing w v = (side : Side) → Works (end_of w side) (end_of v side)
+
+pub moved_works : (w : World) (side : Side) (s : State) (bs : List (List ℕ)) → Works (end_of w side) s → Ongoing w (moved w side s bs)
+moved_works w side s bs h t = each_end w side s bs (λ u y. Works (end_of w u) y) h t (works_itself (end_of w t))
+
+pub handing_works : (s : State) (o : Option Item) → Works s (handing o s)
+handing_works s None = works_itself s
+handing_works s (Some x) = record { accepted = refl; handed = omega arith; acknowledged = omega arith }
+
+pub same_works : (s t : State) → t ≡ s → Works s t
+same_works s t e = subst (Works s) (sym e) (works_itself s)
+
+pub land_works : EndLaws → (w : World) (k : ℕ) (l : Side × World) → landing w k ≡ Some l → Ongoing w l.1
+land_works laws w k l e =
+    let i = has_landed w k l e in
+    let x : Emitted = i.packet in
+    let v : World = marked w k x in
+    let s : State = end_of v (other x.side) in
+    let stays = laws.stays.receive s x.bytes in
+    let more : Ongoing v (answered w k x) = moved_works v (other x.side) (after_receive s x.bytes) (option_to_list (receive_answer s x.bytes).reply) (record { accepted = stays.accepted; handed = omega (arith, stays.handed); acknowledged = (laws.grows.receive s x.bytes).acknowledged }) in
+    subst (λ (m : Side × World). Ongoing w m.1) i.leads (λ t. works_then (end_of w t) (end_of v t) (end_of (answered w k x) t) (same_works (end_of w t) (end_of v t) (same_marked w k x t)) (more t))
+
+pub reached_works : EndLaws → (w : World) (k : ℕ) (o : Option (Side × World)) → landing w k ≡ o → Ongoing w (reached w o)
+reached_works laws w k None e t = works_itself (end_of w t)
+reached_works laws w k (Some l) e t = land_works laws w k l e t
+
+step_works : EndLaws → (n : ℕ) (w : World) (s : Step) → IsPlain n s → Ongoing w (stepped w s)
+step_works laws n w (arrival k) h = reached_works laws w k (landing w k) refl
+step_works laws n w (noise side bytes) h = absurd h
+step_works laws n w (sending side x) h = absurd h
+step_works laws n w (taking side) h = moved_works w side (after_take (end_of w side)) [] (handing_works (end_of w side) (take_answer (end_of w side)))
+step_works laws n w (flushing side) h = absurd h
+step_works laws n w (ticking side) h =
+    let stays = laws.stays.tick (end_of w side) in
+    moved_works w side (after_tick (end_of w side)) (tick_answer (end_of w side))
+    (record { accepted = stays.accepted; handed = omega (arith, stays.handed); acknowledged = omega (arith, (laws.hears.tick (end_of w side)).acknowledged) })
+step_works laws n w (resending side) h = absurd h
+step_works laws n w (telling side asks) h = absurd h
+
+all_work : EndLaws → (n : ℕ) (w : World) (ss : List Step) → All (IsPlain n) ss → Ongoing w (all_stepped w ss)
+all_work laws n w [] h t = works_itself (end_of w t)
+all_work laws n w (s ∷ ss) h t =
+    works_then (end_of w t) (end_of (stepped w s) t) (end_of (all_stepped (stepped w s) ss) t) (step_works laws n w s (All-head (IsPlain n) s ss h) t)
+    (all_work laws n (stepped w s) ss (All-tail (IsPlain n) s ss h) t)
+
+plain_steps : (n : ℕ) (s : Step) → IsPlain n s → IsStep s
+plain_steps n (arrival k) h = tt
+plain_steps n (noise side bytes) h = absurd h
+plain_steps n (sending side x) h = absurd h
+plain_steps n (taking side) h = tt
+plain_steps n (flushing side) h = absurd h
+plain_steps n (ticking side) h = tt
+plain_steps n (resending side) h = absurd h
+plain_steps n (telling side asks) h = absurd h
+
+plain_before : (m n : ℕ) (s : Step) → m ≤ n → IsPlain n s → IsPlain m s
+plain_before m n (arrival k) le h = omega (arith, h)
+plain_before m n (noise side bytes) le h = absurd h
+plain_before m n (sending side x) le h = absurd h
+plain_before m n (taking side) le h = tt
+plain_before m n (flushing side) le h = absurd h
+plain_before m n (ticking side) le h = tt
+plain_before m n (resending side) le h = absurd h
+plain_before m n (telling side asks) le h = absurd h
+
+-- what always holds holds after them
+pub record Both (w : World) : Type 0 where
+  pub holds : Holds w
+  pub linked : Linked w
+
+pub both_after : Kept → (w : World) (ss : List Step) → All IsStep ss → Both w → Both (all_stepped w ss)
+both_after k w [] fits b = b
+both_after k w (s ∷ ss) fits b =
+    let step = All-head IsStep s ss fits in
+    both_after k (stepped w s) ss (All-tail IsStep s ss fits) (record { holds = k.order.each w s step b.holds; linked = k.links w s step b.holds b.linked })
+
+both_plain : Kept → (n : ℕ) (w : World) (ss : List Step) → All (IsPlain n) ss → Both w → Both (all_stepped w ss)
+both_plain k n w ss h b = both_after k w ss (All-weaker (IsPlain n) IsStep (plain_steps n) ss h) b
+
+longer : (u v : World) → Later u v → length u.bag ≤ length v.bag
+longer u v l = omega (arith, begins_length (map as_sent u.bag) (map as_sent v.bag) l.bag, length-map u.bag as_sent, length-map v.bag as_sent)
+
+-- ---- plain steps one after another
+
+-- u goes on as v by so many plain steps at most
+record Leads (u v : World) (n : ℕ) : Type 0 where
+  steps : List Step
+  plain : All (IsPlain (length u.bag)) steps
+  few : length steps ≤ n
+  is : all_stepped u steps ≡ v
+
+leads_then : Kept → (u v w : World) (m n : ℕ) → Leads u v m → Leads v w n → Leads u w (m + n)
+leads_then k u v w m n a b =
+    let more : length u.bag ≤ length v.bag = longer u v (subst (λ (x : World). Later u x) a.is (all_later k.laws u a.steps)) in
+    record {
+      steps = a.steps ++ b.steps;
+      plain = All-append (IsPlain (length u.bag)) a.steps b.steps a.plain
+          (All-weaker (IsPlain (length v.bag)) (IsPlain (length u.bag)) (λ s. plain_before (length u.bag) (length v.bag) s more) b.steps b.plain);
+      few = omega (arith, length-append a.steps b.steps, a.few, b.few);
+      is = fold-append stepped u a.steps b.steps ∙ (ap (λ (x : World). all_stepped x b.steps) a.is ∙ b.is);
+    }
+
+leads_both : Kept → (u v : World) (n : ℕ) → Leads u v n → Both u → Both v
+leads_both k u v n l b = subst Both l.is (both_plain k (length u.bag) u l.steps l.plain b)
+
+leads_works : EndLaws → (u v : World) (n : ℕ) → Leads u v n → Ongoing u v
+leads_works laws u v n l = subst (λ (x : World). Ongoing u x) l.is (all_work laws (length u.bag) u l.steps l.plain)
+
+-- ---- one way
+
+-- plain steps after which each item of a side is handed up at the other
+record Reaches (w : World) (side : Side) (d : ℕ) : Type 0 where
+  then : World
+  leads : Leads w then (6 * d)
+  all : length (end_of then side).accepted ≤ (end_of then (other side)).handed
+
+reaches : Kept → (d : ℕ) (w : World) (side : Side) (b : Bool) → nat_lt (end_of w (other side)).handed (length (end_of w side).accepted) ≡ b → Both w
+    → length (end_of w side).accepted ≤ (end_of w (other side)).handed + d → Reaches w side d
+reaches k d w side false e h le = record {
+  then = w;
+  leads = record { steps = []; plain = All-nil (IsPlain (length w.bag)); few = omega arith; is = refl };
+  all = ltb-false (end_of w (other side)).handed (length (end_of w side).accepted) e;
+}
+reaches k zero w side true e h le = absurd (omega (arith, le, ltb-true (end_of w (other side)).handed (length (end_of w side).accepted) e))
+reaches k (suc d) w side true e h le =
+    let a : Advances w side (end_of w (other side)).handed = advances k w side h.holds h.linked (ltb-true (end_of w (other side)).handed (length (end_of w side).accepted) e) in
+    let v : World = all_stepped w a.steps in
+    let l : Leads w v 6 = record { steps = a.steps; plain = a.plain; few = a.few; is = refl } in
+    let works : Ongoing w v = leads_works k.laws w v 6 l in
+    let left : length (end_of v side).accepted ≤ (end_of v (other side)).handed + d = omega (arith, ap length (works side).accepted, a.more, le) in
+    let r : Reaches v side d = reaches k d v side (nat_lt (end_of v (other side)).handed (length (end_of v side).accepted)) refl (leads_both k w v 6 l h) left in
+    let count : 6 + 6 * d ≡ 6 * suc d = omega arith in
+    record { then = r.then; leads = subst (λ (n : ℕ). Leads w r.then n) count (leads_then k w v r.then 6 (6 * d) l r.leads); all = r.all }
+
+reaches_all : Kept → (w : World) (side : Side) (d : ℕ) → length (end_of w side).accepted ≤ (end_of w (other side)).handed + d → Both w → Reaches w side d
+reaches_all k w side d le h = reaches k d w side (nat_lt (end_of w (other side)).handed (length (end_of w side).accepted)) refl h le
+
+-- ---- both ways
+
+-- a list that begins another and is as long is the other
+same_list : (xs ys : List Item) → Begins xs ys → length ys ≤ length xs → xs ≡ ys
+same_list xs ys (rest, e) le = by_rest rest e
+  where
+    by_rest : (rest : List Item) → xs ++ rest ≡ ys → xs ≡ ys
+    by_rest [] e = sym (append-nil xs) ∙ e
+    by_rest (x ∷ rest) e = absurd (omega (arith, le, ap length e, length-append xs (x ∷ rest)))
+
+all_handed : (s p : State) → s.handed ≤ length s.taken → Begins (take s.handed s.taken) p.accepted → length p.accepted ≤ s.handed → take s.handed s.taken ≡ p.accepted
+all_handed s p within b le = same_list (take s.handed s.taken) p.accepted b (omega (arith, length-take s.handed s.taken))
+
+done_at : Kept → (v : World) → Holds v → (side : Side) → length (end_of v side).accepted ≤ (end_of v (other side)).handed → handed_at v (other side) ≡ sent_at v side
+done_at k v h A le = all_handed v.b v.a (h.ends B).fits.bounds.handed_taken (k.order.order v B h) le
+done_at k v h B le = all_handed v.a v.b (h.ends A).fits.bounds.handed_taken (k.order.order v A h) le
+
+pub not_full : (s : State) → IsState s → s.acknowledged ≡ length s.accepted → length s.accepted < most_items → is_full s ≡ false
+not_full s fits all less =
+    ap (λ (b : Bool). b || is_backlog_full s.ends (numbers_of s)) (ne_eqb (length s.accepted) most_items (λ e. omega (arith, e, less)))
+    ∙ ne_eqb (length s.accepted - s.acknowledged) s.ends.backlog (λ e. omega (arith, e, all, fits.ends.backlog_least))
+
+-- all is done once each way is handed up and acknowledged
+pub all_done : Kept → (w v : World) → Both v → Ongoing w v → ((side : Side) → length (end_of w side).accepted ≤ (end_of v (other side)).handed) → ((side : Side) → length (end_of w side).accepted ≤ (end_of v side).acknowledged)
+    → IsDone w v
+all_done k w v both works handed acknowledged =
+    let count : (side : Side) → length (end_of v side).accepted ≡ length (end_of w side).accepted = λ side. ap length (works side).accepted in
+    let all : (side : Side) → (end_of v side).acknowledged ≡ length (end_of v side).accepted = λ side.
+    let b = (both.holds.ends side).fits.bounds in omega (arith, acknowledged side, count side, b.acknowledged_sent, b.sent_accepted) in
+    record {
+      accepted = λ side. (works side).accepted;
+      handed = λ side. done_at k v both.holds side (omega (arith, count side, handed side)) ∙ (works side).accepted;
+      acknowledged = λ side. all side ∙ count side;
+      free = λ side less. not_full (end_of v side) (both.holds.ends side).fits (all side) (omega (arith, count side, less));
+    }
+
+-- one way after what was done, where the items of w are meant
+record Handed (w v : World) (side : Side) (n : ℕ) : Type 0 where
+  then : World
+  leads : Leads w then n
+  since : Ongoing v then
+  all : length (end_of w side).accepted ≤ (end_of then (other side)).handed
+
+hands_over : Kept → (w v : World) (side : Side) (c d : ℕ) → Both w → Leads w v c → length (end_of w side).accepted ≤ (end_of v (other side)).handed + d → Handed w v side (c + 6 * d)
+hands_over k w v side c d h l le =
+    let now : Both v = leads_both k w v c l h in
+    let before : length (end_of v side).accepted ≡ length (end_of w side).accepted = ap length (leads_works k.laws w v c l side).accepted in
+    let r : Reaches v side d = reaches_all k v side d (omega (arith, before, le)) now in
+    let since : Ongoing v r.then = leads_works k.laws v r.then (6 * d) r.leads in
+    record {
+      then = r.then;
+      leads = leads_then k w v r.then c (6 * d) l r.leads;
+      since = since;
+      all = omega (arith, before, ap length (since side).accepted, r.all);
+    }
+
+record Acknowledged (w v : World) (side : Side) (n : ℕ) : Type 0 where
+  then : World
+  leads : Leads w then n
+  since : Ongoing v then
+  all : length (end_of w side).accepted ≤ (end_of then side).acknowledged
+
+learns_all : Kept → (w v : World) (side : Side) (c : ℕ) → Both w → Leads w v c → length (end_of w side).accepted ≤ (end_of v (other side)).handed → Acknowledged w v side (c + 3)
+learns_all k w v side c h l le =
+    let now : Both v = leads_both k w v c l h in
+    let before : length (end_of v side).accepted ≡ length (end_of w side).accepted = ap length (leads_works k.laws w v c l side).accepted in
+    let r : Settles v side (length (end_of v side).accepted) = settles k v side now.holds now.linked (omega (arith, before, le)) in
+    let u : World = all_stepped v r.steps in
+    let on : Leads v u 3 = record { steps = r.steps; plain = r.plain; few = r.few; is = refl } in
+    record { then = u; leads = leads_then k w v u c 3 l on; since = leads_works k.laws v u 3 on; all = omega (arith, before, r.all) }
+
+pub few_enough : (m n c : ℕ) → c ≤ 0 + 6 * m + 6 * n + 3 + 3 → c ≤ 6 * (m + n + 1)
+few_enough m n c h = omega arith
+
+pub le_then : (a b c : ℕ) → a ≤ b → b ≤ c → a ≤ c
+le_then a b c h i = omega arith
+
+pub still_left : (n h i : ℕ) → h ≤ i → n ≤ i + (n - h)
+still_left n h i a = omega arith
+
+by_sides : Kept → (w v : World) (n : ℕ) → Both w → Leads w v n → length (end_of w A).accepted ≤ (end_of v B).handed → length (end_of w B).accepted ≤ (end_of v A).handed → length (end_of w A).accepted ≤ (end_of v A).acknowledged
+    → length (end_of w B).accepted ≤ (end_of v B).acknowledged → IsDone w v
+by_sides k w v n h l to_b to_a at_a at_b =
+    all_done k w v (leads_both k w v n l h) (leads_works k.laws w v n l)
+    (λ side. elim side as (λ t. length (end_of w t).accepted ≤ (end_of v (other t)).handed) [ A ↦ to_b | B ↦ to_a ])
+    (λ side. elim side as (λ t. length (end_of w t).accepted ≤ (end_of v t).acknowledged) [ A ↦ at_a | B ↦ at_b ])
+
+-- the last of four moves
+last_done : Kept → (w v2 : World) (m n : ℕ) → Both w → Leads w v2 (0 + 6 * m + 6 * n) → length (end_of w A).accepted ≤ (end_of v2 B).handed → length (end_of w B).accepted ≤ (end_of v2 A).handed
+    → (c : Acknowledged w v2 A (0 + 6 * m + 6 * n + 3)) (d : Acknowledged w c.then B (0 + 6 * m + 6 * n + 3 + 3)) → IsDone w d.then
+last_done k w v2 m n h l to_b to_a c d =
+    by_sides k w d.then (0 + 6 * m + 6 * n + 3 + 3) h d.leads
+    (le_then (length (end_of w A).accepted) (end_of c.then B).handed (end_of d.then B).handed (le_then (length (end_of w A).accepted) (end_of v2 B).handed (end_of c.then B).handed to_b (c.since B).handed) (d.since B).handed)
+    (le_then (length (end_of w B).accepted) (end_of c.then A).handed (end_of d.then A).handed (le_then (length (end_of w B).accepted) (end_of v2 A).handed (end_of c.then A).handed to_a (c.since A).handed) (d.since A).handed)
+    (le_then (length (end_of w A).accepted) (end_of c.then A).acknowledged (end_of d.then A).acknowledged c.all (d.since A).acknowledged)
+    d.all
+
+-- each end asks until it knows
+asks_both : Kept → (w v : World) (m n : ℕ) → Both w → Leads w v (0 + 6 * m + 6 * n) → length (end_of w A).accepted ≤ (end_of v B).handed → length (end_of w B).accepted ≤ (end_of v A).handed → m ≡ pending w A → n ≡ pending w B
+    → Finishes w
+asks_both k w v m n h l to_b to_a is_m is_n =
+    let c : Acknowledged w v A (0 + 6 * m + 6 * n + 3) = learns_all k w v A (0 + 6 * m + 6 * n) h l to_b in
+    let d : Acknowledged w c.then B (0 + 6 * m + 6 * n + 3 + 3) =
+    learns_all k w c.then B (0 + 6 * m + 6 * n + 3) h c.leads (le_then (length (end_of w B).accepted) (end_of v A).handed (end_of c.then A).handed to_a (c.since A).handed) in
+    record {
+      more = d.leads.steps;
+      plain = d.leads.plain;
+      few = subst (λ (j : ℕ). length d.leads.steps ≤ 6 * (pending w A + j + 1)) is_n
+          (subst (λ (i : ℕ). length d.leads.steps ≤ 6 * (i + n + 1)) is_m (few_enough m n (length d.leads.steps) d.leads.few));
+      done = subst (IsDone w) (sym d.leads.is) (last_done k w v m n h l to_b to_a c d);
+    }
+
+-- first one way, then the other
+pub finishes : Kept → (w : World) → Holds w → Linked w → Finishes w
+finishes k w holds linked =
+    let h : Both w = record { holds = holds; linked = linked } in
+    let none : Leads w w 0 = record { steps = []; plain = All-nil (IsPlain (length w.bag)); few = omega arith; is = refl } in
+    let a : Handed w w A (0 + 6 * pending w A) = hands_over k w w A 0 (pending w A) h none (still_left (length (end_of w A).accepted) (end_of w B).handed (end_of w B).handed (le_refl (end_of w B).handed)) in
+    let b : Handed w a.then B (0 + 6 * pending w A + 6 * pending w B) =
+    hands_over k w a.then B (0 + 6 * pending w A) (pending w B) h a.leads (still_left (length (end_of w B).accepted) (end_of w A).handed (end_of a.then A).handed (a.since A).handed) in
+    asks_both k w b.then (pending w A) (pending w B) h b.leads
+    (le_then (length (end_of w A).accepted) (end_of a.then B).handed (end_of b.then B).handed a.all (b.since B).handed) b.all refl refl
+
+-- whatever was before
+pub always_finishes : Kept → (setup : Setup) (steps : List Step) → Holds (start setup) → Linked (start setup) → All IsStep steps → Finishes (all_stepped (start setup) steps)
+always_finishes k setup steps h l fits =
+    let b : Both (all_stepped (start setup) steps) = both_after k (start setup) steps fits (record { holds = h; linked = l }) in
+    finishes k (all_stepped (start setup) steps) b.holds b.linked

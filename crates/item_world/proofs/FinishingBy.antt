@@ -1,0 +1,226 @@
+-- From every world some events of a play hand up all that was accepted: as with small steps.
+use Rattle.std.proofs.Common.{◌≡◌, ℕ, zero, suc, ◌+◌, ◌*◌, ◌≤◌, Bool, true, false, List, [], ◌∷◌, ◌++◌, length, map, nat_lt, Option, Some, None, refl, sym, ◌∙◌, ap, subst, arith, length-append}
+use Rattle.std.specs.Prelude.{All}
+use Rattle.std.proofs.Math.Nat.{le_refl}
+use Rattle.std.proofs.lemmas.Bool.{ltb-true, ltb-false}
+use Rattle.std.proofs.lemmas.List.{length-map}
+use Rattle.std.proofs.lemmas.List.Elements.{All-nil, All-append, All-weaker, All-head, All-tail}
+use Rattle.std.proofs.lemmas.List.Sums.{fold-append}
+use Rattle.xns_spp.specs.Fronts.{begins_length}
+use Rattle.xns_spp.specs.Sending.{after_flush, flush_answer, after_tick, tick_answer, take_answer, after_take}
+use Rattle.xns_spp.specs.State.{State}
+use Rattle.item_world.proofs.Later.{run_later}
+use Rattle.item_world.proofs.Onward.{Kept}
+use Rattle.item_world.proofs.Deliveries.{AdvancesBy, advances_by, SettlesBy, settles_by}
+use Rattle.item_world.proofs.Kept.{flushed, delivers_lands, steps_fit}
+use Rattle.item_world.proofs.Finishing.{Works, works_itself, works_then, Ongoing, moved_works, handing_works, land_works, Both, both_after, all_done, few_enough, le_then, still_left}
+use Rattle.item_world.specs.declared.event.Event.{Event}
+use Rattle.item_world.specs.declared.event.Event.TheVariants.{Deliver, Rest, Tick, Foreign, Send, Take}
+use Rattle.item_world.specs.EndLaws.{EndLaws}
+use Rattle.item_world.specs.Events.{IsEvent, steps_of, happens, run}
+use Rattle.item_world.specs.Going.{Later, as_sent}
+use Rattle.item_world.specs.Invariant.{Holds}
+use Rattle.item_world.specs.Landing.{landing}
+use Rattle.item_world.specs.Progress.{IsFurther, IsDone, pending, FinishesByEvents, Linked}
+use Rattle.item_world.specs.Side.{other}
+use Rattle.item_world.specs.World.{World, start, end_of, flushes}
+use Rattle.item_world.specs.declared.setup.Setup.{Setup}
+use Rattle.item_world.specs.declared.side.Side.{Side}
+use Rattle.item_world.specs.declared.side.Side.TheVariants.{A, B}
+
+-- ---- what the events leave
+
+flush_works : EndLaws → (s : State) → Works s (after_flush s)
+flush_works laws s = record { accepted = (laws.stays.flush s).accepted; handed = omega (arith, (laws.stays.flush s).handed); acknowledged = omega (arith, (laws.hears.flush s).acknowledged) }
+
+arrival_works : EndLaws → (w : World) (k : ℕ) (o : Option (Side × World)) → landing w k ≡ o → Ongoing w (flushed w o)
+arrival_works laws w k None e t = works_itself (end_of w t)
+arrival_works laws w k (Some l) e t =
+    let v : World = l.1 in
+    works_then (end_of w t) (end_of v t) (end_of (flushes v l.0) t) (land_works laws w k l e t)
+    (moved_works v l.0 (after_flush (end_of v l.0)) (flush_answer (end_of v l.0)) (flush_works laws (end_of v l.0)) t)
+
+step_works : EndLaws → (n : ℕ) (w : World) (e : Event) → IsFurther n e → Ongoing w (happens w e)
+step_works laws n w (Deliver k) h = subst (λ (v : World). Ongoing w v) (sym (delivers_lands w k)) (arrival_works laws w k (landing w k) refl)
+step_works laws n w Rest h = absurd h
+step_works laws n w (Tick side) h =
+    let stays = laws.stays.tick (end_of w side) in
+    moved_works w side (after_tick (end_of w side)) (tick_answer (end_of w side))
+    (record { accepted = stays.accepted; handed = omega (arith, stays.handed); acknowledged = omega (arith, (laws.hears.tick (end_of w side)).acknowledged) })
+step_works laws n w (Foreign side bytes) h = absurd h
+step_works laws n w (Send side x) h = absurd h
+step_works laws n w (Take side) h = moved_works w side (after_take (end_of w side)) [] (handing_works (end_of w side) (take_answer (end_of w side)))
+
+all_work : EndLaws → (n : ℕ) (w : World) (ss : List Event) → All (IsFurther n) ss → Ongoing w (run w ss)
+all_work laws n w [] h t = works_itself (end_of w t)
+all_work laws n w (s ∷ ss) h t =
+    works_then (end_of w t) (end_of (happens w s) t) (end_of (run (happens w s) ss) t) (step_works laws n w s (All-head (IsFurther n) s ss h) t)
+    (all_work laws n (happens w s) ss (All-tail (IsFurther n) s ss h) t)
+
+plain_steps : (n : ℕ) (e : Event) → IsFurther n e → IsEvent e
+plain_steps n (Deliver k) h = tt
+plain_steps n Rest h = tt
+plain_steps n (Tick side) h = tt
+plain_steps n (Foreign side bytes) h = tt
+plain_steps n (Send side x) h = absurd h
+plain_steps n (Take side) h = tt
+
+plain_before : (m n : ℕ) (e : Event) → m ≤ n → IsFurther n e → IsFurther m e
+plain_before m n (Deliver k) le h = omega (arith, h)
+plain_before m n Rest le h = absurd h
+plain_before m n (Tick side) le h = tt
+plain_before m n (Foreign side bytes) le h = absurd h
+plain_before m n (Send side x) le h = absurd h
+plain_before m n (Take side) le h = tt
+
+events_after : Kept → (w : World) (es : List Event) → All IsEvent es → Both w → Both (run w es)
+events_after k w [] fits b = b
+events_after k w (e ∷ es) fits b =
+    events_after k (happens w e) es (All-tail IsEvent e es fits) (both_after k w (steps_of w e) (steps_fit w e (All-head IsEvent e es fits)) b)
+
+both_plain : Kept → (n : ℕ) (w : World) (ss : List Event) → All (IsFurther n) ss → Both w → Both (run w ss)
+both_plain k n w ss h b = events_after k w ss (All-weaker (IsFurther n) IsEvent (plain_steps n) ss h) b
+
+longer : (u v : World) → Later u v → length u.bag ≤ length v.bag
+longer u v l = omega (arith, begins_length (map as_sent u.bag) (map as_sent v.bag) l.bag, length-map u.bag as_sent, length-map v.bag as_sent)
+
+-- ---- plain steps one after another
+
+-- u goes on as v by so many plain steps at most
+record Leads (u v : World) (n : ℕ) : Type 0 where
+  steps : List Event
+  plain : All (IsFurther (length u.bag)) steps
+  few : length steps ≤ n
+  is : run u steps ≡ v
+
+leads_then : Kept → (u v w : World) (m n : ℕ) → Leads u v m → Leads v w n → Leads u w (m + n)
+leads_then k u v w m n a b =
+    let more : length u.bag ≤ length v.bag = longer u v (subst (λ (x : World). Later u x) a.is (run_later k.laws u a.steps)) in
+    record {
+      steps = a.steps ++ b.steps;
+      plain = All-append (IsFurther (length u.bag)) a.steps b.steps a.plain
+          (All-weaker (IsFurther (length v.bag)) (IsFurther (length u.bag)) (λ s. plain_before (length u.bag) (length v.bag) s more) b.steps b.plain);
+      few = omega (arith, length-append a.steps b.steps, a.few, b.few);
+      is = fold-append happens u a.steps b.steps ∙ (ap (λ (x : World). run x b.steps) a.is ∙ b.is);
+    }
+
+leads_both : Kept → (u v : World) (n : ℕ) → Leads u v n → Both u → Both v
+leads_both k u v n l b = subst Both l.is (both_plain k (length u.bag) u l.steps l.plain b)
+
+leads_works : EndLaws → (u v : World) (n : ℕ) → Leads u v n → Ongoing u v
+leads_works laws u v n l = subst (λ (x : World). Ongoing u x) l.is (all_work laws (length u.bag) u l.steps l.plain)
+
+-- ---- one way
+
+-- plain steps after which each item of a side is handed up at the other
+record Reaches (w : World) (side : Side) (d : ℕ) : Type 0 where
+  then : World
+  leads : Leads w then (6 * d)
+  all : length (end_of then side).accepted ≤ (end_of then (other side)).handed
+
+reaches : Kept → (d : ℕ) (w : World) (side : Side) (b : Bool) → nat_lt (end_of w (other side)).handed (length (end_of w side).accepted) ≡ b → Both w
+    → length (end_of w side).accepted ≤ (end_of w (other side)).handed + d → Reaches w side d
+reaches k d w side false e h le = record {
+  then = w;
+  leads = record { steps = []; plain = All-nil (IsFurther (length w.bag)); few = omega arith; is = refl };
+  all = ltb-false (end_of w (other side)).handed (length (end_of w side).accepted) e;
+}
+reaches k zero w side true e h le = absurd (omega (arith, le, ltb-true (end_of w (other side)).handed (length (end_of w side).accepted) e))
+reaches k (suc d) w side true e h le =
+    let a : AdvancesBy w side (end_of w (other side)).handed = advances_by k w side h.holds h.linked (ltb-true (end_of w (other side)).handed (length (end_of w side).accepted) e) in
+    let v : World = run w a.steps in
+    let l : Leads w v 6 = record { steps = a.steps; plain = a.plain; few = a.few; is = refl } in
+    let works : Ongoing w v = leads_works k.laws w v 6 l in
+    let left : length (end_of v side).accepted ≤ (end_of v (other side)).handed + d = omega (arith, ap length (works side).accepted, a.more, le) in
+    let r : Reaches v side d = reaches k d v side (nat_lt (end_of v (other side)).handed (length (end_of v side).accepted)) refl (leads_both k w v 6 l h) left in
+    let count : 6 + 6 * d ≡ 6 * suc d = omega arith in
+    record { then = r.then; leads = subst (λ (n : ℕ). Leads w r.then n) count (leads_then k w v r.then 6 (6 * d) l r.leads); all = r.all }
+
+reaches_all : Kept → (w : World) (side : Side) (d : ℕ) → length (end_of w side).accepted ≤ (end_of w (other side)).handed + d → Both w → Reaches w side d
+reaches_all k w side d le h = reaches k d w side (nat_lt (end_of w (other side)).handed (length (end_of w side).accepted)) refl h le
+
+-- ---- both ways
+
+-- one way after what was done, where the items of w are meant
+record Handed (w v : World) (side : Side) (n : ℕ) : Type 0 where
+  then : World
+  leads : Leads w then n
+  since : Ongoing v then
+  all : length (end_of w side).accepted ≤ (end_of then (other side)).handed
+
+hands_over : Kept → (w v : World) (side : Side) (c d : ℕ) → Both w → Leads w v c → length (end_of w side).accepted ≤ (end_of v (other side)).handed + d → Handed w v side (c + 6 * d)
+hands_over k w v side c d h l le =
+    let now : Both v = leads_both k w v c l h in
+    let before : length (end_of v side).accepted ≡ length (end_of w side).accepted = ap length (leads_works k.laws w v c l side).accepted in
+    let r : Reaches v side d = reaches_all k v side d (omega (arith, before, le)) now in
+    let since : Ongoing v r.then = leads_works k.laws v r.then (6 * d) r.leads in
+    record {
+      then = r.then;
+      leads = leads_then k w v r.then c (6 * d) l r.leads;
+      since = since;
+      all = omega (arith, before, ap length (since side).accepted, r.all);
+    }
+
+record Acknowledged (w v : World) (side : Side) (n : ℕ) : Type 0 where
+  then : World
+  leads : Leads w then n
+  since : Ongoing v then
+  all : length (end_of w side).accepted ≤ (end_of then side).acknowledged
+
+learns_all : Kept → (w v : World) (side : Side) (c : ℕ) → Both w → Leads w v c → length (end_of w side).accepted ≤ (end_of v (other side)).handed → Acknowledged w v side (c + 3)
+learns_all k w v side c h l le =
+    let now : Both v = leads_both k w v c l h in
+    let before : length (end_of v side).accepted ≡ length (end_of w side).accepted = ap length (leads_works k.laws w v c l side).accepted in
+    let r : SettlesBy v side (length (end_of v side).accepted) = settles_by k v side now.holds now.linked (omega (arith, before, le)) in
+    let u : World = run v r.steps in
+    let on : Leads v u 3 = record { steps = r.steps; plain = r.plain; few = r.few; is = refl } in
+    record { then = u; leads = leads_then k w v u c 3 l on; since = leads_works k.laws v u 3 on; all = omega (arith, before, r.all) }
+
+by_sides : Kept → (w v : World) (n : ℕ) → Both w → Leads w v n → length (end_of w A).accepted ≤ (end_of v B).handed → length (end_of w B).accepted ≤ (end_of v A).handed → length (end_of w A).accepted ≤ (end_of v A).acknowledged
+    → length (end_of w B).accepted ≤ (end_of v B).acknowledged → IsDone w v
+by_sides k w v n h l to_b to_a at_a at_b =
+    all_done k w v (leads_both k w v n l h) (leads_works k.laws w v n l)
+    (λ side. elim side as (λ t. length (end_of w t).accepted ≤ (end_of v (other t)).handed) [ A ↦ to_b | B ↦ to_a ])
+    (λ side. elim side as (λ t. length (end_of w t).accepted ≤ (end_of v t).acknowledged) [ A ↦ at_a | B ↦ at_b ])
+
+-- the last of four moves
+last_done : Kept → (w v2 : World) (m n : ℕ) → Both w → Leads w v2 (0 + 6 * m + 6 * n) → length (end_of w A).accepted ≤ (end_of v2 B).handed → length (end_of w B).accepted ≤ (end_of v2 A).handed
+    → (c : Acknowledged w v2 A (0 + 6 * m + 6 * n + 3)) (d : Acknowledged w c.then B (0 + 6 * m + 6 * n + 3 + 3)) → IsDone w d.then
+last_done k w v2 m n h l to_b to_a c d =
+    by_sides k w d.then (0 + 6 * m + 6 * n + 3 + 3) h d.leads
+    (le_then (length (end_of w A).accepted) (end_of c.then B).handed (end_of d.then B).handed (le_then (length (end_of w A).accepted) (end_of v2 B).handed (end_of c.then B).handed to_b (c.since B).handed) (d.since B).handed)
+    (le_then (length (end_of w B).accepted) (end_of c.then A).handed (end_of d.then A).handed (le_then (length (end_of w B).accepted) (end_of v2 A).handed (end_of c.then A).handed to_a (c.since A).handed) (d.since A).handed)
+    (le_then (length (end_of w A).accepted) (end_of c.then A).acknowledged (end_of d.then A).acknowledged c.all (d.since A).acknowledged)
+    d.all
+
+-- each end asks until it knows
+asks_both : Kept → (w v : World) (m n : ℕ) → Both w → Leads w v (0 + 6 * m + 6 * n) → length (end_of w A).accepted ≤ (end_of v B).handed → length (end_of w B).accepted ≤ (end_of v A).handed → m ≡ pending w A → n ≡ pending w B
+    → FinishesByEvents w
+asks_both k w v m n h l to_b to_a is_m is_n =
+    let c : Acknowledged w v A (0 + 6 * m + 6 * n + 3) = learns_all k w v A (0 + 6 * m + 6 * n) h l to_b in
+    let d : Acknowledged w c.then B (0 + 6 * m + 6 * n + 3 + 3) =
+    learns_all k w c.then B (0 + 6 * m + 6 * n + 3) h c.leads (le_then (length (end_of w B).accepted) (end_of v A).handed (end_of c.then A).handed to_a (c.since A).handed) in
+    record {
+      more = d.leads.steps;
+      further = d.leads.plain;
+      few = subst (λ (j : ℕ). length d.leads.steps ≤ 6 * (pending w A + j + 1)) is_n
+          (subst (λ (i : ℕ). length d.leads.steps ≤ 6 * (i + n + 1)) is_m (few_enough m n (length d.leads.steps) d.leads.few));
+      done = subst (IsDone w) (sym d.leads.is) (last_done k w v m n h l to_b to_a c d);
+    }
+
+-- first one way, then the other
+pub finishes_by : Kept → (w : World) → Holds w → Linked w → FinishesByEvents w
+finishes_by k w holds linked =
+    let h : Both w = record { holds = holds; linked = linked } in
+    let none : Leads w w 0 = record { steps = []; plain = All-nil (IsFurther (length w.bag)); few = omega arith; is = refl } in
+    let a : Handed w w A (0 + 6 * pending w A) = hands_over k w w A 0 (pending w A) h none (still_left (length (end_of w A).accepted) (end_of w B).handed (end_of w B).handed (le_refl (end_of w B).handed)) in
+    let b : Handed w a.then B (0 + 6 * pending w A + 6 * pending w B) =
+    hands_over k w a.then B (0 + 6 * pending w A) (pending w B) h a.leads (still_left (length (end_of w B).accepted) (end_of w A).handed (end_of a.then A).handed (a.since A).handed) in
+    asks_both k w b.then (pending w A) (pending w B) h b.leads
+    (le_then (length (end_of w A).accepted) (end_of a.then B).handed (end_of b.then B).handed a.all (b.since B).handed) b.all refl refl
+
+-- whatever was before
+pub always_finishes_by : Kept → (setup : Setup) (events : List Event) → Holds (start setup) → Linked (start setup) → All IsEvent events → FinishesByEvents (run (start setup) events)
+always_finishes_by k setup events h l fits =
+    let b : Both (run (start setup) events) = events_after k (start setup) events fits (record { holds = h; linked = l }) in
+    finishes_by k (run (start setup) events) b.holds b.linked

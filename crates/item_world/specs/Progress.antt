@@ -1,0 +1,120 @@
+-- What is to be done in a world, and what would do it.
+use Rattle.std.specs.Prelude.{◌≡◌, ◌⊎◌, ◌≤◌, ◌<◌, ◌+◌, ◌-◌, ◌*◌, ℕ, false, List, length, Some, Ok, All}
+use Rattle.xns_spp.specs.Numbers.{most_items}
+use Rattle.xns_spp.specs.Sending.{is_full}
+use Rattle.xns_spp.specs.Packet.{SppPacketModel, spp_packet_of}
+use Rattle.xns_spp.specs.declared.ends.Ends.{Ends}
+use Rattle.xns_spp.specs.declared.role.Role.TheVariants.{Responder}
+use Rattle.item_world.specs.declared.emitted.Emitted.{Emitted}
+use Rattle.item_world.specs.declared.event.Event.{Event}
+use Rattle.item_world.specs.declared.event.Event.TheVariants.{Deliver, Tick, Take}
+use Rattle.item_world.specs.declared.side.Side.{Side}
+use Rattle.item_world.specs.declared.side.Side.TheVariants.{A, B}
+use Rattle.item_world.specs.Events.{Step, arrival, taking, ticking, stepped, all_stepped, run}
+use Rattle.item_world.specs.Landing.{landing}
+use Rattle.item_world.specs.Side.{other}
+use Rattle.item_world.specs.World.{World, end_of, ticks, flushes, sent_at, handed_at}
+
+-- an end ticks, hands an item up, or answers one of the packets that are sent from number n on: no item is sent, and nothing that was sent
+-- before is needed
+abbrev pub IsPlain : ℕ → Step → Type 0
+IsPlain n (arrival k) = n ≤ k
+IsPlain n (taking side) = Unit {0}
+IsPlain n (ticking side) = Unit {0}
+IsPlain n _ = ⊥
+
+-- w goes on as v, in which each item that an end of w had accepted is handed up at the other and acknowledged, and nothing else was
+-- accepted; so neither end is full, unless the connection carries no more items that way
+pub record IsDone (w v : World) : Type 0 where
+  pub accepted : (side : Side) → sent_at v side ≡ sent_at w side
+  pub handed : (side : Side) → handed_at v (other side) ≡ sent_at w side
+  pub acknowledged : (side : Side) → (end_of v side).acknowledged ≡ length (sent_at w side)
+  pub free : (side : Side) → length (sent_at w side) < most_items → is_full (end_of v side) ≡ false
+
+-- how many items of a side are not yet handed up at the other
+abbrev pub pending : World → Side → ℕ
+pending w side = length (sent_at w side) - (end_of w (other side)).handed
+
+-- plain steps after which all is done, with nothing needed of what was sent before: six for each item that is pending, and six more
+pub record Finishes (w : World) : Type 0 where
+  pub more : List Step
+  pub plain : All (IsPlain (length w.bag)) more
+  pub few : length more ≤ 6 * (pending w A + pending w B + 1)
+  pub done : IsDone w (all_stepped w more)
+
+-- an end ticks, or answers one of the packets that are sent from number n on
+abbrev pub IsWire : ℕ → Step → Type 0
+IsWire n (arrival k) = n ≤ k
+IsWire n (ticking side) = Unit {0}
+IsWire n _ = ⊥
+
+-- after some of these an item waits at the other end, or all that this one accepted is acknowledged
+pub record Stirs (w : World) (side : Side) : Type 0 where
+  pub more : List Step
+  pub wire : All (IsWire (length w.bag)) more
+  pub comes : ((end_of (all_stepped w more) (other side)).handed < length (end_of (all_stepped w more) (other side)).taken)
+      ⊎ (length (end_of (all_stepped w more) side).accepted ≤ (end_of (all_stepped w more) side).acknowledged)
+
+-- the same with the events of a play: one of the packets that are sent from number n on is delivered, an end ticks, or hands an item up
+abbrev pub IsFurther : ℕ → Event → Type 0
+IsFurther n (Deliver k) = n ≤ k
+IsFurther n (Tick side) = Unit {0}
+IsFurther n (Take side) = Unit {0}
+IsFurther n _ = ⊥
+
+pub record FinishesByEvents (w : World) : Type 0 where
+  pub more : List Event
+  pub further : All (IsFurther (length w.bag)) more
+  pub few : length more ≤ 6 * (pending w A + pending w B + 1)
+  pub done : IsDone w (run w more)
+
+-- ---- where each end flushes after its tick and after each packet that came
+
+abbrev pub ticked_out : World → Side → World
+ticked_out w side = flushes (ticks w side) side
+
+-- the first packet of the tick has come
+abbrev pub came_first : World → Side → World
+came_first w side = stepped (ticked_out w side) (arrival (length w.bag))
+
+abbrev pub answered_out : World → Side → World
+answered_out w side = flushes (came_first w side) (other side)
+
+-- the reply has come
+abbrev pub came_back : World → Side → World
+came_back w side = stepped (answered_out w side) (arrival (length (ticked_out w side).bag))
+
+abbrev pub knows_out : World → Side → World
+knows_out w side = flushes (came_back w side) side
+
+-- the first packet of the next tick has come
+abbrev pub came_next : World → Side → World
+came_next w side = stepped (ticked_out (knows_out w side) side) (arrival (length (knows_out w side).bag))
+
+-- each of them comes; where no item waits after the first, and one is still to come, it waits after the third; where none is, all is
+-- acknowledged after the second
+pub record StirsOut (w : World) (side : Side) : Type 0 where
+  pub first : landing (ticked_out w side) (length w.bag) ≡ Some (other side, came_first w side)
+  pub second : landing (answered_out w side) (length (ticked_out w side).bag) ≡ Some (side, came_back w side)
+  pub settled : length (end_of w side).accepted ≤ length (end_of (came_first w side) (other side)).taken
+      → length (end_of (came_back w side) side).accepted ≤ (end_of (came_back w side) side).acknowledged
+  pub third : (end_of (came_first w side) (other side)).handed ≡ length (end_of (came_first w side) (other side)).taken
+      → length (end_of (came_first w side) (other side)).taken < length (end_of w side).accepted
+      → (landing (ticked_out (knows_out w side) side) (length (knows_out w side).bag) ≡ Some (other side, came_next w side))
+      × ((end_of (came_next w side) (other side)).handed < length (end_of (came_next w side) (other side)).taken)
+
+-- ---- what is known of the ends' addresses at every moment
+
+-- an end beside its peer: it knows the peer's address, and its identifier or none; one of both was made for the other
+pub record IsLinked (e f : Ends) : Type 0 where
+  pub peer : e.peer ≡ f.own
+  pub peer_id : (e.peer_id ≡ 0) ⊎ (e.peer_id ≡ f.id)
+  pub one : (e.role ≡ Responder) ⊎ (f.role ≡ Responder)
+
+-- the bytes, where they are a packet, are one from this end
+abbrev pub IsFrom : Ends → List ℕ → Type 0
+IsFrom e bytes = (p : SppPacketModel) → spp_packet_of bytes ≡ Ok p → (p.source ≡ e.own) × (p.header.source_id ≡ e.id)
+
+pub record Linked (w : World) : Type 0 where
+  pub ends : (side : Side) → IsLinked (end_of w side).ends (end_of w (other side)).ends
+  pub bag : All (λ (x : Emitted). IsFrom (end_of w x.side).ends x.bytes) w.bag
