@@ -8,7 +8,7 @@ use Rattle.xns_calls.specs.declared.capture.Capture.{Capture}
 use Rattle.xns_calls.specs.declared.printer.CallsPrinter.{CallsPrinter}
 use Rattle.xns_calls.proofs.Behind.{known-last, text-last}
 
-abbrev known_by : Capture → Page → Known
+abbrev pub known_by : Capture → Page → Known
 known_by capture page = known capture.connections.items capture.flows.items page
 
 -- what is known as a line begins

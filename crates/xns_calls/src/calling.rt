@@ -1,12 +1,15 @@
 //! `calls`: the calls that a capture has, and what came back.
-ghost use Rattle.std.specs.Prelude.{◌≡◌, IfErr, IfOk, IfSome, OnOk};
+ghost use Rattle.std.specs.Prelude.{◌≡◌, None, IfErr, IfOk, IfSome, OnOk};
 ghost use Rattle.std.specs.Io.KnownBytes.{Appends};
+ghost use Rattle.xns_captures.specs.Captures.{fault_of};
+ghost use Rattle.xns_calls.specs.Files.{FileStopsIn, calls_capture_text, has_file_refusal};
 ghost use Rattle.xns_lines.specs.Lines.{IsWithinLimits};
 ghost use Rattle.xns_calls.specs.Calls.{StopsIn, calls_text, has_refusal, most_numbered_lines};
 
 use crate::printer::CallsPrinter;
 use std::alloc::Global;
 use std::io::{Read, Write};
+use xns_captures::{FileFault, print_packets};
 use xns_lines::laws::nothing_is_printed_at_first;
 use xns_lines::{RunFault, print_lines};
 
@@ -56,4 +59,27 @@ pub fn calls<R: Read, W: Write>(
         return Err(RunFault::NoMemory);
     };
     print_lines(alloc, MOST_LINES, reader, writer, printer)
+}
+
+/// Reads a capture and prints the Courier calls that the internet packets in its frames carry, and what came back, as `calls`
+/// does of lines, with the number of the frame in place of the line's. The answer is whether something was refused.
+pub fn calls_capture<R: Read, W: Write>(
+    alloc: Global,
+    reader: &mut R,
+    writer: &mut W,
+) -> Result<bool, FileFault>
+    // Without a fault the text of the whole file is written, which holds no fault.
+    ensures text { IfOk result (λ refused. IfSome (R.remaining reader.old) (λ file.
+        Appends (W.contents writer.old) (W.contents writer.new) (calls_capture_text file))) }
+    ensures refused { IfOk result (λ refused. IfSome (R.remaining reader.old) (λ file. refused ≡ has_file_refusal file)) }
+    ensures whole { OnOk result (IfSome (R.remaining reader.old) (λ file. fault_of file ≡ None)) }
+
+    // After a fault the text of the packets before it is written; one of the capture comes behind all its packets.
+    ensures fault { IfErr result (λ fault. IfSome (R.remaining reader.old) (λ file.
+        FileStopsIn fault file (W.contents writer.old) (W.contents writer.new))) }
+{
+    let Ok(printer) = CallsPrinter::new(alloc) else {
+        return Err(FileFault::Run(RunFault::NoMemory));
+    };
+    print_packets(alloc, reader, writer, printer)
 }

@@ -18,6 +18,7 @@ mod kept_side;
 pub mod laws;
 mod near;
 mod packet_lines;
+mod packet_printer;
 mod printer;
 mod queue;
 mod scratch;
@@ -30,4 +31,4 @@ mod unanswered;
 mod waiting;
 
 pub use bringing::MOST_EARLY;
-pub use calling::calls;
+pub use calling::{calls, calls_capture};

@@ -3,11 +3,13 @@
 #![tactic(auto)]
 
 mod commands;
+mod files;
 mod mode;
 mod refusal;
 mod status;
 
 pub use commands::perform;
+pub use files::perform_file;
 pub use mode::Mode;
 pub use refusal::Refusal;
 pub use status::{answer_status, refusal_status};

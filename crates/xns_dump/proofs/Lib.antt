@@ -1,4 +1,5 @@
 pub mod Blanks
+pub mod CapturePrinted
 pub mod Filled
 pub mod Headers
 pub mod Numbered

@@ -13,7 +13,7 @@ use Rattle.xns_dump.specs.declared.flows.flow.Flow.{Flow}
 use Rattle.xns_dump.proofs.Numbered.{numbering_is}
 use Rattle.xns_dump.proofs.Texts.{few_items, items_in-last, text-last}
 
-or_false : (b : Bool) → (b || false) ≡ b
+pub or_false : (b : Bool) → (b || false) ≡ b
 or_false true = refl
 or_false false = refl
 

@@ -13,7 +13,7 @@ items_in-append xs ys = flat_map-append items_of_line xs ys
 pub items_in-last : (xs : List (List ℕ)) (line : List ℕ) → items_in (xs ++ line ∷ []) ≡ items_in xs ++ items_of_line line
 items_in-last xs line = items_in-append xs (line ∷ []) ∙ ap (λ t. items_in xs ++ t) (append-nil (items_of_line line))
 
-at_most_one : (o : Option DataPacket) → length (option_to_list o) ≤ 1
+pub at_most_one : (o : Option DataPacket) → length (option_to_list o) ≤ 1
 at_most_one None = omega arith
 at_most_one (Some x) = omega arith
 

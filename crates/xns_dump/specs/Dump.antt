@@ -1,4 +1,5 @@
 -- What `dump` prints, as a function of the bytes read, and what stands after a fault.
+pub mod Capture
 pub mod Digits
 pub mod Line
 use Rattle.std.specs.Prelude.{ℕ, ◌+◌, Bool, List, [], ◌∷◌, ◌++◌, Option}

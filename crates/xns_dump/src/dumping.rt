@@ -1,12 +1,15 @@
 //! `dump`: what each line of hex says, line by line.
-ghost use Rattle.std.specs.Prelude.{◌≡◌, IfErr, IfOk, IfSome, OnOk};
+ghost use Rattle.std.specs.Prelude.{◌≡◌, None, IfErr, IfOk, IfSome, OnOk};
 ghost use Rattle.std.specs.Io.KnownBytes.{Appends};
 ghost use Rattle.xns_dump.specs.Dump.{StopsIn, dump_text, has_refused_line};
+ghost use Rattle.xns_captures.specs.Captures.{fault_of};
+ghost use Rattle.xns_dump.specs.Dump.Capture.{CaptureStopsIn, dump_capture_text, has_refused_packet};
 ghost use Rattle.xns_lines.specs.Lines.{IsWithinLimits, most_lines};
 
 use crate::printer::DumpPrinter;
 use std::alloc::Global;
 use std::io::{Read, Write};
+use xns_captures::{FileFault, print_packets};
 use xns_lines::laws::nothing_is_printed_at_first;
 use xns_lines::{MOST_LINES, RunFault, print_lines};
 
@@ -51,4 +54,27 @@ pub fn dump<R: Read, W: Write>(
         return Err(RunFault::NoMemory);
     };
     print_lines(alloc, MOST_LINES, reader, writer, printer)
+}
+
+/// Reads a capture and prints what each internet packet in its frames says, as `dump` does of lines, with the number of the
+/// frame in place of the line's. The answer is whether a packet was refused.
+pub fn dump_capture<R: Read, W: Write>(
+    alloc: Global,
+    reader: &mut R,
+    writer: &mut W,
+) -> Result<bool, FileFault>
+    // Without a fault the text of the whole file is written, which holds no fault.
+    ensures text { IfOk result (λ refused. IfSome (R.remaining reader.old) (λ file.
+        Appends (W.contents writer.old) (W.contents writer.new) (dump_capture_text file))) }
+    ensures refused { IfOk result (λ refused. IfSome (R.remaining reader.old) (λ file. refused ≡ has_refused_packet file)) }
+    ensures whole { OnOk result (IfSome (R.remaining reader.old) (λ file. fault_of file ≡ None)) }
+
+    // After a fault the text of the packets before it is written; one of the capture comes behind all its packets.
+    ensures fault { IfErr result (λ fault. IfSome (R.remaining reader.old) (λ file.
+        CaptureStopsIn fault file (W.contents writer.old) (W.contents writer.new))) }
+{
+    let Ok(printer) = DumpPrinter::new(alloc) else {
+        return Err(FileFault::Run(RunFault::NoMemory));
+    };
+    print_packets(alloc, reader, writer, printer)
 }

@@ -15,9 +15,9 @@ use xns_lines::{LinePrinter, Page};
 #[derive(Drop)]
 pub(crate) struct DumpPrinter {
     /// Makes what a line says.
-    appender: LineAppender,
+    pub(crate) appender: LineAppender,
     /// The numbers of items so far.
-    numbers: FlowNumbers,
+    pub(crate) numbers: FlowNumbers,
 }
 
 impl DumpPrinter {

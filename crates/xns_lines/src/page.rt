@@ -24,7 +24,7 @@ pub struct Page {
 
 impl Page {
     /// A page with no text.
-    pub(crate) fn new(alloc: Global) -> Page
+    pub fn new(alloc: Global) -> Page
         ensures text { whole result.text ≡ [] }
         ensures refused { result.is_refused ≡ false }
     {
@@ -35,14 +35,14 @@ impl Page {
     }
 
     /// Whether there is so much text that it is to be written.
-    pub(crate) fn is_full(&self) -> bool {
+    pub fn is_full(&self) -> bool {
         self.text.len() >= FULL
     }
 
     /// Writes the text that isn't written yet. It is gone after a failed write too.
     ///
     /// The only error is `Write`, where a write fails or takes no byte: then something of the text isn't written.
-    pub(crate) fn flush<W: Write>(&mut self, writer: &mut W) -> Result<(), RunFault>
+    pub fn flush<W: Write>(&mut self, writer: &mut W) -> Result<(), RunFault>
         ensures ok { OnOk result (Appends (W.contents writer.old) (W.contents writer.new) (whole self.old.text)) }
         ensures fault { IfErr result (λ fault. (fault ≡ RunFault.Write)
             × AppendsPart (W.contents writer.old) (W.contents writer.new) (whole self.old.text)) }

@@ -3,16 +3,20 @@ use Rattle.std.specs.Prelude.{List, ◌∷◌, [], Option, Some, None, option_ma
 use Rattle.std.specs.Borrow.{Bor}
 use Rattle.std.specs.Str.{bytes_eq}
 use Rattle.clap.specs.Kinds.{or_else}
-use Rattle.clap.specs.Words.{App, Kinds, Text, fault_of, new_app, subcommand_of, with_subcommand}
+use Rattle.clap.specs.Words.{App, Kinds, Rule, Text, fault_of, new_app, new_rule, subcommand_of, with_rule, with_subcommand}
 use Rattle.clap.specs.declared.error.kind.ErrorKind.TheVariants as kind
 use Rattle.xns_command.specs.declared.mode.Mode.{Mode}
 use Rattle.xns_command.specs.Modes.{name_of}
 
--- `xns` with the subcommands that read captures, `dump` and `calls`; a subcommand is required
+-- an optional file
+abbrev pub file_rule : Rule
+file_rule = record (new_rule (codes "file")) { value_names = 1 }
+
+-- `xns` with the subcommands that read captures, `dump` and `calls`, each with an optional file; a subcommand is required
 abbrev pub reading_app : App
 reading_app =
-    let subcommands = with_subcommand (with_subcommand (new_app (codes "xns")) (new_app (codes "dump")).top)
-    (new_app (codes "calls")).top in
+    let subcommands = with_subcommand (with_subcommand (new_app (codes "xns")) (with_rule (new_app (codes "dump")) file_rule).top)
+    (with_rule (new_app (codes "calls")) file_rule).top in
     record subcommands { top = record subcommands.top { subcommand_required = true } }
 
 -- the program's command, with `sim` behind these

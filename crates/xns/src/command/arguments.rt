@@ -1,26 +1,59 @@
 //! The command line.
-ghost use Rattle.std.specs.Prelude.{◌≡◌, ◌≢◌, IfOk, IfErr, IfSome, IfNone, Some, option_map};
-ghost use Rattle.clap.specs.Words.{FailsBy, app_of, fault_of, kind_of};
+ghost use Rattle.std.specs.Prelude.{◌≡◌, ◌≢◌, IfOk, IfErr, IfSome, IfNone, Some, codes, false, option_map};
+ghost use Rattle.clap.specs.Words.{FailsBy, app_of, fault_of, kind_of, new_app, with_rule};
+ghost use Rattle.clap.specs.declared.builder.command.Command.TheViews.{out-Command as fields_of};
 ghost use Rattle.xns_command.specs.declared.mode.Mode.{Mode};
 ghost use Rattle.xns_command.specs.Modes.{name_of};
-ghost use Rattle.xns.specs.Command.Arguments.{named_subcommand, program_app, reading_app, refusals_of, texts, words_of};
+ghost use Rattle.xns.specs.Command.Arguments.{file_rule, named_subcommand, program_app, reading_app, refusals_of, texts, words_of};
 
 use crate::command::help::{ABOUT, CALLS_HELP, DUMP_HELP, HELP, SIM_HELP};
 use clap::error::ErrorKind;
-use clap::{Command, Error};
+use clap::{Arg, Command, Error};
 use std::alloc::{AllocError, Global};
 use xns_command::{Mode, Refusal};
+
+/// The name of the argument for a file.
+const FILE: &str = "file";
+
+/// A command that takes an optional file in place of standard input.
+fn with_file<'a>(alloc: Global, command: Command<'a>) -> Result<Command<'a>, AllocError>
+    ensures app { IfOk result (λ r. app_of r ≡ with_rule (app_of command.entry) file_rule) }
+    ensures local { IfOk result (λ r. (fields_of r).has_globals ≡ (fields_of command.entry).has_globals) }
+{
+    let file = Arg::new(alloc, FILE).value_name("FILE").help(
+        "A capture (pcap or pcapng), or lines of hex; standard input if there is none",
+    );
+    command.arg(file)
+}
+
+/// `dump`, with its file.
+fn dump_command<'a>(alloc: Global) -> Result<Command<'a>, AllocError>
+    ensures app { IfOk result (λ command. app_of command ≡ with_rule (new_app (codes "dump")) file_rule) }
+    ensures local { IfOk result (λ command. (fields_of command).has_globals ≡ false) }
+{
+    let dump = Command::new(alloc, "dump")
+        .about("Prints what each line of hex says")
+        .after_help(DUMP_HELP);
+    with_file(alloc, dump)
+}
+
+/// `calls`, with its file.
+fn calls_command<'a>(alloc: Global) -> Result<Command<'a>, AllocError>
+    ensures app { IfOk result (λ command. app_of command ≡ with_rule (new_app (codes "calls")) file_rule) }
+    ensures local { IfOk result (λ command. (fields_of command).has_globals ≡ false) }
+{
+    let calls = Command::new(alloc, "calls")
+        .about("Prints the calls that lines of hex carry, and what came back")
+        .after_help(CALLS_HELP);
+    with_file(alloc, calls)
+}
 
 /// A command that requires one of its subcommands, which read captures.
 fn reading_program<'a>(alloc: Global) -> Result<Command<'a>, AllocError>
     ensures { IfOk result (λ command. app_of command ≡ reading_app) }
 {
-    let dump = Command::new(alloc, "dump")
-        .about("Prints what each line of hex says")
-        .after_help(DUMP_HELP);
-    let calls = Command::new(alloc, "calls")
-        .about("Prints the calls that lines of hex carry, and what came back")
-        .after_help(CALLS_HELP);
+    let dump = dump_command(alloc)?;
+    let calls = calls_command(alloc)?;
     Command::new(alloc, "xns")
         .about(ABOUT)
         .after_help(HELP)
@@ -57,6 +90,15 @@ pub fn mode(alloc: Global, words: &[&str]) -> Result<Mode, Error>
         return Err(program(alloc)?.error(ErrorKind::MissingSubcommand, message)?);
     };
     Ok(mode)
+}
+
+/// The file that the words name, if they name one.
+pub fn file_in<'a>(alloc: Global, words: &'a [&'a str]) -> Result<Option<&'a str>, Error> {
+    let matches = program(alloc)?.try_get_matches_from(words)?;
+    let Some((_, found)) = matches.subcommand() else {
+        return Ok(None);
+    };
+    Ok(found.get_str(FILE))
 }
 
 /// The name of the subcommand that the words name.

@@ -1,0 +1,198 @@
+-- What was read of a capture, as one more part is taken.
+use Rattle.std.proofs.Common.{◌≡◌, refl, ap, sym, ◌∙◌, subst, arith, ℕ, ◌+◌, ◌-◌, ◌≤◌, ◌<◌, add-zero, take, drop, List, [], ◌∷◌, ◌++◌, length, length-append, append_assoc, append-nil, Ok, Err, Option, Some, None}
+use Rattle.std.proofs.lemmas.List.{drop-drop, take-append-drop, take_rest}
+use Rattle.xns_captures.specs.Captures.{Contents, FrameBytes, NumberedPacket, contents, contents_of, ends_with, frame_in, packets_in, with_frame, with_packet}
+use Rattle.xns_captures.specs.Links.{packet_of_frame}
+use Rattle.xns_captures.specs.Reading.{HasRead, HasStopped, Says, StandsAfter, StandsAfterPacket, StopsAtFrame, behind_frames}
+use Rattle.xns_captures.specs.declared.fault.CaptureFault.{CaptureFault}
+use Rattle.xns_captures.specs.declared.file_fault.FileFault.{FileFault}
+use Rattle.xns_captures.specs.declared.file_fault.FileFault.TheVariants.{Run, Capture}
+use Rattle.xns_lines.specs.declared.fault.RunFault.{RunFault}
+use Rattle.xns_lines.specs.declared.fault.RunFault.TheVariants as run
+use Rattle.xns_captures.specs.declared.format.Format.{Format}
+use Rattle.xns_captures.specs.declared.frame.Frame.{Frame}
+use Rattle.xns_captures.specs.declared.interface.Interface.{Interface}
+use Rattle.xns_captures.specs.declared.reading.Reading.{Reading}
+
+-- ---- the packets of one frame more
+
+pub with-packet-append : (n : ℕ) (p : Option (List ℕ)) (xs ys : List NumberedPacket) → with_packet n p (xs ++ ys) ≡ with_packet n p xs ++ ys
+with-packet-append n None xs ys = refl
+with-packet-append n (Some p) xs ys = refl
+
+packets-append : (n : ℕ) (frames : List FrameBytes) (frame : FrameBytes)
+    → packets_in n (frames ++ frame ∷ []) ≡ packets_in n frames ++ with_packet (n + length frames) (packet_of_frame frame.0 frame.1) []
+packets-append n [] frame = ap (λ m. with_packet m (packet_of_frame frame.0 frame.1) []) (sym (add-zero n))
+packets-append n (f ∷ frames) frame =
+    ap (with_packet n (packet_of_frame f.0 f.1)) (packets-append (n + 1) frames frame)
+    ∙ with-packet-append n (packet_of_frame f.0 f.1) (packets_in (n + 1) frames) (with_packet ((n + 1) + length frames) (packet_of_frame frame.0 frame.1) [])
+    ∙ ap (λ m. packets_in n (f ∷ frames) ++ with_packet m (packet_of_frame frame.0 frame.1) []) (omega arith)
+
+some_packet : (n : ℕ) (p : Option (List ℕ)) (packets : List NumberedPacket) → length (with_packet n p packets) ≤ length packets + 1
+some_packet n None packets = omega arith
+some_packet n (Some p) packets = omega arith
+
+-- a frame has one packet at most
+pub packets_few : (n : ℕ) (frames : List FrameBytes) → length (packets_in n frames) ≤ length frames
+packets_few n [] = omega arith
+packets_few n (f ∷ frames) =
+    omega (arith, some_packet n (packet_of_frame f.0 f.1) (packets_in (n + 1) frames), packets_few (n + 1) frames)
+
+pub no_packet : (frames : List FrameBytes) (link : ℕ) (bytes : List ℕ) → None ≡ packet_of_frame link bytes
+    → packets_in 1 (frames ++ (link, bytes) ∷ []) ≡ packets_in 1 frames
+no_packet frames link bytes e =
+    packets-append 1 frames (link, bytes)
+    ∙ ap (λ p. packets_in 1 frames ++ with_packet (1 + length frames) p []) (sym e)
+    ∙ append-nil (packets_in 1 frames)
+
+pub one_packet : (frames : List FrameBytes) (link number : ℕ) (bytes packet : List ℕ) → Some packet ≡ packet_of_frame link bytes
+    → number ≡ 1 + length frames
+    → packets_in 1 (frames ++ (link, bytes) ∷ []) ≡ packets_in 1 frames ++ (number, packet) ∷ []
+one_packet frames link number bytes packet e counted =
+    packets-append 1 frames (link, bytes)
+    ∙ ap (λ p. packets_in 1 frames ++ with_packet (1 + length frames) p []) (sym e)
+    ∙ ap (λ m. packets_in 1 frames ++ (m, packet) ∷ []) (sym counted)
+
+behind-append : (frames : List FrameBytes) (frame : FrameBytes) (rest : Contents)
+    → behind_frames (frames ++ frame ∷ []) rest ≡ behind_frames frames (with_frame frame rest)
+behind-append [] frame rest = refl
+behind-append (f ∷ frames) frame rest = ap (with_frame f) (behind-append frames frame rest)
+
+-- ---- a part is taken
+
+-- what the rest of the capture holds, for that reading
+abbrev pub rest_of : Reading → List ℕ → Contents
+rest_of reading bytes = contents reading.format reading.interfaces.items bytes
+
+-- behind the part, whatever comes
+behind_part_in : (old : Reading) (read bytes tail : List ℕ) (stands : Says) (h : HasRead old read (bytes ++ tail) stands) (rest : List ℕ)
+    → contents_of (read ++ rest) ≡ behind_frames h.frames (rest_of old (bytes ++ (tail ++ rest)))
+behind_part_in old read bytes tail stands h rest =
+    h.whole rest ∙ ap (λ more. behind_frames h.frames (rest_of old more)) (append_assoc bytes tail rest)
+
+pub moves : (old new : Reading) (read bytes tail : List ℕ) (stands : Says) → new.count ≡ old.count
+    → ((rest : List ℕ) → rest_of old (bytes ++ rest) ≡ rest_of new rest)
+    → HasRead old read (bytes ++ tail) stands → HasRead new read tail stands
+moves old new read bytes tail stands count step h = record {
+  frames = h.frames;
+  count = count ∙ h.count;
+  whole = λ rest. behind_part_in old read bytes tail stands h rest ∙ ap (behind_frames h.frames) (step (tail ++ rest));
+  taken = h.taken;
+}
+
+pub takes_frame : (old new : Reading) (read bytes tail : List ℕ) (stands stands' : Says) (frame : FrameBytes)
+    → ((rest : List ℕ) → rest_of old (bytes ++ rest) ≡ with_frame frame (rest_of new rest))
+    → (h : HasRead old read (bytes ++ tail) stands) → new.count ≡ length (h.frames ++ frame ∷ []) → stands' (packets_in 1 (h.frames ++ frame ∷ []))
+    → HasRead new read tail stands'
+takes_frame old new read bytes tail stands stands' frame step h count taken = record {
+  frames = h.frames ++ frame ∷ [];
+  count = count;
+  whole = λ rest. behind_part_in old read bytes tail stands h rest ∙ ap (behind_frames h.frames) (step (tail ++ rest))
+      ∙ sym (behind-append h.frames frame (rest_of new (tail ++ rest)));
+  taken = taken;
+}
+
+-- ---- it stops
+
+pub stops_at_part : (old : Reading) (read bytes tail : List ℕ) (stands left : Says) (why : CaptureFault)
+    → ((rest : List ℕ) → rest_of old (bytes ++ rest) ≡ ends_with (Some why))
+    → (h : HasRead old read (bytes ++ tail) stands) → left (packets_in 1 h.frames)
+    → HasStopped (Capture why) read left
+stops_at_part old read bytes tail stands left why step h is_left = record {
+  frames = h.frames;
+  more = λ rest. rest_of old (bytes ++ (tail ++ rest));
+  whole = behind_part_in old read bytes tail stands h;
+  ends = λ rest. step (tail ++ rest);
+  is_left = is_left;
+}
+
+pub stops_in_run : (old : Reading) (f : RunFault) (read kept : List ℕ) (stands left : Says)
+    → (h : HasRead old read kept stands) → left (packets_in 1 h.frames) → HasStopped (Run f) read left
+stops_in_run old f read kept stands left h is_left = record {
+  frames = h.frames;
+  more = λ rest. rest_of old (kept ++ rest);
+  whole = h.whole;
+  ends = tt;
+  is_left = is_left;
+}
+
+pub stops_behind_frame : (old : Reading) (f : RunFault) (read bytes tail : List ℕ) (stands left : Says) (frame : FrameBytes)
+    (more : List ℕ → Contents)
+    → ((rest : List ℕ) → rest_of old (bytes ++ rest) ≡ with_frame frame (more rest))
+    → (h : HasRead old read (bytes ++ tail) stands) → left (packets_in 1 (h.frames ++ frame ∷ []))
+    → HasStopped (Run f) read left
+stops_behind_frame old f read bytes tail stands left frame more step h is_left = record {
+  frames = h.frames ++ frame ∷ [];
+  more = λ rest. more (tail ++ rest);
+  whole = λ rest. behind_part_in old read bytes tail stands h rest ∙ ap (behind_frames h.frames) (step (tail ++ rest))
+      ∙ sym (behind-append h.frames frame (more (tail ++ rest)));
+  ends = tt;
+  is_left = is_left;
+}
+
+-- a fault at a frame, of whichever kind
+pub stops_at_frame : (fault : FileFault) (old : Reading) (read bytes tail : List ℕ) (stands stands' fails : Says) (frame : FrameBytes)
+    (more : List ℕ → Contents)
+    → ((rest : List ℕ) → rest_of old (bytes ++ rest) ≡ with_frame frame (more rest))
+    → (h : HasRead old read (bytes ++ tail) stands)
+    → StopsAtFrame fault stands' fails (packets_in 1 h.frames) (packets_in 1 (h.frames ++ frame ∷ []))
+    → HasStopped fault read (StandsAfter fault stands' fails)
+stops_at_frame (Run run.Write) old read bytes tail stands stands' fails frame more step h is_left =
+    stops_behind_frame old run.Write read bytes tail stands fails frame more step h is_left
+stops_at_frame (Run run.Read) old read bytes tail stands stands' fails frame more step h is_left =
+    stops_in_run old run.Read read (bytes ++ tail) stands stands' h is_left
+stops_at_frame (Run run.LineTooLong) old read bytes tail stands stands' fails frame more step h is_left =
+    stops_in_run old run.LineTooLong read (bytes ++ tail) stands stands' h is_left
+stops_at_frame (Run run.TooManyLines) old read bytes tail stands stands' fails frame more step h is_left =
+    stops_in_run old run.TooManyLines read (bytes ++ tail) stands stands' h is_left
+stops_at_frame (Run run.NoMemory) old read bytes tail stands stands' fails frame more step h is_left =
+    stops_in_run old run.NoMemory read (bytes ++ tail) stands stands' h is_left
+stops_at_frame (Capture why) old read bytes tail stands stands' fails frame more step h is_left = absurd is_left
+
+-- a taker's fault at the packet of a frame
+pub failed_at : (fault : RunFault) (stands fails : Says) (packets more : List NumberedPacket) (packet : NumberedPacket)
+    → more ≡ packets ++ packet ∷ [] → StandsAfterPacket fault stands fails packets packet
+    → StopsAtFrame (Run fault) stands fails packets more
+failed_at run.Write stands fails packets more packet e h = subst fails (sym e) h
+failed_at run.NoMemory stands fails packets more packet e h = h
+failed_at run.Read stands fails packets more packet e h = absurd h
+failed_at run.LineTooLong stands fails packets more packet e h = absurd h
+failed_at run.TooManyLines stands fails packets more packet e h = absurd h
+
+-- the bytes of a frame, as a range
+pub same_frame : (frame : Frame) (bytes : List ℕ) (rest : Contents)
+    → with_frame (frame_in frame bytes) rest
+    ≡ with_frame (frame.link, take (frame.start + frame.count - frame.start) (drop frame.start bytes)) rest
+same_frame frame bytes rest =
+    let n : frame.count ≡ frame.start + frame.count - frame.start = omega arith in
+    ap (λ count. with_frame (frame.link, take count (drop frame.start bytes)) rest) n
+
+pub same_rest : (new : Reading) (format : Format) (interfaces : List Interface) (rest : List ℕ) → new.format ≡ format → new.interfaces.items ≡ interfaces
+    → contents format interfaces rest ≡ rest_of new rest
+same_rest new format interfaces rest e f =
+    ap (λ g. contents g interfaces rest) (sym e) ∙ ap (λ i. contents new.format i rest) (sym f)
+
+-- what was not taken yet says nothing of the rest of the capture
+pub stops_here : (old : Reading) (read kept : List ℕ) (stands left : Says) (why : CaptureFault)
+    → ((rest : List ℕ) → rest_of old (kept ++ rest) ≡ ends_with (Some why))
+    → (h : HasRead old read kept stands) → left (packets_in 1 h.frames)
+    → HasStopped (Capture why) read left
+stops_here old read kept stands left why step h is_left = record {
+  frames = h.frames;
+  more = λ rest. rest_of old (kept ++ rest);
+  whole = h.whole;
+  ends = step;
+  is_left = is_left;
+}
+
+-- a part, and what comes behind it
+part-split : (bytes : List ℕ) (taken size : ℕ)
+    → take size (take (length bytes - taken) (drop taken bytes)) ++ drop (taken + size) bytes ≡ drop taken bytes
+part-split bytes taken size =
+    ap (λ xs. take size xs ++ drop (taken + size) bytes) (take_rest bytes taken)
+    ∙ ap (λ ys. take size (drop taken bytes) ++ ys) (sym (drop-drop size taken bytes))
+    ∙ take-append-drop size (drop taken bytes)
+
+pub part_read : (old : Reading) (read bytes : List ℕ) (taken size : ℕ) (stands : Says) → HasRead old read (drop taken bytes) stands
+    → HasRead old read (take size (take (length bytes - taken) (drop taken bytes)) ++ drop (taken + size) bytes) stands
+part_read old read bytes taken size stands h = subst (λ kept. HasRead old read kept stands) (sym (part-split bytes taken size)) h

@@ -1,0 +1,7 @@
+pub mod Consumed
+pub mod Frames
+pub mod Fuel
+pub mod Pages
+pub mod Steps
+pub mod Tags
+pub mod Whole

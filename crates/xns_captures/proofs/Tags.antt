@@ -1,0 +1,38 @@
+-- The packet behind a type or a length, where it is that of a tag and where it is not.
+use Rattle.std.proofs.Common.{◌≡◌, refl, arith, ℕ, ◌+◌, ◌<◌, ◌≤◌, Bool, true, false, List, [], ◌∷◌, length, drop, Option, None}
+use Rattle.std.proofs.lemmas.Bool.Decides.{nat_tests}
+use Rattle.xns_captures.specs.Links.{behind_llc, behind_number, by_number, is_tag, xns_type}
+use Rattle.xns_captures.specs.Places.{word_at}
+use Rattle.xns_captures.specs.declared.byte_order.ByteOrder.TheVariants.{Big}
+
+-- a tag's number is not the type
+tag_is_no_type : (number : ℕ) (bytes : List ℕ) (tagged : Option (List ℕ)) → is_tag number ≡ true → by_number number bytes tagged ≡ tagged
+tag_is_no_type number bytes tagged tag = grind (arith, nat_tests)
+
+pub behind_tag : (number : ℕ) (bytes : List ℕ) → is_tag number ≡ true → 4 ≤ length bytes
+    → behind_number number bytes ≡ behind_number (word_at Big bytes 2) (drop 4 bytes)
+behind_tag number [] tag long = absurd (omega arith)
+behind_tag number (a ∷ []) tag long = absurd (omega arith)
+behind_tag number (a ∷ b ∷ []) tag long = absurd (omega arith)
+behind_tag number (a ∷ b ∷ c ∷ []) tag long = absurd (omega arith)
+behind_tag number (a ∷ b ∷ c ∷ d ∷ bytes) tag long = tag_is_no_type number (a ∷ b ∷ c ∷ d ∷ bytes) (behind_number (word_at Big (a ∷ b ∷ c ∷ d ∷ bytes) 2) bytes) tag
+
+pub behind_cut_tag : (number : ℕ) (bytes : List ℕ) → is_tag number ≡ true → length bytes < 4 → behind_number number bytes ≡ None
+behind_cut_tag number [] tag short = tag_is_no_type number [] None tag
+behind_cut_tag number (a ∷ []) tag short = tag_is_no_type number (a ∷ []) None tag
+behind_cut_tag number (a ∷ b ∷ []) tag short = tag_is_no_type number (a ∷ b ∷ []) None tag
+behind_cut_tag number (a ∷ b ∷ c ∷ []) tag short = tag_is_no_type number (a ∷ b ∷ c ∷ []) None tag
+behind_cut_tag number (a ∷ b ∷ c ∷ d ∷ bytes) tag short = absurd (omega arith)
+
+by_no_tag : (number : ℕ) (bytes : List ℕ) (tagged : Option (List ℕ)) → is_tag number ≡ false
+    → by_number number bytes tagged ≡ by_number number bytes None
+by_no_tag number bytes tagged tag = grind (arith, nat_tests)
+
+-- a number of no tag
+pub behind_no_tag : (number : ℕ) (bytes : List ℕ) → is_tag number ≡ false → behind_number number bytes ≡ by_number number bytes None
+behind_no_tag number [] tag = refl
+behind_no_tag number (a ∷ []) tag = refl
+behind_no_tag number (a ∷ b ∷ []) tag = refl
+behind_no_tag number (a ∷ b ∷ c ∷ []) tag = refl
+behind_no_tag number (a ∷ b ∷ c ∷ d ∷ bytes) tag =
+    by_no_tag number (a ∷ b ∷ c ∷ d ∷ bytes) (behind_number (word_at Big (a ∷ b ∷ c ∷ d ∷ bytes) 2) bytes) tag

@@ -1,0 +1,155 @@
+-- What a file holds, where its reading ends.
+use Rattle.std.proofs.Common.{◌≡◌, refl, ap, sym, ◌∙◌, subst, arith, ℕ, ◌+◌, ◌≤◌, ◌==◌, true, false, add-zero, List, [], ◌∷◌, ◌++◌, length, append_assoc, append-nil, Ok, Err, Option, Some, None}
+use Rattle.std.specs.Prelude.{IfSome}
+use Rattle.std.specs.Io.KnownBytes.{Consumes, IsAtEnd, Keeps}
+use Rattle.std.proofs.lemmas.Bool.{eqb-false, eqb-true}
+use Rattle.xns_captures.specs.Captures.{Contents, FrameBytes, NumberedPacket, contents, contents_of, ends_with, fault_of, frames_of, packets_in, packets_of, with_packet}
+use Rattle.xns_captures.specs.Links.{packet_of_frame}
+use Rattle.xns_captures.specs.Reading.{HasRead, HasStopped, Says, StandsAfter, StopsBy, behind_frames, cut_unless_empty}
+use Rattle.xns_captures.specs.declared.fault.CaptureFault.{CaptureFault}
+use Rattle.xns_captures.specs.declared.fault.CaptureFault.TheVariants.{Cut}
+use Rattle.xns_lines.specs.declared.fault.RunFault.TheVariants as run
+use Rattle.xns_captures.specs.declared.file_fault.FileFault.{FileFault}
+use Rattle.xns_captures.specs.declared.file_fault.FileFault.TheVariants.{Run, Capture}
+use Rattle.xns_lines.specs.declared.fault.RunFault.{RunFault}
+use Rattle.xns_captures.specs.declared.format.Format.TheVariants.{Unread}
+use Rattle.xns_captures.specs.declared.reading.Reading.{Reading}
+use Rattle.xns_captures.proofs.Frames.{rest_of, with-packet-append}
+
+-- ---- frames
+
+packets-join : (n : ℕ) (xs ys : List FrameBytes) → packets_in n (xs ++ ys) ≡ packets_in n xs ++ packets_in (n + length xs) ys
+packets-join n [] ys = ap (λ m. packets_in m ys) (sym (add-zero n))
+packets-join n (x ∷ xs) ys =
+    ap (with_packet n (packet_of_frame x.0 x.1)) (packets-join (n + 1) xs ys)
+    ∙ with-packet-append n (packet_of_frame x.0 x.1) (packets_in (n + 1) xs) (packets_in ((n + 1) + length xs) ys)
+    ∙ ap (λ m. packets_in n (x ∷ xs) ++ packets_in m ys) (omega arith)
+
+frames-behind : (frames : List FrameBytes) (rest : Contents) → (behind_frames frames rest).frames ≡ frames ++ rest.frames
+frames-behind [] rest = refl
+frames-behind (frame ∷ frames) rest = ap (λ more. frame ∷ more) (frames-behind frames rest)
+
+fault-behind : (frames : List FrameBytes) (rest : Contents) → (behind_frames frames rest).fault ≡ rest.fault
+fault-behind [] rest = refl
+fault-behind (frame ∷ frames) rest = fault-behind frames rest
+
+-- the packets of a file that holds these frames and more
+packets-of : (file : List ℕ) (frames : List FrameBytes) (more : Contents) → contents_of file ≡ behind_frames frames more
+    → packets_of file ≡ packets_in 1 frames ++ packets_in (1 + length frames) more.frames
+packets-of file frames more e =
+    ap (λ c. packets_in 1 c.frames) e ∙ ap (packets_in 1) (frames-behind frames more) ∙ packets-join 1 frames more.frames
+
+fault-of : (file : List ℕ) (frames : List FrameBytes) (more : Contents) → contents_of file ≡ behind_frames frames more
+    → fault_of file ≡ more.fault
+fault-of file frames more e = ap (λ c. c.fault) e ∙ fault-behind frames more
+
+-- where nothing is behind these frames
+packets-end : (file : List ℕ) (frames : List FrameBytes) (why : Option CaptureFault) → contents_of file ≡ behind_frames frames (ends_with why)
+    → packets_of file ≡ packets_in 1 frames
+packets-end file frames why e = packets-of file frames (ends_with why) e ∙ append-nil (packets_in 1 frames)
+
+-- ---- what was read is the file, or the front of it
+
+pub begun : (reading : Reading) (stands : Says) → reading.format ≡ Unread → reading.interfaces.items ≡ [] → reading.count ≡ 0 → stands []
+    → HasRead reading [] [] stands
+begun reading stands format interfaces count said = record {
+  frames = [];
+  count = count;
+  whole = λ rest. ap (λ f. contents f [] rest) (sym format) ∙ ap (λ is. contents reading.format is rest) (sym interfaces);
+  taken = said;
+}
+
+-- more is read
+pub grown : (reading : Reading) (read kept piece : List ℕ) (stands : Says) → HasRead reading read kept stands
+    → HasRead reading (read ++ piece) (kept ++ piece) stands
+grown reading read kept piece stands h = record {
+  frames = h.frames;
+  count = h.count;
+  whole = λ rest. ap contents_of (append_assoc read piece rest) ∙ h.whole (piece ++ rest)
+      ∙ ap (λ more. behind_frames h.frames (rest_of reading more)) (sym (append_assoc kept piece rest));
+  taken = h.taken;
+}
+
+-- what is read and kept, at the end of a file
+at_end : (reading : Reading) (read kept : List ℕ) (stands : Says) (why : Option CaptureFault)
+    → rest_of reading kept ≡ ends_with why → (h : HasRead reading read kept stands)
+    → contents_of read ≡ behind_frames h.frames (ends_with why)
+at_end reading read kept stands why e h =
+    ap contents_of (sym (append-nil read)) ∙ h.whole []
+    ∙ ap (λ more. behind_frames h.frames (rest_of reading more)) (append-nil kept)
+    ∙ ap (behind_frames h.frames) e
+
+whole_file : (left after : Option (List ℕ)) (read : List ℕ) (P : List ℕ → Type 0) → Consumes left after read → IsAtEnd after → P read
+    → IfSome left P
+whole_file None after read P h end p = tt
+whole_file (Some file) None read P h end p = absurd h
+whole_file (Some file) (Some xs) read P h end p =
+    subst P (sym (h ∙ ap (λ ys. read ++ ys) end ∙ append-nil read)) p
+
+-- the file ends behind its last part
+pub ended : (left after : Option (List ℕ)) (reading : Reading) (read kept : List ℕ) (first stands : Option (List ℕ) → Says)
+    → Consumes left after read → IsAtEnd after → kept ≡ []
+    → rest_of reading kept ≡ ends_with (cut_unless_empty kept)
+    → ((before : Option (List ℕ)) → first before [] → HasRead reading read kept (stands before))
+    → IfSome left (λ file. (before : Option (List ℕ)) → first before [] → (fault_of file ≡ None) × stands before (packets_of file))
+ended left after reading read kept first stands consumed end none rest has =
+    whole_file left after read (λ file. (before : Option (List ℕ)) → first before [] → (fault_of file ≡ None) × stands before (packets_of file)) consumed end
+    (λ before said.
+    let h = has before said in
+    let e = at_end reading read kept (stands before) None (rest ∙ ap (λ bytes. ends_with (cut_unless_empty bytes)) none) h in
+    (fault-of read h.frames (ends_with None) e, subst (stands before) (sym (packets-end read h.frames None e)) h.taken))
+
+-- the file ends within a part
+pub ended_short : (left after : Option (List ℕ)) (reading : Reading) (read kept : List ℕ) (why : CaptureFault) (first stands : Option (List ℕ) → Says)
+    → Consumes left after read → IsAtEnd after
+    → rest_of reading kept ≡ ends_with (Some why)
+    → ((before : Option (List ℕ)) → first before [] → HasRead reading read kept (stands before))
+    → IfSome left (λ file. (before : Option (List ℕ)) → first before [] → StopsBy (Capture why) file (stands before))
+ended_short left after reading read kept why first stands consumed end rest has =
+    whole_file left after read (λ file. (before : Option (List ℕ)) → first before [] → StopsBy (Capture why) file (stands before)) consumed end
+    (λ before said.
+    let h = has before said in
+    let e = at_end reading read kept (stands before) (Some why) rest h in
+    (fault-of read h.frames (ends_with (Some why)) e, subst (stands before) (sym (packets-end read h.frames (Some why) e)) h.taken))
+
+-- ---- it stopped before the end
+
+stopped : (fault : FileFault) (read xs : List ℕ) (left : Says) → HasStopped fault read left → StopsBy fault (read ++ xs) left
+stopped (Capture why) read xs left h =
+    let e : contents_of (read ++ xs) ≡ behind_frames h.frames (ends_with (Some why)) = h.whole xs ∙ ap (behind_frames h.frames) (h.ends xs) in
+    (fault-of (read ++ xs) h.frames (ends_with (Some why)) e, subst left (sym (packets-end (read ++ xs) h.frames (Some why) e)) h.is_left)
+stopped (Run fault) read xs left h =
+    (packets_in 1 h.frames, packets_in (1 + length h.frames) (h.more xs).frames, sym (packets-of (read ++ xs) h.frames (h.more xs) (h.whole xs)), h.is_left)
+
+pub stops_by : (fault : FileFault) (left after : Option (List ℕ)) (read : List ℕ) (first leaves : Option (List ℕ) → Says)
+    → Consumes left after read
+    → ((before : Option (List ℕ)) → first before [] → HasStopped fault read (leaves before))
+    → IfSome left (λ file. (before : Option (List ℕ)) → first before [] → StopsBy fault file (leaves before))
+stops_by fault None after read first leaves consumed has = tt
+stops_by fault (Some file) None read first leaves consumed has = absurd consumed
+stops_by fault (Some file) (Some xs) read first leaves consumed has = λ before said.
+    subst (λ whole. StopsBy fault whole (leaves before)) (sym consumed) (stopped fault read xs (leaves before) (has before said))
+
+-- ---- between two reads
+
+pub no_items : (xs : List ℕ) → (length xs == 0) ≡ true → xs ≡ []
+no_items [] e = refl
+no_items (x ∷ xs) e = absurd (omega (arith, eqb-true (length (x ∷ xs)) 0 e))
+
+pub some_items : (xs : List ℕ) → (length xs == 0) ≡ false → cut_unless_empty xs ≡ Some Cut
+some_items [] e = absurd (eqb-false 0 0 e refl)
+some_items (x ∷ xs) e = refl
+
+-- the taker stands for the same packets, and the same is kept
+pub anew : (reading : Reading) (read kept kept' : List ℕ) (stands stands' : Says) → kept' ≡ kept → (h : HasRead reading read kept stands)
+    → (stands (packets_in 1 h.frames) → stands' (packets_in 1 h.frames)) → HasRead reading read kept' stands'
+anew reading read kept kept' stands stands' e h said = record {
+  frames = h.frames;
+  count = h.count;
+  whole = λ rest. h.whole rest ∙ ap (λ bytes. behind_frames h.frames (rest_of reading (bytes ++ rest))) (sym e);
+  taken = said h.taken;
+}
+
+pub paused : (fault : RunFault) (stands fails : Says) (packets : List NumberedPacket) → fault ≡ run.Write → fails packets
+    → StandsAfter (Run fault) stands fails packets
+paused fault stands fails packets e h = subst (λ f. StandsAfter (Run f) stands fails packets) (sym e) h

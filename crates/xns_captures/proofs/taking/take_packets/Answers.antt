@@ -1,0 +1,126 @@
+use Rattle.std.proofs.Common.{rules, ◌≡◌, ◌∙◌, ◌++◌, ap, arith, sym, subst, take, drop, List, ℕ, [], Option, Some, None}
+use Rattle.std.proofs.lemmas.Result.{err_from_is_err_and}
+use Rattle.xns_captures.specs.Captures.{contents, ends_with, packets_in}
+use Rattle.xns_captures.specs.Reading.{HasRead, StandsAfter, cut_unless_empty}
+use Rattle.xns_captures.specs.declared.fault.CaptureFault.TheVariants.{Cut}
+use Rattle.xns_captures.specs.declared.file_fault.FileFault.TheVariants.{Run, Capture}
+use Rattle.xns_lines.specs.declared.fault.RunFault.TheVariants as run
+use Rattle.xns_captures.proofs.Consumed.{consumes_kept, consumes_none, consumes_nothing, consumes_trans}
+use Rattle.xns_captures.proofs.Frames.{stops_in_run}
+use Rattle.xns_captures.proofs.Fuel.{contents-none}
+use Rattle.xns_captures.proofs.Whole.{anew, begun, ended, ended_short, grown, no_items, paused, some_items, stops_by}
+use Rattle.xns_captures.proofs.taking.take_packets.Goals as goal
+
+pub file-init : goal.file-init
+file-init g c = (
+  [],
+  consumes_nothing _,
+  (λ before said. subst (λ kept. HasRead c.new-reading.result [] kept (g.T.PacketTaker.stands c.args.taker.now before (g.W.Write.contents c.args.writer.now)))
+      (sym c.new-kept.ensures.items)
+      (begun c.new-reading.result _ c.new-reading.ensures.format c.new-reading.ensures.interfaces c.new-reading.ensures.count said)),
+  rw c.new-kept.ensures.items (contents-none c.new-reading.result.format c.new-reading.result.interfaces.items),
+)
+
+pub returns-in_default-clause-err : goal.returns-in_default-clause-err
+returns-in_default-clause-err g c =
+    let so_far = c.file.invariant in
+    stops_by (Run run.Read) (g.R.Read.remaining c.args.reader.now) (g.R.Read.remaining c.read.new.self) so_far.0
+    (λ before. g.T.PacketTaker.stands c.args.taker.now before (g.W.Write.contents c.args.writer.now))
+    (λ before. g.T.PacketTaker.stands c.file.taker before (g.W.Write.contents c.file.writer))
+    (consumes_kept _ _ _ so_far.0 so_far.1 c.in_default.ensures.bytes)
+    (λ before said. let h = so_far.2 before said in stops_in_run c.file.reading run.Read so_far.0 c.file.kept.items _ _ h h.taken)
+
+pub returns-then-is_empty-clause-ok : goal.returns-then-is_empty-clause-ok
+returns-then-is_empty-clause-ok g c =
+    let so_far = c.file.invariant in
+    let none : take c.in-Ok.count c.read.new.buf ≡ [] = ap (λ (n : ℕ). take n c.read.new.buf) c.if-count-eq0.true in
+    ended (g.R.Read.remaining c.args.reader.now) (g.R.Read.remaining c.read.new.self) c.file.reading so_far.0 c.file.kept.items
+    (λ before. g.T.PacketTaker.stands c.args.taker.now before (g.W.Write.contents c.args.writer.now))
+    (λ before. g.T.PacketTaker.stands c.file.taker before (g.W.Write.contents c.file.writer))
+    (consumes_none _ _ _ so_far.0 _ none so_far.1 c.in-Ok.ensures.bytes.0)
+    (c.in-Ok.ensures.bytes.1 c.if-count-eq0.true (search rules))
+    (no_items c.file.kept.items (sym (rw c.as_slice.ensures.value at c.is_empty.ensures) ∙ c.if-is_empty.true))
+    so_far.3 so_far.2
+
+pub returns-then-count-eq0-clause-err : goal.returns-then-count-eq0-clause-err
+returns-then-count-eq0-clause-err g c =
+    let so_far = c.file.invariant in
+    let none : take c.in-Ok.count c.read.new.buf ≡ [] = ap (λ (n : ℕ). take n c.read.new.buf) c.if-count-eq0.true in
+    ended_short (g.R.Read.remaining c.args.reader.now) (g.R.Read.remaining c.read.new.self) c.file.reading so_far.0 c.file.kept.items Cut
+    (λ before. g.T.PacketTaker.stands c.args.taker.now before (g.W.Write.contents c.args.writer.now))
+    (λ before. g.T.PacketTaker.stands c.file.taker before (g.W.Write.contents c.file.writer))
+    (consumes_none _ _ _ so_far.0 _ none so_far.1 c.in-Ok.ensures.bytes.0)
+    (c.in-Ok.ensures.bytes.1 c.if-count-eq0.true (search rules))
+    (so_far.3 ∙ ap ends_with (some_items c.file.kept.items (sym (rw c.as_slice.ensures.value at c.is_empty.ensures) ∙ c.if-is_empty.false)))
+    so_far.2
+
+pub returns-in_default-extend_from_slice-clause-err : goal.returns-in_default-extend_from_slice-clause-err
+returns-in_default-extend_from_slice-clause-err g c =
+    let so_far = c.file.invariant in
+    stops_by (Run run.NoMemory) (g.R.Read.remaining c.args.reader.now) (g.R.Read.remaining c.read.new.self)
+    (so_far.0 ++ take c.in-Ok.count c.read.new.buf)
+    (λ before. g.T.PacketTaker.stands c.args.taker.now before (g.W.Write.contents c.args.writer.now))
+    (λ before. g.T.PacketTaker.stands c.file.taker before (g.W.Write.contents c.file.writer))
+    (consumes_trans _ _ _ so_far.0 _ so_far.1 c.in-Ok.ensures.bytes.0)
+    (λ before said.
+    let h = grown c.file.reading so_far.0 c.file.kept.items (take c.in-Ok.count c.read.new.buf) _ (so_far.2 before said) in
+    stops_in_run c.file.reading run.NoMemory _ _ _ _ h h.taken)
+
+pub returns-in_err-taken-clause-err : goal.returns-in_err-taken-clause-err
+returns-in_err-taken-clause-err g c =
+    let so_far = c.file.invariant in
+    let p = err_from_is_err_and c.from_residual.result c.from_residual.ensures.1 in
+    rw (p.1, p.2) (
+    stops_by _ (g.R.Read.remaining c.args.reader.now) (g.R.Read.remaining c.read.new.self)
+    (so_far.0 ++ take c.in-Ok.count c.read.new.buf)
+    (λ before. g.T.PacketTaker.stands c.args.taker.now before (g.W.Write.contents c.args.writer.now))
+    _
+    (consumes_trans _ _ _ so_far.0 _ so_far.1 c.in-Ok.ensures.bytes.0)
+    (λ before said.
+    c.in_err-taken.ensures.err (so_far.0 ++ take c.in-Ok.count c.read.new.buf) before
+    (anew c.file.reading (so_far.0 ++ take c.in-Ok.count c.read.new.buf) (c.file.kept.items ++ take c.in-Ok.count c.read.new.buf) _ _ _
+    (c.as_slice-in-file.ensures.value ∙ c.in-Ok-extend_from_slice.ensures.items)
+    (grown c.file.reading so_far.0 c.file.kept.items (take c.in-Ok.count c.read.new.buf) _ (so_far.2 before said)) (λ said'. said')))
+    )
+
+pub returns-in-Err-clause-err : goal.returns-in-Err-clause-err
+returns-in-Err-clause-err g c =
+    let so_far = c.file.invariant in
+    stops_by (Run c.in-Err.fault) (g.R.Read.remaining c.args.reader.now) (g.R.Read.remaining c.read.new.self)
+    (so_far.0 ++ take c.in-Ok.count c.read.new.buf)
+    (λ before. g.T.PacketTaker.stands c.args.taker.now before (g.W.Write.contents c.args.writer.now))
+    (λ before. StandsAfter (Run c.in-Err.fault) (g.T.PacketTaker.stands c.pause.new.self before (g.W.Write.contents c.pause.new.writer))
+    (g.T.PacketTaker.fails c.pause.new.self before (g.W.Write.contents c.pause.new.writer)))
+    (consumes_trans _ _ _ so_far.0 _ so_far.1 c.in-Ok.ensures.bytes.0)
+    (λ before said.
+    let h = c.in_ok-taken.ensures.ok (so_far.0 ++ take c.in-Ok.count c.read.new.buf) before
+    (anew c.file.reading (so_far.0 ++ take c.in-Ok.count c.read.new.buf) (c.file.kept.items ++ take c.in-Ok.count c.read.new.buf) _ _ _
+    (c.as_slice-in-file.ensures.value ∙ c.in-Ok-extend_from_slice.ensures.items)
+    (grown c.file.reading so_far.0 c.file.kept.items (take c.in-Ok.count c.read.new.buf) _ (so_far.2 before said)) (λ said'. said')) in
+    stops_in_run c.take_parts.new.self c.in-Err.fault _ _ _ _ h
+    (paused c.in-Err.fault _ _ _ c.in-Err.ensures.err.0 (c.in-Err.ensures.err.1 before (packets_in 1 h.frames) h.taken)))
+
+pub file-preserved : goal.file-preserved
+file-preserved g c =
+    let so_far = c.file.invariant in
+    let kept : c.drop_front.new.bytes.items ≡ drop c.in_ok-taken.taken c.as_slice-in-file.result.now =
+    c.drop_front.ensures ∙ ap (drop c.in_ok-taken.taken) (sym c.as_slice-in-file.ensures.value) in (
+      so_far.0 ++ take c.in-Ok.count c.read.new.buf,
+      consumes_trans _ _ _ so_far.0 _ so_far.1 c.in-Ok.ensures.bytes.0,
+      (λ before said.
+          let h = c.in_ok-taken.ensures.ok (so_far.0 ++ take c.in-Ok.count c.read.new.buf) before
+          (anew c.file.reading (so_far.0 ++ take c.in-Ok.count c.read.new.buf) (c.file.kept.items ++ take c.in-Ok.count c.read.new.buf) _ _ _
+          (c.as_slice-in-file.ensures.value ∙ c.in-Ok-extend_from_slice.ensures.items)
+          (grown c.file.reading so_far.0 c.file.kept.items (take c.in-Ok.count c.read.new.buf) _ (so_far.2 before said)) (λ said'. said')) in
+          anew c.take_parts.new.self (so_far.0 ++ take c.in-Ok.count c.read.new.buf) _ _ _ _ kept h (c.in-Ok-pause.ensures.ok before (packets_in 1 h.frames))),
+      rw kept c.in_ok-taken.ensures.rest,
+    )
+
+pub returns-clause-err : goal.returns-clause-err
+returns-clause-err g c =
+    let so_far = c.file.invariant in
+    stops_by (Run run.Read) (g.R.Read.remaining c.args.reader.now) (g.R.Read.remaining c.file.reader) so_far.0
+    (λ before. g.T.PacketTaker.stands c.args.taker.now before (g.W.Write.contents c.args.writer.now))
+    (λ before. g.T.PacketTaker.stands c.file.taker before (g.W.Write.contents c.file.writer))
+    so_far.1
+    (λ before said. let h = so_far.2 before said in stops_in_run c.file.reading run.Read so_far.0 c.file.kept.items _ _ h h.taken)

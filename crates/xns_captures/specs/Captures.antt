@@ -1,0 +1,96 @@
+-- What a capture holds: its frames, why it can't be read on, and the packets in its frames.
+use Rattle.std.specs.Prelude.{ℕ, zero, suc, ◌+◌, nat_lt, if◌then◌else◌, List, [], ◌∷◌, ◌++◌, length, take, drop}
+use Rattle.std.specs.Prelude.{Option, Some, None, Ok, Err}
+use Rattle.xns_captures.specs.Links.{packet_of_frame}
+use Rattle.xns_captures.specs.Parts.{Holds, Size, head_count, part_of, size_of}
+use Rattle.xns_captures.specs.declared.fault.CaptureFault.{CaptureFault}
+use Rattle.xns_captures.specs.declared.fault.CaptureFault.TheVariants as fault
+use Rattle.xns_captures.specs.declared.format.Format.{Format}
+use Rattle.xns_captures.specs.declared.format.Format.TheVariants.{Unread}
+use Rattle.xns_captures.specs.declared.frame.Frame.{Frame}
+use Rattle.xns_captures.specs.declared.interface.Interface.{Interface}
+use Rattle.xns_captures.specs.declared.part.Part.{Part}
+use Rattle.xns_captures.specs.declared.part.Part.TheVariants as part
+
+-- a frame is its link type and its captured bytes
+abbrev pub FrameBytes : Type 0
+FrameBytes = ℕ × List ℕ
+
+-- the frame that stands in a part
+abbrev pub frame_in : Frame → List ℕ → FrameBytes
+frame_in frame bytes = (frame.link, take frame.count (drop frame.start bytes))
+
+-- the frames, and why no more can be read, if so
+pub record Contents : Type 0 where
+  pub frames : List FrameBytes
+  pub fault : Option CaptureFault
+
+abbrev pub ends_with : Option CaptureFault → Contents
+ends_with fault = record { frames = []; fault = fault }
+
+abbrev pub with_frame : FrameBytes → Contents → Contents
+with_frame frame contents = record { frames = frame ∷ contents.frames; fault = contents.fault }
+
+-- what the rest of a capture holds, in a file of that format, in a section with these interfaces
+abbrev pub More : Type 0
+More = Format → List Interface → List ℕ → Contents
+
+-- a part, and what the rest holds behind it
+abbrev pub behind_part : More → Format → List Interface → List ℕ → List ℕ → Part → Contents
+behind_part more format interfaces bytes rest (part.Begins next) = more next [] rest
+behind_part more format interfaces bytes rest (part.Interface interface) = more format (interfaces ++ interface ∷ []) rest
+behind_part more format interfaces bytes rest (part.Frame frame) = with_frame (frame_in frame bytes) (more format interfaces rest)
+behind_part more format interfaces bytes rest part.Other = more format interfaces rest
+
+abbrev pub behind_whole : More → Format → List Interface → List ℕ → List ℕ → Holds → Contents
+behind_whole more format interfaces bytes rest (Ok part) = behind_part more format interfaces bytes rest part
+behind_whole more format interfaces bytes rest (Err fault) = ends_with (Some fault)
+
+abbrev pub behind_size : More → Format → List Interface → List ℕ → Size → Contents
+behind_size more format interfaces bytes (Err fault) = ends_with (Some fault)
+behind_size more format interfaces bytes (Ok size) =
+    if nat_lt (length bytes) size then ends_with (Some fault.Cut)
+    else behind_whole more format interfaces (take size bytes) (drop size bytes) (part_of format interfaces (take size bytes))
+
+abbrev pub behind_head : More → Format → List Interface → List ℕ → Contents
+behind_head more format interfaces bytes =
+    if nat_lt (length bytes) (head_count format) then ends_with (Some fault.Cut)
+    else behind_size more format interfaces bytes (size_of format (take (head_count format) bytes))
+
+-- what a capture holds from here on, within so many parts
+unfoldable pub contents_in : ℕ → More
+contents_in parts format interfaces [] = ends_with None
+contents_in zero format interfaces (byte ∷ bytes) = ends_with None
+contents_in (suc parts) format interfaces (byte ∷ bytes) = behind_head (contents_in parts) format interfaces (byte ∷ bytes)
+
+-- there are no more parts than bytes
+unfoldable pub contents : More
+contents format interfaces bytes = contents_in (length bytes) format interfaces bytes
+
+-- what a file holds
+abbrev pub contents_of : List ℕ → Contents
+contents_of file = contents Unread [] file
+
+-- its frames, in order, and why it can't be read to its end, if so
+abbrev pub frames_of : List ℕ → List FrameBytes
+frames_of file = (contents_of file).frames
+
+abbrev pub fault_of : List ℕ → Option CaptureFault
+fault_of file = (contents_of file).fault
+
+-- a packet and the number of its frame
+abbrev pub NumberedPacket : Type 0
+NumberedPacket = ℕ × List ℕ
+
+abbrev pub with_packet : ℕ → Option (List ℕ) → List NumberedPacket → List NumberedPacket
+with_packet n None packets = packets
+with_packet n (Some packet) packets = (n, packet) ∷ packets
+
+-- the packets in frames of which the first has number n
+abbrev pub packets_in : ℕ → List FrameBytes → List NumberedPacket
+packets_in n [] = []
+packets_in n (frame ∷ frames) = with_packet n (packet_of_frame frame.0 frame.1) (packets_in (n + 1) frames)
+
+-- the packets of a file; frames count from 1
+abbrev pub packets_of : List ℕ → List NumberedPacket
+packets_of file = packets_in 1 (frames_of file)

@@ -1,0 +1,6 @@
+pub mod Captures
+pub mod Links
+pub mod Parts
+pub mod Places
+pub mod Printing
+pub mod Reading

@@ -1,0 +1,210 @@
+-- The parts of a capture: how many bytes the next one has, by its head, and what it holds.
+use Rattle.std.specs.Prelude.{ℕ, ◌+◌, ◌-◌, ◌%◌, ◌≤◌, ◌==◌, ◌||◌, ◌&&◌, min, nat_lt, Bool, not, if◌then◌else◌, List, length, slice_get}
+use Rattle.std.specs.Prelude.{Option, Some, None, is_some, Result, Ok, Err}
+use Rattle.xns_captures.specs.Places.{long_at, word_at}
+use Rattle.xns_captures.specs.declared.byte_order.ByteOrder.{ByteOrder}
+use Rattle.xns_captures.specs.declared.byte_order.ByteOrder.TheVariants.{Big, Little}
+use Rattle.xns_captures.specs.declared.fault.CaptureFault.{CaptureFault}
+use Rattle.xns_captures.specs.declared.fault.CaptureFault.TheVariants as fault
+use Rattle.xns_captures.specs.declared.format.Format.{Format}
+use Rattle.xns_captures.specs.declared.format.Format.TheVariants.{Unread, Records, Blocks}
+use Rattle.xns_captures.specs.declared.interface.Interface.{Interface}
+use Rattle.xns_captures.specs.declared.part.Part.{Part}
+use Rattle.xns_captures.specs.declared.part.Part.TheVariants as part
+
+-- how many bytes a part has, or why it can't be read
+abbrev pub Size : Type 0
+Size = Result ℕ CaptureFault
+
+-- what a part holds, or why it can't be read
+abbrev pub Holds : Type 0
+Holds = Result Part CaptureFault
+
+-- a frame has at most so many captured bytes, and a block so many in all
+abbrev pub most_frame_bytes : ℕ
+most_frame_bytes = 262144
+
+abbrev pub most_block_bytes : ℕ
+most_block_bytes = 16777216
+
+-- a section describes at most so many interfaces
+abbrev pub most_interfaces : ℕ
+most_interfaces = 65536
+
+-- ---- classic pcap
+
+-- the magic number of a classic capture, with times in microseconds or in nanoseconds
+abbrev pub is_classic : ℕ → Bool
+is_classic magic = magic == 0xa1b2c3d4 || magic == 0xa1b23c4d
+
+-- the order of bytes by the magic number of a classic capture
+abbrev pub classic_order : List ℕ → Option ByteOrder
+classic_order bytes =
+    if is_classic (long_at Big bytes 0) then Some Big
+    else if is_classic (long_at Little bytes 0) then Some Little
+    else None
+
+-- the header of a file: its version is 2.4; the link type stands in the low half of the last number, below the bits on check sequences
+abbrev pub header_in : ByteOrder → List ℕ → Holds
+header_in order bytes =
+    if nat_lt (length bytes) 24 then Err fault.Cut
+    else if word_at order bytes 4 == 2 && word_at order bytes 6 == 4
+    then Ok (part.Begins (Records order (long_at order bytes 20 % 65536)))
+    else Err fault.Version
+
+-- a record: a head of 16 bytes, with the captured length at 8, and the frame
+abbrev pub record_size : ByteOrder → List ℕ → Size
+record_size order head =
+    if nat_lt most_frame_bytes (long_at order head 8) then Err fault.TooLong else Ok (16 + long_at order head 8)
+
+abbrev pub record_in : ℕ → List ℕ → Holds
+record_in link bytes = Ok (part.Frame (record { link = link; start = 16; count = length bytes - 16 }))
+
+-- ---- pcapng
+
+-- the block type of a section header, which reads the same in both orders
+abbrev pub section_type : ℕ
+section_type = 0x0a0d0d0a
+
+-- the order of bytes by the magic number of a section header
+abbrev pub section_order : List ℕ → Option ByteOrder
+section_order bytes =
+    if long_at Big bytes 8 == 0x1a2b3c4d then Some Big
+    else if long_at Little bytes 8 == 0x1a2b3c4d then Some Little
+    else None
+
+-- a block: its type, its length, which is a multiple of four, what it holds, and its length again
+abbrev pub block_size_in : ByteOrder → List ℕ → Size
+block_size_in order head =
+    if nat_lt (long_at order head 4) 12 || not (long_at order head 4 % 4 == 0) then Err fault.Lengths
+    else if nat_lt most_block_bytes (long_at order head 4) then Err fault.TooLong
+    else Ok (long_at order head 4)
+
+abbrev pub size_in_order : Option ByteOrder → List ℕ → Size
+size_in_order None head = Err fault.Order
+size_in_order (Some order) head = block_size_in order head
+
+-- a section header says the order of its own bytes
+abbrev pub block_size : ByteOrder → List ℕ → Size
+block_size order head =
+    if long_at order head 0 == section_type then size_in_order (section_order head) head else block_size_in order head
+
+-- the length at the end of a block is that of the block, which is at least so many bytes long
+abbrev pub has_lengths : ByteOrder → ℕ → List ℕ → Bool
+has_lengths order least bytes = not (nat_lt (length bytes) least) && long_at order bytes (length bytes - 4) == length bytes
+
+-- a section header: the version is 1.0, or 1.2, which says the same
+abbrev pub section_in_order : Option ByteOrder → List ℕ → Holds
+section_in_order None bytes = Err fault.Order
+section_in_order (Some order) bytes =
+    if not (has_lengths order 28 bytes) then Err fault.Lengths
+    else if word_at order bytes 12 == 1 && (word_at order bytes 14 == 0 || word_at order bytes 14 == 2)
+    then Ok (part.Begins (Blocks order))
+    else Err fault.Version
+
+-- an interface description: the link type at 8, and the most bytes that are kept of a frame at 12
+abbrev pub interface_in : ByteOrder → List Interface → List ℕ → Holds
+interface_in order interfaces bytes =
+    if not (has_lengths order 20 bytes) then Err fault.Lengths
+    else if not (nat_lt (length interfaces) most_interfaces) then Err fault.TooManyInterfaces
+    else Ok (part.Interface (record { link = word_at order bytes 8; most = long_at order bytes 12 }))
+
+-- a frame of an interface, which begins at a place of a block; its padding and the length at the end stand behind it
+abbrev pub frame_of : Option Interface → ℕ → ℕ → ℕ → Holds
+frame_of None start count total = Err fault.NoInterface
+frame_of (Some interface) start count total =
+    if nat_lt most_frame_bytes count then Err fault.TooLong
+    else if nat_lt total (start + count + 4) then Err fault.Lengths
+    else Ok (part.Frame (record { link = interface.link; start = start; count = count }))
+
+-- an enhanced packet: the number of the interface at 8, and the captured length at 20
+abbrev pub enhanced_in : ByteOrder → List Interface → List ℕ → Holds
+enhanced_in order interfaces bytes =
+    if not (has_lengths order 32 bytes) then Err fault.Lengths
+    else frame_of (slice_get interfaces (long_at order bytes 8)) 28 (long_at order bytes 20) (length bytes)
+
+-- the obsolete packet, whose interface has a number of two bytes
+abbrev pub old_in : ByteOrder → List Interface → List ℕ → Holds
+old_in order interfaces bytes =
+    if not (has_lengths order 32 bytes) then Err fault.Lengths
+    else frame_of (slice_get interfaces (word_at order bytes 8)) 28 (long_at order bytes 20) (length bytes)
+
+-- how many bytes of a frame of so many were kept
+abbrev pub kept_count : Option Interface → ℕ → ℕ
+kept_count None count = count
+kept_count (Some interface) count = if interface.most == 0 then count else min count interface.most
+
+-- a simple packet, of the first interface: the original length at 8
+abbrev pub simple_in : ByteOrder → List Interface → List ℕ → Holds
+simple_in order interfaces bytes =
+    if not (has_lengths order 16 bytes) then Err fault.Lengths
+    else frame_of (slice_get interfaces 0) 12 (kept_count (slice_get interfaces 0) (long_at order bytes 8)) (length bytes)
+
+-- blocks that are no packets, and have numbers as frames in Wireshark: a systemd journal entry, a system call, and custom blocks
+abbrev pub is_counted : ℕ → Bool
+is_counted kind = kind == 9 || kind == 0x204 || kind == 0xbad || kind == 0x40000bad
+
+-- any other block is passed over; one that is counted is a frame of no bytes, of link type 0, which carries no packet
+abbrev pub other_in : ℕ → ByteOrder → List ℕ → Holds
+other_in kind order bytes =
+    if not (has_lengths order 12 bytes) then Err fault.Lengths
+    else if is_counted kind then Ok (part.Frame (record { link = 0; start = 0; count = 0 }))
+    else Ok part.Other
+
+-- a block that is no section header, by its type
+unfoldable pub block_of_type : ℕ → ByteOrder → List Interface → List ℕ → Holds
+block_of_type kind order interfaces bytes =
+    if kind == 1 then interface_in order interfaces bytes
+    else if kind == 6 then enhanced_in order interfaces bytes
+    else if kind == 2 then old_in order interfaces bytes
+    else if kind == 3 then simple_in order interfaces bytes
+    else other_in kind order bytes
+
+unfoldable pub block_in : ByteOrder → List Interface → List ℕ → Holds
+block_in order interfaces bytes =
+    if long_at order bytes 0 == section_type then section_in_order (section_order bytes) bytes
+    else block_of_type (long_at order bytes 0) order interfaces bytes
+
+-- ---- both
+
+-- a file that begins with these bytes is a capture
+abbrev pub is_capture : List ℕ → Bool
+is_capture bytes = not (nat_lt (length bytes) 4) && (long_at Big bytes 0 == section_type || is_some (classic_order bytes))
+
+-- the first part of a file: the header of a classic capture, or a section header
+abbrev pub classic_size : Option ByteOrder → Size
+classic_size None = Err fault.NoCapture
+classic_size (Some order) = Ok 24
+
+abbrev pub file_size : List ℕ → Size
+file_size head = if long_at Big head 0 == section_type then block_size Big head else classic_size (classic_order head)
+
+abbrev pub classic_in : Option ByteOrder → List ℕ → Holds
+classic_in None bytes = Err fault.NoCapture
+classic_in (Some order) bytes = header_in order bytes
+
+abbrev pub file_in : List Interface → List ℕ → Holds
+file_in interfaces bytes =
+    if long_at Big bytes 0 == section_type then block_in Big interfaces bytes else classic_in (classic_order bytes) bytes
+
+-- the head of a part has so many bytes
+abbrev pub head_count : Format → ℕ
+head_count (Records order link) = 16
+head_count _ = 12
+
+-- how many bytes the part with this head has
+unfoldable pub size_of : Format → List ℕ → Size
+size_of Unread head = file_size head
+size_of (Records order link) head = record_size order head
+size_of (Blocks order) head = block_size order head
+
+-- what a part with these bytes holds, in a section with these interfaces
+unfoldable pub part_of : Format → List Interface → List ℕ → Holds
+part_of Unread interfaces bytes = file_in interfaces bytes
+part_of (Records order link) interfaces bytes = record_in link bytes
+part_of (Blocks order) interfaces bytes = block_in order interfaces bytes
+
+-- the frame stands within so many bytes
+abbrev pub IsWithin : ℕ → Part → Type 0
+IsWithin count (part.Frame frame) = frame.start + frame.count ≤ count
+IsWithin count _ = Unit {0}

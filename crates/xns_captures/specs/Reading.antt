@@ -1,0 +1,82 @@
+-- What was read of a capture, between two parts and after a fault.
+use Rattle.std.specs.Prelude.{◌≡◌, ◌≤◌, ℕ, List, [], ◌∷◌, ◌++◌, length, take, Option, Some, None, Ok}
+use Rattle.xns_lines.specs.declared.fault.RunFault.{RunFault}
+use Rattle.xns_lines.specs.declared.fault.RunFault.TheVariants as run
+use Rattle.xns_captures.specs.Captures.{Contents, FrameBytes, NumberedPacket, contents, contents_of, ends_with, packets_in, packets_of, with_frame}
+use Rattle.xns_captures.specs.Captures.{fault_of}
+use Rattle.xns_captures.specs.declared.fault.CaptureFault.{CaptureFault}
+use Rattle.xns_captures.specs.declared.fault.CaptureFault.TheVariants.{Cut}
+use Rattle.xns_captures.specs.declared.file_fault.FileFault.{FileFault}
+use Rattle.xns_captures.specs.declared.file_fault.FileFault.TheVariants.{Run, Capture}
+use Rattle.xns_captures.specs.declared.format.Format.{Format}
+use Rattle.xns_captures.specs.Parts.{head_count, size_of}
+use Rattle.xns_captures.specs.declared.reading.Reading.{Reading}
+
+-- what a taker stands for, as a function of the packets taken
+abbrev pub Says : Type 1
+Says = List NumberedPacket → Type 0
+
+-- a capture has at most so many frames
+abbrev pub most_frames : ℕ
+most_frames = 4294967295
+
+-- a taker's fault at a packet: without memory it stands for the packets before it, and after a failed write the packet is taken
+abbrev pub StandsAfterPacket : RunFault → Says → Says → List NumberedPacket → NumberedPacket → Type 0
+StandsAfterPacket run.NoMemory stands fails packets packet = stands packets
+StandsAfterPacket run.Write stands fails packets packet = fails (packets ++ packet ∷ [])
+StandsAfterPacket _ stands fails packets packet = ⊥
+
+-- a fault at a frame: after a failed write its packet is taken, and else it is not
+abbrev pub StopsAtFrame : FileFault → Says → Says → List NumberedPacket → List NumberedPacket → Type 0
+StopsAtFrame (Run run.Write) stands fails packets more = fails more
+StopsAtFrame (Run _) stands fails packets more = stands packets
+StopsAtFrame (Capture fault) stands fails packets more = ⊥
+
+-- what is left of a taker after a fault: after a failed write what `fails` says, else it stands for the packets
+abbrev pub StandsAfter : FileFault → Says → Says → List NumberedPacket → Type 0
+StandsAfter (Run run.Write) stands fails packets = fails packets
+StandsAfter _ stands fails packets = stands packets
+
+-- a file that ends in some bytes of a part is cut
+abbrev pub cut_unless_empty : List ℕ → Option CaptureFault
+cut_unless_empty [] = None
+cut_unless_empty (byte ∷ bytes) = Some Cut
+
+-- a part with so many bytes stands first in these
+pub record IsWholePart (format : Format) (bytes : List ℕ) (size : ℕ) : Type 0 where
+  pub head : head_count format ≤ size
+  pub of_head : size_of format (take (head_count format) bytes) ≡ Ok size
+  pub fits : size ≤ length bytes
+
+-- frames, and what a capture holds behind them
+abbrev pub behind_frames : List FrameBytes → Contents → Contents
+behind_frames [] rest = rest
+behind_frames (frame ∷ frames) rest = with_frame frame (behind_frames frames rest)
+
+-- these bytes were read, of which the last were not taken yet: whatever comes behind them, the capture holds the frames that came and
+-- what the rest holds, and the taker stands for the packets in these frames
+pub record HasRead (reading : Reading) (read kept : List ℕ) (stands : Says) : Type 0 where
+  pub frames : List FrameBytes
+  pub count : reading.count ≡ length frames
+  pub whole : (rest : List ℕ)
+      → contents_of (read ++ rest) ≡ behind_frames frames (contents reading.format reading.interfaces.items (kept ++ rest))
+  pub taken : stands (packets_in 1 frames)
+
+-- what the rest of a capture holds, where it can't be read on
+abbrev pub EndsBy : FileFault → (List ℕ → Contents) → Type 0
+EndsBy (Capture fault) more = (rest : List ℕ) → more rest ≡ ends_with (Some fault)
+EndsBy (Run fault) more = Unit {0}
+
+-- it stopped by this fault behind some frames of the capture, and of the packets in these this is so
+pub record HasStopped (fault : FileFault) (read : List ℕ) (left : Says) : Type 0 where
+  pub frames : List FrameBytes
+  pub more : List ℕ → Contents
+  pub whole : (rest : List ℕ) → contents_of (read ++ rest) ≡ behind_frames frames (more rest)
+  pub ends : EndsBy fault more
+  pub is_left : left (packets_in 1 frames)
+
+-- a fault of the capture comes behind all its packets, and any other behind some of them
+abbrev pub StopsBy : FileFault → List ℕ → Says → Type 0
+StopsBy (Capture fault) file left = (fault_of file ≡ Some fault) × left (packets_of file)
+StopsBy (Run fault) file left =
+    (front : List NumberedPacket) × (rest : List NumberedPacket) × (front ++ rest ≡ packets_of file) × left front

@@ -1,0 +1,300 @@
+//! The blocks of a pcapng file.
+ghost use Rattle.std.specs.Prelude.{◌≡◌, ◌≤◌, true, IfOk, length, slice_get};
+ghost use Rattle.xns_captures.specs.Parts.{block_in, block_of_type, block_size as block_size_of, block_size_in, enhanced_in};
+ghost use Rattle.xns_captures.specs.Parts.{IsWithin, frame_of as frame_of_block, has_lengths as has_lengths_in, interface_in};
+ghost use Rattle.xns_captures.specs.Parts.{is_counted as is_counted_kind, kept_count as kept_count_of, old_in, other_in, section_in_order, simple_in};
+ghost use Rattle.xns_captures.specs.Parts.{section_order as section_order_of, size_in_order};
+
+use crate::byte_order::ByteOrder;
+use crate::fault::CaptureFault;
+use crate::format::Format;
+use crate::frame::Frame;
+use crate::interface::Interface;
+use crate::limits::{MOST_BLOCK_BYTES, MOST_FRAME_BYTES, MOST_INTERFACES};
+use crate::magic::SECTION;
+use crate::part::Part;
+use crate::places::{read_long, read_word};
+
+/// The bytes of the head of a block, and of the shortest block.
+pub const BLOCK_HEAD_BYTES: usize = 12;
+/// The magic number of a section's order of bytes.
+const ORDER: u32 = 0x1a2b_3c4d;
+
+/// The types of blocks that are read.
+const INTERFACE: u32 = 1;
+
+const OLD_PACKET: u32 = 2;
+
+const SIMPLE_PACKET: u32 = 3;
+
+const ENHANCED_PACKET: u32 = 6;
+
+/// The types of blocks that are no packets, and have numbers as frames in Wireshark.
+const JOURNAL_ENTRY: u32 = 9;
+
+const SYSTEM_CALL: u32 = 0x204;
+
+const CUSTOM: u32 = 0xbad;
+
+const CUSTOM_NOT_COPIED: u32 = 0x4000_0bad;
+
+/// How many bytes a block has, by its head.
+pub fn block_size(order: ByteOrder, head: &[u8]) -> Result<usize, CaptureFault>
+    requires { 12 ≤ length head.now }
+    ensures { result ≡ block_size_of order head.now }
+{
+    if read_long(order, head, 0) != SECTION {
+        return size_in(order, head);
+    }
+    match section_order(head) {
+        Some(order) => size_in(order, head),
+        None => Err(CaptureFault::Order),
+    }
+}
+
+/// How many bytes a block has, whose numbers are in that order.
+fn size_in(order: ByteOrder, head: &[u8]) -> Result<usize, CaptureFault>
+    requires { 12 ≤ length head.now }
+    ensures { result ≡ block_size_in order head.now }
+{
+    let total = read_long(order, head, 4);
+    if total < 12 || total % 4 != 0 {
+        return Err(CaptureFault::Lengths);
+    }
+    if total > MOST_BLOCK_BYTES {
+        return Err(CaptureFault::TooLong);
+    }
+    Ok(total as usize)
+}
+
+/// The order of bytes by the magic number of a section header.
+fn section_order(bytes: &[u8]) -> Option<ByteOrder>
+    requires { 12 ≤ length bytes.now }
+    ensures { result ≡ section_order_of bytes.now }
+{
+    if read_long(ByteOrder::Big, bytes, 8) == ORDER {
+        return Some(ByteOrder::Big);
+    }
+    if read_long(ByteOrder::Little, bytes, 8) == ORDER {
+        return Some(ByteOrder::Little);
+    }
+    None
+}
+
+/// What a block holds, in a section with these interfaces.
+#[tactic(auto, unfolding(crate::specs::Parts::block_in))]
+pub fn read_block(
+    order: ByteOrder,
+    interfaces: &[Interface],
+    bytes: &[u8],
+) -> Result<Part, CaptureFault>
+    requires { 12 ≤ length bytes.now }
+    ensures value { result ≡ block_in order interfaces.now bytes.now }
+    ensures fits { IfOk result (IsWithin (length bytes.now)) }
+{
+    let kind = read_long(order, bytes, 0);
+    if kind == SECTION {
+        return read_section(bytes);
+    }
+    read_other(kind, order, interfaces, bytes)
+}
+
+/// Whether the length at the end of a block is its length, which is at least so many bytes.
+fn has_lengths(order: ByteOrder, least: usize, bytes: &[u8]) -> bool
+    requires some { 4 ≤ length bytes.now }
+    ensures value { result ≡ has_lengths_in order least bytes.now }
+    ensures least { result ≡ true → least ≤ length bytes.now }
+{
+    let total = bytes.len();
+    if total < least {
+        return false;
+    }
+    read_long(order, bytes, total - 4) as usize == total
+}
+
+/// A section header.
+fn read_section(bytes: &[u8]) -> Result<Part, CaptureFault>
+    requires { 12 ≤ length bytes.now }
+    ensures value { result ≡ section_in_order (section_order_of bytes.now) bytes.now }
+    ensures fits { IfOk result (IsWithin (length bytes.now)) }
+{
+    let Some(order) = section_order(bytes) else {
+        return Err(CaptureFault::Order);
+    };
+    if !has_lengths(order, 28, bytes) {
+        return Err(CaptureFault::Lengths);
+    }
+    let minor = read_word(order, bytes, 14);
+    if read_word(order, bytes, 12) != 1 || (minor != 0 && minor != 2) {
+        return Err(CaptureFault::Version);
+    }
+    Ok(Part::Begins(Format::Blocks { order }))
+}
+
+/// A block that is no section header, by its type.
+#[tactic(auto, unfolding(crate::specs::Parts::block_of_type))]
+fn read_other(
+    kind: u32,
+    order: ByteOrder,
+    interfaces: &[Interface],
+    bytes: &[u8],
+) -> Result<Part, CaptureFault>
+    requires { 12 ≤ length bytes.now }
+    ensures value { result ≡ block_of_type kind order interfaces.now bytes.now }
+    ensures fits { IfOk result (IsWithin (length bytes.now)) }
+{
+    match kind {
+        INTERFACE => read_interface(order, interfaces, bytes),
+        ENHANCED_PACKET => read_enhanced(order, interfaces, bytes),
+        OLD_PACKET => read_old(order, interfaces, bytes),
+        SIMPLE_PACKET => read_simple(order, interfaces, bytes),
+        _ => pass_over(kind, order, bytes),
+    }
+}
+
+/// An interface description.
+fn read_interface(
+    order: ByteOrder,
+    interfaces: &[Interface],
+    bytes: &[u8],
+) -> Result<Part, CaptureFault>
+    requires { 12 ≤ length bytes.now }
+    ensures value { result ≡ interface_in order interfaces.now bytes.now }
+    ensures fits { IfOk result (IsWithin (length bytes.now)) }
+{
+    if !has_lengths(order, 20, bytes) {
+        return Err(CaptureFault::Lengths);
+    }
+    if interfaces.len() >= MOST_INTERFACES {
+        return Err(CaptureFault::TooManyInterfaces);
+    }
+    Ok(Part::Interface(Interface {
+        link: read_word(order, bytes, 8),
+        most: read_long(order, bytes, 12),
+    }))
+}
+
+/// An enhanced packet.
+fn read_enhanced(
+    order: ByteOrder,
+    interfaces: &[Interface],
+    bytes: &[u8],
+) -> Result<Part, CaptureFault>
+    requires { 12 ≤ length bytes.now }
+    ensures value { result ≡ enhanced_in order interfaces.now bytes.now }
+    ensures fits { IfOk result (IsWithin (length bytes.now)) }
+{
+    if !has_lengths(order, 32, bytes) {
+        return Err(CaptureFault::Lengths);
+    }
+    let interface = interface_at(interfaces, read_long(order, bytes, 8) as usize);
+    frame_of(interface, 28, read_long(order, bytes, 20), bytes.len())
+}
+
+/// The obsolete packet, whose interface has a number of two bytes.
+fn read_old(order: ByteOrder, interfaces: &[Interface], bytes: &[u8]) -> Result<Part, CaptureFault>
+    requires { 12 ≤ length bytes.now }
+    ensures value { result ≡ old_in order interfaces.now bytes.now }
+    ensures fits { IfOk result (IsWithin (length bytes.now)) }
+{
+    if !has_lengths(order, 32, bytes) {
+        return Err(CaptureFault::Lengths);
+    }
+    let interface = interface_at(interfaces, usize::from(read_word(order, bytes, 8)));
+    frame_of(interface, 28, read_long(order, bytes, 20), bytes.len())
+}
+
+/// A simple packet, of the first interface, which does not say how much of it was captured.
+fn read_simple(
+    order: ByteOrder,
+    interfaces: &[Interface],
+    bytes: &[u8],
+) -> Result<Part, CaptureFault>
+    requires { 12 ≤ length bytes.now }
+    ensures value { result ≡ simple_in order interfaces.now bytes.now }
+    ensures fits { IfOk result (IsWithin (length bytes.now)) }
+{
+    if !has_lengths(order, 16, bytes) {
+        return Err(CaptureFault::Lengths);
+    }
+    let interface = interface_at(interfaces, 0);
+    let count = kept_count(interface, read_long(order, bytes, 8));
+    frame_of(interface, 12, count, bytes.len())
+}
+
+/// A block of any other type. One that is counted is a frame of no bytes, of a link type that carries no packet.
+fn pass_over(kind: u32, order: ByteOrder, bytes: &[u8]) -> Result<Part, CaptureFault>
+    requires { 12 ≤ length bytes.now }
+    ensures value { result ≡ other_in kind order bytes.now }
+    ensures fits { IfOk result (IsWithin (length bytes.now)) }
+{
+    if !has_lengths(order, 12, bytes) {
+        return Err(CaptureFault::Lengths);
+    }
+    if is_counted(kind) {
+        return Ok(Part::Frame(Frame {
+            link: 0,
+            start: 0,
+            count: 0,
+        }));
+    }
+    Ok(Part::Other)
+}
+
+/// Whether a block that is no packet has a number as a frame.
+fn is_counted(kind: u32) -> bool
+    ensures { result ≡ is_counted_kind kind }
+{
+    kind == JOURNAL_ENTRY || kind == SYSTEM_CALL || kind == CUSTOM || kind == CUSTOM_NOT_COPIED
+}
+
+/// The interface with this number, if it is described.
+fn interface_at(interfaces: &[Interface], number: usize) -> Option<Interface>
+    ensures { result ≡ slice_get interfaces.now number }
+{
+    interfaces.get(number).copied()
+}
+
+/// How many bytes of a frame of so many were kept.
+fn kept_count(interface: Option<Interface>, count: u32) -> u32
+    ensures { result ≡ kept_count_of interface count }
+{
+    match interface {
+        Some(interface) => {
+            if interface.most == 0 || count <= interface.most {
+                count
+            } else {
+                interface.most
+            }
+        }
+        None => count,
+    }
+}
+
+/// A frame of an interface, which begins at a place of a block of so many bytes.
+fn frame_of(
+    interface: Option<Interface>,
+    start: usize,
+    count: u32,
+    total: usize,
+) -> Result<Part, CaptureFault>
+    requires { start ≤ 28 }
+    ensures value { result ≡ frame_of_block interface start count total }
+    ensures fits { IfOk result (IsWithin total) }
+{
+    let Some(interface) = interface else {
+        return Err(CaptureFault::NoInterface);
+    };
+    if count > MOST_FRAME_BYTES {
+        return Err(CaptureFault::TooLong);
+    }
+    let count = count as usize;
+    if total < start + count + 4 {
+        return Err(CaptureFault::Lengths);
+    }
+    Ok(Part::Frame(Frame {
+        link: interface.link,
+        start,
+        count,
+    }))
+}

@@ -1,0 +1,15 @@
+//! Why a file is not read to its end.
+use crate::fault::CaptureFault;
+use thiserror::Error;
+use xns_lines::RunFault;
+
+/// Why a run over a capture stopped before the end of the file.
+#[derive(Clone, Copy, Debug, PartialEq, Eq, Error)]
+pub enum FileFault {
+    /// Reading, writing or memory failed.
+    #[error(transparent)]
+    Run(RunFault),
+    /// The capture can't be read on.
+    #[error(transparent)]
+    Capture(CaptureFault),
+}

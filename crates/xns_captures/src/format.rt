@@ -1,0 +1,13 @@
+//! What is known of a capture between two of its parts.
+use crate::byte_order::ByteOrder;
+
+/// What the parts of a capture are, behind those that came before.
+#[derive(Clone, Copy, Debug, PartialEq, Eq)]
+pub enum Format {
+    /// Nothing was read yet.
+    Unread,
+    /// Records of a classic capture, all of one link type.
+    Records { order: ByteOrder, link: u16 },
+    /// Blocks of a section.
+    Blocks { order: ByteOrder },
+}

@@ -1,0 +1,12 @@
+//! Where a frame stands.
+
+/// Where a frame stands in the bytes of its part of a capture.
+#[derive(Clone, Copy, Debug, PartialEq, Eq)]
+pub struct Frame {
+    /// Its link type.
+    pub link: u16,
+    /// Where it begins.
+    pub start: usize,
+    /// How many bytes of it were captured.
+    pub count: usize,
+}

@@ -1,0 +1,10 @@
+//! What frames were captured from.
+
+/// An interface of a section.
+#[derive(Clone, Copy, Debug, PartialEq, Eq)]
+pub struct Interface {
+    /// The link type of its frames.
+    pub link: u16,
+    /// So many bytes of a frame were kept at most; 0 stands for no limit.
+    pub most: u32,
+}

@@ -1,0 +1,39 @@
+//! Capture files, classic pcap and pcapng: the frames that they hold, and the internet packets in these frames.
+#![tactic(auto)]
+
+mod block;
+mod byte_order;
+mod fault;
+mod file_fault;
+mod format;
+mod frame;
+mod interface;
+mod limits;
+mod link;
+mod magic;
+mod packet_pages;
+mod packet_printer;
+mod part;
+mod places;
+mod printing;
+mod reading;
+mod record;
+mod step;
+mod taker;
+mod taking;
+
+pub use byte_order::ByteOrder;
+pub use fault::CaptureFault;
+pub use file_fault::FileFault;
+pub use format::Format;
+pub use frame::Frame;
+pub use interface::Interface;
+pub use limits::{MOST_BLOCK_BYTES, MOST_FRAME_BYTES, MOST_FRAMES, MOST_INTERFACES};
+pub use link::packet_in;
+pub use magic::is_capture;
+pub use packet_printer::PacketPrinter;
+pub use part::Part;
+pub use printing::print_packets;
+pub use step::{head_bytes, part_bytes, read_part};
+pub use taker::PacketTaker;
+pub use taking::take_packets;

@@ -1,0 +1,175 @@
+//! What is known of a capture while it is read.
+ghost use Rattle.std.specs.Prelude.{◌≡◌, ◌≤◌, ◌<◌, ◌++◌, ◌∷◌, ℕ, List, [], Option, Ok, Some, None, IfErr, IfOk, IfSome, OnOk, length, take, drop};
+ghost use Rattle.xns_captures.specs.Captures.{FrameBytes, contents, ends_with, packets_in};
+ghost use Rattle.xns_captures.specs.Parts.{head_count, size_of};
+
+use crate::fault::CaptureFault;
+use crate::file_fault::FileFault;
+use crate::format::Format;
+use crate::interface::Interface;
+use crate::limits::MOST_FRAMES;
+use crate::link::packet_in;
+use crate::part::Part;
+use crate::step::{head_bytes, part_bytes, read_part};
+use crate::taker::PacketTaker;
+use std::alloc::Global;
+use std::io::Write;
+use xns_lines::RunFault;
+
+/// What is known of a capture between two of its parts.
+#[derive(Drop)]
+pub(crate) struct Reading {
+    /// What its parts are.
+    format: Format,
+    /// The interfaces of the section.
+    interfaces: Vec<Interface>,
+    /// How many frames came.
+    count: usize,
+}
+
+impl Reading {
+    ghost use Rattle.xns_captures.specs.Reading.{HasRead, HasStopped, IsWholePart, StandsAfter, StopsAtFrame, cut_unless_empty};
+
+    /// Nothing was read yet.
+    pub(crate) fn new(alloc: Global) -> Self
+        ensures format { result.format ≡ Format.Unread }
+        ensures interfaces { result.interfaces.items ≡ [] }
+        ensures count { result.count ≡ 0 }
+    {
+        Reading {
+            format: Format::Unread,
+            interfaces: Vec::new(alloc),
+            count: 0,
+        }
+    }
+
+    /// How many bytes the next part has, where it is there whole.
+    fn whole_part(&self, bytes: &[u8]) -> Result<Option<usize>, CaptureFault>
+        ensures some { IfOk result (λ found. IfSome found (IsWholePart self.now.format bytes.now)) }
+        ensures none { result ≡ Ok None
+            → contents self.now.format self.now.interfaces.items bytes.now ≡ ends_with (cut_unless_empty bytes.now) }
+        ensures err { IfErr result (λ fault. (rest : List ℕ)
+            → contents self.now.format self.now.interfaces.items (bytes.now ++ rest) ≡ ends_with (Some fault)) }
+    {
+        let head = head_bytes(self.format);
+        if bytes.len() < head {
+            return Ok(None);
+        }
+        let size = match part_bytes(self.format, &bytes[..head]) {
+            Ok(size) => size,
+            Err(fault) => return Err(fault),
+        };
+        if bytes.len() < size {
+            return Ok(None);
+        }
+        Ok(Some(size))
+    }
+
+    /// Takes all parts that are there whole, and says how many bytes they have.
+    pub(crate) fn take_parts<T: PacketTaker, W: Write>(
+        &mut self,
+        bytes: &[u8],
+        taker: &mut T,
+        writer: &mut W,
+    ) -> Result<usize, FileFault>
+        ensures fits { IfOk result (λ taken. taken ≤ length bytes.now) }
+        ensures ok { IfOk result (λ taken. (read : List ℕ) (before : Option (List ℕ))
+            → HasRead self.old read bytes.now (T.stands taker.old before (W.contents writer.old))
+            → HasRead self.new read (drop taken bytes.now) (T.stands taker.new before (W.contents writer.new))) }
+        ensures rest { IfOk result (λ taken. contents self.new.format self.new.interfaces.items (drop taken bytes.now)
+            ≡ ends_with (cut_unless_empty (drop taken bytes.now))) }
+        ensures err { IfErr result (λ fault. (read : List ℕ) (before : Option (List ℕ))
+            → HasRead self.old read bytes.now (T.stands taker.old before (W.contents writer.old))
+            → HasStopped fault read
+            (StandsAfter fault (T.stands taker.new before (W.contents writer.new)) (T.fails taker.new before (W.contents writer.new)))) }
+    {
+        let mut taken = 0;
+        'parts: loop {
+            let rest = &bytes[taken..];
+            let found = match self.whole_part(rest) {
+                Ok(found) => found,
+                Err(fault) => return Err(FileFault::Capture(fault)),
+            };
+            let Some(size) = found else {
+                return Ok(taken);
+            };
+            self.take_part(&rest[..size], taker, writer)?;
+            taken += size;
+        }
+    }
+
+    /// Takes a part.
+    fn take_part<T: PacketTaker, W: Write>(
+        &mut self,
+        bytes: &[u8],
+        taker: &mut T,
+        writer: &mut W,
+    ) -> Result<(), FileFault>
+        requires head { head_count self.old.format ≤ length bytes.now }
+        requires size { size_of self.old.format (take (head_count self.old.format) bytes.now) ≡ Ok (length bytes.now) }
+        ensures ok { OnOk result ((read tail : List ℕ) (before : Option (List ℕ))
+            → HasRead self.old read (bytes.now ++ tail) (T.stands taker.old before (W.contents writer.old))
+            → HasRead self.new read tail (T.stands taker.new before (W.contents writer.new))) }
+        ensures err { IfErr result (λ fault. (read tail : List ℕ) (before : Option (List ℕ))
+            → HasRead self.old read (bytes.now ++ tail) (T.stands taker.old before (W.contents writer.old))
+            → HasStopped fault read
+            (StandsAfter fault (T.stands taker.new before (W.contents writer.new)) (T.fails taker.new before (W.contents writer.new)))) }
+    {
+        let part = match read_part(self.format, self.interfaces.as_slice(), bytes) {
+            Ok(part) => part,
+            Err(fault) => return Err(FileFault::Capture(fault)),
+        };
+        match part {
+            Part::Begins(format) => {
+                self.format = format;
+                self.interfaces.clear();
+                Ok(())
+            }
+            Part::Interface(interface) => match self.interfaces.push(interface) {
+                Ok(()) => Ok(()),
+                Err(_) => Err(FileFault::Run(RunFault::NoMemory)),
+            },
+            Part::Frame(frame) => {
+                let end = frame.start + frame.count;
+                self.take_frame(frame.link, &bytes[frame.start..end], taker, writer)
+            }
+            Part::Other => Ok(()),
+        }
+    }
+
+    /// Takes a frame: it has the next number, and its packet is handed on, if it carries one.
+    fn take_frame<T: PacketTaker, W: Write>(
+        &mut self,
+        link: u16,
+        frame: &[u8],
+        taker: &mut T,
+        writer: &mut W,
+    ) -> Result<(), FileFault>
+        ensures format { self.new.format ≡ self.old.format }
+        ensures interfaces { self.new.interfaces.items ≡ self.old.interfaces.items }
+        ensures ok { OnOk result ((frames : List FrameBytes) (before : Option (List ℕ)) → self.old.count ≡ length frames
+            → T.stands taker.old before (W.contents writer.old) (packets_in 1 frames)
+            → (self.new.count ≡ length (frames ++ (link, frame.now) ∷ []))
+            × T.stands taker.new before (W.contents writer.new) (packets_in 1 (frames ++ (link, frame.now) ∷ []))) }
+        ensures err { IfErr result (λ fault. (frames : List FrameBytes) (before : Option (List ℕ)) → self.old.count ≡ length frames
+            → T.stands taker.old before (W.contents writer.old) (packets_in 1 frames)
+            → StopsAtFrame fault (T.stands taker.new before (W.contents writer.new)) (T.fails taker.new before (W.contents writer.new))
+            (packets_in 1 frames) (packets_in 1 (frames ++ (link, frame.now) ∷ []))) }
+    {
+        if self.count >= MOST_FRAMES {
+            return Err(FileFault::Run(RunFault::TooManyLines));
+        }
+        let number = self.count + 1;
+        let Some(packet) = packet_in(link, frame) else {
+            self.count = number;
+            return Ok(());
+        };
+        match taker.take_packet(number, packet, writer) {
+            Ok(()) => {
+                self.count = number;
+                Ok(())
+            }
+            Err(fault) => Err(FileFault::Run(fault)),
+        }
+    }
+}

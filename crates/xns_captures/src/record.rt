@@ -1,0 +1,60 @@
+//! Classic captures: the header of the file, and its records.
+ghost use Rattle.std.specs.Prelude.{◌≡◌, ◌≤◌, IfOk, Ok, length};
+ghost use Rattle.xns_captures.specs.Parts.{IsWithin, header_in, record_in, record_size as record_size_of};
+
+use crate::byte_order::ByteOrder;
+use crate::fault::CaptureFault;
+use crate::format::Format;
+use crate::frame::Frame;
+use crate::limits::MOST_FRAME_BYTES;
+use crate::part::Part;
+use crate::places::{read_long, read_word};
+
+/// The bytes of the header of a file, and of the head of a record.
+pub const HEADER_BYTES: usize = 24;
+
+pub const RECORD_HEAD_BYTES: usize = 16;
+/// The version that is read.
+const MAJOR: u16 = 2;
+
+const MINOR: u16 = 4;
+
+/// What the header of a file says.
+pub fn read_header(order: ByteOrder, bytes: &[u8]) -> Result<Part, CaptureFault>
+    ensures value { result ≡ header_in order bytes.now }
+    ensures fits { IfOk result (IsWithin (length bytes.now)) }
+{
+    if bytes.len() < HEADER_BYTES {
+        return Err(CaptureFault::Cut);
+    }
+    if read_word(order, bytes, 4) != MAJOR || read_word(order, bytes, 6) != MINOR {
+        return Err(CaptureFault::Version);
+    }
+    let link = (read_long(order, bytes, 20) % 65536) as u16;
+    Ok(Part::Begins(Format::Records { order, link }))
+}
+
+/// How many bytes a record has, by its head.
+pub fn record_size(order: ByteOrder, head: &[u8]) -> Result<usize, CaptureFault>
+    requires { 16 ≤ length head.now }
+    ensures { result ≡ record_size_of order head.now }
+{
+    let count = read_long(order, head, 8);
+    if count > MOST_FRAME_BYTES {
+        return Err(CaptureFault::TooLong);
+    }
+    Ok(RECORD_HEAD_BYTES + count as usize)
+}
+
+/// The frame of a record.
+pub fn read_record(link: u16, bytes: &[u8]) -> Part
+    requires { 16 ≤ length bytes.now }
+    ensures value { Ok result ≡ record_in link bytes.now }
+    ensures fits { IsWithin (length bytes.now) result }
+{
+    Part::Frame(Frame {
+        link,
+        start: RECORD_HEAD_BYTES,
+        count: bytes.len() - RECORD_HEAD_BYTES,
+    })
+}

@@ -1,0 +1,48 @@
+//! What packets of a capture are handed to.
+use std::io::Write;
+use xns_lines::RunFault;
+
+/// Takes the packets of a capture, one after the other, as `take_packets` hands them on. It may write meanwhile.
+///
+/// An `impl` names two relations: `stands`, what holds of it and of what is written once it has taken some packets, and
+/// `fails`, what is left of that after a failed write.
+pub trait PacketTaker {
+    ghost use Rattle.std.specs.Prelude.{◌≡◌, ◌≤◌, ◌<◌, ◌++◌, ℕ, List, [], ◌∷◌, Option, IfErr, OnOk, length};
+    ghost use Rattle.xns_captures.specs.Captures.{NumberedPacket};
+    ghost use Rattle.xns_captures.specs.Reading.{StandsAfterPacket, most_frames};
+
+    // The taker has taken these packets, and the writer, which held the first bytes, holds the second.
+    ghost stands: { Self → Option (List ℕ) → Option (List ℕ) → List NumberedPacket → Type 0 };
+
+    // So too, but that a write failed.
+    ghost fails: { Self → Option (List ℕ) → Option (List ℕ) → List NumberedPacket → Type 0 };
+
+    /// Takes the packet in the frame of that number, which counts from 1, with all bytes of the frame behind it.
+    ///
+    /// # Errors
+    /// `NoMemory` where memory is refused: it then stands for the packets before this one; `Write` where a write fails.
+    fn take_packet<W: Write>(
+        &mut self,
+        number: usize,
+        packet: &[u8],
+        writer: &mut W,
+    ) -> Result<(), RunFault>
+        requires few { number ≤ most_frames }
+        ensures ok { OnOk result ((before : Option (List ℕ)) (packets : List NumberedPacket) → length packets < number
+            → stands self.old before (W.contents writer.old) packets
+            → stands self.new before (W.contents writer.new) (packets ++ (number, packet.now) ∷ [])) }
+        ensures err { IfErr result (λ fault. (before : Option (List ℕ)) (packets : List NumberedPacket) → length packets < number
+            → stands self.old before (W.contents writer.old) packets
+            → StandsAfterPacket fault (stands self.new before (W.contents writer.new))
+            (fails self.new before (W.contents writer.new)) packets (number, packet.now)) };
+
+    /// Does what is to be done before more of the file is awaited.
+    ///
+    /// The only error is `Write`, where a write fails.
+    fn pause<W: Write>(&mut self, writer: &mut W) -> Result<(), RunFault>
+        ensures ok { OnOk result ((before : Option (List ℕ)) (packets : List NumberedPacket)
+            → stands self.old before (W.contents writer.old) packets → stands self.new before (W.contents writer.new) packets) }
+        ensures err { IfErr result (λ fault. (fault ≡ RunFault.Write)
+            × ((before : Option (List ℕ)) (packets : List NumberedPacket) → stands self.old before (W.contents writer.old) packets
+            → fails self.new before (W.contents writer.new) packets)) };
+}

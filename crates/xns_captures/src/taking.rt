@@ -1,0 +1,75 @@
+//! Reads a capture to its end, packet by packet.
+ghost use Rattle.std.specs.Prelude.{◌≡◌, ◌≤◌, ℕ, List, [], Option, None, Some, IfErr, IfSome, OnOk, drop, vec_len};
+ghost use Rattle.std.specs.Io.KnownBytes.{Consumes};
+ghost use Rattle.xns_captures.specs.Captures.{fault_of, packets_of};
+ghost use Rattle.xns_captures.specs.Reading.{StandsAfter, StopsBy};
+
+use crate::fault::CaptureFault;
+use crate::file_fault::FileFault;
+use crate::reading::Reading;
+use crate::taker::PacketTaker;
+use std::alloc::Global;
+use std::io::{Read, Write};
+use xns_lines::RunFault;
+
+/// The file is read in pieces of so many bytes.
+const PIECE: usize = 65536;
+
+/// Reads a capture to its end, and hands the packets in its frames to the taker, in order, each with the number of its
+/// frame.
+///
+/// The file is read in pieces of 65,536 bytes, of which one is held, and the bytes of one part of the capture that is not
+/// there whole.
+///
+/// # Errors
+/// `Capture` where the capture can't be read on: all packets before that are handed on; `Read` where a read fails; `NoMemory`
+/// where a growth is refused; and the taker's own faults, `NoMemory` and `Write`.
+pub fn take_packets<R: Read, T: PacketTaker, W: Write>(
+    alloc: Global,
+    reader: &mut R,
+    taker: &mut T,
+    writer: &mut W,
+) -> Result<(), FileFault>
+    ensures ok { OnOk result (IfSome (R.remaining reader.old) (λ file.
+        (before : Option (List ℕ)) → T.stands taker.old before (W.contents writer.old) []
+        → (fault_of file ≡ None) × T.stands taker.new before (W.contents writer.new) (packets_of file))) }
+    ensures err { IfErr result (λ fault. IfSome (R.remaining reader.old) (λ file.
+        (before : Option (List ℕ)) → T.stands taker.old before (W.contents writer.old) []
+        → StopsBy fault file (StandsAfter fault (T.stands taker.new before (W.contents writer.new))
+        (T.fails taker.new before (W.contents writer.new))))) }
+{
+    let mut reading = Reading::new(alloc);
+    let mut kept = Vec::new(alloc);
+    let mut piece = [0u8; PIECE];
+    'file: for _ in 0..u64::MAX {
+        let Ok(count) = reader.read(&mut piece) else {
+            return Err(FileFault::Run(RunFault::Read));
+        };
+        if count == 0 {
+            if kept.as_slice().is_empty() {
+                return Ok(());
+            }
+            return Err(FileFault::Capture(CaptureFault::Cut));
+        }
+        let Ok(()) = kept.extend_from_slice(&piece[..count]) else {
+            return Err(FileFault::Run(RunFault::NoMemory));
+        };
+        let taken = reading.take_parts(kept.as_slice(), taker, writer)?;
+        drop_front(&mut kept, taken);
+        match taker.pause(writer) {
+            Ok(()) => {}
+            Err(fault) => return Err(FileFault::Run(fault)),
+        }
+    }
+    Err(FileFault::Run(RunFault::Read))
+}
+
+/// Drops so many bytes from the front.
+fn drop_front(bytes: &mut Vec<u8>, count: usize)
+    requires { count ≤ vec_len bytes.old }
+    ensures { bytes.new.items ≡ drop count bytes.old.items }
+{
+    let rest = bytes.len() - count;
+    bytes.as_mut_slice().rotate_left(count);
+    bytes.truncate(rest);
+}
