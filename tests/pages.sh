@@ -3,25 +3,12 @@
 # page can differ is found. Its last line is 'N passed, M failed', and it ends with 1 where one failed. It builds nothing.
 set -u
 cd "$(dirname "$0")/.."
-work=$(mktemp -d)
-trap 'rm -rf "$work"' EXIT
-passed=0
-failed=0
-
-pass() {
-    passed=$((passed + 1))
-}
-
-fail() {
-    failed=$((failed + 1))
-    echo "FAILED $1"
-}
+. tests/lib.sh
 
 if python3 tests/pages.py > "$work/said"; then
     pass
 else
-    fail 'the pages:'
-    cat "$work/said"
+    fail 'the pages:' "$work/said"
 fi
 tail -1 "$work/said"
 
@@ -58,8 +45,7 @@ wanted() {
     if python3 tests/pages.py "$right" > "$work/said"; then
         fail "$1: not found"
     elif ! grep -q -F "$2" "$work/said"; then
-        fail "$1: said is"
-        cat "$work/said"
+        fail "$1: said is" "$work/said"
     else
         pass
     fi
@@ -98,5 +84,4 @@ if python3 tests/pages.py --write "$right" > /dev/null && grep -q 'ensures fault
 else
     fail 'a quote is not made anew'
 fi
-echo "$passed passed, $failed failed"
-[ "$failed" = 0 ]
+finish
