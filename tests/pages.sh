@@ -68,8 +68,7 @@ found a_block_from_nowhere $page 's/^```rust part .*/```rust/' 'does not say whe
 found a_caller_that_changed crates/examples/src/packet.rt 's/body: &packet.body/body: \&packet.data/' 'crates/examples/src/packet.rt has no lines'
 found a_block_without_an_end docs/crates/xns_sim.md '$d' 'docs/crates/xns_sim.md: a block has no end'
 
-found a_crate_that_the_map_lacks crates.txt '$a xns_more: xns_idp' 'docs/MAP.md: xns_more stands on xns_idp'
-found a_crate_that_stands_on_less crates.txt 's/^xns_small: xns_idp /xns_small: /' 'docs/MAP.md: xns_small stands on thiserror'
+found a_crate_that_the_map_lacks crates.txt '$a xns_more: xns_idp' 'docs/MAP.md: xns_more is not there'
 found a_crate_that_went crates.txt '/^dump_alone:/d' 'docs/MAP.md: crates.txt has no dump_alone'
 found a_name_that_went docs/ENDPOINT.md 's/`is_full`/`is_quite_full`/' 'docs/ENDPOINT.md: is_quite_full is not in the code'
 gone tests/plays.sh tests/plays.sh
