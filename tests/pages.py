@@ -185,7 +185,7 @@ class Page:
             self.faults.append("%s: no contract is quoted" % self.shown)
 
     def is_of_crate(self):
-        return self.path.parent.name == "crates" and self.path.name != "README.md"
+        return self.path.parent.name == "crates"
 
     def compare(self, words, block):
         try:

@@ -63,10 +63,10 @@ found an_item_that_is_not_exported crates/xns_idp/src/lib.rt '/^pub use decoding
 found a_method_that_is_gone crates/xns_spp/src/endpoint.rt 's/pub fn send_fault(/pub fn send_refusal(/' 'xns_spp has no public item Endpoint::send_fault'
 found an_item_that_never_was $page 's/^```rust quote xns_idp decode$/```rust quote xns_idp decode decode_all/' 'xns_idp has no public item decode_all'
 found a_crate_that_never_was $page 's/^```rust quote xns_idp decode$/```rust quote xns_ipd decode/' 'there is no crate xns_ipd'
-found a_page_without_a_quote docs/crates/xns_sim.md 's/^```rust quote .*/```text/' 'docs/crates/xns_sim.md: no contract is quoted'
+found a_page_without_a_quote docs/crates/commands.md 's/^```rust quote .*/```text/' 'docs/crates/commands.md: no contract is quoted'
 found a_block_from_nowhere $page 's/^```rust part .*/```rust/' 'does not say where it is from'
 found a_caller_that_changed crates/examples/src/packet.rt 's/body: &packet.body/body: \&packet.data/' 'crates/examples/src/packet.rt has no lines'
-found a_block_without_an_end docs/crates/xns_sim.md '$d' 'docs/crates/xns_sim.md: a block has no end'
+found a_block_without_an_end docs/crates/commands.md '$d' 'docs/crates/commands.md: a block has no end'
 
 found a_crate_that_the_map_lacks crates.txt '$a xns_more: xns_idp' 'docs/MAP.md: xns_more is not there'
 found a_crate_that_went crates.txt '/^dump_alone:/d' 'docs/MAP.md: crates.txt has no dump_alone'
