@@ -29,7 +29,7 @@ FROM_ROOT = re.compile(r"(?:crates|tests|docs|examples|python|bench|include)/[\w
 PARTS = ("src", "specs", "proofs", "must-fail")
 IN_CRATE = re.compile(r"(?:[\w+-]+/)*[\w+-]+\.(?:rt|antt)")
 CODE_NAME = re.compile(r"[A-Za-z]\w*(?:(?:::|\.)\w+)*(?:\(\))?")
-CODE = ("crates/*/src/**/*", "crates/*/specs/**/*", "crates/*/stdin", "crates.txt", "include/*", "python/*", "bench/*", "tests/**/*",
+CODE = ("crates/*/src/**/*", "crates/*/specs/**/*", "crates/*/stdin", "crates.txt", "include/*", "python/*", "bench/**/*", "tests/**/*",
         "examples/**/*")
 MADE = re.compile(r"crates/mine\b|.*/out(?:/|$)")
 EXPORT = re.compile(r"^pub use [^;]*;", re.MULTILINE)
@@ -185,7 +185,7 @@ class Page:
             self.faults.append("%s: no contract is quoted" % self.shown)
 
     def is_of_crate(self):
-        return self.path.parent.name == "crates" and self.path.name != "README.md"
+        return self.path.parent.name == "crates"
 
     def compare(self, words, block):
         try:
