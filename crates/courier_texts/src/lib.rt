@@ -3,6 +3,7 @@
 //! words.
 #![tactic(auto)]
 
+pub mod laws;
 mod named;
 mod printing;
 mod shapes;
