@@ -66,7 +66,7 @@ found a_crate_that_never_was $page 's/^```rust quote xns_idp decode$/```rust quo
 found a_page_without_a_quote docs/crates/commands.md 's/^```rust quote .*/```text/' 'docs/crates/commands.md: no contract is quoted'
 found a_block_from_nowhere $page 's/^```rust part .*/```rust/' 'does not say where it is from'
 found a_caller_that_changed crates/examples/src/packet.rt 's/body: &packet.body/body: \&packet.data/' 'crates/examples/src/packet.rt has no lines'
-found a_block_without_an_end docs/crates/commands.md '$d' 'docs/crates/commands.md: a block has no end'
+found a_block_without_an_end docs/crates/xns_small.md '$d' 'docs/crates/xns_small.md: a block has no end'
 
 found a_crate_that_the_map_lacks crates.txt '$a xns_more: xns_idp' 'docs/MAP.md: xns_more is not there'
 found a_crate_that_went crates.txt '/^dump_alone:/d' 'docs/MAP.md: crates.txt has no dump_alone'
