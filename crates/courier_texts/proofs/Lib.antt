@@ -5,3 +5,4 @@ pub mod Quoted
 pub mod Alike
 pub mod Parts
 pub mod Texts
+pub mod Appends
