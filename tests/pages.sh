@@ -18,7 +18,7 @@ mkdir "$right"
 tar c --exclude=out --exclude=.git . | tar x -C "$right"
 python3 tests/pages.py --write "$right" > /dev/null
 
-# Changes one file by one edit of sed, and wants it to be said by these words.
+# Changes one file by one edit of sed: tests/pages.py must say so by these words.
 found() {
     name=$1
     file=$2
@@ -34,7 +34,7 @@ found() {
     cp "$work/before" "$right/$file"
 }
 
-# Takes a file away, and wants it to be said by these words.
+# Takes a file away: tests/pages.py must say so by these words.
 gone() {
     mv "$right/$1" "$work/before"
     wanted "$1 is gone" "there is no $2"
@@ -76,7 +76,7 @@ gone crates/xns_spp/specs/Acceptance.antt crates/xns_spp/specs/Acceptance.antt
 gone crates/xns_idp/src/places.rt 'src/places.rt of xns_idp'
 gone crates/courier_sessions/specs/Talks.antt 'Talks.antt of courier_sessions'
 
-# What was changed in the code is quoted anew.
+# A changed contract is quoted anew.
 sed -i 's/^    ensures fault { IfErr result (λ f. /    ensures fault { IfErr result (λ e. /' "$right/$code"
 if python3 tests/pages.py --write "$right" > /dev/null && grep -q 'ensures fault { IfErr result (λ e. ' "$right/$page"; then
     pass
