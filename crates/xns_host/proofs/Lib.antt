@@ -2,6 +2,7 @@ mod Again
 mod Apart
 mod Closes
 mod Coming
+mod Comings
 mod Done
 mod Dues
 mod Ends
@@ -20,6 +21,7 @@ mod Once
 mod Ordered
 mod Owing
 mod Peers
+mod Placed
 mod Readable
 mod Registered
 mod Rejecting
