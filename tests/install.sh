@@ -1,47 +1,12 @@
 #!/bin/sh
-# Tries install.sh: first with a kit that builds nothing, in seconds, and then with the real one, under a fresh folder. What stands there
-# is used, and taken away again.
-# What it leaves out because a tool is missing it says. Its last line is 'N passed, M failed', and it ends with 1 where one failed.
+# Tries install.sh: first with a kit that builds nothing, in seconds, and then with the real one, under a fresh folder. The installed
+# files are used, and removed again. It says which tests it leaves out because a tool is missing.
 set -u
 cd "$(dirname "$0")/.."
-work=$(mktemp -d)
-trap 'rm -rf "$work"' EXIT
+. tests/lib.sh
 prefix=$work/installed
-passed=0
-failed=0
 
-has() {
-    command -v "$1" > "$work/path" 2>&1
-}
-
-# Runs the words: they must end with 0, and write nothing on standard error. What they write is then in $work/out.
-expect() {
-    name=$1
-    shift
-    if "$@" > "$work/new" 2> "$work/err" && [ ! -s "$work/err" ]; then passed=$((passed + 1)); else fail "$name"; fi
-    mv "$work/new" "$work/out"
-}
-
-fail() {
-    failed=$((failed + 1))
-    echo "FAILED $1"
-    cat "$work/err"
-}
-
-left_out() {
-    echo "left out, for want of $1: $2"
-}
-
-finish() {
-    echo "$passed passed, $failed failed"
-    [ "$failed" -eq 0 ]
-    exit
-}
-
-compiler=
-for one in "${CC:-gcc}" gcc cc clang; do
-    if [ -z "$compiler" ] && has "$one"; then compiler=$one; fi
-done
+find_compiler
 if [ -z "$compiler" ] || ! has ar; then
     left_out 'a C compiler or ar' 'installing'
     finish
@@ -55,7 +20,7 @@ ends() {
     shift 3
     "$@" > "$work/out" 2> "$work/err"
     ended=$?
-    if [ $ended -eq "$status" ] && [ "$(tail -n 1 "$work/err")" = "$line" ]; then passed=$((passed + 1)); else fail "$name: $ended and not $status"; fi
+    if [ $ended -eq "$status" ] && [ "$(tail -n 1 "$work/err")" = "$line" ]; then pass; else fail "$name: $ended and not $status"; fi
 }
 
 # Under a folder stand the folders, files and links that are given, and nothing else.
@@ -64,7 +29,7 @@ holds() {
     shift 2
     printf '%s\n' "$@" | sort > "$work/expected"
     (cd "$folder" && find . ! -name . | sed 's|^\./||' | sort) > "$work/there" 2> "$work/err"
-    if diff "$work/expected" "$work/there" > "$work/err"; then passed=$((passed + 1)); else fail "$name"; fi
+    if diff "$work/expected" "$work/there" > "$work/err"; then pass; else fail "$name"; fi
 }
 
 version=$(cat VERSION)
@@ -131,7 +96,7 @@ for option in --help -h; do
     expect 'tells how it is called' grep -qx 'usage: sh install.sh PREFIX' "$work/out"
 done
 
-# What can't be written is seen before anything is proved, and nothing is left.
+# A folder that can't be written in is found before anything is proved, and nothing is left there.
 mkdir "$work/way"
 touch "$work/way/share"
 ends 'a file in the place of a folder' 1 "install.sh: $work/way/share cannot be made" sh "$script" "$work/way"
@@ -159,7 +124,7 @@ ends 'a proof that fails' 1 "$notice" sh "$script" "$work/none/deep"
 [ ! -e "$work/none" ] || fail 'after a proof that fails a folder is left'
 rm "$work/kit/refuses"
 
-# What is put there, and taken away with the folders that were made.
+# The installed files, and that they are removed with the folders that were made.
 ends 'installing' 0 "$notice" sh "$script" "$work/made/deep"
 # shellcheck disable=SC2086
 holds 'what is there' "$work/made/deep" $folders $files
@@ -183,7 +148,7 @@ ends 'a newer one over it' 0 "$notice" sh "$script" "$work/versions"
 # shellcheck disable=SC2086
 holds 'leaves nothing of the older' "$work/versions" $folders $files
 
-# Under another folder, whose name may have a blank.
+# Installing under another folder, whose name may have a blank.
 ends 'installing under DESTDIR' 0 "$notice" env DESTDIR="$work/a stage" sh "$script" /opt/xns/
 # shellcheck disable=SC2046,SC2086
 holds 'what is there under DESTDIR' "$work/a stage" opt opt/xns $(printf 'opt/xns/%s\n' $folders $files)
@@ -234,7 +199,7 @@ expect 'reads a packet' grep -q '^1 echo request 4869$' "$work/out"
 sed -n '/^    \$ xns calls/,/^$/p' README.md | sed '1d; /^$/d; s/^    //' > "$work/shown"
 expect 'the calls that the README shows' sh -c "[ -s '$work/shown' ] && '$prefix/bin/xns' calls < examples/six-calls.hex | head -6 | cmp - '$work/shown'"
 
-# VERSION is the one that names the version.
+# The file VERSION has the version; all other places repeat it.
 expect 'the version of the header' grep -qx "#define XNS_VERSION \"$(cat VERSION)\"" include/xns.h
 expect 'help' "$prefix/bin/xns" --help
 head -1 "$work/out" > "$work/first"
@@ -257,10 +222,7 @@ if has pkg-config; then
     expect 'its version' pkg-config --modversion xns
     expect 'is that of VERSION' cmp VERSION "$work/out"
     from=$(pkg-config --cflags --libs xns)
-    plus=
-    for one in "${CXX:-g++}" g++ c++ clang++; do
-        if [ -z "$plus" ] && has "$one"; then plus=$one; fi
-    done
+    find_plus
     for example in endpoints fields echo courier server client; do
         # shellcheck disable=SC2086
         expect "$example against the shared library" "$compiler" $flags -std=c99 examples/c/$example.c $from -o "$work/$example"

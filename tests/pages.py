@@ -11,10 +11,11 @@ A block of a page is compared where its first line says where it is from:
     ```rust part FILE                 lines of the file: those between two blank lines stand there together
 
 Each page in docs/crates has a quoted contract, and there no block of Rust may be without one of these two.
-A file or folder that a page or README.md names from the root, as `crates/xns_idp/src/places.rt`, is to be there. In an entry of
-docs/MAP.md a name without its folder, as `places.rt`, stands for one in the crate that was named before it. The map's first table has
-a row for each line of crates.txt, which names what the crate stands on, but for the parts of std.
+A file or folder that a page or README.md names from the root, as `crates/xns_idp/src/places.rt`, is to be there. In a row of
+docs/MAP.md a name without its folder, as `places.rt`, stands for one in the crate that was named before it. The map's table of crates
+has a row for each line of crates.txt.
 A name of code that a page in docs/ has, as `Endpoint::send` or `xns_decode`, is to stand somewhere in the code.
+A clause that docs/PROMISES.md names behind its functions, as `exact` in "`read`: `exact`", is to be a clause of one of them.
 Another root than this repository is named last.
 """
 import pathlib
@@ -29,9 +30,11 @@ FROM_ROOT = re.compile(r"(?:crates|tests|docs|examples|python|bench|include)/[\w
 PARTS = ("src", "specs", "proofs", "must-fail")
 IN_CRATE = re.compile(r"(?:[\w+-]+/)*[\w+-]+\.(?:rt|antt)")
 CODE_NAME = re.compile(r"[A-Za-z]\w*(?:(?:::|\.)\w+)*(?:\(\))?")
-CODE = ("crates/*/src/**/*", "crates/*/specs/**/*", "crates/*/stdin", "crates.txt", "include/*", "python/*", "bench/*", "tests/**/*",
+CODE = ("crates/*/src/**/*", "crates/*/specs/**/*", "crates/*/stdin", "crates.txt", "include/*", "python/*", "bench/**/*", "tests/**/*",
         "examples/**/*")
 MADE = re.compile(r"crates/mine\b|.*/out(?:/|$)")
+CLAUSE = re.compile(r" *(?:requires|ensures) (\w+) \{")
+PROMISED = re.compile(r"(.*?[^:]):([^:].*)")
 EXPORT = re.compile(r"^pub use [^;]*;", re.MULTILINE)
 
 
@@ -185,7 +188,7 @@ class Page:
             self.faults.append("%s: no contract is quoted" % self.shown)
 
     def is_of_crate(self):
-        return self.path.parent.name == "crates" and self.path.name != "README.md"
+        return self.path.parent.name == "crates"
 
     def compare(self, words, block):
         try:
@@ -220,15 +223,15 @@ def missing_files(root, path):
     missing = [name for name in names(text)
                if FROM_ROOT.fullmatch(name) and not MADE.match(name) and not (root / name).exists()]
     if path.name == "MAP.md":
-        for entry in text.split("\n- "):
-            missing += missing_in_crate(root, entry)
+        for row in text.split("\n"):
+            missing += missing_in_crate(root, row)
     return missing
 
 
-def missing_in_crate(root, entry):
-    """The files without their folder that an entry of the map names."""
+def missing_in_crate(root, row):
+    """The files without their folder that a row of the map names."""
     crate, missing = None, []
-    for name in names(entry):
+    for name in names(row):
         if name.startswith("crates/"):
             crate = root / "crates" / name.split("/")[1]
         elif crate and IN_CRATE.fullmatch(name):
@@ -255,29 +258,50 @@ def unknown_names(path, words):
             and any(len(word) > 2 and word not in words and not word.endswith("_") for word in re.findall(r"\w+", name))]
 
 
-def crate_rows(text):
-    """What each crate of the map's table stands on, without what stands in brackets."""
-    rows = {}
-    for line in text.split("\n"):
-        cells = [cell.strip() for cell in line.strip("|").split(" | ")]
-        if len(cells) > 3 and re.fullmatch(r"`\w+`", cells[0]):
-            rows[cells[0].strip("`")] = re.sub(r"\([^)]*\)", "", cells[2])
-    return rows
-
-
 def map_faults(root):
-    """Crates that the map does not know, or of which it says otherwise what they stand on."""
-    rows, faults = crate_rows((root / "docs/MAP.md").read_text()), []
-    for line in (root / "crates.txt").read_text().split("\n"):
-        front, _, behind = line.split("#")[0].partition(":")
-        if not behind:
-            continue
-        name = front.split()[0]
-        low = {crate for crate in behind.split() if crate != "core" and not crate.startswith("std_")}
-        cell = rows.pop(name, "")
-        if not cell or ("the libraries" not in cell and set(NAMED.findall(cell)) != low):
-            faults.append("docs/MAP.md: %s stands on %s" % (name, " ".join(sorted(low))))
-    return faults + ["docs/MAP.md: crates.txt has no %s" % name for name in rows]
+    """Crates that the map lacks, and those that it has and crates.txt lacks."""
+    listed = {line.split()[0].strip(":") for line in (root / "crates.txt").read_text().split("\n") if ":" in line.split("#")[0]}
+    shown = set(re.findall(r"^\| `(\w+)` \|", (root / "docs/MAP.md").read_text(), re.MULTILINE))
+    return (["docs/MAP.md: %s is not there" % name for name in sorted(listed - shown)]
+            + ["docs/MAP.md: crates.txt has no %s" % name for name in sorted(shown - listed)])
+
+
+def clauses_by_function(root):
+    """The names of the clauses of each function, by its name and by that with its type's."""
+    clauses = {}
+    for path in root.glob("crates/*/src/**/*.rt"):
+        holder, names_here = None, []
+        for line in path.read_text().split("\n"):
+            opened, function, clause = CONTAINER.match(line), FUNCTION.match(line), CLAUSE.match(line)
+            if opened and line.endswith("{"):
+                holder = opened[1]
+            elif line.startswith("}"):
+                holder = None
+            elif function:
+                names_here = [function[3]] + (["%s::%s" % (holder, function[3])] if holder and function[1] else [])
+                for name in names_here:
+                    clauses.setdefault(name, set())
+            elif clause:
+                for name in names_here:
+                    clauses[name].add(clause[1])
+    return clauses
+
+
+def missing_clauses(root):
+    """The clauses that docs/PROMISES.md names and that none of their functions has, each with the functions. A name without a type has
+    that of the name before it."""
+    clauses, missing = clauses_by_function(root), []
+    for row in (root / "docs/PROMISES.md").read_text().split("\n"):
+        for part in row.strip("|").split(" | ")[-1].split(";") if row.startswith("| ") else []:
+            promised = PROMISED.match(part)
+            holder, functions = None, []
+            for name in NAMED.findall(promised[1]) if promised else []:
+                front, apart, _ = name.rpartition("::")
+                holder = front if apart else holder
+                functions += [known for known in ("%s::%s" % (holder, name), name) if known in clauses][:1]
+            missing += ["%s of %s" % (clause, ", ".join(functions)) for clause in (NAMED.findall(promised[2]) if functions else [])
+                        if re.fullmatch(r"\w+", clause) and not any(clause in clauses[function] for function in functions)]
+    return missing
 
 
 def main(words):
@@ -292,6 +316,7 @@ def main(words):
         pages = [Page(root, path) for path in paths]
     faults = [fault for page in pages for fault in page.faults]
     faults += map_faults(root)
+    faults += ["docs/PROMISES.md: there is no clause %s" % name for name in missing_clauses(root)]
     words_known = words_of_code(root)
     for path in paths:
         faults += ["%s: %s is not in the code" % (path.relative_to(root), name) for name in unknown_names(path, words_known)]

@@ -1,27 +1,14 @@
 #!/bin/sh
-# Compares what the pages in docs/ quote of the code with the code, by tests/pages.py; and tries on copies that each way in which a
-# page can differ is found. Its last line is 'N passed, M failed', and it ends with 1 where one failed. It builds nothing.
+# Compares the code that the pages in docs/ quote with the code itself, by tests/pages.py, and tries on copies that each way in which a
+# page can differ is found. It builds nothing.
 set -u
 cd "$(dirname "$0")/.."
-work=$(mktemp -d)
-trap 'rm -rf "$work"' EXIT
-passed=0
-failed=0
-
-pass() {
-    passed=$((passed + 1))
-}
-
-fail() {
-    failed=$((failed + 1))
-    echo "FAILED $1"
-}
+. tests/lib.sh
 
 if python3 tests/pages.py > "$work/said"; then
     pass
 else
-    fail 'the pages:'
-    cat "$work/said"
+    fail 'the pages:' "$work/said"
 fi
 tail -1 "$work/said"
 
@@ -31,7 +18,7 @@ mkdir "$right"
 tar c --exclude=out --exclude=.git . | tar x -C "$right"
 python3 tests/pages.py --write "$right" > /dev/null
 
-# Changes one file by one edit of sed, and wants it to be said by these words.
+# Changes one file by one edit of sed: tests/pages.py must say so by these words.
 found() {
     name=$1
     file=$2
@@ -47,7 +34,7 @@ found() {
     cp "$work/before" "$right/$file"
 }
 
-# Takes a file away, and wants it to be said by these words.
+# Takes a file away: tests/pages.py must say so by these words.
 gone() {
     mv "$right/$1" "$work/before"
     wanted "$1 is gone" "there is no $2"
@@ -58,8 +45,7 @@ wanted() {
     if python3 tests/pages.py "$right" > "$work/said"; then
         fail "$1: not found"
     elif ! grep -q -F "$2" "$work/said"; then
-        fail "$1: said is"
-        cat "$work/said"
+        fail "$1: said is" "$work/said"
     else
         pass
     fi
@@ -77,26 +63,25 @@ found an_item_that_is_not_exported crates/xns_idp/src/lib.rt '/^pub use decoding
 found a_method_that_is_gone crates/xns_spp/src/endpoint.rt 's/pub fn send_fault(/pub fn send_refusal(/' 'xns_spp has no public item Endpoint::send_fault'
 found an_item_that_never_was $page 's/^```rust quote xns_idp decode$/```rust quote xns_idp decode decode_all/' 'xns_idp has no public item decode_all'
 found a_crate_that_never_was $page 's/^```rust quote xns_idp decode$/```rust quote xns_ipd decode/' 'there is no crate xns_ipd'
-found a_page_without_a_quote docs/crates/xns_sim.md 's/^```rust quote .*/```text/' 'docs/crates/xns_sim.md: no contract is quoted'
+found a_page_without_a_quote docs/crates/commands.md 's/^```rust quote .*/```text/' 'docs/crates/commands.md: no contract is quoted'
 found a_block_from_nowhere $page 's/^```rust part .*/```rust/' 'does not say where it is from'
 found a_caller_that_changed crates/examples/src/packet.rt 's/body: &packet.body/body: \&packet.data/' 'crates/examples/src/packet.rt has no lines'
-found a_block_without_an_end docs/crates/xns_sim.md '$d' 'docs/crates/xns_sim.md: a block has no end'
+found a_block_without_an_end docs/crates/xns_small.md '$d' 'docs/crates/xns_small.md: a block has no end'
 
-found a_crate_that_the_map_lacks crates.txt '$a xns_more: xns_idp' 'docs/MAP.md: xns_more stands on xns_idp'
-found a_crate_that_stands_on_less crates.txt 's/^xns_small: xns_idp /xns_small: /' 'docs/MAP.md: xns_small stands on thiserror'
+found a_crate_that_the_map_lacks crates.txt '$a xns_more: xns_idp' 'docs/MAP.md: xns_more is not there'
 found a_crate_that_went crates.txt '/^dump_alone:/d' 'docs/MAP.md: crates.txt has no dump_alone'
+found a_clause_that_went docs/PROMISES.md 's/`encode`, `encode_parts`: `ok`/`encode`, `encode_parts`: `good`/' 'docs/PROMISES.md: there is no clause good of encode, encode_parts'
 found a_name_that_went docs/ENDPOINT.md 's/`is_full`/`is_quite_full`/' 'docs/ENDPOINT.md: is_quite_full is not in the code'
 gone tests/plays.sh tests/plays.sh
-gone crates/xns_idp/src/places.rt crates/xns_idp/src/places.rt
-gone crates/xns_spp/specs/Acceptance.antt 'specs/Acceptance.antt of xns_spp'
-gone crates/xns_spp/specs/Early.antt 'Early.antt of xns_spp'
+gone crates/xns_spp/specs/Acceptance.antt crates/xns_spp/specs/Acceptance.antt
+gone crates/xns_idp/src/places.rt 'src/places.rt of xns_idp'
+gone crates/courier_sessions/specs/Talks.antt 'Talks.antt of courier_sessions'
 
-# What was changed in the code is quoted anew.
+# A changed contract is quoted anew.
 sed -i 's/^    ensures fault { IfErr result (λ f. /    ensures fault { IfErr result (λ e. /' "$right/$code"
 if python3 tests/pages.py --write "$right" > /dev/null && grep -q 'ensures fault { IfErr result (λ e. ' "$right/$page"; then
     pass
 else
     fail 'a quote is not made anew'
 fi
-echo "$passed passed, $failed failed"
-[ "$failed" = 0 ]
+finish
