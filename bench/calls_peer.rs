@@ -6,40 +6,13 @@
 //! service, as it is in the proved one, where it is proved; want of memory is not told. It makes as many calls Add of 5 to a tally as its
 //! first word says, and then as many calls of 60,000 cardinals each way as the second says.
 
+#[path = "peer/values.rs"]
+mod values;
+
 use std::collections::VecDeque;
-use std::hint::black_box;
 use std::env;
-
-#[allow(dead_code)]
-enum Shape {
-    Boolean,
-    Cardinal,
-    LongCardinal,
-    Integer,
-    LongInteger,
-    Unspecified,
-    Text,
-    Enumeration(Vec<u16>),
-    Array(u16, Box<Shape>),
-    Sequence(u16, Box<Shape>),
-    Fields(Vec<Shape>),
-    Choice(Vec<(u16, Shape)>),
-}
-
-enum Value {
-    Boolean(bool),
-    Cardinal(u16),
-    LongCardinal(u32),
-    Integer(i16),
-    LongInteger(i32),
-    Unspecified(u16),
-    Text(Vec<u8>),
-    Enumeration(u16),
-    Array(Vec<Value>),
-    Sequence(Vec<Value>),
-    Fields(Vec<Value>),
-    Choice(u16, Box<Value>),
-}
+use std::hint::black_box;
+use values::{Shape, Value};
 
 /// Words that lie two bytes each.
 #[cfg(not(plain))]

@@ -1,28 +1,10 @@
 // A plain Rust `calls` (no proofs, std alone): what a user would write without us, to be timed beside `xns calls`. It prints the same lines.
+#[path = "peer/packets.rs"]
+mod packets;
+
+use packets::{be, cycle, nearest, nibble};
 use std::collections::{BTreeMap, HashMap};
 use std::io::{self, BufRead, Write};
-
-fn nibble(c: u8) -> Option<u8> {
-    match c { b'0'..=b'9' => Some(c - b'0'), b'a'..=b'f' => Some(c - b'a' + 10), b'A'..=b'F' => Some(c - b'A' + 10), _ => None }
-}
-
-fn cycle(b: &[u8]) -> u16 {
-    let mut s: u32 = 0;
-    for w in b.chunks_exact(2) {
-        s += u32::from(u16::from_be_bytes([w[0], w[1]]));
-        s = (s & 0xffff) + (s >> 16);
-        s = ((s << 1) & 0xffff) | (s >> 15);
-    }
-    if s == 0xffff { 0 } else { s as u16 }
-}
-
-fn be(b: &[u8]) -> u64 { b.iter().fold(0, |a, x| a << 8 | u64::from(*x)) }
-
-// The number nearest to `next` of which the field is the lowest 16 bits, if there is one.
-fn nearest(next: u64, field: u64) -> Option<u64> {
-    let least = next + 32768;
-    (least + (field + 65536 - least % 65536) % 65536).checked_sub(65536)
-}
 
 // A flow: host, socket and identifier of its source, then of its target.
 type Key = [u8; 20];
@@ -193,7 +175,7 @@ fn main() {
         let name = |side| Name { line: n, connection: place + 1, side: if side == 0 { 'a' } else { 'b' } };
         let [first, second] = &mut connections[place];
         let (own, other) = if side == 0 { (first, second) } else { (second, first) };
-        let acknowledged = other.track.as_ref().and_then(|track| Some(nearest(track.next, be(&b[8..10]))?.min(track.early.keys().next_back()? + 1)));
+        let acknowledged = other.track.as_ref().and_then(|track| Some(nearest(track.next, be(&b[8..10]) as u16)?.min(track.early.keys().next_back()? + 1)));
         if let Some(number) = acknowledged { bring(&mut out, &mut refused, &name(1 - side), other, own, number); }
         if system { continue; }
         let field = be(&b[6..8]);
@@ -208,7 +190,7 @@ fn main() {
             flows.push((place, side));
         }
         let track = own.track.as_mut().unwrap();
-        let Some(number) = nearest(track.next, field) else { continue };
+        let Some(number) = nearest(track.next, field as u16) else { continue };
         if number < track.next || track.early.contains_key(&number) { continue; }
         bring(&mut out, &mut refused, &name(side), own, other, number.saturating_sub(63));
         own.track.as_mut().unwrap().early.insert(number, Item { stream: b[1], last: b[0] & 16 != 0, body: b[12..].to_vec() });

@@ -1,17 +1,16 @@
 // The checksum of packets of 576 bytes by the standard's loop: add with end-around carry, rotate left by one, for each
 // word. Plain Rust, `rustc -O`; the peer of `bench checksum`.
+#[path = "peer/packets.rs"]
+mod packets;
+
+use packets::cycle;
+
 const SUMMED: usize = 574;
 const PACKETS: usize = 1_000_000;
 
 #[inline(never)]
 fn cycle_sum(bytes: &[u8]) -> u16 {
-    let mut sum: u32 = 0;
-    for word in bytes.chunks_exact(2) {
-        sum += u32::from(u16::from_be_bytes([word[0], word[1]]));
-        sum = (sum & 0xffff) + (sum >> 16);
-        sum = ((sum << 1) & 0xffff) | (sum >> 15);
-    }
-    if sum == 0xffff { 0 } else { sum as u16 }
+    cycle(bytes)
 }
 
 fn main() {

@@ -212,7 +212,7 @@ def time_hosts(folder, given):
 
 
 def time_sim(folder, given):
-    ours, peer = built_program("xns"), built_peer("sim_peer", folder)
+    ours, peer = built_program("xns"), built_peer("sim_peer", folder, "--cfg", "standard")
     for words in (["2500"], ["5000"], ["10000"], ["5000", "6"]):
         given.write_bytes(made_by("script.py", *words))
         what = f"{words[0]} calls{' with repeats' if len(words) > 1 else ''}"
@@ -221,7 +221,7 @@ def time_sim(folder, given):
 
 
 def time_plays(folder, given):
-    ours, peer = [built_program("bench"), "play"], built_peer("sim_peer", folder)
+    ours, peer = [built_program("bench"), "play"], built_peer("sim_peer", folder, "--cfg", "standard")
     given.write_bytes(made_by("script.py", "1000", "96"))
     print(f"{sum(not line.startswith(b'call') for line in given.read_bytes().splitlines())} events:", end=" ", flush=True)
     yield "a play of 1,000 calls and 100,000 events", "sim_peer", ratio_of(compare([*ours, "calls"], [peer], given))

@@ -1,22 +1,12 @@
 // A plain Rust `dump` of internet packets (no proofs, std alone): what a user would write without us, to be timed beside
 // `xns dump`. It prints the `idp` line of each packet, the faults, the line of an Echo, Error or Packet Exchange packet that is whole, of a sequenced
 // data packet its header, the number of its item and its message or words, and else the data line.
+#[path = "peer/packets.rs"]
+mod packets;
+
+use packets::{be, cycle, nearest, nibble};
 use std::collections::HashMap;
 use std::io::{self, BufRead, Write};
-
-fn nibble(c: u8) -> Option<u8> {
-    match c { b'0'..=b'9' => Some(c - b'0'), b'a'..=b'f' => Some(c - b'a' + 10), b'A'..=b'F' => Some(c - b'A' + 10), _ => None }
-}
-
-fn cycle(b: &[u8]) -> u16 {
-    let mut s: u32 = 0;
-    for w in b.chunks_exact(2) {
-        s += u32::from(u16::from_be_bytes([w[0], w[1]]));
-        s = (s & 0xffff) + (s >> 16);
-        s = ((s << 1) & 0xffff) | (s >> 15);
-    }
-    if s == 0xffff { 0 } else { s as u16 }
-}
 
 fn hex(out: &mut Vec<u8>, b: &[u8]) {
     const D: &[u8; 16] = b"0123456789abcdef";
@@ -42,13 +32,6 @@ fn message(out: &mut Vec<u8>, n: u32, d: &[u8]) {
     };
     words(out, rest);
 }
-
-fn near(last: u64, field: u64) -> u64 {
-    let least = last + 32768;
-    (least + (field + 65536 - least % 65536) % 65536).checked_sub(65536).unwrap_or(field)
-}
-
-fn be(b: &[u8]) -> u64 { b.iter().fold(0, |a, x| a << 8 | u64::from(*x)) }
 
 fn main() {
     let stdin = io::stdin();
@@ -97,7 +80,7 @@ fn main() {
                             flow[8..16].copy_from_slice(&bytes[10..18]);
                             flow[16..].copy_from_slice(&b[2..6]);
                             let field = be(&b[6..8]);
-                            let item = items.entry(flow).and_modify(|last| *last = near(*last, field)).or_insert(field);
+                            let item = items.entry(flow).and_modify(|last| *last = nearest(*last, field as u16).unwrap_or(field)).or_insert(field);
                             writeln!(out, "{n} item {item}").unwrap();
                             let d = &b[12..];
                             if b[0] & 16 != 0 { message(&mut out, n, d); } else { write!(out, "{n} words ").unwrap(); words(&mut out, d); }

@@ -1,261 +1,18 @@
 //! What `xns sim` does, as a plain Rust program does it: two ends of a connection and the network between them, a caller at one and a
-//! server with a tally at the other. Each packet is summed by the standard's loop, written, read and answered. Its lines are good ones.
+//! server with a tally at the other. With `--cfg standard` each packet is summed by the standard's loop. Its lines are good ones.
+#[path = "peer/end.rs"]
+mod end;
+#[path = "peer/packets.rs"]
+mod packets;
+
+use end::{Address, End, Item};
 use std::collections::VecDeque;
 use std::io::{Read, Write};
 use std::{io, str};
 
-const WINDOW: u64 = 4;
+const WINDOW: usize = 4;
 const BACKLOG: usize = 16;
-const MOST_ITEMS: u64 = 1 << 48;
 const LIFETIME: u64 = 30_000;
-
-#[derive(Clone, Copy)]
-struct Address {
-    network: u32,
-    host: [u8; 6],
-    socket: u16,
-}
-
-struct Item {
-    stream: u8,
-    attention: bool,
-    last: bool,
-    body: Vec<u8>,
-}
-
-fn word(bytes: &[u8], place: usize) -> u16 {
-    u16::from_be_bytes([bytes[place], bytes[place + 1]])
-}
-
-/// The standard's loop.
-fn sum(bytes: &[u8]) -> u16 {
-    let mut sum: u32 = 0;
-    for pair in bytes.chunks_exact(2) {
-        sum += u32::from(word(pair, 0));
-        sum = (sum & 0xffff) + (sum >> 16);
-        sum = ((sum << 1) & 0xffff) | (sum >> 15);
-    }
-    if sum == 0xffff { 0 } else { sum as u16 }
-}
-
-fn write_address(out: &mut Vec<u8>, address: &Address) {
-    out.extend_from_slice(&address.network.to_be_bytes());
-    out.extend_from_slice(&address.host);
-    out.extend_from_slice(&address.socket.to_be_bytes());
-}
-
-fn read_address(bytes: &[u8]) -> Address {
-    Address {
-        network: u32::from_be_bytes(bytes[0..4].try_into().unwrap()),
-        host: bytes[4..10].try_into().unwrap(),
-        socket: word(bytes, 10),
-    }
-}
-
-/// The number near the reference that leaves the field as its remainder.
-fn nearest(reference: u64, field: u16) -> Option<u64> {
-    let least = reference + 32768;
-    (least + u64::from(field.wrapping_sub(least as u16))).checked_sub(65536)
-}
-
-struct End {
-    is_initiator: bool,
-    own: Address,
-    id: u16,
-    peer: Address,
-    peer_id: u16,
-    unacknowledged: VecDeque<Item>,
-    slots: VecDeque<Option<Item>>,
-    accepted: u64,
-    acknowledged: u64,
-    sent: u64,
-    allowed: u64,
-    taken: u64,
-    handed: u64,
-}
-
-impl End {
-    fn new(is_initiator: bool, own: Address, id: u16, peer: Address, peer_id: u16) -> End {
-        End {
-            is_initiator,
-            own,
-            id,
-            peer,
-            peer_id,
-            unacknowledged: VecDeque::with_capacity(BACKLOG),
-            slots: (0..WINDOW).map(|_| None).collect(),
-            accepted: 0,
-            acknowledged: 0,
-            sent: 0,
-            allowed: 0,
-            taken: 0,
-            handed: 0,
-        }
-    }
-
-    fn top(&self) -> u64 {
-        (self.handed + WINDOW - 1).min(MOST_ITEMS - 1)
-    }
-
-    fn write(&self, control: u8, stream: u8, sequence: u64, body: &[u8]) -> Vec<u8> {
-        let length = 42 + body.len();
-        let mut out = Vec::with_capacity(length + length % 2);
-        out.extend_from_slice(&[0, 0]);
-        out.extend_from_slice(&(length as u16).to_be_bytes());
-        out.extend_from_slice(&[0, 5]);
-        write_address(&mut out, &self.peer);
-        write_address(&mut out, &self.own);
-        out.push(control);
-        out.push(stream);
-        for field in [self.id, self.peer_id, sequence as u16, self.taken as u16, self.top() as u16] {
-            out.extend_from_slice(&field.to_be_bytes());
-        }
-        out.extend_from_slice(body);
-        if length % 2 == 1 {
-            out.push(0);
-        }
-        let sum = sum(&out[2..]);
-        out[..2].copy_from_slice(&sum.to_be_bytes());
-        out
-    }
-
-    fn send(&mut self, item: Item) -> Result<(), Item> {
-        let size = item.body.len();
-        if size > 534 || item.attention && size != 1 || self.accepted == MOST_ITEMS || self.unacknowledged.len() == BACKLOG {
-            return Err(item);
-        }
-        self.unacknowledged.push_back(item);
-        self.accepted += 1;
-        Ok(())
-    }
-
-    fn is_full(&self) -> bool {
-        self.unacknowledged.len() == BACKLOG || self.accepted == MOST_ITEMS
-    }
-
-    fn flush(&mut self) -> Vec<Vec<u8>> {
-        if self.peer_id == 0 {
-            return Vec::new();
-        }
-        self.packets_from(self.sent)
-    }
-
-    fn tick(&mut self) -> Vec<Vec<u8>> {
-        if self.peer_id == 0 {
-            return vec![self.write(192, 0, 0, &[])];
-        }
-        let packets = self.packets_from(self.acknowledged);
-        if packets.is_empty() && self.acknowledged < self.accepted {
-            return vec![self.write(192, 0, self.sent, &[])];
-        }
-        packets
-    }
-
-    /// The items that may go, from this number on.
-    fn packets_from(&mut self, first: u64) -> Vec<Vec<u8>> {
-        let limit = self.accepted.min(self.allowed);
-        let mut packets = Vec::new();
-        for number in first..limit {
-            let item = &self.unacknowledged[(number - self.acknowledged) as usize];
-            let control = 64 + if item.attention { 32 } else { 0 } + if item.last { 16 } else { 0 };
-            packets.push(self.write(control, item.stream, number, &item.body));
-        }
-        self.sent = self.sent.max(limit);
-        packets
-    }
-
-    fn is_ours(&self, target: &Address, source: &Address, header: &[u8]) -> bool {
-        let (source_id, target_id) = (word(header, 2), word(header, 4));
-        let is_from_peer = source.host == self.peer.host && source.socket == self.peer.socket && source_id == self.peer_id;
-        target.host == self.own.host
-            && target.socket == self.own.socket
-            && if !self.is_initiator {
-                (target_id == self.id || target_id == 0) && is_from_peer
-            } else if self.peer_id != 0 {
-                target_id == self.id && is_from_peer
-            } else {
-                target_id == self.id && source.host == self.peer.host && source_id != 0
-            }
-    }
-
-    /// Takes in a packet, and gives the reply where one is wanted.
-    fn receive(&mut self, bytes: &[u8]) -> Option<Vec<u8>> {
-        if bytes.len() < 30 {
-            return None;
-        }
-        let length = usize::from(word(bytes, 2));
-        let even = length + length % 2;
-        if length < 30 || length > 576 || bytes.len() < even {
-            return None;
-        }
-        let found = word(bytes, 0);
-        if found != 65535 && found != sum(&bytes[2..even]) || bytes[5] != 5 || length < 42 {
-            return None;
-        }
-        let (target, source) = (read_address(&bytes[6..18]), read_address(&bytes[18..30]));
-        let header = &bytes[30..42];
-        if !self.is_ours(&target, &source, header) {
-            return None;
-        }
-        let sequence = nearest(self.taken, word(header, 6));
-        let acknowledge = nearest(self.sent, word(header, 8));
-        let allocation = nearest(self.sent, word(header, 10));
-        if acknowledge.is_some_and(|number| number > self.sent) {
-            return None;
-        }
-        if self.peer_id == 0 {
-            self.peer = source;
-            self.peer_id = word(header, 2);
-        }
-        while acknowledge.is_some_and(|number| self.acknowledged < number) {
-            self.unacknowledged.pop_front();
-            self.acknowledged += 1;
-        }
-        if let Some(number) = allocation {
-            self.allowed = self.allowed.max(number + 1);
-        }
-        let target_id = word(header, 4);
-        if header[0] & 128 == 0 && target_id != 0 {
-            self.keep(sequence, header, &bytes[42..length]);
-        }
-        if header[0] & 64 != 0 || target_id == 0 {
-            Some(self.write(128, 0, self.sent, &[]))
-        } else {
-            None
-        }
-    }
-
-    /// Keeps an item for which there is room, and takes those whose turn has come.
-    fn keep(&mut self, sequence: Option<u64>, header: &[u8], body: &[u8]) {
-        let top = self.top();
-        let number = match sequence {
-            Some(number) if self.taken <= number && number <= top => number,
-            _ => return,
-        };
-        let slot = &mut self.slots[(number - self.handed) as usize];
-        if slot.is_none() {
-            *slot = Some(Item {
-                stream: header[1],
-                attention: header[0] & 32 != 0,
-                last: header[0] & 16 != 0,
-                body: body.to_vec(),
-            });
-        }
-        while self.taken <= top && self.slots[(self.taken - self.handed) as usize].is_some() {
-            self.taken += 1;
-        }
-    }
-
-    fn take(&mut self) -> Option<Item> {
-        if self.handed == self.taken {
-            return None;
-        }
-        self.handed += 1;
-        let first = self.slots.pop_front();
-        self.slots.push_back(None);
-        first.flatten()
-    }
-}
 
 enum Shape {
     Cardinal,
@@ -653,8 +410,8 @@ impl World<'_> {
         }
         packet.is_delivered = true;
         let (side, reply) = match packet.sender {
-            Side::A => (Side::B, self.b.receive(&packet.bytes)),
-            Side::B => (Side::A, self.a.receive(&packet.bytes)),
+            Side::A => (Side::B, self.b.receive(&packet.bytes).reply),
+            Side::B => (Side::A, self.a.receive(&packet.bytes).reply),
         };
         self.emit(side, reply.into_iter().collect());
         self.settle(side)
@@ -756,8 +513,8 @@ fn play(calls: &[Call], events: &[Event]) -> Result<String, ()> {
     let here = Address { network: 1, host: [0, 0, 0xaa, 0, 3, 4], socket: 0x400 };
     let there = Address { network: 1, host: [0, 0, 0xaa, 0, 1, 2], socket: 5 };
     let mut world = World {
-        a: End::new(true, here, 0x1234, there, 0),
-        b: End::new(false, there, 0x5678, here, 0x1234),
+        a: End::new(true, here, 0x1234, there, 0, WINDOW, BACKLOG),
+        b: End::new(false, there, 0x5678, here, 0x1234, WINDOW, BACKLOG),
         caller: Caller { table: &table, incoming: Incoming::default(), out: opening(), transaction: 0, waiting: None, outcome: None },
         server: Server { table: &table, total: 0, incoming: Incoming::default(), out: opening(), carried: Vec::new() },
         calls,

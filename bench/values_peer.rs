@@ -1,38 +1,11 @@
 // Courier's values read and written in plain Rust, `rustc -O`, with no proofs; the peer of `bench values`, which prints
 // the same lines but those on pieces. The first word says how many times each value is read and written.
+#[path = "peer/values.rs"]
+mod values;
+
 use std::hint::black_box;
 use std::time::Instant;
-
-#[allow(dead_code)]
-enum Shape {
-    Boolean,
-    Cardinal,
-    LongCardinal,
-    Integer,
-    LongInteger,
-    Unspecified,
-    Text,
-    Enumeration(Vec<u16>),
-    Array(u16, Box<Shape>),
-    Sequence(u16, Box<Shape>),
-    Fields(Vec<Shape>),
-    Choice(Vec<(u16, Shape)>),
-}
-
-enum Value {
-    Boolean(bool),
-    Cardinal(u16),
-    LongCardinal(u32),
-    Integer(i16),
-    LongInteger(i32),
-    Unspecified(u16),
-    Text(Vec<u8>),
-    Enumeration(u16),
-    Array(Vec<Value>),
-    Sequence(Vec<Value>),
-    Fields(Vec<Value>),
-    Choice(u16, Box<Value>),
-}
+use values::{Shape, Value};
 
 #[allow(dead_code)]
 #[derive(Debug)]

@@ -3,20 +3,9 @@
 # what each side then does. Its last line is 'N passed, M failed', and it ends with 1 where one failed. It builds the program first.
 set -u
 cd "$(dirname "$0")/.."
-crate=crates/test_conversations
-program=$PWD/$crate/out/test_conversations
-work=$(mktemp -d)
-trap 'rm -rf "$work"' EXIT
-passed=0
-failed=0
-
-rm -f "$program"
-if ! (cd $crate && rt run < stdin) > "$work/build" 2>&1 || [ ! -x "$program" ]; then
-    cat "$work/build"
-    echo "the program was not built"
-    exit 1
-fi
-gcc -O1 -shared -fPIC -o "$work/refuse_growth.so" tests/refuse_growth.c
+. tests/lib.sh
+build_program test_conversations
+build_refusing
 
 add=0000000100000007000200010005
 versions='<00030003|'
@@ -29,29 +18,23 @@ refuse_each() {
     growth=1
     wanted=0
     while [ $growth -le 1000 ]; do
-        rm -f "$work/refused"
-        REFUSE_AT=$growth REFUSED=$work/refused LD_PRELOAD=$work/refuse_growth.so "$program" < "$work/in" > "$work/out" 2> /dev/null
-        ended=$?
+        refuse_growth $growth "$program" < "$work/in"
         [ -e "$work/refused" ] || break
         if [ $ended -eq 1 ] && [ ! -s "$work/out" ]; then
-            passed=$((passed + 1))
+            pass
         elif [ $ended -eq 0 ] && [ "$(wc -l < "$work/out")" -eq 1 ] && grep -qxF -f "$work/allowed" "$work/out"; then
             if grep -q NoMemory "$work/out"; then wanted=$((wanted + 1)); fi
-            passed=$((passed + 1))
+            pass
         else
-            failed=$((failed + 1))
-            echo "FAILED $name, growth $growth refused: it ended with $ended and printed"
-            cat "$work/out"
+            fail "$name, growth $growth refused: it ended with $ended and printed" "$work/out"
         fi
         growth=$((growth + 1))
     done
     echo "$name: $((growth - 1)) growths, of which $wanted were told as want of memory"
     if [ $wanted -gt 0 ] && [ $ended -eq 0 ] && [ "$(head -n 1 "$work/allowed")" = "$(cat "$work/out")" ]; then
-        passed=$((passed + 1))
+        pass
     else
-        failed=$((failed + 1))
-        echo "FAILED $name, nothing refused:"
-        cat "$work/out"
+        fail "$name, nothing refused:" "$work/out"
     fi
 }
 
@@ -74,5 +57,4 @@ $versions call 7 2 1 0005 <0002000100000005| NoMemory total 5
 END
 refuse_each 'a server' "server 00030003| $add| 000000020000000700020002|"
 
-echo "$passed passed, $failed failed"
-[ "$failed" -eq 0 ]
+finish

@@ -4,44 +4,10 @@
 # What it leaves out because a tool is missing it says. Its last line is 'N passed, M failed', and it ends with 1 where one failed.
 set -u
 cd "$(dirname "$0")/.."
-work=$(mktemp -d)
-trap 'rm -rf "$work"' EXIT
+. tests/lib.sh
 prefix=$work/installed
-passed=0
-failed=0
 
-has() {
-    command -v "$1" > "$work/path" 2>&1
-}
-
-# Runs the words: they must end with 0, and write nothing on standard error. What they write is then in $work/out.
-expect() {
-    name=$1
-    shift
-    if "$@" > "$work/new" 2> "$work/err" && [ ! -s "$work/err" ]; then passed=$((passed + 1)); else fail "$name"; fi
-    mv "$work/new" "$work/out"
-}
-
-fail() {
-    failed=$((failed + 1))
-    echo "FAILED $1"
-    cat "$work/err"
-}
-
-left_out() {
-    echo "left out, for want of $1: $2"
-}
-
-finish() {
-    echo "$passed passed, $failed failed"
-    [ "$failed" -eq 0 ]
-    exit
-}
-
-compiler=
-for one in "${CC:-gcc}" gcc cc clang; do
-    if [ -z "$compiler" ] && has "$one"; then compiler=$one; fi
-done
+find_compiler
 if [ -z "$compiler" ] || ! has ar; then
     left_out 'a C compiler or ar' 'installing'
     finish
@@ -55,7 +21,7 @@ ends() {
     shift 3
     "$@" > "$work/out" 2> "$work/err"
     ended=$?
-    if [ $ended -eq "$status" ] && [ "$(tail -n 1 "$work/err")" = "$line" ]; then passed=$((passed + 1)); else fail "$name: $ended and not $status"; fi
+    if [ $ended -eq "$status" ] && [ "$(tail -n 1 "$work/err")" = "$line" ]; then pass; else fail "$name: $ended and not $status"; fi
 }
 
 # Under a folder stand the folders, files and links that are given, and nothing else.
@@ -64,7 +30,7 @@ holds() {
     shift 2
     printf '%s\n' "$@" | sort > "$work/expected"
     (cd "$folder" && find . ! -name . | sed 's|^\./||' | sort) > "$work/there" 2> "$work/err"
-    if diff "$work/expected" "$work/there" > "$work/err"; then passed=$((passed + 1)); else fail "$name"; fi
+    if diff "$work/expected" "$work/there" > "$work/err"; then pass; else fail "$name"; fi
 }
 
 version=$(cat VERSION)
@@ -257,10 +223,7 @@ if has pkg-config; then
     expect 'its version' pkg-config --modversion xns
     expect 'is that of VERSION' cmp VERSION "$work/out"
     from=$(pkg-config --cflags --libs xns)
-    plus=
-    for one in "${CXX:-g++}" g++ c++ clang++; do
-        if [ -z "$plus" ] && has "$one"; then plus=$one; fi
-    done
+    find_plus
     for example in endpoints fields echo courier server client; do
         # shellcheck disable=SC2086
         expect "$example against the shared library" "$compiler" $flags -std=c99 examples/c/$example.c $from -o "$work/$example"

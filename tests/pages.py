@@ -11,9 +11,9 @@ A block of a page is compared where its first line says where it is from:
     ```rust part FILE                 lines of the file: those between two blank lines stand there together
 
 Each page in docs/crates has a quoted contract, and there no block of Rust may be without one of these two.
-A file or folder that a page or README.md names from the root, as `crates/xns_idp/src/places.rt`, is to be there. In an entry of
-docs/MAP.md a name without its folder, as `places.rt`, stands for one in the crate that was named before it. The map's first table has
-a row for each line of crates.txt, which names what the crate stands on, but for the parts of std.
+A file or folder that a page or README.md names from the root, as `crates/xns_idp/src/places.rt`, is to be there. In a row of
+docs/MAP.md a name without its folder, as `places.rt`, stands for one in the crate that was named before it. The map's table of crates
+has a row for each line of crates.txt.
 A name of code that a page in docs/ has, as `Endpoint::send` or `xns_decode`, is to stand somewhere in the code.
 Another root than this repository is named last.
 """
@@ -29,7 +29,7 @@ FROM_ROOT = re.compile(r"(?:crates|tests|docs|examples|python|bench|include)/[\w
 PARTS = ("src", "specs", "proofs", "must-fail")
 IN_CRATE = re.compile(r"(?:[\w+-]+/)*[\w+-]+\.(?:rt|antt)")
 CODE_NAME = re.compile(r"[A-Za-z]\w*(?:(?:::|\.)\w+)*(?:\(\))?")
-CODE = ("crates/*/src/**/*", "crates/*/specs/**/*", "crates/*/stdin", "crates.txt", "include/*", "python/*", "bench/*", "tests/**/*",
+CODE = ("crates/*/src/**/*", "crates/*/specs/**/*", "crates/*/stdin", "crates.txt", "include/*", "python/*", "bench/**/*", "tests/**/*",
         "examples/**/*")
 MADE = re.compile(r"crates/mine\b|.*/out(?:/|$)")
 EXPORT = re.compile(r"^pub use [^;]*;", re.MULTILINE)
@@ -185,7 +185,7 @@ class Page:
             self.faults.append("%s: no contract is quoted" % self.shown)
 
     def is_of_crate(self):
-        return self.path.parent.name == "crates" and self.path.name != "README.md"
+        return self.path.parent.name == "crates"
 
     def compare(self, words, block):
         try:
@@ -220,15 +220,15 @@ def missing_files(root, path):
     missing = [name for name in names(text)
                if FROM_ROOT.fullmatch(name) and not MADE.match(name) and not (root / name).exists()]
     if path.name == "MAP.md":
-        for entry in text.split("\n- "):
-            missing += missing_in_crate(root, entry)
+        for row in text.split("\n"):
+            missing += missing_in_crate(root, row)
     return missing
 
 
-def missing_in_crate(root, entry):
-    """The files without their folder that an entry of the map names."""
+def missing_in_crate(root, row):
+    """The files without their folder that a row of the map names."""
     crate, missing = None, []
-    for name in names(entry):
+    for name in names(row):
         if name.startswith("crates/"):
             crate = root / "crates" / name.split("/")[1]
         elif crate and IN_CRATE.fullmatch(name):
@@ -255,29 +255,12 @@ def unknown_names(path, words):
             and any(len(word) > 2 and word not in words and not word.endswith("_") for word in re.findall(r"\w+", name))]
 
 
-def crate_rows(text):
-    """What each crate of the map's table stands on, without what stands in brackets."""
-    rows = {}
-    for line in text.split("\n"):
-        cells = [cell.strip() for cell in line.strip("|").split(" | ")]
-        if len(cells) > 3 and re.fullmatch(r"`\w+`", cells[0]):
-            rows[cells[0].strip("`")] = re.sub(r"\([^)]*\)", "", cells[2])
-    return rows
-
-
 def map_faults(root):
-    """Crates that the map does not know, or of which it says otherwise what they stand on."""
-    rows, faults = crate_rows((root / "docs/MAP.md").read_text()), []
-    for line in (root / "crates.txt").read_text().split("\n"):
-        front, _, behind = line.split("#")[0].partition(":")
-        if not behind:
-            continue
-        name = front.split()[0]
-        low = {crate for crate in behind.split() if crate != "core" and not crate.startswith("std_")}
-        cell = rows.pop(name, "")
-        if not cell or ("the libraries" not in cell and set(NAMED.findall(cell)) != low):
-            faults.append("docs/MAP.md: %s stands on %s" % (name, " ".join(sorted(low))))
-    return faults + ["docs/MAP.md: crates.txt has no %s" % name for name in rows]
+    """Crates that the map lacks, and those that it has and crates.txt lacks."""
+    listed = {line.split()[0].strip(":") for line in (root / "crates.txt").read_text().split("\n") if ":" in line.split("#")[0]}
+    shown = set(re.findall(r"^\| `(\w+)` \|", (root / "docs/MAP.md").read_text(), re.MULTILINE))
+    return (["docs/MAP.md: %s is not there" % name for name in sorted(listed - shown)]
+            + ["docs/MAP.md: crates.txt has no %s" % name for name in sorted(shown - listed)])
 
 
 def main(words):

@@ -3,25 +3,12 @@
 # page can differ is found. Its last line is 'N passed, M failed', and it ends with 1 where one failed. It builds nothing.
 set -u
 cd "$(dirname "$0")/.."
-work=$(mktemp -d)
-trap 'rm -rf "$work"' EXIT
-passed=0
-failed=0
-
-pass() {
-    passed=$((passed + 1))
-}
-
-fail() {
-    failed=$((failed + 1))
-    echo "FAILED $1"
-}
+. tests/lib.sh
 
 if python3 tests/pages.py > "$work/said"; then
     pass
 else
-    fail 'the pages:'
-    cat "$work/said"
+    fail 'the pages:' "$work/said"
 fi
 tail -1 "$work/said"
 
@@ -58,8 +45,7 @@ wanted() {
     if python3 tests/pages.py "$right" > "$work/said"; then
         fail "$1: not found"
     elif ! grep -q -F "$2" "$work/said"; then
-        fail "$1: said is"
-        cat "$work/said"
+        fail "$1: said is" "$work/said"
     else
         pass
     fi
@@ -77,13 +63,12 @@ found an_item_that_is_not_exported crates/xns_idp/src/lib.rt '/^pub use decoding
 found a_method_that_is_gone crates/xns_spp/src/endpoint.rt 's/pub fn send_fault(/pub fn send_refusal(/' 'xns_spp has no public item Endpoint::send_fault'
 found an_item_that_never_was $page 's/^```rust quote xns_idp decode$/```rust quote xns_idp decode decode_all/' 'xns_idp has no public item decode_all'
 found a_crate_that_never_was $page 's/^```rust quote xns_idp decode$/```rust quote xns_ipd decode/' 'there is no crate xns_ipd'
-found a_page_without_a_quote docs/crates/xns_sim.md 's/^```rust quote .*/```text/' 'docs/crates/xns_sim.md: no contract is quoted'
+found a_page_without_a_quote docs/crates/commands.md 's/^```rust quote .*/```text/' 'docs/crates/commands.md: no contract is quoted'
 found a_block_from_nowhere $page 's/^```rust part .*/```rust/' 'does not say where it is from'
 found a_caller_that_changed crates/examples/src/packet.rt 's/body: &packet.body/body: \&packet.data/' 'crates/examples/src/packet.rt has no lines'
-found a_block_without_an_end docs/crates/xns_sim.md '$d' 'docs/crates/xns_sim.md: a block has no end'
+found a_block_without_an_end docs/crates/commands.md '$d' 'docs/crates/commands.md: a block has no end'
 
-found a_crate_that_the_map_lacks crates.txt '$a xns_more: xns_idp' 'docs/MAP.md: xns_more stands on xns_idp'
-found a_crate_that_stands_on_less crates.txt 's/^xns_small: xns_idp /xns_small: /' 'docs/MAP.md: xns_small stands on thiserror'
+found a_crate_that_the_map_lacks crates.txt '$a xns_more: xns_idp' 'docs/MAP.md: xns_more is not there'
 found a_crate_that_went crates.txt '/^dump_alone:/d' 'docs/MAP.md: crates.txt has no dump_alone'
 found a_name_that_went docs/ENDPOINT.md 's/`is_full`/`is_quite_full`/' 'docs/ENDPOINT.md: is_quite_full is not in the code'
 gone tests/plays.sh tests/plays.sh
@@ -98,5 +83,4 @@ if python3 tests/pages.py --write "$right" > /dev/null && grep -q 'ensures fault
 else
     fail 'a quote is not made anew'
 fi
-echo "$passed passed, $failed failed"
-[ "$failed" = 0 ]
+finish

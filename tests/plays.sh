@@ -5,40 +5,20 @@
 # line is 'N passed, M failed', and it ends with 1 where one failed. It builds the program first.
 set -u
 cd "$(dirname "$0")/.."
-crate=crates/test_plays
-program=$PWD/$crate/out/test_plays
-work=$(mktemp -d)
-trap 'rm -rf "$work"' EXIT
-passed=0
-failed=0
-
-rm -f "$program"
-if ! (cd $crate && rt run < stdin) > "$work/build" 2>&1 || [ ! -x "$program" ]; then
-    cat "$work/build"
-    echo "the program was not built"
-    exit 1
-fi
-gcc -O1 -shared -fPIC -o "$work/refuse_growth.so" tests/refuse_growth.c
+. tests/lib.sh
+build_program test_plays
+build_refusing
 echo 'no memory' > "$work/none"
-
-pass() {
-    passed=$((passed + 1))
-}
-
-fail() {
-    failed=$((failed + 1))
-    echo "FAILED $1"
-}
 
 # ---- a second account
 
-if python3 tests/plays.py < $crate/stdin > "$work/account" && cmp "$work/account" $crate/stdout; then
+if python3 tests/plays.py < "$crate/stdin" > "$work/account" && cmp "$work/account" "$crate/stdout"; then
     pass
 else
     fail 'the stored text is not what the documents say'
 fi
-"$program" < $crate/stdin > "$work/out"
-if cmp "$work/out" $crate/stdout; then pass; else fail 'the program prints another text'; fi
+"$program" < "$crate/stdin" > "$work/out"
+if cmp "$work/out" "$crate/stdout"; then pass; else fail 'the program prints another text'; fi
 
 # ---- each growth refused in turn
 
@@ -57,9 +37,7 @@ refuse_each() {
     wanted=0
     is_first=yes
     while [ $is_first = yes ] && [ $growth -le 5000 ]; do
-        rm -f "$work/refused"
-        timeout 20 env REFUSE_AT=$growth REFUSED="$work/refused" LD_PRELOAD="$work/refuse_growth.so" "$program" < "$work/in" > "$work/out" 2> /dev/null
-        ended=$?
+        refuse_growth $growth "$program" < "$work/in"
         [ -e "$work/refused" ] || break
         if [ $ended -eq 0 ] && cmp -s "$work/out" "$work/twice"; then
             pass
@@ -73,8 +51,7 @@ refuse_each() {
         elif [ $ended -eq 1 ] && [ ! -s "$work/out" ]; then
             pass
         else
-            fail "$name, growth $growth refused: it ended with $ended and printed"
-            cat "$work/out"
+            fail "$name, growth $growth refused: it ended with $ended and printed" "$work/out"
         fi
         growth=$((growth + 1))
     done
@@ -88,5 +65,4 @@ refuse_each 'items' 'items 4 16, tick a, deliver 0, deliver 1, send a 01, send a
 refuse_each 'calls' 'calls 4 16, call add 5, call raw 7 9 1 0005, tick a, deliver 0, deliver 1, deliver 4, deliver 3, 6* rest'
 refuse_each 'a server' "serve 4 16, $versions, 5000 1234 5678 0002 0000 0064 $add, 5000 1234 5678 0001 0000 0064 $add, 50fe 1234 5678 0003 0000 0064 00"
 
-echo "$passed passed, $failed failed"
-[ "$failed" -eq 0 ]
+finish

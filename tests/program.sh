@@ -3,35 +3,21 @@
 # Its last line is 'N passed, M failed', and it ends with 1 where one failed. It builds the program first.
 set -u
 cd "$(dirname "$0")/.."
-crate=crates/xns
-program=$PWD/$crate/out/xns
-work=$(mktemp -d)
-trap 'rm -rf "$work"' EXIT
-passed=0
-failed=0
-
-if ! command -v gcc > /dev/null; then
+. tests/lib.sh
+if ! has gcc; then
     echo "gcc is wanted: it builds what refuses the program memory"
     exit 1
 fi
-
-rm -f "$program"
-if ! (cd $crate && rt run -- sim < stdin) > "$work/build" 2>&1 || [ ! -x "$program" ]; then
-    cat "$work/build"
-    echo "the program was not built"
-    exit 1
-fi
+build_program xns -- sim
 
 # The status, the line on standard error (empty: nothing is said) and the file of standard output (-: any) of the last run.
 expect() {
     name=$1 status=$2 line=$3 output=$4
     if [ -n "$line" ]; then printf '%s\n' "$line"; fi > "$work/expected"
     if [ "$ended" -eq "$status" ] && cmp -s "$work/expected" "$work/err" && { [ "$output" = - ] || cmp -s "$output" "$work/out"; }; then
-        passed=$((passed + 1))
+        pass
     else
-        failed=$((failed + 1))
-        echo "FAILED $name: status $ended and not $status, standard error:"
-        cat "$work/err"
+        fail "$name: status $ended and not $status, standard error:"
     fi
 }
 
@@ -43,10 +29,7 @@ run() {
 
 # A test ended with the status; if that is not 0, the line says what is wrong.
 saw() {
-    if [ "$2" -eq 0 ]; then passed=$((passed + 1)); else
-        failed=$((failed + 1))
-        echo "FAILED $1"
-    fi
+    if [ "$2" -eq 0 ]; then pass; else fail "$1"; fi
 }
 
 # So many bytes of one kind.
@@ -152,9 +135,9 @@ rests() {
     repeat "$1" r | sed 's/r/rest\n/g'
 }
 
-cat $crate/stdin > "$work/in"
+cat "$crate/stdin" > "$work/in"
 run sim
-expect 'both first answers are lost' 0 '' $crate/stdout
+expect 'both first answers are lost' 0 '' "$crate/stdout"
 
 { printf '%s\n' 'call add 5' 'call raw 9 1 1 -' 'call raw 7 9 1 0005' 'call raw 7 2 8 -' 'call raw 7 2 1 0005 0006' 'call total' 'tick a' && rests 14; } > "$work/in"
 plays 'six calls, of which four are rejected' 0 'calls 6' 'carried 6' '1 returned 5' '2 rejected 0 -' '3 rejected 1 0001 0002' '4 rejected 2 -' '5 rejected 3 -' '6 returned 5' 'total 5' 'packets 30'
@@ -295,7 +278,7 @@ yes '' | "$program" sim > "$work/out" 2> "$work/err"
 ended=$?
 expect 'endless lines' 3 'xns: too many lines' "$work/nothing"
 
-cat $crate/stdin > "$work/in"
+cat "$crate/stdin" > "$work/in"
 "$program" sim < "$work/in" > /dev/full 2> "$work/err"
 ended=$?
 expect 'a play for a full device' 3 'xns: write fault' -
@@ -380,7 +363,7 @@ done
 # ---- each read and each write failing in turn, and each growth refused
 
 gcc -O1 -shared -fPIC -o "$work/fail_streams.so" tests/fail_streams.c
-gcc -O1 -shared -fPIC -o "$work/refuse_growth.so" tests/refuse_growth.c
+build_refusing
 
 # The program on the words, of which the numbered call fails; $work/failed is then there.
 run_failing() {
@@ -417,22 +400,13 @@ fail_streams() {
     done
 }
 
-# The program on the words, of which the growth of that number is refused; $work/failed is then there.
-run_refusing() {
-    number=$1
-    shift
-    rm -f "$work/failed"
-    REFUSE_AT=$number REFUSED=$work/failed LD_PRELOAD=$work/refuse_growth.so "$program" "$@" < "$work/in" > "$work/out" 2> "$work/err"
-    ended=$?
-}
-
 # Each growth is refused in turn: the whole text, or 3 and of `dump` and `calls` a front of the text, of `sim` nothing.
 refuse_growths() {
     mode=$1 fine=$2
     growth=1
     while [ $growth -le 1000 ]; do
-        run_refusing $growth "$mode"
-        [ -e "$work/failed" ] || break
+        refuse_growth $growth "$program" "$mode" < "$work/in"
+        [ -e "$work/refused" ] || break
         if [ "$ended" -eq "$fine" ]; then
             expect "$mode: growth $growth refused, and done without" "$fine" '' "$work/text"
         else
@@ -455,8 +429,8 @@ refuse_mistaken() {
     shift 2
     growth=1 told=0 shortly=0
     while [ $growth -le 1000 ]; do
-        run_refusing $growth "$@"
-        [ -e "$work/failed" ] || break
+        refuse_growth $growth "$program" "$@" < "$work/in"
+        [ -e "$work/refused" ] || break
         if [ "$ended" -eq 3 ]; then
             expect "$*: growth $growth refused" 3 'xns: no memory' "$work/nothing"
         elif [ "$(cat "$work/err")" = "$short" ]; then
@@ -491,8 +465,8 @@ cat "$work/conversation" > "$work/in"
 cat "$work/conversation.text" > "$work/text"
 fail_streams calls 1
 
-cat $crate/stdin > "$work/in"
-cat $crate/stdout > "$work/text"
+cat "$crate/stdin" > "$work/in"
+cat "$crate/stdout" > "$work/text"
 fail_streams sim 0
 unset MOST
 refuse_growths sim 0
@@ -506,5 +480,4 @@ echo 'tick c' > "$work/in"
 run_failing FAIL_READ 2 sim
 expect 'a bad line before a read that fails' 3 'xns: read fault' "$work/nothing"
 
-echo "$passed passed, $failed failed"
-[ "$failed" -eq 0 ]
+finish

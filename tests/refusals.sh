@@ -7,21 +7,7 @@
 # first.
 set -u
 cd "$(dirname "$0")/.."
-crate=crates/test_refusals
-work=$(mktemp -d)
-trap 'rm -rf "$work"' EXIT
-passed=0
-failed=0
-
-# Builds a program.
-build() {
-    rm -f "crates/$1/out/$1"
-    if ! (cd "crates/$1" && rt run) > "$work/build" 2>&1 || [ ! -x "crates/$1/out/$1" ]; then
-        cat "$work/build"
-        echo "the program $1 was not built"
-        exit 1
-    fi
-}
+. tests/lib.sh
 
 # Runs a program with each growth refused in turn, until a run asks for fewer. `$1` judges what a run put out.
 refuse_each() {
@@ -30,17 +16,9 @@ refuse_each() {
     : > "$work/all"
     growth=1
     while [ $growth -le 3000 ]; do
-        rm -f "$work/refused"
-        REFUSE_AT=$growth REFUSED=$work/refused LD_PRELOAD=$work/refuse_growth.so "$@" > "$work/out" 2> /dev/null
-        ended=$?
+        refuse_growth $growth "$@"
         [ -e "$work/refused" ] || break
-        if $judge; then
-            passed=$((passed + 1))
-        else
-            failed=$((failed + 1))
-            echo "FAILED with growth $growth refused:"
-            cat "$work/out"
-        fi
+        if $judge; then pass; else fail "with growth $growth refused:" "$work/out"; fi
         cat "$work/out" >> "$work/all"
         growth=$((growth + 1))
     done
@@ -57,41 +35,34 @@ comes_to_its_end() {
     [ "$(cat "$work/out")" = 'a whole conversation: done' ] || { [ $ended -ne 0 ] && [ ! -s "$work/out" ] && [ $growth -le 8 ]; }
 }
 
-build test_refusals
-build test_hosts
-gcc -O1 -shared -fPIC -o "$work/refuse_growth.so" tests/refuse_growth.c
-refuse_each stands crates/test_refusals/out/test_refusals
+build_program test_hosts
+hosts=$program
+build_program test_refusals
+build_refusing
+refuse_each stands "$program"
 
 # The last run was refused nothing.
-if cmp -s "$work/out" $crate/stdout; then
-    passed=$((passed + 1))
-else
-    failed=$((failed + 1))
-    echo "FAILED with nothing refused:"
-    cat "$work/out"
-fi
+if cmp -s "$work/out" "$crate/stdout"; then pass; else fail 'with nothing refused:' "$work/out"; fi
 
 # A call that takes no memory answers in all runs but so many, in which what it is called with was refused.
 takes_none() {
     if [ "$(grep -cxF "$1: done" "$work/all")" -eq $((growth - 1 - $2)) ] && [ "$(grep -cxF "$1: not called" "$work/all")" -eq "$2" ]; then
-        passed=$((passed + 1))
+        pass
     else
-        failed=$((failed + 1))
-        echo "FAILED $1: it took memory"
+        fail "$1: it took memory"
     fi
 }
 
 # A call is refused so often, and then answers.
 takes() {
     if [ "$(grep -cxF "$1: refused, then done" "$work/all")" "$2" "$3" ]; then
-        passed=$((passed + 1))
+        pass
     else
-        failed=$((failed + 1))
-        echo "FAILED $1: it was not refused so many growths as it takes"
+        fail "$1: it was not refused so many growths as it takes"
     fi
 }
 
-sed 's/: done$//' $crate/stdout > "$work/names"
+sed 's/: done$//' "$crate/stdout" > "$work/names"
 while read -r name; do
     case $name in
     'read: a count with no bytes') takes_none "$name" 0 ;;
@@ -102,14 +73,8 @@ while read -r name; do
     esac
 done < "$work/names"
 
-refuse_each comes_to_its_end crates/test_hosts/out/test_hosts refused
+refuse_each comes_to_its_end "$hosts" refused
 # The last run was refused nothing. A conversation takes far more growths than the words of the program.
-if [ "$(cat "$work/out")" = 'a whole conversation: done' ] && [ "$growth" -gt 100 ]; then
-    passed=$((passed + 1))
-else
-    failed=$((failed + 1))
-    echo "FAILED a whole conversation with nothing refused"
-fi
+if [ "$(cat "$work/out")" = 'a whole conversation: done' ] && [ "$growth" -gt 100 ]; then pass; else fail 'a whole conversation with nothing refused'; fi
 
-echo "$passed passed, $failed failed"
-[ "$failed" -eq 0 ]
+finish

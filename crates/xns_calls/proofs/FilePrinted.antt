@@ -1,9 +1,8 @@
 -- A packet of a capture more, or a part of the end, is printed.
 use Rattle.std.proofs.Common.{◌≡◌, ◌∙◌, ap, sym, refl, arith, subst, ℕ, suc, ◌+◌, List, [], ◌∷◌, ◌++◌, length, append-nil, append_assoc}
-use Rattle.xns_lines.specs.Printing.{IsEndPrinted}
+use Rattle.xns_lines.specs.Printing.{IsBegun, IsEndPrinted, IsPrinted}
 use Rattle.xns_lines.specs.declared.page.Page.{Page}
 use Rattle.xns_captures.specs.Captures.{NumberedPacket}
-use Rattle.xns_captures.specs.Printing.{IsBegun, IsPrinted}
 use Rattle.xns_calls.specs.Calls.{after_bytes, nothing_known}
 use Rattle.xns_calls.specs.Capture.{IsPlaced, Keeps, Known, after_end, known}
 use Rattle.xns_calls.specs.Files.{HasPrintedPackets, known_behind, last_after, last_frame, packet_taken, packets_known, packets_known_with_end, packets_refused, packets_text, packets_text_with_end, text_behind}

@@ -2,6 +2,7 @@
 use Rattle.std.specs.Prelude.{◌≡◌, ℕ, zero, suc, Bool, List, [], ◌∷◌, ◌++◌, length, Option}
 use Rattle.xns_captures.specs.Captures.{NumberedPacket, packets_of}
 use Rattle.xns_captures.specs.Printing as printing
+use Rattle.xns_lines.specs.Printing.{text_to_end}
 use Rattle.xns_captures.specs.declared.file_fault.FileFault.{FileFault}
 use Rattle.xns_calls.specs.Calls.{after_bytes, nothing_known}
 use Rattle.xns_calls.specs.Capture.{Keeps, Known, after_end}
@@ -59,7 +60,7 @@ packet_end_count packets = length (packets_known packets).flows
 
 -- what is printed for a file
 abbrev pub calls_capture_text : List ℕ → List ℕ
-calls_capture_text file = printing.text_to_end packets_text_with_end packet_end_count (packets_of file)
+calls_capture_text file = text_to_end packets_text_with_end packet_end_count (packets_of file)
 
 -- whether something was refused
 abbrev pub has_file_refusal : List ℕ → Bool

@@ -9,6 +9,7 @@ use Rattle.xns_spp.specs.declared.item.Item.{Item}
 use Rattle.xns_spp.specs.declared.header.Header.{Header}
 use Rattle.courier_messages.specs.Conversation.{conversation, ending, opening}
 use Rattle.courier_messages.specs.declared.message.Message.{Message}
+use Rattle.xns_dump.specs.Dump.Capture.{SpellsPackets}
 use Rattle.xns_dump.specs.Dump.Line.{has_word}
 use Rattle.xns_dump.specs.Flows.{flow_of, is_flow}
 use Rattle.xns_dump.specs.declared.flows.flow.Flow.{Flow}
@@ -17,6 +18,7 @@ use Rattle.xns_calls.specs.Calls.{calls_text, has_refusal}
 use Rattle.xns_calls.specs.Capture.{Known, after_sequenced, flow_behind, place_of}
 use Rattle.xns_calls.specs.Events.{AreWithinReach, Event, IsAmong, acknowledged_event, after_event, after_events, after_whole_event}
 use Rattle.xns_calls.specs.Events.{after_whole_events, captured, captured_in, own_events, with_captured}
+use Rattle.xns_calls.specs.Files.{calls_capture_text, has_file_refusal}
 use Rattle.xns_calls.specs.Exchange.{Scene, after_acknowledge, after_packet, after_told, first_track, of_other, seen_from_other}
 use Rattle.xns_calls.specs.Exchange.{take_number, told_of}
 use Rattle.xns_calls.specs.Input.{TellsConversation, events_in, first_field}
@@ -119,3 +121,8 @@ OtherConnectionsStay = (n : ℕ) (packet : PacketModel) (f : Header) (content : 
 abbrev pub OneKeyServesBothDirections : Type 0
 OneKeyServesBothDirections = (a b : Flow) → IsFlow a → IsFlow b
     → is_eq (key_cmp (connection_key a) (connection_key b)) ≡ (is_flow a b || is_flow a (flow_behind b))
+
+-- a capture says what lines say that spell its packets
+pub record CapturesSayWhatLinesSay : Type 0 where
+  pub text : (input file : List ℕ) → SpellsPackets input file → calls_capture_text file ≡ calls_text input
+  pub refused : (input file : List ℕ) → SpellsPackets input file → has_file_refusal file ≡ has_refusal input

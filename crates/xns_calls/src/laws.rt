@@ -1,5 +1,5 @@
 //! Laws of the definitions, as functions that do nothing.
-ghost use Rattle.xns_calls.specs.Laws.{AnItemIsAnEvent, HeardMessagesArePrinted, InputsTellTheirConversations};
+ghost use Rattle.xns_calls.specs.Laws.{AnItemIsAnEvent, CapturesSayWhatLinesSay, HeardMessagesArePrinted, InputsTellTheirConversations};
 ghost use Rattle.xns_calls.specs.Laws.{MissingItemsAreBeforeCapturedOnes, NothingIsMissing};
 ghost use Rattle.xns_calls.specs.Laws.{NumbersAreReadBack, OneKeyServesBothDirections, OtherConnectionsStay, PacketsAreEvents};
 ghost use Rattle.xns_calls.specs.Laws.{RepeatsSayNothing, TheAnswerSaysRefused, WhatIsHeardIsTheConversation};
@@ -105,3 +105,9 @@ pub fn one_key_serves_both_directions()
     flows_are_told_apart();
     places_are_ordered_by_numbers();
 }
+
+/// Of a capture `calls` says what it says of lines of hex that spell the packets of the capture, each packet in the line of
+/// its frame's number.
+pub fn captures_say_what_lines_say()
+    ensures { CapturesSayWhatLinesSay }
+{}

@@ -2,68 +2,35 @@
 use Rattle.std.proofs.Common.{◌≡◌, ◌∙◌, ap, sym, refl, arith, ℕ, ◌+◌, ◌≤◌, ◌⊎◌, inl, inr, Bool, false, List, [], ◌∷◌, ◌++◌, append-nil, subst, Option, Some, None, Result, Ok, Err}
 use Rattle.std.specs.Prelude.{IfErr, IfSome, OnOk}
 use Rattle.std.specs.Io.KnownBytes.{Appends}
-use Rattle.xns_lines.specs.Faults.{AppendsFront, AppendsPart}
+use Rattle.xns_lines.specs.Faults.{AppendsPart}
 use Rattle.xns_lines.specs.Report.{whole}
 use Rattle.xns_lines.specs.declared.page.Page.{Page}
 use Rattle.xns_lines.specs.declared.fault.RunFault.{RunFault}
 use Rattle.xns_lines.specs.declared.fault.RunFault.TheVariants as run
-use Rattle.xns_lines.proofs.Pages.{if_some}
-use Rattle.xns_lines.proofs.Writes.{appends_nothing, appends_trans, part_written}
+use Rattle.xns_lines.proofs.Pages.{all_left, if_some, none_left, part_left, whole_front}
+use Rattle.xns_lines.proofs.Writes.{appends_nothing}
 use Rattle.xns_captures.specs.Captures.{NumberedPacket, fault_of, packets_of}
-use Rattle.xns_captures.specs.Printing.{EndCount, HasFailed, HasRefused, IsFront, PrinterStandsFor, StandsBehind, StopsIn, StopsInEnd, StopsWith, TextOf, TextWithEnd, WritesBy, text_to_end}
+use Rattle.xns_lines.specs.Printing.{EndCount, HasFailed, StandsBehind, StopsInEnd, TextWithEnd, text_to_end}
+use Rattle.xns_captures.specs.Printing.{IsFront, StopsIn, StopsWith, WritesBy}
 use Rattle.xns_captures.specs.Reading.{Says, StandsAfter, StopsBy}
 use Rattle.xns_captures.specs.declared.file_fault.FileFault.{FileFault}
 use Rattle.xns_captures.specs.declared.file_fault.FileFault.TheVariants.{Run, Capture}
 
--- nothing is printed of no packets
-pub none_printed : (has_printed : Says) (text_of : TextOf) (has_refused : HasRefused) (p : Page) (known : Option (List ℕ)) → whole p.text ≡ [] → p.is_refused ≡ false → text_of [] ≡ [] → has_refused [] ≡ false → has_printed []
-    → PrinterStandsFor has_printed text_of has_refused p false known known []
-none_printed has_printed text_of has_refused p known text refused none none_refused begun = record {
-  refused = refused ∙ sym none_refused;
-  written = ([], appends_nothing known, text ∙ sym none);
-  printed = λ lost. begun;
-}
-
--- the page is written
-pub flushed : (has_printed : Says) (text_of : TextOf) (has_refused : HasRefused) (p p' : Page) (is_lost : Bool) (before mid after : Option (List ℕ)) (packets : List NumberedPacket) → whole p'.text ≡ [] → p'.is_refused ≡ p.is_refused
-    → Appends mid after (whole p.text) → PrinterStandsFor has_printed text_of has_refused p is_lost before mid packets → PrinterStandsFor has_printed text_of has_refused p' is_lost before after packets
-flushed has_printed text_of has_refused p p' is_lost before mid after packets none same text h = record {
-  refused = same ∙ h.refused;
-  written = (
-    h.written.0 ++ whole p.text,
-    appends_trans before mid after _ _ h.written.1 text,
-    ap (λ t. (h.written.0 ++ whole p.text) ++ t) none ∙ append-nil (h.written.0 ++ whole p.text) ∙ h.written.2,
-  );
-  printed = h.printed;
-}
-
--- what is pending is written
-pub all_left : (has_printed : Says) (text_of : TextOf) (has_refused : HasRefused) (p : Page) (is_lost : Bool) (before mid after : Option (List ℕ)) (packets : List NumberedPacket)
-    → Appends mid after (whole p.text) → PrinterStandsFor has_printed text_of has_refused p is_lost before mid packets → Appends before after (text_of packets)
-all_left has_printed text_of has_refused p is_lost before mid after packets written h =
-    subst (Appends before after) h.written.2 (appends_trans before mid after _ _ h.written.1 written)
-
--- or a part of it
-pub part_left : (has_printed : Says) (text_of : TextOf) (has_refused : HasRefused) (p : Page) (is_lost : Bool) (before mid after : Option (List ℕ)) (packets : List NumberedPacket)
-    → AppendsPart mid after (whole p.text) → PrinterStandsFor has_printed text_of has_refused p is_lost before mid packets → AppendsPart before after (text_of packets)
-part_left has_printed text_of has_refused p is_lost before mid after packets part h =
-    part_written before mid after h.written.0 (whole p.text) (text_of packets) h.written.1 h.written.2 part
-
 -- ---- where it stopped
 
 -- a fault while packets were taken
-pub stops_with : (fault : FileFault) (ends : EndCount) (file : List ℕ) (left : List NumberedPacket → ℕ → Type 0)
+pub stops_with : (fault : FileFault) (ends : EndCount NumberedPacket) (file : List ℕ) (left : List NumberedPacket → ℕ → Type 0)
     → StopsBy fault file (λ packets. left packets 0) → StopsWith fault ends file left
 stops_with (Capture why) ends file left h = h
 stops_with (Run f) ends file left h =
     (h.0, 0, record { rest = h.1; joined = h.2; few = omega arith; place = inl refl }, h.3)
 
 -- behind all packets
-at_end : (ends : EndCount) (file : List ℕ) (part : ℕ) → part ≤ ends (packets_of file) → IsFront ends file (packets_of file) part
+at_end : (ends : EndCount NumberedPacket) (file : List ℕ) (part : ℕ) → part ≤ ends (packets_of file) → IsFront ends file (packets_of file) part
 at_end ends file part few = record { rest = []; joined = append-nil (packets_of file); few = few; place = inr refl }
 
 -- a fault at the end of the file
-pub stops_in_end : (f : RunFault) (ends : EndCount) (file : List ℕ) (stands fails : ℕ → Says)
+pub stops_in_end : (f : RunFault) (ends : EndCount NumberedPacket) (file : List ℕ) (stands fails : ℕ → Says)
     → StopsInEnd f (λ n. stands n (packets_of file)) (λ n. fails n (packets_of file)) (ends (packets_of file))
     → StopsWith (Run f) ends file (λ packets part. StandsAfter (Run f) (stands part) (fails part) packets)
 stops_in_end run.Read ends file stands fails h = absurd h.2
@@ -72,34 +39,21 @@ stops_in_end run.TooManyLines ends file stands fails h = absurd h.2
 stops_in_end run.NoMemory ends file stands fails h = (packets_of file, h.0, at_end ends file h.0 h.1, h.2)
 stops_in_end run.Write ends file stands fails h = (packets_of file, h.0, at_end ends file h.0 h.1, h.2)
 
-stops_map : (fault : FileFault) (ends : EndCount) (file : List ℕ) (L M : List NumberedPacket → ℕ → Type 0)
+stops_map : (fault : FileFault) (ends : EndCount NumberedPacket) (file : List ℕ) (L M : List NumberedPacket → ℕ → Type 0)
     → ((packets : List NumberedPacket) (part : ℕ) → L packets part → M packets part)
     → StopsWith fault ends file L → StopsWith fault ends file M
 stops_map (Capture why) ends file L M f h = (h.0, f (packets_of file) 0 h.1)
 stops_map (Run r) ends file L M f h = (h.0, h.1, h.2, f h.0 h.1 h.3)
 
 -- after another fault a write fails
-stops_writing : (fault : FileFault) (ends : EndCount) (file : List ℕ) (L M : List NumberedPacket → ℕ → Type 0)
+stops_writing : (fault : FileFault) (ends : EndCount NumberedPacket) (file : List ℕ) (L M : List NumberedPacket → ℕ → Type 0)
     → ((packets : List NumberedPacket) (part : ℕ) → L packets part → M packets part)
     → StopsWith fault ends file L → StopsWith (Run run.Write) ends file M
 stops_writing (Capture why) ends file L M f h =
     (packets_of file, 0, at_end ends file 0 (omega arith), f (packets_of file) 0 h.1)
 stops_writing (Run r) ends file L M f h = (h.0, h.1, h.2, f h.0 h.1 h.3)
 
-no_front : (front rest : List ℕ) → front ++ rest ≡ [] → front ≡ []
-no_front [] rest e = refl
-no_front (byte ∷ front) rest e = (cc)
-
--- where nothing is pending, nothing more is written
-none_left : (before mid after : Option (List ℕ)) (pending text : List ℕ) → pending ≡ [] → AppendsFront mid after pending → AppendsPart before mid text → AppendsPart before after text
-none_left before mid after pending text none front left =
-    let nothing : front.0 ≡ [] = no_front front.0 front.2.0 (front.2.1 ∙ none) in (
-      left.0 ++ front.0,
-      appends_trans before mid after _ _ left.1 front.1,
-      (left.2.0, left.2.1, ap (λ t. (left.0 ++ t) ++ left.2.0) nothing ∙ ap (λ t. t ++ left.2.0) (append-nil left.0) ∙ left.2.2),
-    )
-
-module _ (has_printed : List NumberedPacket → ℕ → Type 0) (text_of : TextWithEnd) (has_refused : List NumberedPacket → ℕ → Bool) (ends : EndCount)
+module _ (has_printed : List NumberedPacket → ℕ → Type 0) (text_of : TextWithEnd NumberedPacket) (has_refused : List NumberedPacket → ℕ → Bool) (ends : EndCount NumberedPacket)
     (p : Page) (is_lost : Bool) (before mid after : Option (List ℕ)) where
   abbrev Stands : ℕ → Says
   Stands part = StandsBehind has_printed text_of has_refused part p is_lost before mid
@@ -110,24 +64,24 @@ module _ (has_printed : List NumberedPacket → ℕ → Type 0) (text_of : TextW
   -- what is pending is written
   written : (fault : FileFault) (packets : List NumberedPacket) (part : ℕ) → Appends mid after (whole p.text)
       → StandsAfter fault (Stands part) (Fails part) packets → WritesBy fault before after (text_of packets part)
-  written (Capture why) packets part text h = all_left _ _ _ p is_lost before mid after packets text h
+  written (Capture why) packets part text h = all_left _ _ _ p is_lost mid after before packets text h
   written (Run run.Write) packets part text h =
-      none_left before mid after (whole p.text) (text_of packets part) h.0 (whole p.text, text, ([], append-nil (whole p.text))) h.1
-  written (Run run.Read) packets part text h = all_left _ _ _ p is_lost before mid after packets text h
-  written (Run run.LineTooLong) packets part text h = all_left _ _ _ p is_lost before mid after packets text h
-  written (Run run.TooManyLines) packets part text h = all_left _ _ _ p is_lost before mid after packets text h
-  written (Run run.NoMemory) packets part text h = all_left _ _ _ p is_lost before mid after packets text h
+      none_left before mid after (whole p.text) (text_of packets part) h.0 (whole_front mid after (whole p.text) text) h.1
+  written (Run run.Read) packets part text h = all_left _ _ _ p is_lost mid after before packets text h
+  written (Run run.LineTooLong) packets part text h = all_left _ _ _ p is_lost mid after before packets text h
+  written (Run run.TooManyLines) packets part text h = all_left _ _ _ p is_lost mid after before packets text h
+  written (Run run.NoMemory) packets part text h = all_left _ _ _ p is_lost mid after before packets text h
 
   -- a part of it is
   unwritten : (fault : FileFault) (packets : List NumberedPacket) (part : ℕ) → AppendsPart mid after (whole p.text)
       → StandsAfter fault (Stands part) (Fails part) packets → AppendsPart before after (text_of packets part)
-  unwritten (Capture why) packets part text h = part_left _ _ _ p is_lost before mid after packets text h
+  unwritten (Capture why) packets part text h = part_left _ _ _ p is_lost mid after before packets text h
   unwritten (Run run.Write) packets part text h =
       none_left before mid after (whole p.text) (text_of packets part) h.0 (text.0, text.1, (text.2.0, text.2.2)) h.1
-  unwritten (Run run.Read) packets part text h = part_left _ _ _ p is_lost before mid after packets text h
-  unwritten (Run run.LineTooLong) packets part text h = part_left _ _ _ p is_lost before mid after packets text h
-  unwritten (Run run.TooManyLines) packets part text h = part_left _ _ _ p is_lost before mid after packets text h
-  unwritten (Run run.NoMemory) packets part text h = part_left _ _ _ p is_lost before mid after packets text h
+  unwritten (Run run.Read) packets part text h = part_left _ _ _ p is_lost mid after before packets text h
+  unwritten (Run run.LineTooLong) packets part text h = part_left _ _ _ p is_lost mid after before packets text h
+  unwritten (Run run.TooManyLines) packets part text h = part_left _ _ _ p is_lost mid after before packets text h
+  unwritten (Run run.NoMemory) packets part text h = part_left _ _ _ p is_lost mid after before packets text h
 
   abbrev pub All : List ℕ → Type 0
   All file = (fault_of file ≡ None) × Stands (ends (packets_of file)) (packets_of file)
@@ -136,7 +90,7 @@ module _ (has_printed : List NumberedPacket → ℕ → Type 0) (text_of : TextW
   Some_of fault file = StopsWith fault ends file (λ packets part. StandsAfter fault (Stands part) (Fails part) packets)
 
   pub flushed_text : (file : List ℕ) → Appends mid after (whole p.text) → All file → Appends before after (text_to_end text_of ends (packets_of file))
-  flushed_text file text all = all_left _ _ _ p is_lost before mid after (packets_of file) text all.1
+  flushed_text file text all = all_left _ _ _ p is_lost mid after before (packets_of file) text all.1
 
   pub flushed_some : (fault : FileFault) (file : List ℕ) → Appends mid after (whole p.text) → Some_of fault file
       → StopsIn text_of ends fault file before after
@@ -148,7 +102,7 @@ module _ (has_printed : List NumberedPacket → ℕ → Type 0) (text_of : TextW
     packets_of file,
     ends (packets_of file),
     at_end ends file (ends (packets_of file)) (omega arith),
-    part_left _ _ _ p is_lost before mid after (packets_of file) part all.1,
+    part_left _ _ _ p is_lost mid after before (packets_of file) part all.1,
   )
 
   unflushed_some : (fault : FileFault) (file : List ℕ) → AppendsPart mid after (whole p.text) → Some_of fault file
@@ -165,7 +119,7 @@ module _ (has_printed : List NumberedPacket → ℕ → Type 0) (text_of : TextW
 -- ---- before anything is read
 
 -- where no packets have no text, a want of memory before anything is read or written stops in the file
-pub at_first : (text_of : TextWithEnd) (ends : EndCount) (left held : Option (List ℕ)) → text_of [] 0 ≡ []
+pub at_first : (text_of : TextWithEnd NumberedPacket) (ends : EndCount NumberedPacket) (left held : Option (List ℕ)) → text_of [] 0 ≡ []
     → IfSome left (λ file. StopsIn text_of ends (Run run.NoMemory) file held held)
 at_first text_of ends None held none = tt
 at_first text_of ends (Some file) held none =

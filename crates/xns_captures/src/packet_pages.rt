@@ -1,7 +1,7 @@
 //! Prints packets on pages.
 ghost use Rattle.std.specs.Prelude.{◌≡◌, ◌≤◌, ◌<◌, ◌+◌, ◌++◌, ◌∷◌, [], ℕ, true, List, Option, IfErr, OnErr, OnOk, length};
 ghost use Rattle.xns_captures.specs.Captures.{NumberedPacket};
-ghost use Rattle.xns_captures.specs.Printing.{HasFailed, StandsBehind, StopsInEnd};
+ghost use Rattle.xns_lines.specs.Printing.{HasFailed, StandsBehind, StopsInEnd};
 ghost use Rattle.xns_captures.specs.Reading.{most_frames};
 
 use crate::packet_printer::PacketPrinter;

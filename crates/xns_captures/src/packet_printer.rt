@@ -9,9 +9,8 @@ use xns_lines::Page;
 /// whether one of them is refused.
 pub trait PacketPrinter {
     ghost use Rattle.std.specs.Prelude.{◌≡◌, ◌≤◌, ◌<◌, length, ℕ, Bool, List, [], false, OnOk};
-    ghost use Rattle.xns_lines.specs.Printing.{IsEndPrinted};
+    ghost use Rattle.xns_lines.specs.Printing.{IsBegun, IsEndPrinted, IsPrinted};
     ghost use Rattle.xns_captures.specs.Captures.{NumberedPacket};
-    ghost use Rattle.xns_captures.specs.Printing.{IsBegun, IsPrinted};
     ghost use Rattle.xns_captures.specs.Reading.{most_frames};
 
     // The printer has printed these packets, and so many parts of the end of the file behind them.

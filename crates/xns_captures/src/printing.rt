@@ -2,7 +2,8 @@
 ghost use Rattle.std.specs.Prelude.{◌≡◌, ℕ, List, [], Option, None, IfErr, IfOk, IfSome, OnOk};
 ghost use Rattle.std.specs.Io.KnownBytes.{Appends};
 ghost use Rattle.xns_captures.specs.Captures.{fault_of, packets_of};
-ghost use Rattle.xns_captures.specs.Printing.{HasFailed, StandsBehind, StopsIn, StopsWith, text_to_end};
+ghost use Rattle.xns_lines.specs.Printing.{HasFailed, StandsBehind, text_to_end};
+ghost use Rattle.xns_captures.specs.Printing.{StopsIn, StopsWith};
 ghost use Rattle.xns_captures.specs.Reading.{StandsAfter};
 
 use crate::file_fault::FileFault;

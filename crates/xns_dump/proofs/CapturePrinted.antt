@@ -6,7 +6,7 @@ use Rattle.std.specs.BTreeMap.{BTreeMap}
 use Rattle.std.proofs.lemmas.Grind.{flat_map-append}
 use Rattle.std.proofs.lemmas.List.Folds.{list_any-append}
 use Rattle.xns_captures.specs.Captures.{NumberedPacket}
-use Rattle.xns_captures.specs.Printing.{IsBegun, IsPrinted}
+use Rattle.xns_lines.specs.Printing.{IsBegun, IsPrinted}
 use Rattle.xns_captures.specs.Reading.{most_frames}
 use Rattle.xns_lines.specs.declared.page.Page.{Page}
 use Rattle.xns_dump.specs.Dump.Capture.{is_packet_refused, items_among, items_of_packet, packet_text, packets_text, packets_text_from}

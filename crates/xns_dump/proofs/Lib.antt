@@ -8,4 +8,5 @@ pub mod Places
 pub mod Printed
 pub mod Refused
 pub mod Results
+pub mod Spelled
 pub mod Texts

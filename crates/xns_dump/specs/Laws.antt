@@ -7,6 +7,8 @@ use Rattle.xns_idp.specs.declared.address.Address.{Address}
 use Rattle.xns_idp.specs.declared.fault.IdpFault.{IdpFault}
 use Rattle.xns_spp.specs.declared.spp_fault.SppFault.{SppFault}
 use Rattle.xns_lines.specs.Text.{hex_word, words_text}
+use Rattle.xns_dump.specs.Dump.{dump_text, has_refused_line}
+use Rattle.xns_dump.specs.Dump.Capture.{SpellsPackets, dump_capture_text, has_refused_packet}
 use Rattle.xns_dump.specs.Dump.Line.{has_word, hex_refusal, is_refused, text_of_line}
 use Rattle.xns_dump.specs.Flows.{DataPacket, is_flow}
 use Rattle.xns_dump.specs.Flows.Numbers.{flow_cmp}
@@ -61,3 +63,8 @@ pub record FlowsAreToldApart : Type 0 where
 abbrev pub PlacesAreOrderedByNumbers : Type 0
 PlacesAreOrderedByNumbers = (a b : Place) → IsPlace a → IsPlace b
     → ordering_then (nat_cmp (host_and_socket a) (host_and_socket b)) (nat_cmp a.identifier b.identifier) ≡ place_cmp a b
+
+-- a capture says what lines say that spell its packets
+pub record CapturesSayWhatLinesSay : Type 0 where
+  pub text : (input file : List ℕ) → SpellsPackets input file → dump_capture_text file ≡ dump_text input
+  pub refused : (input file : List ℕ) → SpellsPackets input file → has_refused_packet file ≡ has_refused_line input

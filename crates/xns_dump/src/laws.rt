@@ -1,5 +1,5 @@
 //! Laws of the definitions, as functions that do nothing.
-ghost use Rattle.xns_dump.specs.Laws.{FlowsAreToldApart, JoinedTextsSayRefused, OnlyRefusalsSayRefused, PlacesAreOrderedByNumbers};
+ghost use Rattle.xns_dump.specs.Laws.{CapturesSayWhatLinesSay, FlowsAreToldApart, JoinedTextsSayRefused, OnlyRefusalsSayRefused, PlacesAreOrderedByNumbers};
 ghost use Rattle.xns_dump.specs.Laws.{RefusedLinesSaySo};
 
 /// The text of a line has the word `refused` exactly where the line is refused, whatever its number and those of items.
@@ -27,4 +27,10 @@ pub fn flows_are_told_apart()
 /// Places are ordered by host and socket as one number, and then by their identifiers.
 pub fn places_are_ordered_by_numbers()
     ensures { PlacesAreOrderedByNumbers }
+{}
+
+/// Of a capture `dump` says what it says of lines of hex that spell the packets of the capture, each packet in the line of
+/// its frame's number.
+pub fn captures_say_what_lines_say()
+    ensures { CapturesSayWhatLinesSay }
 {}

@@ -10,7 +10,7 @@ nothing_more : (held : Option (List ℕ)) → Appends held held []
 nothing_more None = tt
 nothing_more (Some bytes) = sym (append-nil bytes)
 
-pub at_first : (most : ℕ) (text_of : TextWithEnd) (end_count : EndCount) (left held : Option (List ℕ)) → text_of [] 0 ≡ []
+pub at_first : (most : ℕ) (text_of : TextWithEnd (List ℕ)) (end_count : EndCount (List ℕ)) (left held : Option (List ℕ)) → text_of [] 0 ≡ []
     → IfSome left (λ input. StopsIn most text_of end_count input left held held NoMemory)
 unfolding split_at_newlines
 at_first most text_of end_count None held none = tt

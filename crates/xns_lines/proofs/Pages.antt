@@ -5,36 +5,36 @@ use Rattle.std.specs.Io.KnownBytes.{Appends}
 use Rattle.xns_lines.specs.Faults.{AppendsFront, AppendsPart, Begins, HasWritten}
 use Rattle.xns_lines.specs.Lines.{IsWithinLimits, lines_of}
 use Rattle.xns_lines.specs.Lines.Cutter.{Says, StandsAfter, StopsShort}
-use Rattle.xns_lines.specs.Printing.{EndCount, HasFailed, HasRefused, IsAtEnd, PrinterStandsFor, StopsAt, StopsIn, StopsInEnd, TakesAll, TakesSome, TextOf, TextWithEnd, text_to_end}
+use Rattle.xns_lines.specs.Printing.{EndCount, HasFailed, HasRefused, IsAtEnd, PrinterStandsFor, StandsBehind, StopsAt, StopsIn, StopsInEnd, TakesAll, TakesSome, TextOf, TextWithEnd, text_to_end}
 use Rattle.xns_lines.specs.Report.{whole}
 use Rattle.xns_lines.specs.declared.fault.RunFault.{RunFault}
 use Rattle.xns_lines.specs.declared.fault.RunFault.TheVariants as fault
 use Rattle.xns_lines.specs.declared.page.Page.{Page}
 use Rattle.xns_lines.proofs.Writes.{appends_nothing, appends_trans, begins_trans, part_written}
 
--- nothing is printed of no lines
-pub none_printed : (has_printed : Says) (text_of : TextOf) (has_refused : HasRefused) (p : Page) (known : Option (List ℕ)) → whole p.text ≡ [] → p.is_refused ≡ false → text_of [] ≡ [] → has_refused [] ≡ false → has_printed []
-    → PrinterStandsFor has_printed text_of has_refused p false known known []
-none_printed has_printed text_of has_refused p known text refused none none_refused begun = record {
-  refused = refused ∙ sym none_refused;
-  written = ([], appends_nothing known, text ∙ sym none);
-  printed = λ lost. begun;
-}
+module _ {A : Type 0} (has_printed : List A → Type 0) (text_of : TextOf A) (has_refused : HasRefused A) where
+  -- nothing is printed of nothing
+  pub none_printed : (p : Page) (known : Option (List ℕ)) → whole p.text ≡ [] → p.is_refused ≡ false → text_of [] ≡ [] → has_refused [] ≡ false → has_printed [] → PrinterStandsFor has_printed text_of has_refused p false known known []
+  none_printed p known text refused none none_refused begun = record {
+    refused = refused ∙ sym none_refused;
+    written = ([], appends_nothing known, text ∙ sym none);
+    printed = λ lost. begun;
+  }
 
--- the page is written
-pub flushed : (has_printed : Says) (text_of : TextOf) (has_refused : HasRefused) (p p' : Page) (is_lost : Bool) (before mid after : Option (List ℕ)) (lines : List (List ℕ)) → whole p'.text ≡ [] → p'.is_refused ≡ p.is_refused
-    → Appends mid after (whole p.text) → PrinterStandsFor has_printed text_of has_refused p is_lost before mid lines → PrinterStandsFor has_printed text_of has_refused p' is_lost before after lines
-flushed has_printed text_of has_refused p p' is_lost before mid after lines none same text h = record {
-  refused = same ∙ h.refused;
-  written = (
-    h.written.0 ++ whole p.text,
-    appends_trans before mid after _ _ h.written.1 text,
-    ap (λ t. (h.written.0 ++ whole p.text) ++ t) none ∙ append-nil (h.written.0 ++ whole p.text) ∙ h.written.2,
-  );
-  printed = h.printed;
-}
+  -- the page is written
+  pub flushed : (p p' : Page) (is_lost : Bool) (before mid after : Option (List ℕ)) (things : List A) → whole p'.text ≡ [] → p'.is_refused ≡ p.is_refused → Appends mid after (whole p.text) → PrinterStandsFor has_printed text_of has_refused p is_lost before mid things
+      → PrinterStandsFor has_printed text_of has_refused p' is_lost before after things
+  flushed p p' is_lost before mid after things none same text h = record {
+    refused = same ∙ h.refused;
+    written = (
+      h.written.0 ++ whole p.text,
+      appends_trans before mid after _ _ h.written.1 text,
+      ap (λ t. (h.written.0 ++ whole p.text) ++ t) none ∙ append-nil (h.written.0 ++ whole p.text) ∙ h.written.2,
+    );
+    printed = h.printed;
+  }
 
-whole_front : (before after : Option (List ℕ)) (text : List ℕ) → Appends before after text → AppendsFront before after text
+pub whole_front : (before after : Option (List ℕ)) (text : List ℕ) → Appends before after text → AppendsFront before after text
 whole_front before after text written = (text, written, ([], append-nil text))
 
 part_front : (before after : Option (List ℕ)) (text : List ℕ) → AppendsPart before after text → AppendsFront before after text
@@ -52,7 +52,7 @@ no_front [] rest e = refl
 no_front (byte ∷ front) rest e = (cc)
 
 -- where nothing is pending, nothing more is written
-none_left : (before mid after : Option (List ℕ)) (pending text : List ℕ) → pending ≡ [] → AppendsFront mid after pending → AppendsPart before mid text → AppendsPart before after text
+pub none_left : (before mid after : Option (List ℕ)) (pending text : List ℕ) → pending ≡ [] → AppendsFront mid after pending → AppendsPart before mid text → AppendsPart before after text
 none_left before mid after pending text none front left =
     let nothing : front.0 ≡ [] = no_front front.0 front.2.0 (front.2.1 ∙ none) in (
       left.0 ++ front.0,
@@ -60,34 +60,42 @@ none_left before mid after pending text none front left =
       (left.2.0, left.2.1, ap (λ t. (left.0 ++ t) ++ left.2.0) nothing ∙ ap (λ t. t ++ left.2.0) (append-nil left.0) ∙ left.2.2),
     )
 
-module _ (has_printed : Says) (text_of : TextOf) (has_refused : HasRefused) (p : Page) (is_lost : Bool) (mid after : Option (List ℕ)) where
-  abbrev Stands : Option (List ℕ) → List (List ℕ) → Type 0
-  Stands before lines = PrinterStandsFor has_printed text_of has_refused p is_lost before mid lines
+module _ {A : Type 0} (has_printed : List A → Type 0) (text_of : TextOf A) (has_refused : HasRefused A) (p : Page) (is_lost : Bool) (mid after : Option (List ℕ)) where
+  abbrev Stands : Option (List ℕ) → List A → Type 0
+  Stands before things = PrinterStandsFor has_printed text_of has_refused p is_lost before mid things
 
-  abbrev Fails : Option (List ℕ) → List (List ℕ) → Type 0
-  Fails before lines = HasFailed text_of p before mid lines
+  abbrev Fails : Option (List ℕ) → List A → Type 0
+  Fails before things = HasFailed text_of p before mid things
 
   -- what is pending is written
-  all_left : (before : Option (List ℕ)) (lines : List (List ℕ)) → Appends mid after (whole p.text) → Stands before lines → Appends before after (text_of lines)
-  all_left before lines written h = subst (Appends before after) h.written.2 (appends_trans before mid after _ _ h.written.1 written)
+  pub all_left : (before : Option (List ℕ)) (things : List A) → Appends mid after (whole p.text) → Stands before things → Appends before after (text_of things)
+  all_left before things written h = subst (Appends before after) h.written.2 (appends_trans before mid after _ _ h.written.1 written)
 
   -- or a part of it
-  pub part_left : (before : Option (List ℕ)) (lines : List (List ℕ)) → AppendsPart mid after (whole p.text) → Stands before lines → AppendsPart before after (text_of lines)
-  part_left before lines part h = part_written before mid after h.written.0 (whole p.text) (text_of lines) h.written.1 h.written.2 part
+  pub part_left : (before : Option (List ℕ)) (things : List A) → AppendsPart mid after (whole p.text) → Stands before things → AppendsPart before after (text_of things)
+  part_left before things part h = part_written before mid after h.written.0 (whole p.text) (text_of things) h.written.1 h.written.2 part
 
-  left_part : (f : RunFault) (before : Option (List ℕ)) (lines : List (List ℕ)) → StandsAfter f (Stands before) (Fails before) lines → AppendsPart mid after (whole p.text) → AppendsPart before after (text_of lines)
+-- what is left after a fault, of lines
+module _ (has_printed : Says) (text_of : TextOf (List ℕ)) (has_refused : HasRefused (List ℕ)) (p : Page) (is_lost : Bool) (mid after : Option (List ℕ)) where
+  abbrev StandsFor : Option (List ℕ) → Says
+  StandsFor before lines = PrinterStandsFor has_printed text_of has_refused p is_lost before mid lines
+
+  abbrev FailsFor : Option (List ℕ) → Says
+  FailsFor before lines = HasFailed text_of p before mid lines
+
+  left_part : (f : RunFault) (before : Option (List ℕ)) (lines : List (List ℕ)) → StandsAfter f (StandsFor before) (FailsFor before) lines → AppendsPart mid after (whole p.text) → AppendsPart before after (text_of lines)
   left_part fault.Write before lines left part = none_left before mid after (whole p.text) (text_of lines) left.0 (part_front mid after (whole p.text) part) left.1
-  left_part fault.Read before lines left part = part_left before lines part left
-  left_part fault.LineTooLong before lines left part = part_left before lines part left
-  left_part fault.TooManyLines before lines left part = part_left before lines part left
-  left_part fault.NoMemory before lines left part = part_left before lines part left
+  left_part fault.Read before lines left part = part_left has_printed text_of has_refused p is_lost mid after before lines part left
+  left_part fault.LineTooLong before lines left part = part_left has_printed text_of has_refused p is_lost mid after before lines part left
+  left_part fault.TooManyLines before lines left part = part_left has_printed text_of has_refused p is_lost mid after before lines part left
+  left_part fault.NoMemory before lines left part = part_left has_printed text_of has_refused p is_lost mid after before lines part left
 
-  left_whole : (f : RunFault) (before : Option (List ℕ)) (lines : List (List ℕ)) → StandsAfter f (Stands before) (Fails before) lines → Appends mid after (whole p.text) → HasWritten f before after (text_of lines)
+  left_whole : (f : RunFault) (before : Option (List ℕ)) (lines : List (List ℕ)) → StandsAfter f (StandsFor before) (FailsFor before) lines → Appends mid after (whole p.text) → HasWritten f before after (text_of lines)
   left_whole fault.Write before lines left written = none_left before mid after (whole p.text) (text_of lines) left.0 (whole_front mid after (whole p.text) written) left.1
-  left_whole fault.Read before lines left written = all_left before lines written left
-  left_whole fault.LineTooLong before lines left written = all_left before lines written left
-  left_whole fault.TooManyLines before lines left written = all_left before lines written left
-  left_whole fault.NoMemory before lines left written = all_left before lines written left
+  left_whole fault.Read before lines left written = all_left has_printed text_of has_refused p is_lost mid after before lines written left
+  left_whole fault.LineTooLong before lines left written = all_left has_printed text_of has_refused p is_lost mid after before lines written left
+  left_whole fault.TooManyLines before lines left written = all_left has_printed text_of has_refused p is_lost mid after before lines written left
+  left_whole fault.NoMemory before lines left written = all_left has_printed text_of has_refused p is_lost mid after before lines written left
 
 -- ---- the end of the input
 
@@ -108,7 +116,7 @@ ends_begin_all : (text : ℕ → List ℕ) → ((part : ℕ) → Begins (text pa
 ends_begin_all text grows part count few =
     let e : part + (count - part) ≡ count = omega (arith, few) in subst (λ n. Begins (text part) (text n)) e (ends_begin text grows part (count - part))
 
-module _ (most : ℕ) (has_printed : List (List ℕ) → ℕ → Type 0) (text_of : TextWithEnd) (has_refused : List (List ℕ) → ℕ → Bool) (end_count : EndCount) where
+module _ (most : ℕ) (has_printed : List (List ℕ) → ℕ → Type 0) (text_of : TextWithEnd (List ℕ)) (has_refused : List (List ℕ) → ℕ → Bool) (end_count : EndCount (List ℕ)) where
   -- it stopped at a line
   pub lines_short : (f : RunFault) (input read : List ℕ) (left : ℕ → Says) → StopsShort most f read (left 0) → StopsAt most end_count f input read left
   lines_short f input read left h = record {
@@ -125,7 +133,8 @@ module _ (most : ℕ) (has_printed : List (List ℕ) → ℕ → Type 0) (text_o
 
   -- it stopped at the end
   pub end_short : (f : RunFault) (page : Page) (is_lost : Bool) (before after : Option (List ℕ)) (input : List ℕ) → IsWithinLimits most input
-      → StopsInEnd f has_printed text_of has_refused page is_lost before after (lines_of input) (end_count (lines_of input))
+      → StopsInEnd f (λ part. StandsBehind has_printed text_of has_refused part page is_lost before after (lines_of input))
+      (λ part. HasFailed (λ xs. text_of xs part) page before after (lines_of input)) (end_count (lines_of input))
       → StopsAt most end_count f input input (λ part. StandsAfter f (PrinterStandsFor (λ xs. has_printed xs part) (λ xs. text_of xs part) (λ xs. has_refused xs part) page is_lost before after)
       (HasFailed (λ xs. text_of xs part) page before after))
   end_short fault.Read page is_lost before after input within s = absurd s.2

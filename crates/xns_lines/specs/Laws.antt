@@ -17,5 +17,5 @@ pub record LinesAreTheInput : Type 0 where
 
 -- where no lines have no text, a want of memory before anything is read or written stops in the input
 abbrev pub NothingIsPrintedAtFirst : Type 0
-NothingIsPrintedAtFirst = (most : ℕ) (text_of : TextWithEnd) (end_count : EndCount) (left held : Option (List ℕ)) → text_of [] 0 ≡ []
+NothingIsPrintedAtFirst = (most : ℕ) (text_of : TextWithEnd (List ℕ)) (end_count : EndCount (List ℕ)) (left held : Option (List ℕ)) → text_of [] 0 ≡ []
     → IfSome left (λ input. StopsIn most text_of end_count input left held held NoMemory)

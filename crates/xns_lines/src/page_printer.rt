@@ -90,8 +90,10 @@ impl<P: LinePrinter> PagePrinter<P> {
         ensures err { IfErr result (λ fault. (before : Option (List ℕ)) (lines : List (List ℕ)) → part < P.end_count lines
             → StandsBehind (P.has_printed self.old.printer) P.text_of P.has_refused part
             self.old.page self.old.is_lost before (W.contents writer.old) lines
-            → StopsInEnd fault (P.has_printed self.new.printer) P.text_of P.has_refused
-            self.new.page self.new.is_lost before (W.contents writer.new) lines (part + 1)) }
+            → StopsInEnd fault
+            (λ n. StandsBehind (P.has_printed self.new.printer) P.text_of P.has_refused n
+            self.new.page self.new.is_lost before (W.contents writer.new) lines)
+            (λ n. HasFailed (λ xs. P.text_of xs n) self.new.page before (W.contents writer.new) lines) (part + 1)) }
     {
         let Ok(()) = self.print_end(part) else {
             return Err(RunFault::NoMemory);
@@ -112,8 +114,10 @@ impl<P: LinePrinter> PagePrinter<P> {
         ensures err { IfErr result (λ fault. (before : Option (List ℕ)) (lines : List (List ℕ))
             → StandsBehind (P.has_printed self.old.printer) P.text_of P.has_refused 0
             self.old.page self.old.is_lost before (W.contents writer.old) lines
-            → StopsInEnd fault (P.has_printed self.new.printer) P.text_of P.has_refused
-            self.new.page self.new.is_lost before (W.contents writer.new) lines (P.end_count lines)) }
+            → StopsInEnd fault
+            (λ n. StandsBehind (P.has_printed self.new.printer) P.text_of P.has_refused n
+            self.new.page self.new.is_lost before (W.contents writer.new) lines)
+            (λ n. HasFailed (λ xs. P.text_of xs n) self.new.page before (W.contents writer.new) lines) (P.end_count lines)) }
     {
         if self.is_lost {
             return Err(RunFault::NoMemory);

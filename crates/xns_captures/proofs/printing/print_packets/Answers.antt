@@ -1,7 +1,7 @@
 use Rattle.std.proofs.Common.{◌∙◌}
-use Rattle.xns_lines.proofs.Pages.{if_some}
+use Rattle.xns_lines.proofs.Pages.{if_some, none_printed}
 use Rattle.xns_lines.proofs.Writes.{if_err_1, on_ok_1}
-use Rattle.xns_captures.proofs.Pages.{flushed_some, flushed_text, none_printed, unflushed}
+use Rattle.xns_captures.proofs.Pages.{flushed_some, flushed_text, unflushed}
 use Rattle.xns_captures.proofs.printing.print_packets.Goals as goal
 
 pub returns-in-Err-clause-fault : goal.returns-in-Err-clause-fault

@@ -1,6 +1,6 @@
 use Rattle.std.proofs.Common.{arith, ◌≡◌, ◌<◌, subst}
 use Rattle.std.proofs.lemmas.Result.{err_from_is_err_and}
-use Rattle.xns_captures.specs.Printing.{StandsBehind}
+use Rattle.xns_lines.specs.Printing.{StandsBehind}
 use Rattle.xns_captures.proofs.packet_pages.PacketPages.finish.Goals as goal
 
 pub returns-then-self-clause-err : goal.returns-then-self-clause-err

@@ -1,6 +1,6 @@
 use Rattle.std.proofs.Common.{List, ℕ, Option}
 use Rattle.xns_captures.specs.Captures.{NumberedPacket}
-use Rattle.xns_captures.specs.Printing.{StandsBehind}
+use Rattle.xns_lines.specs.Printing.{StandsBehind}
 use Rattle.xns_captures.proofs.packet_pages.PacketPages.finish.Given as goal
 
 -- so many parts are printed

@@ -1,6 +1,6 @@
 use Rattle.std.proofs.Common.{◌+◌, arith}
 use Rattle.xns_lines.proofs.Writes.{if_err_1, on_ok_1}
-use Rattle.xns_captures.proofs.Pages.{flushed, part_left}
+use Rattle.xns_lines.proofs.Pages.{flushed, part_left}
 use Rattle.xns_captures.proofs.packet_pages.PacketPages.take_end.Goals as goal
 
 pub returns-in_default-clause-err : goal.returns-in_default-clause-err
@@ -14,7 +14,7 @@ returns-then-is_full-clause-ok g c =
 pub returns-then-is_full-clause-err : goal.returns-then-is_full-clause-err
 returns-then-is_full-clause-err g c =
     if_err_1 _ _ c.flush.result c.flush.ensures.fault (λ fault failed. λ before packets few h.
-    rw failed.0 (c.args.part + 1, omega arith, (c.flush.ensures.text, part_left _ _ _ c.print_end.new.self.page _ before _ _ packets failed.1 (c.in-Ok.ensures.ok before _ packets few h))))
+    rw failed.0 (c.args.part + 1, omega arith, (c.flush.ensures.text, part_left _ _ _ c.print_end.new.self.page _ _ _ before packets failed.1 (c.in-Ok.ensures.ok before _ packets few h))))
 
 pub returns-clause-ok : goal.returns-clause-ok
 returns-clause-ok g c = λ before packets few h. c.in-Ok.ensures.ok before _ packets few h

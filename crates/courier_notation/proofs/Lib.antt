@@ -1,0 +1,9 @@
+pub mod Listing
+pub mod Models
+pub mod Takes
+pub mod Sound
+pub mod Complete
+pub mod Fronts
+pub mod Skipping
+pub mod Lexings
+pub mod Declaring

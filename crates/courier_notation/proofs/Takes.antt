@@ -1,0 +1,185 @@
+-- What was read of tokens, and what that says of them.
+use Rattle.std.proofs.Common.{◌≡◌, ◌⊎◌, ℕ, zero, suc, ◌+◌, ◌<◌, ◌≤◌, Bool, true, false, cond, ltb, List, [], ◌∷◌, ◌++◌, length, Option, Some, None, Result, Ok, Err, refl, sym, ap, subst, ◌∙◌, append_assoc, arith, inl, inr}
+use Rattle.std.specs.List.{AllByRecursion}
+use Rattle.std.proofs.lemmas.Bool.{ltb-true}
+use Rattle.courier_notation.specs.declared.reason.Reason.{Reason}
+use Rattle.courier_notation.specs.declared.token.Token.{Token}
+use Rattle.courier_notation.specs.declared.token.Token.TheVariants as tokens
+use Rattle.courier_notation.specs.declared.written.Numeric.{Numeric}
+use Rattle.courier_notation.specs.declared.written.Numeric.TheVariants as numerics
+use Rattle.courier_notation.specs.declared.written.Reference.{Reference}
+use Rattle.courier_notation.specs.declared.written.Reference.TheVariants as references
+use Rattle.courier_notation.specs.Reading.{Fault, ◌>>=◌, Reader, over, behind_comma, others_at, listed, name_at, reference_behind, numeric_at}
+use Rattle.courier_notation.specs.Reading.{of_at, arrow_at, colon_at, open_brace_at, close_brace_at, open_bracket_at, close_bracket_at, open_parenthesis_at, close_parenthesis_at}
+use Rattle.courier_notation.specs.Spelling.{name_spelling, reference_spelling, numeric_spelling, more_spelling, parts_spelling, IsNumeric}
+
+-- ---- results
+
+abbrev pub done : {A : Type 0} → A → Result A Fault
+done x = Ok x
+
+pub ok_is : {A : Type 0} (x y : A) → done x ≡ done y → x ≡ y
+ok_is x y e = cc
+
+-- the value of a step that did not fail
+pub bind_ok : {A B : Type 0} (r : Result A Fault) (f : A → Result B Fault) (y : B) → (r >>= f) ≡ Ok y → (x : A) × (r ≡ Ok x) × (f x ≡ Ok y)
+bind_ok (Ok x) f y e = (x, refl, e)
+bind_ok (Err d) f y e = absurd cc
+
+pub over_ok : {A B : Type 0} (f : A → B) (r : Result (A × List Token) Fault) (y : B × List Token) → over f r ≡ Ok y → (x : A × List Token) × (r ≡ Ok x) × ((f x.0, x.1) ≡ y)
+over_ok f (Ok x) y e = (x, refl, ok_is (f x.0, x.1) y e)
+over_ok f (Err d) y e = absurd cc
+
+-- ---- texts
+
+-- the tokens are a text, and then the rest
+pub record Takes (ts text rest : List Token) : Type 0 where
+  pub parts : ts ≡ text ++ rest
+
+pub Takes-then : (a x b y c : List Token) → Takes a x b → Takes b y c → Takes a (x ++ y) c
+Takes-then a x b y c p q = record { parts = p.parts ∙ ap (λ (t : List Token). x ++ t) q.parts ∙ sym (append_assoc x y c) }
+
+pub Takes-behind : (t : Token) (a b y c : List Token) → a ≡ t ∷ b → Takes b y c → Takes a (t ∷ y) c
+Takes-behind t a b y c e q = record { parts = e ∙ ap (λ (r : List Token). t ∷ r) q.parts }
+
+pub Takes-one : (t : Token) (a b : List Token) → a ≡ t ∷ b → Takes a (t ∷ []) b
+Takes-one t a b e = record { parts = e }
+
+-- what a reader reads is spelled so, and is good
+abbrev pub IsSound : {A : Type 0} → (A → List Token) → (A → Type 0) → Reader A → Type 0
+IsSound {A} spell Good one = (ts : List Token) (x : A) (rest : List Token) → one ts ≡ Ok (x, rest) → Takes ts (spell x) rest × Good x
+
+-- ---- single tokens
+
+pub of_is : (ts rest : List Token) → of_at ts ≡ Ok rest → ts ≡ tokens.Of ∷ rest
+of_is [] rest e = absurd cc
+of_is (tokens.Of ∷ ts) rest e = ap (λ (r : List Token). tokens.Of ∷ r) (ok_is ts rest e)
+of_is (t ∷ ts) rest e = absurd cc
+
+pub arrow_is : (ts rest : List Token) → arrow_at ts ≡ Ok rest → ts ≡ tokens.Arrow ∷ rest
+arrow_is [] rest e = absurd cc
+arrow_is (tokens.Arrow ∷ ts) rest e = ap (λ (r : List Token). tokens.Arrow ∷ r) (ok_is ts rest e)
+arrow_is (t ∷ ts) rest e = absurd cc
+
+pub colon_is : (ts rest : List Token) → colon_at ts ≡ Ok rest → ts ≡ tokens.Colon ∷ rest
+colon_is [] rest e = absurd cc
+colon_is (tokens.Colon ∷ ts) rest e = ap (λ (r : List Token). tokens.Colon ∷ r) (ok_is ts rest e)
+colon_is (t ∷ ts) rest e = absurd cc
+
+pub open_brace_is : (ts rest : List Token) → open_brace_at ts ≡ Ok rest → ts ≡ tokens.OpenBrace ∷ rest
+open_brace_is [] rest e = absurd cc
+open_brace_is (tokens.OpenBrace ∷ ts) rest e = ap (λ (r : List Token). tokens.OpenBrace ∷ r) (ok_is ts rest e)
+open_brace_is (t ∷ ts) rest e = absurd cc
+
+pub close_brace_is : (ts rest : List Token) → close_brace_at ts ≡ Ok rest → ts ≡ tokens.CloseBrace ∷ rest
+close_brace_is [] rest e = absurd cc
+close_brace_is (tokens.CloseBrace ∷ ts) rest e = ap (λ (r : List Token). tokens.CloseBrace ∷ r) (ok_is ts rest e)
+close_brace_is (t ∷ ts) rest e = absurd cc
+
+pub open_bracket_is : (ts rest : List Token) → open_bracket_at ts ≡ Ok rest → ts ≡ tokens.OpenBracket ∷ rest
+open_bracket_is [] rest e = absurd cc
+open_bracket_is (tokens.OpenBracket ∷ ts) rest e = ap (λ (r : List Token). tokens.OpenBracket ∷ r) (ok_is ts rest e)
+open_bracket_is (t ∷ ts) rest e = absurd cc
+
+pub close_bracket_is : (ts rest : List Token) → close_bracket_at ts ≡ Ok rest → ts ≡ tokens.CloseBracket ∷ rest
+close_bracket_is [] rest e = absurd cc
+close_bracket_is (tokens.CloseBracket ∷ ts) rest e = ap (λ (r : List Token). tokens.CloseBracket ∷ r) (ok_is ts rest e)
+close_bracket_is (t ∷ ts) rest e = absurd cc
+
+pub open_parenthesis_is : (ts rest : List Token) → open_parenthesis_at ts ≡ Ok rest → ts ≡ tokens.OpenParenthesis ∷ rest
+open_parenthesis_is [] rest e = absurd cc
+open_parenthesis_is (tokens.OpenParenthesis ∷ ts) rest e = ap (λ (r : List Token). tokens.OpenParenthesis ∷ r) (ok_is ts rest e)
+open_parenthesis_is (t ∷ ts) rest e = absurd cc
+
+pub close_parenthesis_is : (ts rest : List Token) → close_parenthesis_at ts ≡ Ok rest → ts ≡ tokens.CloseParenthesis ∷ rest
+close_parenthesis_is [] rest e = absurd cc
+close_parenthesis_is (tokens.CloseParenthesis ∷ ts) rest e = ap (λ (r : List Token). tokens.CloseParenthesis ∷ r) (ok_is ts rest e)
+close_parenthesis_is (t ∷ ts) rest e = absurd cc
+
+pub comma_is : (ts next : List Token) → behind_comma ts ≡ Some next → ts ≡ tokens.Comma ∷ next
+comma_is [] next e = absurd cc
+comma_is (tokens.Comma ∷ ts) next e = let h : ts ≡ next = cc in ap (λ (r : List Token). tokens.Comma ∷ r) h
+comma_is (t ∷ ts) next e = absurd cc
+
+abbrev pub Any : {A : Type 0} → A → Type 0
+Any x = Unit {0}
+
+pub name_takes : IsSound name_spelling Any name_at
+name_takes [] n rest e = absurd cc
+name_takes (tokens.Name m ∷ ts) n rest e = subst (λ (p : ℕ × List Token). Takes (tokens.Name m ∷ ts) (name_spelling p.0) p.1 × Unit {0}) (ok_is (m, ts) (n, rest) e) (record { parts = refl }, tt)
+name_takes (t ∷ ts) n rest e = absurd cc
+
+-- ---- references and numbers
+
+-- a reference behind its first name
+pub reference_takes : (n : ℕ) (ts : List Token) (r : Reference) (rest : List Token) → reference_behind n ts ≡ Ok (r, rest) → Takes (tokens.Name n ∷ ts) (reference_spelling r) rest
+reference_takes n [] r rest e = subst (λ (p : Reference × List Token). Takes (tokens.Name n ∷ []) (reference_spelling p.0) p.1) (ok_is (references.Own n, []) (r, rest) e) (record { parts = refl })
+reference_takes n (tokens.Dot ∷ ts) r rest e =
+    let o = over_ok (references.Other n) (name_at ts) (r, rest) e in
+    let m = name_takes ts o.0.0 o.0.1 o.1 in
+    subst (λ (p : Reference × List Token). Takes (tokens.Name n ∷ tokens.Dot ∷ ts) (reference_spelling p.0) p.1) o.2 (record { parts = ap (λ (t : List Token). tokens.Name n ∷ tokens.Dot ∷ t) m.0.parts })
+reference_takes n (t ∷ ts) r rest e = subst (λ (p : Reference × List Token). Takes (tokens.Name n ∷ t ∷ ts) (reference_spelling p.0) p.1) (ok_is (references.Own n, t ∷ ts) (r, rest) e) (record { parts = refl })
+
+word_takes : (n : ℕ) (b : Bool) (ts : List Token) (f : Fault) (x : Numeric) (rest : List Token) → ltb n 65536 ≡ b → cond {A = Result (Numeric × List Token) Fault} b (Ok (numerics.Number n, ts)) (Err f) ≡ Ok (x, rest) → Takes (tokens.Number n ∷ ts) (numeric_spelling x) rest × IsNumeric x
+word_takes n false ts f x rest h e = absurd cc
+word_takes n true ts f x rest h e =
+    let lt : n < 65536 = ltb-true n 65536 h in
+    subst (λ (p : Numeric × List Token). Takes (tokens.Number n ∷ ts) (numeric_spelling p.0) p.1 × IsNumeric p.0) (ok_is (numerics.Number n, ts) (x, rest) e) (record { parts = refl }, lt)
+
+pub numeric_takes : IsSound numeric_spelling IsNumeric numeric_at
+unfolding numeric_at
+numeric_takes [] x rest e = absurd cc
+numeric_takes (tokens.Number n ∷ ts) x rest e = word_takes n (ltb n 65536) ts (length ts + 1, Reason.LargeNumber) x rest refl e
+numeric_takes (tokens.Name n ∷ ts) x rest e =
+    let o = over_ok numerics.Constant (reference_behind n ts) (x, rest) e in
+    subst (λ (p : Numeric × List Token). Takes (tokens.Name n ∷ ts) (numeric_spelling p.0) p.1 × IsNumeric p.0) o.2 (reference_takes n ts o.0.0 o.0.1 o.1, tt)
+numeric_takes (t ∷ ts) x rest e = absurd cc
+
+-- ---- lists
+
+pub more_is : {A : Type 0} (spell : A → List Token) (xs : List A) → 1 ≤ length xs → more_spelling spell xs ≡ tokens.Comma ∷ parts_spelling spell xs
+more_is spell [] h = absurd (omega arith)
+more_is spell (x ∷ xs) h = refl
+
+others_ok : {A : Type 0} (others : Reader (List A)) (ts : List Token) (o : Option (List Token)) (xs : List A) (rest : List Token) → others_at others ts o ≡ Ok (xs, rest)
+    → ((next : List Token) × (o ≡ Some next) × (others next ≡ Ok (xs, rest))) ⊎ ((o ≡ None) × (xs ≡ []) × (ts ≡ rest))
+others_ok others ts (Some next) xs rest e = inl (next, refl, e)
+others_ok {A} others ts None xs rest e =
+    let p : xs ≡ [] = ap (λ (p : List A × List Token). p.0) (sym (ok_is ([], ts) (xs, rest) e)) in
+    let q : ts ≡ rest = ap (λ (p : List A × List Token). p.1) (ok_is ([], ts) (xs, rest) e) in
+    inr (refl, p, q)
+
+-- what a list that was read is
+pub record IsList {A : Type 0} (spell : A → List Token) (Good : A → Type 0) (most : ℕ) (ts : List Token) (xs : List A) (rest : List Token) : Type 0 where
+  pub takes : Takes ts (parts_spelling spell xs) rest
+  pub some : 1 ≤ length xs
+  pub few : length xs ≤ most
+  pub good : AllByRecursion Good xs
+
+pub listed_takes : {A : Type 0} (spell : A → List Token) (Good : A → Type 0) (one : Reader A) → IsSound spell Good one → (most : ℕ) (ts : List Token) (xs : List A) (rest : List Token) → listed one most ts ≡ Ok (xs, rest) → IsList spell Good most ts xs rest
+unfolding listed
+listed_takes spell Good one sound zero ts xs rest e = absurd cc
+listed_takes {A} spell Good one sound (suc most) ts xs rest e =
+    let b = bind_ok (one ts) (λ first. over (λ others. first.0 ∷ others) (others_at (listed one most) first.1 (behind_comma first.1))) (xs, rest) e in
+    let x = b.0.0 in
+    let after = b.0.1 in
+    let first = sound ts x after b.1 in
+    let o = over_ok (λ others. x ∷ others) (others_at (listed one most) after (behind_comma after)) (xs, rest) b.2 in
+    let found : IsList spell Good (suc most) ts (x ∷ o.0.0) o.0.1 =
+    elim (others_ok (listed one most) after (behind_comma after) o.0.0 o.0.1 o.1) [
+      | inl m ↦
+          let l = listed_takes spell Good one sound most m.0 o.0.0 o.0.1 m.2 in
+          let more : Takes after (tokens.Comma ∷ parts_spelling spell o.0.0) o.0.1 = Takes-behind tokens.Comma after m.0 (parts_spelling spell o.0.0) o.0.1 (comma_is after m.0 m.1) l.takes in
+          let both : Takes ts (spell x ++ tokens.Comma ∷ parts_spelling spell o.0.0) o.0.1 = Takes-then ts (spell x) after (tokens.Comma ∷ parts_spelling spell o.0.0) o.0.1 first.0 more in
+          record {
+            takes = subst (λ (t : List Token). Takes ts (spell x ++ t) o.0.1) (sym (more_is spell o.0.0 l.some)) both;
+            some = omega arith;
+            few = omega (arith, l.few);
+            good = (first.1, l.good);
+          }
+      | inr n ↦
+          let none : Takes after [] o.0.1 = record { parts = n.2 } in
+          let both : Takes ts (spell x ++ []) o.0.1 = Takes-then ts (spell x) after [] o.0.1 first.0 none in
+          subst (λ (others : List A). IsList spell Good (suc most) ts (x ∷ others) o.0.1) (sym n.1) (record { takes = both; some = omega arith; few = omega arith; good = (first.1, tt) })
+    ] in
+    subst (λ (p : List A × List Token). IsList spell Good (suc most) ts p.0 p.1) o.2 found

@@ -1,0 +1,21 @@
+use Rattle.std.proofs.lemmas.Result.{err_from_is_err_and}
+use Rattle.courier_notation.specs.Reading.{listed, most_parts, name_at}
+use Rattle.courier_notation.proofs.Listing.{ends, goes_on, is_done, is_full}
+use Rattle.courier_notation.proofs.parts.names_of.Goals as goal
+
+pub returns-in_err-name : goal.returns-in_err-name
+returns-in_err-name c =
+    let p = err_from_is_err_and c.from_residual.result c.from_residual.ensures.1 in
+    rw (p.1, p.2) (ends c.in_err-name.field-0.0 name_at c.loop.names.items most_parts c.loop.counter c.loop.rest.now (listed name_at most_parts c.args.tokens.now) c.loop-test.true c.in_err-name.ensures c.loop.invariant)
+
+pub returns-in-None : goal.returns-in-None
+returns-in-None c =
+    rw c.in_ok-push.ensures.items (is_done name_at c.loop.names.items most_parts c.loop.counter c.loop.rest.now c.in_ok-name.name c.in_ok-name.after.now (listed name_at most_parts c.args.tokens.now) c.loop-test.true c.in_ok-name.ensures c.in-None.ensures.none c.loop.invariant)
+
+pub loop-preserved : goal.loop-preserved
+loop-preserved c =
+    rw c.in_ok-push.ensures.items (goes_on name_at c.loop.names.items most_parts c.loop.counter c.loop.rest.now c.in_ok-name.name c.in_ok-name.after.now c.in-Some.next.now (listed name_at most_parts c.args.tokens.now) c.loop-test.true c.in_ok-name.ensures c.in-Some.ensures.some c.loop.invariant)
+
+pub returns : goal.returns
+returns c =
+    rw c.wrong.ensures (is_full name_at c.loop.names.items most_parts c.loop.counter c.loop.rest.now (listed name_at most_parts c.args.tokens.now) c.loop-test.false c.loop.invariant)

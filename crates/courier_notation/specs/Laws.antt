@@ -1,0 +1,16 @@
+-- Laws of the grammar of types.
+use Rattle.std.specs.Prelude.{◌≡◌, ℕ, List, ◌++◌, Ok, true}
+use Rattle.courier_notation.specs.declared.token.Token.{Token}
+use Rattle.courier_notation.specs.Written.{TypeModel}
+use Rattle.courier_notation.specs.Reading.{type_at}
+use Rattle.courier_notation.specs.Spelling.{type_spelling, IsType, is_apart}
+
+-- what is read is written so
+abbrev pub ReadTypeIsWritten : Type 0
+ReadTypeIsWritten = (depth : ℕ) (ts : List Token) (type : TypeModel) (rest : List Token) → type_at depth ts ≡ Ok (type, rest)
+    → (ts ≡ type_spelling type ++ rest) × IsType depth type
+
+-- what is written so is read, whatever follows it that it could not go on with
+abbrev pub WrittenTypeIsRead : Type 0
+WrittenTypeIsRead = (depth : ℕ) (type : TypeModel) (rest : List Token) → IsType depth type → is_apart rest ≡ true
+    → type_at depth (type_spelling type ++ rest) ≡ Ok (type, rest)

@@ -1,0 +1,242 @@
+-- Reading a program from left to right (XSIS 038112, Courier). Which fault is told is this project's rule.
+use Rattle.std.specs.Prelude.{ℕ, zero, suc, ◌+◌, List, [], ◌∷◌, length, Result, Ok, Err, Bool, true, false, nat_lt, if◌then◌else◌}
+use Rattle.courier_notation.specs.declared.declared.Constant.{Constant}
+use Rattle.courier_notation.specs.declared.declared.Constant.TheVariants as constants
+use Rattle.courier_notation.specs.declared.declared.Dependency.{Dependency}
+use Rattle.courier_notation.specs.declared.limits.TheConstants.{MOST_DECLARATIONS}
+use Rattle.courier_notation.specs.declared.reason.Reason.TheVariants as reasons
+use Rattle.courier_notation.specs.declared.token.Token.{Token}
+use Rattle.courier_notation.specs.declared.token.Token.TheVariants as tokens
+use Rattle.courier_notation.specs.declared.limits.TheConstants.{MOST_DEPTH}
+use Rattle.courier_notation.specs.declared.written.Reference.{Reference}
+use Rattle.courier_notation.specs.ProgramModels.{DeclaredModel, FieldList, ProgramModel}
+use Rattle.courier_notation.specs.Reading.{Fault, ◌>>=◌, Reader, over, listed, most_parts, name_at, reference_behind, fields_at, type_at}
+use Rattle.courier_notation.specs.Reading.{colon_at, open_bracket_at, close_bracket_at, open_parenthesis_at, close_parenthesis_at}
+
+abbrev pub most_depth : ℕ
+most_depth = MOST_DEPTH
+
+-- ---- single tokens
+
+abbrev pub begin_at : List Token → Result (List Token) Fault
+begin_at (tokens.Begin ∷ ts) = Ok ts
+begin_at ts = Err (length ts, reasons.NoBegin)
+
+abbrev pub end_at : List Token → Result (List Token) Fault
+end_at (tokens.End ∷ ts) = Ok ts
+end_at ts = Err (length ts, reasons.NoEnd)
+
+abbrev pub program_at : List Token → Result (List Token) Fault
+program_at (tokens.Program ∷ ts) = Ok ts
+program_at ts = Err (length ts, reasons.NoProgram)
+
+abbrev pub version_at : List Token → Result (List Token) Fault
+version_at (tokens.Version ∷ ts) = Ok ts
+version_at ts = Err (length ts, reasons.NoVersion)
+
+abbrev pub upon_at : List Token → Result (List Token) Fault
+upon_at (tokens.Upon ∷ ts) = Ok ts
+upon_at ts = Err (length ts, reasons.NoUpon)
+
+abbrev pub equal_at : List Token → Result (List Token) Fault
+equal_at (tokens.Equal ∷ ts) = Ok ts
+equal_at ts = Err (length ts, reasons.NoEqual)
+
+abbrev pub semicolon_at : List Token → Result (List Token) Fault
+semicolon_at (tokens.Semicolon ∷ ts) = Ok ts
+semicolon_at ts = Err (length ts, reasons.NoSemicolon)
+
+abbrev pub dot_at : List Token → Result (List Token) Fault
+dot_at (tokens.Dot ∷ ts) = Ok ts
+dot_at ts = Err (length ts, reasons.NoDot)
+
+-- a number of two words
+abbrev pub long_at : Reader ℕ
+long_at (tokens.Number n ∷ ts) = Ok (n, ts)
+long_at ts = Err (length ts, reasons.NoNumber)
+
+-- a number of one word
+abbrev pub small_or_fault : ℕ → List Token → Result (ℕ × List Token) Fault
+small_or_fault n ts = if nat_lt n 65536 then Ok (n, ts) else Err (length ts + 1, reasons.LargeNumber)
+
+unfoldable pub small_at : Reader ℕ
+small_at ts = long_at ts >>= λ n. small_or_fault n.0 n.1
+
+-- ---- constants
+
+-- whether a constant begins there
+abbrev pub begins_constant : List Token → Bool
+begins_constant (tokens.Number n ∷ ts) = true
+begins_constant (tokens.Quoted n ∷ ts) = true
+begins_constant (tokens.Name n ∷ ts) = true
+begins_constant (tokens.True ∷ ts) = true
+begins_constant (tokens.False ∷ ts) = true
+begins_constant (tokens.Minus ∷ ts) = true
+begins_constant (tokens.OpenBracket ∷ ts) = true
+begins_constant ts = false
+
+-- the name of a constant, or a designator and the constant that it chooses
+unfoldable pub chosen_behind : Reader Constant → ℕ → Reader Constant
+chosen_behind one n ts = do
+  name ← reference_behind n ts
+  if begins_constant name.1 then over (λ c. constants.Other) (one name.1) else Ok (constants.Named name.0, name.1)
+
+-- what is behind a constant in brackets that may be the name of a component
+abbrev pub component_behind : Reader Constant → Constant → Reader Constant
+component_behind one c (tokens.Colon ∷ ts) = one ts
+component_behind one c ts = Ok (c, ts)
+
+-- an element, or a component with its name
+unfoldable pub element_at : Reader Constant → Reader Constant
+element_at one ts = one ts >>= λ first. component_behind one first.0 first.1
+
+-- elements or components up to a bracket, perhaps none
+unfoldable pub elements_behind : Reader Constant → Reader Constant
+elements_behind one (tokens.CloseBracket ∷ ts) = Ok (constants.Other, ts)
+elements_behind one ts = do
+  elements ← listed (element_at one) most_parts ts
+  rest ← close_bracket_at elements.1
+  Ok (constants.Other, rest)
+
+-- a constant by its first token
+unfoldable pub constant_behind : Reader Constant → Token → Reader Constant
+constant_behind one (tokens.Number n) ts = Ok (constants.Number n, ts)
+constant_behind one (tokens.Quoted n) ts = Ok (constants.Other, ts)
+constant_behind one (tokens.Name n) ts = chosen_behind one n ts
+constant_behind one tokens.True ts = Ok (constants.Other, ts)
+constant_behind one tokens.False ts = Ok (constants.Other, ts)
+constant_behind one tokens.Minus ts = over (λ n. constants.Other) (long_at ts)
+constant_behind one tokens.OpenBracket ts = elements_behind one ts
+constant_behind one _ ts = Err (length ts + 1, reasons.NoConstant)
+
+-- a constant in which constants stand at most so deep
+unfoldable pub constant_at : ℕ → Reader Constant
+constant_at zero ts = Err (length ts, reasons.TooDeep)
+constant_at (suc depth) [] = Err (0, reasons.NoConstant)
+constant_at (suc depth) (t ∷ ts) = constant_behind (constant_at depth) t ts
+
+-- ---- declarations
+
+-- components in brackets, if there are brackets
+unfoldable pub arguments_at : Reader FieldList
+arguments_at (tokens.OpenBracket ∷ ts) = fields_at (type_at most_depth) (tokens.OpenBracket ∷ ts)
+arguments_at ts = Ok ([], ts)
+
+unfoldable pub results_at : Reader FieldList
+results_at (tokens.Returns ∷ ts) = fields_at (type_at most_depth) ts
+results_at ts = Ok ([], ts)
+
+unfoldable pub reference_at : Reader Reference
+reference_at ts = name_at ts >>= λ name. reference_behind name.0 name.1
+
+-- the errors that a procedure reports
+unfoldable pub reports_at : Reader (List Reference)
+reports_at (tokens.Reports ∷ ts) = do
+  inside ← open_bracket_at ts
+  errors ← listed reference_at most_parts inside
+  rest ← close_bracket_at errors.1
+  Ok (errors.0, rest)
+reports_at ts = Ok ([], ts)
+
+unfoldable pub procedure_behind : Reader DeclaredModel
+procedure_behind ts = do
+  arguments ← arguments_at ts
+  results ← results_at arguments.1
+  errors ← reports_at results.1
+  rest ← equal_at errors.1
+  number ← small_at rest
+  Ok (DeclaredModel.is_procedure arguments.0 results.0 errors.0 number.0, number.1)
+
+unfoldable pub error_behind : Reader DeclaredModel
+error_behind ts = do
+  arguments ← arguments_at ts
+  rest ← equal_at arguments.1
+  number ← small_at rest
+  Ok (DeclaredModel.is_error arguments.0 number.0, number.1)
+
+unfoldable pub type_declared : Reader DeclaredModel
+type_declared ts = do
+  rest ← equal_at ts
+  type ← type_at most_depth rest
+  Ok (DeclaredModel.is_type type.0, type.1)
+
+unfoldable pub constant_declared : Reader DeclaredModel
+constant_declared ts = do
+  type ← type_at most_depth ts
+  rest ← equal_at type.1
+  constant ← constant_at most_depth rest
+  Ok (DeclaredModel.is_constant type.0 constant.0, constant.1)
+
+unfoldable pub declared_at : Reader DeclaredModel
+declared_at (tokens.Type ∷ ts) = type_declared ts
+declared_at (tokens.Procedure ∷ ts) = procedure_behind ts
+declared_at (tokens.Error ∷ ts) = error_behind ts
+declared_at ts = constant_declared ts
+
+unfoldable pub declaration_at : Reader (ℕ × DeclaredModel)
+declaration_at ts = do
+  name ← name_at ts
+  rest ← colon_at name.1
+  declared ← declared_at rest
+  behind ← semicolon_at declared.1
+  Ok ((name.0, declared.0), behind)
+
+-- whether the declarations end there
+abbrev pub is_end : List Token → Bool
+is_end (tokens.End ∷ ts) = true
+is_end ts = false
+
+abbrev pub most_declarations : ℕ
+most_declarations = MOST_DECLARATIONS
+
+-- declarations up to the end, at most so many
+unfoldable pub declarations_at : ℕ → Reader (List (ℕ × DeclaredModel))
+declarations_at zero ts = if is_end ts then Ok ([], ts) else Err (length ts, reasons.TooManyDeclarations)
+declarations_at (suc n) ts =
+    if is_end ts then Ok ([], ts) else (declaration_at ts >>= λ first. over (λ others. first.0 ∷ others) (declarations_at n first.1))
+
+-- ---- programs
+
+unfoldable pub dependency_at : Reader Dependency
+dependency_at ts = do
+  name ← name_at ts
+  inside ← open_parenthesis_at name.1
+  number ← long_at inside
+  rest ← close_parenthesis_at number.1
+  behind ← version_at rest
+  version ← small_at behind
+  Ok (record { name = name.0; number = number.0; version = version.0 }, version.1)
+
+unfoldable pub dependencies_at : Reader (List Dependency)
+dependencies_at (tokens.Depends ∷ ts) = do
+  inside ← upon_at ts
+  dependencies ← listed dependency_at most_parts inside
+  rest ← semicolon_at dependencies.1
+  Ok (dependencies.0, rest)
+dependencies_at ts = Ok ([], ts)
+
+-- nothing stands behind the program
+abbrev pub nothing_at : {A : Type 0} → A → List Token → Result A Fault
+nothing_at x [] = Ok x
+nothing_at x (t ∷ ts) = Err (suc (length ts), reasons.Trailing)
+
+unfoldable pub body_at : Reader (List Dependency × List (ℕ × DeclaredModel))
+body_at ts = do
+  begun ← begin_at ts
+  dependencies ← dependencies_at begun
+  declarations ← declarations_at most_declarations dependencies.1
+  ended ← end_at declarations.1
+  rest ← dot_at ended
+  Ok ((dependencies.0, declarations.0), rest)
+
+unfoldable pub program_of : List Token → Result ProgramModel Fault
+program_of ts = do
+  name ← name_at ts
+  t1 ← colon_at name.1
+  t2 ← program_at t1
+  number ← long_at t2
+  t3 ← version_at number.1
+  version ← small_at t3
+  t4 ← equal_at version.1
+  body ← body_at t4
+  nothing_at (record { name = name.0; number = number.0; version = version.0; dependencies = body.0.0; declarations = body.0.1 }) body.1

@@ -1,0 +1,239 @@
+-- Reading a type from left to right (XSIS 038112, Courier). Which fault is told is this project's rule: the first token that
+-- does not go on as a type does, or a limit that is passed there.
+use Rattle.std.specs.Prelude.{◌≡◌, ℕ, zero, suc, ◌+◌, List, [], ◌∷◌, length, Option, Some, None, Result, Ok, Err, nat_lt, if◌then◌else◌}
+use Rattle.courier_notation.specs.declared.reason.Reason.{Reason}
+use Rattle.courier_notation.specs.declared.reason.Reason.TheVariants as reasons
+use Rattle.courier_notation.specs.declared.stop.Stop.{Stop}
+use Rattle.courier_notation.specs.declared.stop.Stop.TheVariants as stops
+use Rattle.courier_notation.specs.declared.token.Token.{Token}
+use Rattle.courier_notation.specs.declared.token.Token.TheVariants as tokens
+use Rattle.courier_notation.specs.declared.limits.TheConstants.{MOST_PARTS}
+use Rattle.courier_notation.specs.declared.written.Numeric.{Numeric}
+use Rattle.courier_notation.specs.declared.written.Numeric.TheVariants as numerics
+use Rattle.courier_notation.specs.declared.written.Reference.{Reference}
+use Rattle.courier_notation.specs.declared.written.Reference.TheVariants as references
+use Rattle.courier_notation.specs.Written.{TypeModel, Designator, fields_from, candidates_from}
+
+-- how many tokens are left where reading stops, the wrong token among them, and why
+abbrev pub Fault : Type 0
+Fault = ℕ × Reason
+
+infixl 10 ◌>>=◌
+abbrev pub ◌>>=◌ : {A B : Type 0} → Result A Fault → (A → Result B Fault) → Result B Fault
+(Ok x) >>= f = f x
+(Err e) >>= f = Err e
+
+-- reading stops there, unless memory ran out
+abbrev pub Fails : {Y : Type 0} → Stop → Result Y Fault → Type 0
+Fails (stops.Wrong left reason) reading = reading ≡ Err (left, reason)
+Fails stops.NoMemory reading = Unit {0}
+
+-- a function answered what reading gives, seen by view, unless memory ran out
+abbrev pub Gives : {X Y : Type 0} → (X → Y) → Result X Stop → Result Y Fault → Type 0
+Gives view (Ok x) reading = reading ≡ Ok (view x)
+Gives view (Err stop) reading = Fails stop reading
+
+-- what is read of tokens, and the tokens behind it
+abbrev pub Reader : Type 0 → Type 0
+Reader A = List Token → Result (A × List Token) Fault
+
+-- the same under another name
+abbrev pub over : {A B : Type 0} → (A → B) → Result (A × List Token) Fault → Result (B × List Token) Fault
+over f (Ok x) = Ok (f x.0, x.1)
+over f (Err e) = Err e
+
+abbrev pub most_parts : ℕ
+most_parts = MOST_PARTS
+
+-- ---- single tokens
+
+abbrev pub of_at : List Token → Result (List Token) Fault
+of_at (tokens.Of ∷ ts) = Ok ts
+of_at ts = Err (length ts, reasons.NoOf)
+
+abbrev pub arrow_at : List Token → Result (List Token) Fault
+arrow_at (tokens.Arrow ∷ ts) = Ok ts
+arrow_at ts = Err (length ts, reasons.NoArrow)
+
+abbrev pub colon_at : List Token → Result (List Token) Fault
+colon_at (tokens.Colon ∷ ts) = Ok ts
+colon_at ts = Err (length ts, reasons.NoColon)
+
+abbrev pub open_brace_at : List Token → Result (List Token) Fault
+open_brace_at (tokens.OpenBrace ∷ ts) = Ok ts
+open_brace_at ts = Err (length ts, reasons.NoOpenBrace)
+
+abbrev pub close_brace_at : List Token → Result (List Token) Fault
+close_brace_at (tokens.CloseBrace ∷ ts) = Ok ts
+close_brace_at ts = Err (length ts, reasons.NoCloseBrace)
+
+abbrev pub open_bracket_at : List Token → Result (List Token) Fault
+open_bracket_at (tokens.OpenBracket ∷ ts) = Ok ts
+open_bracket_at ts = Err (length ts, reasons.NoOpenBracket)
+
+abbrev pub close_bracket_at : List Token → Result (List Token) Fault
+close_bracket_at (tokens.CloseBracket ∷ ts) = Ok ts
+close_bracket_at ts = Err (length ts, reasons.NoCloseBracket)
+
+abbrev pub open_parenthesis_at : List Token → Result (List Token) Fault
+open_parenthesis_at (tokens.OpenParenthesis ∷ ts) = Ok ts
+open_parenthesis_at ts = Err (length ts, reasons.NoOpenParenthesis)
+
+abbrev pub close_parenthesis_at : List Token → Result (List Token) Fault
+close_parenthesis_at (tokens.CloseParenthesis ∷ ts) = Ok ts
+close_parenthesis_at ts = Err (length ts, reasons.NoCloseParenthesis)
+
+abbrev pub name_at : Reader ℕ
+name_at (tokens.Name n ∷ ts) = Ok (n, ts)
+name_at ts = Err (length ts, reasons.NoName)
+
+-- ---- names and numbers
+
+-- a name that is referred to, behind its first part
+abbrev pub reference_behind : ℕ → Reader Reference
+reference_behind n (tokens.Dot ∷ ts) = over (references.Other n) (name_at ts)
+reference_behind n ts = Ok (references.Own n, ts)
+
+-- a number of one word
+abbrev pub word_of : ℕ → Reader Numeric
+word_of n ts = if nat_lt n 65536 then Ok (numerics.Number n, ts) else Err (length ts + 1, reasons.LargeNumber)
+
+-- a number, or the name of a constant
+unfoldable pub numeric_at : Reader Numeric
+numeric_at (tokens.Number n ∷ ts) = word_of n ts
+numeric_at (tokens.Name n ∷ ts) = over numerics.Constant (reference_behind n ts)
+numeric_at ts = Err (length ts, reasons.NoNumber)
+
+-- ---- lists
+
+-- what stands behind a comma, if there is one
+abbrev pub behind_comma : List Token → Option (List Token)
+behind_comma (tokens.Comma ∷ ts) = Some ts
+behind_comma ts = None
+
+-- the other parts where there is a comma, else no more
+abbrev pub others_at : {A : Type 0} → Reader (List A) → List Token → Option (List Token) → Result (List A × List Token) Fault
+others_at others ts (Some next) = others next
+others_at others ts None = Ok ([], ts)
+
+-- parts with commas between, at most so many
+unfoldable pub listed : {A : Type 0} → Reader A → ℕ → Reader (List A)
+listed one zero ts = Err (length ts, reasons.TooManyParts)
+listed one (suc n) ts = one ts >>= λ first. over (λ others. first.0 ∷ others) (others_at (listed one n) first.1 (behind_comma first.1))
+
+-- ---- parts of types
+
+-- a name, and its number in parentheses
+unfoldable pub member_at : Reader (ℕ × Numeric)
+member_at ts = do
+  name ← name_at ts
+  inside ← open_parenthesis_at name.1
+  number ← numeric_at inside
+  rest ← close_parenthesis_at number.1
+  Ok ((name.0, number.0), rest)
+
+-- the number of a designator, where one is written
+unfoldable pub designator_behind : ℕ → Reader Designator
+designator_behind n (tokens.OpenParenthesis ∷ ts) = do
+  number ← numeric_at ts
+  rest ← close_parenthesis_at number.1
+  Ok ((n, Some number.0), rest)
+designator_behind n ts = Ok ((n, None), ts)
+
+unfoldable pub designator_at : Reader Designator
+designator_at ts = name_at ts >>= λ name. designator_behind name.0 name.1
+
+-- names, and their type behind a colon
+unfoldable pub field_at : Reader TypeModel → Reader (List ℕ × TypeModel)
+field_at one ts = do
+  names ← listed name_at most_parts ts
+  rest ← colon_at names.1
+  over (λ type. (names.0, type)) (one rest)
+
+-- components up to a bracket, perhaps none
+unfoldable pub fields_behind : Reader TypeModel → Reader (List (List ℕ × TypeModel))
+fields_behind one (tokens.CloseBracket ∷ ts) = Ok ([], ts)
+fields_behind one ts = do
+  fields ← listed (field_at one) most_parts ts
+  rest ← close_bracket_at fields.1
+  Ok (fields.0, rest)
+
+-- components in brackets
+unfoldable pub fields_at : Reader TypeModel → Reader (List (List ℕ × TypeModel))
+fields_at one ts = open_bracket_at ts >>= fields_behind one
+
+-- designators, and their type behind an arrow
+unfoldable pub candidate_at : Reader TypeModel → Reader (List Designator × TypeModel)
+candidate_at one ts = do
+  designators ← listed designator_at most_parts ts
+  rest ← arrow_at designators.1
+  over (λ type. (designators.0, type)) (one rest)
+
+-- the enumeration that designators are of, if it is named
+abbrev pub tag_at : Reader (Option Reference)
+tag_at (tokens.Name n ∷ ts) = over Some (reference_behind n ts)
+tag_at ts = Ok (None, ts)
+
+-- a maximum, if one is written
+unfoldable pub maximum_at : Reader (Option Numeric)
+maximum_at (tokens.Of ∷ ts) = Ok (None, tokens.Of ∷ ts)
+maximum_at ts = over Some (numeric_at ts)
+
+-- ---- types, behind their first token
+
+unfoldable pub enumeration_behind : Reader TypeModel
+enumeration_behind ts = do
+  members ← listed member_at most_parts ts
+  rest ← close_brace_at members.1
+  Ok (TypeModel.enumeration members.0, rest)
+
+abbrev pub long_behind : Reader TypeModel
+long_behind (tokens.Cardinal ∷ ts) = Ok (TypeModel.long_cardinal, ts)
+long_behind (tokens.Integer ∷ ts) = Ok (TypeModel.long_integer, ts)
+long_behind ts = Err (length ts, reasons.NoType)
+
+unfoldable pub array_behind : Reader TypeModel → Reader TypeModel
+array_behind one ts = do
+  number ← numeric_at ts
+  rest ← of_at number.1
+  over (TypeModel.array number.0) (one rest)
+
+unfoldable pub sequence_behind : Reader TypeModel → Reader TypeModel
+sequence_behind one ts = do
+  most ← maximum_at ts
+  rest ← of_at most.1
+  over (TypeModel.sequence most.0) (one rest)
+
+unfoldable pub choice_behind : Reader TypeModel → Reader TypeModel
+choice_behind one ts = do
+  tag ← tag_at ts
+  rest ← of_at tag.1
+  inside ← open_brace_at rest
+  candidates ← listed (candidate_at one) most_parts inside
+  behind ← close_brace_at candidates.1
+  Ok (TypeModel.choice tag.0 (candidates_from candidates.0), behind)
+
+abbrev pub record_behind : Reader TypeModel → Reader TypeModel
+record_behind one ts = over (λ fields. TypeModel.fields (fields_from fields)) (fields_at one ts)
+
+-- a type by its first token
+unfoldable pub type_behind : Reader TypeModel → Token → Reader TypeModel
+type_behind one tokens.Boolean ts = Ok (TypeModel.boolean, ts)
+type_behind one tokens.Cardinal ts = Ok (TypeModel.cardinal, ts)
+type_behind one tokens.Integer ts = Ok (TypeModel.integer, ts)
+type_behind one tokens.Unspecified ts = Ok (TypeModel.unspecified, ts)
+type_behind one tokens.String ts = Ok (TypeModel.text, ts)
+type_behind one tokens.Long ts = long_behind ts
+type_behind one tokens.OpenBrace ts = enumeration_behind ts
+type_behind one tokens.Array ts = array_behind one ts
+type_behind one tokens.Sequence ts = sequence_behind one ts
+type_behind one tokens.Record ts = record_behind one ts
+type_behind one tokens.Choice ts = choice_behind one ts
+type_behind one (tokens.Name n) ts = over TypeModel.named (reference_behind n ts)
+type_behind one _ ts = Err (length ts + 1, reasons.NoType)
+
+-- a type in which types stand at most so deep
+unfoldable pub type_at : ℕ → Reader TypeModel
+type_at zero ts = Err (length ts, reasons.TooDeep)
+type_at (suc depth) [] = Err (0, reasons.NoType)
+type_at (suc depth) (t ∷ ts) = type_behind (type_at depth) t ts

@@ -1,0 +1,157 @@
+//! Declarations read from tokens, from left to right.
+ghost use Rattle.courier_notation.specs.ProgramModels.{declaration_view, declaration_views, declared_view};
+ghost use Rattle.courier_notation.specs.Written.{field_models};
+ghost use Rattle.courier_notation.specs.Reading.{Gives};
+ghost use Rattle.courier_notation.specs.Programs.{arguments_at, constant_declared, declaration_at, declarations_at};
+ghost use Rattle.courier_notation.specs.Programs.{declared_at, error_behind, most_declarations, procedure_behind};
+ghost use Rattle.courier_notation.specs.Programs.{reports_at, results_at, type_declared};
+
+use crate::constants::constant_of;
+use crate::declared::{Constant, Declaration, Declared};
+use crate::limits::{MOST_DECLARATIONS, MOST_DEPTH};
+use crate::marks::{
+    behind_close_bracket, behind_colon, behind_equal, behind_open_bracket, behind_semicolon,
+    is_end, wrong,
+};
+use crate::parts::{name_of, references_of, small_of};
+use crate::reason::Reason;
+use crate::stop::Stop;
+use crate::token::Token;
+use crate::types::{bracketed, type_of};
+use crate::written::{Reference, WrittenType};
+use std::alloc::Global;
+
+#[tactic(auto, unfolding(crate::specs::Programs::arguments_at))]
+fn arguments_of(
+    alloc: Global,
+    tokens: &[Token],
+) -> Result<(Vec<(Vec<u32>, WrittenType)>, &[Token]), Stop>
+    ensures { Gives (λ x. (field_models x.0.items, x.1.now)) result (arguments_at tokens.now) }
+{
+    match tokens {
+        [Token::OpenBracket, ..] => bracketed(alloc, MOST_DEPTH, tokens),
+        _ => Ok((Vec::new(alloc), tokens)),
+    }
+}
+
+#[tactic(auto, unfolding(crate::specs::Programs::results_at))]
+fn results_of(
+    alloc: Global,
+    tokens: &[Token],
+) -> Result<(Vec<(Vec<u32>, WrittenType)>, &[Token]), Stop>
+    ensures { Gives (λ x. (field_models x.0.items, x.1.now)) result (results_at tokens.now) }
+{
+    match tokens {
+        [Token::Returns, rest @ ..] => bracketed(alloc, MOST_DEPTH, rest),
+        _ => Ok((Vec::new(alloc), tokens)),
+    }
+}
+
+#[tactic(auto, unfolding(crate::specs::Programs::reports_at))]
+fn reports_of(alloc: Global, tokens: &[Token]) -> Result<(Vec<Reference>, &[Token]), Stop>
+    ensures { Gives (λ x. (x.0.items, x.1.now)) result (reports_at tokens.now) }
+{
+    match tokens {
+        [Token::Reports, rest @ ..] => {
+            let inside = behind_open_bracket(rest)?;
+            let (errors, rest) = references_of(alloc, inside)?;
+            let rest = behind_close_bracket(rest)?;
+            Ok((errors, rest))
+        }
+        _ => Ok((Vec::new(alloc), tokens)),
+    }
+}
+
+#[tactic(auto, unfolding(crate::specs::Programs::procedure_behind))]
+fn procedure_of(alloc: Global, tokens: &[Token]) -> Result<(Declared, &[Token]), Stop>
+    ensures { Gives (λ x. (declared_view x.0, x.1.now)) result (procedure_behind tokens.now) }
+{
+    let (arguments, rest) = arguments_of(alloc, tokens)?;
+    let (results, rest) = results_of(alloc, rest)?;
+    let (errors, rest) = reports_of(alloc, rest)?;
+    let rest = behind_equal(rest)?;
+    let (number, rest) = small_of(rest)?;
+    Ok((
+        Declared::Procedure {
+            arguments,
+            results,
+            errors,
+            number,
+        },
+        rest,
+    ))
+}
+
+#[tactic(auto, unfolding(crate::specs::Programs::error_behind))]
+fn error_of(alloc: Global, tokens: &[Token]) -> Result<(Declared, &[Token]), Stop>
+    ensures { Gives (λ x. (declared_view x.0, x.1.now)) result (error_behind tokens.now) }
+{
+    let (arguments, rest) = arguments_of(alloc, tokens)?;
+    let rest = behind_equal(rest)?;
+    let (number, rest) = small_of(rest)?;
+    Ok((Declared::Error { arguments, number }, rest))
+}
+
+#[tactic(auto, unfolding(crate::specs::Programs::type_declared))]
+fn declared_type(alloc: Global, tokens: &[Token]) -> Result<(Declared, &[Token]), Stop>
+    ensures { Gives (λ x. (declared_view x.0, x.1.now)) result (type_declared tokens.now) }
+{
+    let rest = behind_equal(tokens)?;
+    let (written, rest) = type_of(alloc, MOST_DEPTH, rest)?;
+    Ok((Declared::Type(written), rest))
+}
+
+#[tactic(auto, unfolding(crate::specs::Programs::constant_declared))]
+fn declared_constant(alloc: Global, tokens: &[Token]) -> Result<(Declared, &[Token]), Stop>
+    ensures { Gives (λ x. (declared_view x.0, x.1.now)) result (constant_declared tokens.now) }
+{
+    let (written, rest) = type_of(alloc, MOST_DEPTH, tokens)?;
+    let rest = behind_equal(rest)?;
+    let (constant, rest) = constant_of(alloc, MOST_DEPTH, rest)?;
+    Ok((Declared::Constant(written, constant), rest))
+}
+
+#[tactic(auto, unfolding(crate::specs::Programs::declared_at))]
+fn declared_of(alloc: Global, tokens: &[Token]) -> Result<(Declared, &[Token]), Stop>
+    ensures { Gives (λ x. (declared_view x.0, x.1.now)) result (declared_at tokens.now) }
+{
+    match tokens {
+        [Token::Type, rest @ ..] => declared_type(alloc, rest),
+        [Token::Procedure, rest @ ..] => procedure_of(alloc, rest),
+        [Token::Error, rest @ ..] => error_of(alloc, rest),
+        _ => declared_constant(alloc, tokens),
+    }
+}
+
+#[tactic(auto, unfolding(crate::specs::Programs::declaration_at))]
+fn declaration_of(alloc: Global, tokens: &[Token]) -> Result<(Declaration, &[Token]), Stop>
+    ensures { Gives (λ x. (declaration_view x.0, x.1.now)) result (declaration_at tokens.now) }
+{
+    let (name, rest) = name_of(tokens)?;
+    let rest = behind_colon(rest)?;
+    let (declared, rest) = declared_of(alloc, rest)?;
+    let rest = behind_semicolon(rest)?;
+    Ok((Declaration { name, declared }, rest))
+}
+
+pub fn declarations_of(
+    alloc: Global,
+    tokens: &[Token],
+) -> Result<(Vec<Declaration>, &[Token]), Stop>
+    ensures { Gives (λ x. (declaration_views x.0.items, x.1.now)) result (declarations_at most_declarations tokens.now) }
+{
+    let mut declarations = Vec::new(alloc);
+    let mut rest = tokens;
+    for _ in 0..MOST_DECLARATIONS {
+        if is_end(rest) {
+            return Ok((declarations, rest));
+        }
+        let (declaration, after) = declaration_of(alloc, rest)?;
+        declarations.push(declaration)?;
+        rest = after;
+    }
+    if is_end(rest) {
+        return Ok((declarations, rest));
+    }
+    Err(wrong(rest, Reason::TooManyDeclarations))
+}

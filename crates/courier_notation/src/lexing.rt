@@ -1,0 +1,90 @@
+//! A text read token by token.
+ghost use Rattle.std.specs.Prelude.{◌≡◌, ◌∷◌, [], ◌++◌, ◌+◌, ◌<◌, ◌≤◌, map, vec_len, IfOk, OnOk};
+ghost use Rattle.courier_notation.specs.declared.token.Token.TheVariants.{Name as NameToken, Quoted as QuotedToken};
+ghost use Rattle.courier_notation.specs.Lexing.{with_lexeme, with_token, lexeme_view, lexing_of, lexing_view};
+ghost use Rattle.courier_notation.specs.Reading.{Gives};
+
+use crate::lexed::Lexed;
+use crate::lexemes::{Lexeme, behind_blanks, lexeme_of};
+use crate::limits::MOST_TOKENS;
+use crate::reason::Reason;
+use crate::stop::Stop;
+use crate::token::Token;
+use std::alloc::{AllocError, Global};
+
+/// Adds a name, and answers its token.
+fn add_name(alloc: Global, names: &mut Vec<Vec<u8>>, word: &[u8]) -> Result<Token, AllocError>
+    requires { vec_len names.old < 65536 }
+    ensures names { OnOk result (map (λ v. v.items) names.new.items ≡ map (λ v. v.items) names.old.items ++ word.now ∷ []) }
+    ensures token { IfOk result (λ token. token ≡ NameToken (vec_len names.old)) }
+    ensures len { vec_len names.new ≤ vec_len names.old + 1 }
+{
+    let token = Token::Name(names.len() as u32);
+    names.push(Vec::from_slice(alloc, word)?)?;
+    Ok(token)
+}
+
+/// Adds a string, and answers its token.
+fn add_string(alloc: Global, strings: &mut Vec<Vec<u8>>, string: &[u8]) -> Result<Token, AllocError>
+    requires { vec_len strings.old < 65536 }
+    ensures strings { OnOk result (map (λ v. v.items) strings.new.items ≡ map (λ v. v.items) strings.old.items ++ string.now ∷ []) }
+    ensures token { IfOk result (λ token. token ≡ QuotedToken (vec_len strings.old)) }
+    ensures len { vec_len strings.new ≤ vec_len strings.old + 1 }
+{
+    let token = Token::Quoted(strings.len() as u32);
+    strings.push(Vec::from_slice(alloc, string)?)?;
+    Ok(token)
+}
+
+/// Adds a token, and how many bytes were left where it begins.
+fn add_token(lexed: &mut Lexed, token: Token, left: usize) -> Result<(), AllocError>
+    ensures view { OnOk result (lexing_view lexed.new ≡ with_token token left (lexing_view lexed.old)) }
+    ensures names { OnOk result (lexed.new.names ≡ lexed.old.names) }
+    ensures strings { OnOk result (lexed.new.strings ≡ lexed.old.strings) }
+{
+    lexed.tokens.push(token)?;
+    lexed.left.push(left)?;
+    Ok(())
+}
+
+/// Adds a lexeme.
+fn add(alloc: Global, lexed: &mut Lexed, lexeme: Lexeme, left: usize) -> Result<(), AllocError>
+    requires names { vec_len lexed.old.names < 65536 }
+    requires strings { vec_len lexed.old.strings < 65536 }
+    ensures view { OnOk result (lexing_view lexed.new ≡ with_lexeme (lexeme_view lexeme.entry) left (lexing_view lexed.old)) }
+    ensures names { OnOk result (vec_len lexed.new.names ≤ vec_len lexed.old.names + 1) }
+    ensures strings { OnOk result (vec_len lexed.new.strings ≤ vec_len lexed.old.strings + 1) }
+{
+    let token = match lexeme {
+        Lexeme::Plain(token) => token,
+        Lexeme::Name(word) => add_name(alloc, &mut lexed.names, word)?,
+        Lexeme::Quoted(string) => add_string(alloc, &mut lexed.strings, string)?,
+    };
+    add_token(lexed, token, left)
+}
+
+/// The tokens of a text, of which there are fewer than 65,536.
+pub fn lex(alloc: Global, text: &[u8]) -> Result<Lexed, Stop>
+    ensures { Gives lexing_view result (lexing_of text.now) }
+{
+    let mut lexed = Lexed {
+        tokens: Vec::new(alloc),
+        left: Vec::new(alloc),
+        names: Vec::new(alloc),
+        strings: Vec::new(alloc),
+    };
+    let mut rest = text;
+    for _ in 0..MOST_TOKENS {
+        let begun = behind_blanks(rest);
+        if begun.len() == 0 {
+            return Ok(lexed);
+        }
+        let (lexeme, behind) = lexeme_of(begun)?;
+        add(alloc, &mut lexed, lexeme, begun.len())?;
+        rest = behind;
+    }
+    Err(Stop::Wrong {
+        left: rest.len(),
+        reason: Reason::TooManyTokens,
+    })
+}

@@ -1,0 +1,195 @@
+//! Single tokens that have to stand where they stand.
+ghost use Rattle.std.specs.Prelude.{◌≡◌, IfNone, IfSome, None, Some, length};
+ghost use Rattle.courier_notation.specs.declared.stop.Stop.TheVariants.{Wrong};
+ghost use Rattle.courier_notation.specs.Reading.{Gives, arrow_at, behind_comma, close_brace_at, close_bracket_at};
+ghost use Rattle.courier_notation.specs.Reading.{close_parenthesis_at, colon_at, of_at, open_brace_at};
+ghost use Rattle.courier_notation.specs.Reading.{open_bracket_at, open_parenthesis_at};
+ghost use Rattle.courier_notation.specs.Programs.{begin_at, dot_at, end_at, equal_at, is_end as is_end_of};
+ghost use Rattle.courier_notation.specs.Programs.{program_at, semicolon_at, upon_at, version_at};
+
+use crate::reason::Reason;
+use crate::stop::Stop;
+use crate::token::Token;
+
+/// The first of the tokens is wrong.
+pub fn wrong(tokens: &[Token], reason: Reason) -> Stop
+    ensures { result ≡ Wrong (length tokens.now) reason }
+{
+    Stop::Wrong {
+        left: tokens.len(),
+        reason,
+    }
+}
+
+pub fn behind_of(tokens: &[Token]) -> Result<&[Token], Stop>
+    ensures { Gives (λ x. x.now) result (of_at tokens.now) }
+{
+    match tokens {
+        [Token::Of, rest @ ..] => Ok(rest),
+        _ => Err(wrong(tokens, Reason::NoOf)),
+    }
+}
+
+pub fn behind_arrow(tokens: &[Token]) -> Result<&[Token], Stop>
+    ensures { Gives (λ x. x.now) result (arrow_at tokens.now) }
+{
+    match tokens {
+        [Token::Arrow, rest @ ..] => Ok(rest),
+        _ => Err(wrong(tokens, Reason::NoArrow)),
+    }
+}
+
+pub fn behind_colon(tokens: &[Token]) -> Result<&[Token], Stop>
+    ensures { Gives (λ x. x.now) result (colon_at tokens.now) }
+{
+    match tokens {
+        [Token::Colon, rest @ ..] => Ok(rest),
+        _ => Err(wrong(tokens, Reason::NoColon)),
+    }
+}
+
+pub fn behind_open_brace(tokens: &[Token]) -> Result<&[Token], Stop>
+    ensures { Gives (λ x. x.now) result (open_brace_at tokens.now) }
+{
+    match tokens {
+        [Token::OpenBrace, rest @ ..] => Ok(rest),
+        _ => Err(wrong(tokens, Reason::NoOpenBrace)),
+    }
+}
+
+pub fn behind_close_brace(tokens: &[Token]) -> Result<&[Token], Stop>
+    ensures { Gives (λ x. x.now) result (close_brace_at tokens.now) }
+{
+    match tokens {
+        [Token::CloseBrace, rest @ ..] => Ok(rest),
+        _ => Err(wrong(tokens, Reason::NoCloseBrace)),
+    }
+}
+
+pub fn behind_open_bracket(tokens: &[Token]) -> Result<&[Token], Stop>
+    ensures { Gives (λ x. x.now) result (open_bracket_at tokens.now) }
+{
+    match tokens {
+        [Token::OpenBracket, rest @ ..] => Ok(rest),
+        _ => Err(wrong(tokens, Reason::NoOpenBracket)),
+    }
+}
+
+pub fn behind_close_bracket(tokens: &[Token]) -> Result<&[Token], Stop>
+    ensures { Gives (λ x. x.now) result (close_bracket_at tokens.now) }
+{
+    match tokens {
+        [Token::CloseBracket, rest @ ..] => Ok(rest),
+        _ => Err(wrong(tokens, Reason::NoCloseBracket)),
+    }
+}
+
+pub fn behind_open_parenthesis(tokens: &[Token]) -> Result<&[Token], Stop>
+    ensures { Gives (λ x. x.now) result (open_parenthesis_at tokens.now) }
+{
+    match tokens {
+        [Token::OpenParenthesis, rest @ ..] => Ok(rest),
+        _ => Err(wrong(tokens, Reason::NoOpenParenthesis)),
+    }
+}
+
+pub fn behind_close_parenthesis(tokens: &[Token]) -> Result<&[Token], Stop>
+    ensures { Gives (λ x. x.now) result (close_parenthesis_at tokens.now) }
+{
+    match tokens {
+        [Token::CloseParenthesis, rest @ ..] => Ok(rest),
+        _ => Err(wrong(tokens, Reason::NoCloseParenthesis)),
+    }
+}
+
+/// What stands behind a comma, if there is one.
+pub fn next_part(tokens: &[Token]) -> Option<&[Token]>
+    ensures some { IfSome result (λ next. behind_comma tokens.now ≡ Some next.now) }
+    ensures none { IfNone result (behind_comma tokens.now ≡ None) }
+{
+    match tokens {
+        [Token::Comma, next @ ..] => Some(next),
+        _ => None,
+    }
+}
+
+pub fn behind_begin(tokens: &[Token]) -> Result<&[Token], Stop>
+    ensures { Gives (λ x. x.now) result (begin_at tokens.now) }
+{
+    match tokens {
+        [Token::Begin, rest @ ..] => Ok(rest),
+        _ => Err(wrong(tokens, Reason::NoBegin)),
+    }
+}
+
+pub fn behind_end(tokens: &[Token]) -> Result<&[Token], Stop>
+    ensures { Gives (λ x. x.now) result (end_at tokens.now) }
+{
+    match tokens {
+        [Token::End, rest @ ..] => Ok(rest),
+        _ => Err(wrong(tokens, Reason::NoEnd)),
+    }
+}
+
+pub fn behind_program(tokens: &[Token]) -> Result<&[Token], Stop>
+    ensures { Gives (λ x. x.now) result (program_at tokens.now) }
+{
+    match tokens {
+        [Token::Program, rest @ ..] => Ok(rest),
+        _ => Err(wrong(tokens, Reason::NoProgram)),
+    }
+}
+
+pub fn behind_version(tokens: &[Token]) -> Result<&[Token], Stop>
+    ensures { Gives (λ x. x.now) result (version_at tokens.now) }
+{
+    match tokens {
+        [Token::Version, rest @ ..] => Ok(rest),
+        _ => Err(wrong(tokens, Reason::NoVersion)),
+    }
+}
+
+pub fn behind_upon(tokens: &[Token]) -> Result<&[Token], Stop>
+    ensures { Gives (λ x. x.now) result (upon_at tokens.now) }
+{
+    match tokens {
+        [Token::Upon, rest @ ..] => Ok(rest),
+        _ => Err(wrong(tokens, Reason::NoUpon)),
+    }
+}
+
+pub fn behind_equal(tokens: &[Token]) -> Result<&[Token], Stop>
+    ensures { Gives (λ x. x.now) result (equal_at tokens.now) }
+{
+    match tokens {
+        [Token::Equal, rest @ ..] => Ok(rest),
+        _ => Err(wrong(tokens, Reason::NoEqual)),
+    }
+}
+
+pub fn behind_semicolon(tokens: &[Token]) -> Result<&[Token], Stop>
+    ensures { Gives (λ x. x.now) result (semicolon_at tokens.now) }
+{
+    match tokens {
+        [Token::Semicolon, rest @ ..] => Ok(rest),
+        _ => Err(wrong(tokens, Reason::NoSemicolon)),
+    }
+}
+
+pub fn behind_dot(tokens: &[Token]) -> Result<&[Token], Stop>
+    ensures { Gives (λ x. x.now) result (dot_at tokens.now) }
+{
+    match tokens {
+        [Token::Dot, rest @ ..] => Ok(rest),
+        _ => Err(wrong(tokens, Reason::NoDot)),
+    }
+}
+
+pub fn is_end(tokens: &[Token]) -> bool
+    ensures { result ≡ is_end_of tokens.now }
+{
+    match tokens {
+        [Token::End, ..] => true,
+        _ => false,
+    }
+}

@@ -1,0 +1,230 @@
+//! Names, numbers and the parts of types, read from tokens.
+ghost use Rattle.courier_notation.specs.Reading.{Gives, designator_at, designator_behind, listed, maximum_at};
+ghost use Rattle.courier_notation.specs.Reading.{member_at, most_parts, name_at, numeric_at, reference_behind};
+ghost use Rattle.courier_notation.specs.Reading.{tag_at, word_of};
+ghost use Rattle.courier_notation.specs.Programs.{long_at, reference_at, small_at, small_or_fault};
+
+use crate::limits::MOST_PARTS;
+use crate::marks::{behind_close_parenthesis, behind_open_parenthesis, next_part, wrong};
+use crate::reason::Reason;
+use crate::stop::Stop;
+use crate::token::Token;
+use crate::written::{Numeric, Reference};
+use std::alloc::Global;
+
+pub fn name_of(tokens: &[Token]) -> Result<(u32, &[Token]), Stop>
+    ensures { Gives (λ x. (x.0, x.1.now)) result (name_at tokens.now) }
+{
+    match tokens {
+        [Token::Name(name), rest @ ..] => Ok((*name, rest)),
+        _ => Err(wrong(tokens, Reason::NoName)),
+    }
+}
+
+/// The reference that begins with the name.
+pub fn reference_of(name: u32, tokens: &[Token]) -> Result<(Reference, &[Token]), Stop>
+    ensures { Gives (λ x. (x.0, x.1.now)) result (reference_behind name tokens.now) }
+{
+    match tokens {
+        [Token::Dot, rest @ ..] => {
+            let (second, rest) = name_of(rest)?;
+            Ok((Reference::Other(name, second), rest))
+        }
+        _ => Ok((Reference::Own(name), tokens)),
+    }
+}
+
+/// The number, if it is a word; the tokens are those behind it.
+fn word_behind(number: u32, tokens: &[Token]) -> Result<(Numeric, &[Token]), Stop>
+    ensures { Gives (λ x. (x.0, x.1.now)) result (word_of number tokens.now) }
+{
+    if number < 65_536 {
+        Ok((Numeric::Number(number as u16), tokens))
+    } else {
+        Err(Stop::Wrong {
+            left: tokens.len() + 1,
+            reason: Reason::LargeNumber,
+        })
+    }
+}
+
+#[tactic(auto, unfolding(crate::specs::Reading::numeric_at))]
+pub fn numeric_of(tokens: &[Token]) -> Result<(Numeric, &[Token]), Stop>
+    ensures { Gives (λ x. (x.0, x.1.now)) result (numeric_at tokens.now) }
+{
+    match tokens {
+        [Token::Number(number), rest @ ..] => word_behind(*number, rest),
+        [Token::Name(name), rest @ ..] => {
+            let (constant, rest) = reference_of(*name, rest)?;
+            Ok((Numeric::Constant(constant), rest))
+        }
+        _ => Err(wrong(tokens, Reason::NoNumber)),
+    }
+}
+
+pub fn names_of(alloc: Global, tokens: &[Token]) -> Result<(Vec<u32>, &[Token]), Stop>
+    ensures { Gives (λ x. (x.0.items, x.1.now)) result (listed name_at most_parts tokens.now) }
+{
+    let mut names = Vec::new(alloc);
+    let mut rest = tokens;
+    for _ in 0..MOST_PARTS {
+        let (name, after) = name_of(rest)?;
+        names.push(name)?;
+        match next_part(after) {
+            Some(next) => rest = next,
+            None => return Ok((names, after)),
+        }
+    }
+    Err(wrong(rest, Reason::TooManyParts))
+}
+
+#[tactic(auto, unfolding(crate::specs::Reading::member_at))]
+fn member_of(tokens: &[Token]) -> Result<((u32, Numeric), &[Token]), Stop>
+    ensures { Gives (λ x. (x.0, x.1.now)) result (member_at tokens.now) }
+{
+    let (name, rest) = name_of(tokens)?;
+    let inside = behind_open_parenthesis(rest)?;
+    let (number, rest) = numeric_of(inside)?;
+    let rest = behind_close_parenthesis(rest)?;
+    Ok(((name, number), rest))
+}
+
+pub fn members_of(alloc: Global, tokens: &[Token]) -> Result<(Vec<(u32, Numeric)>, &[Token]), Stop>
+    ensures { Gives (λ x. (x.0.items, x.1.now)) result (listed member_at most_parts tokens.now) }
+{
+    let mut members = Vec::new(alloc);
+    let mut rest = tokens;
+    for _ in 0..MOST_PARTS {
+        let (member, after) = member_of(rest)?;
+        members.push(member)?;
+        match next_part(after) {
+            Some(next) => rest = next,
+            None => return Ok((members, after)),
+        }
+    }
+    Err(wrong(rest, Reason::TooManyParts))
+}
+
+#[tactic(auto, unfolding(crate::specs::Reading::designator_behind))]
+fn designator_of_name(
+    name: u32,
+    tokens: &[Token],
+) -> Result<((u32, Option<Numeric>), &[Token]), Stop>
+    ensures { Gives (λ x. (x.0, x.1.now)) result (designator_behind name tokens.now) }
+{
+    match tokens {
+        [Token::OpenParenthesis, rest @ ..] => {
+            let (number, rest) = numeric_of(rest)?;
+            let rest = behind_close_parenthesis(rest)?;
+            Ok(((name, Some(number)), rest))
+        }
+        _ => Ok(((name, None), tokens)),
+    }
+}
+
+#[tactic(auto, unfolding(crate::specs::Reading::designator_at))]
+fn designator_of(tokens: &[Token]) -> Result<((u32, Option<Numeric>), &[Token]), Stop>
+    ensures { Gives (λ x. (x.0, x.1.now)) result (designator_at tokens.now) }
+{
+    let (name, rest) = name_of(tokens)?;
+    designator_of_name(name, rest)
+}
+
+pub fn designators_of(
+    alloc: Global,
+    tokens: &[Token],
+) -> Result<(Vec<(u32, Option<Numeric>)>, &[Token]), Stop>
+    ensures { Gives (λ x. (x.0.items, x.1.now)) result (listed designator_at most_parts tokens.now) }
+{
+    let mut designators = Vec::new(alloc);
+    let mut rest = tokens;
+    for _ in 0..MOST_PARTS {
+        let (designator, after) = designator_of(rest)?;
+        designators.push(designator)?;
+        match next_part(after) {
+            Some(next) => rest = next,
+            None => return Ok((designators, after)),
+        }
+    }
+    Err(wrong(rest, Reason::TooManyParts))
+}
+
+pub fn tag_of(tokens: &[Token]) -> Result<(Option<Reference>, &[Token]), Stop>
+    ensures { Gives (λ x. (x.0, x.1.now)) result (tag_at tokens.now) }
+{
+    match tokens {
+        [Token::Name(name), rest @ ..] => {
+            let (tag, rest) = reference_of(*name, rest)?;
+            Ok((Some(tag), rest))
+        }
+        _ => Ok((None, tokens)),
+    }
+}
+
+#[tactic(auto, unfolding(crate::specs::Reading::maximum_at))]
+pub fn maximum_of(tokens: &[Token]) -> Result<(Option<Numeric>, &[Token]), Stop>
+    ensures { Gives (λ x. (x.0, x.1.now)) result (maximum_at tokens.now) }
+{
+    match tokens {
+        [Token::Of, ..] => Ok((None, tokens)),
+        _ => {
+            let (most, rest) = numeric_of(tokens)?;
+            Ok((Some(most), rest))
+        }
+    }
+}
+
+pub fn long_of(tokens: &[Token]) -> Result<(u32, &[Token]), Stop>
+    ensures { Gives (λ x. (x.0, x.1.now)) result (long_at tokens.now) }
+{
+    match tokens {
+        [Token::Number(number), rest @ ..] => Ok((*number, rest)),
+        _ => Err(wrong(tokens, Reason::NoNumber)),
+    }
+}
+
+/// The number, if it is a word; the tokens are those behind it.
+fn small_behind(number: u32, tokens: &[Token]) -> Result<(u16, &[Token]), Stop>
+    ensures { Gives (λ x. (x.0, x.1.now)) result (small_or_fault number tokens.now) }
+{
+    if number < 65_536 {
+        Ok((number as u16, tokens))
+    } else {
+        Err(Stop::Wrong {
+            left: tokens.len() + 1,
+            reason: Reason::LargeNumber,
+        })
+    }
+}
+
+#[tactic(auto, unfolding(crate::specs::Programs::small_at))]
+pub fn small_of(tokens: &[Token]) -> Result<(u16, &[Token]), Stop>
+    ensures { Gives (λ x. (x.0, x.1.now)) result (small_at tokens.now) }
+{
+    let (number, rest) = long_of(tokens)?;
+    small_behind(number, rest)
+}
+
+#[tactic(auto, unfolding(crate::specs::Programs::reference_at))]
+fn whole_reference(tokens: &[Token]) -> Result<(Reference, &[Token]), Stop>
+    ensures { Gives (λ x. (x.0, x.1.now)) result (reference_at tokens.now) }
+{
+    let (name, rest) = name_of(tokens)?;
+    reference_of(name, rest)
+}
+
+pub fn references_of(alloc: Global, tokens: &[Token]) -> Result<(Vec<Reference>, &[Token]), Stop>
+    ensures { Gives (λ x. (x.0.items, x.1.now)) result (listed reference_at most_parts tokens.now) }
+{
+    let mut references = Vec::new(alloc);
+    let mut rest = tokens;
+    for _ in 0..MOST_PARTS {
+        let (reference, after) = whole_reference(rest)?;
+        references.push(reference)?;
+        match next_part(after) {
+            Some(next) => rest = next,
+            None => return Ok((references, after)),
+        }
+    }
+    Err(wrong(rest, Reason::TooManyParts))
+}

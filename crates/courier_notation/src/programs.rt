@@ -1,0 +1,119 @@
+//! A program read from tokens, from left to right.
+ghost use Rattle.courier_notation.specs.ProgramModels.{declaration_views, program_view};
+ghost use Rattle.courier_notation.specs.Reading.{Gives, listed, most_parts};
+ghost use Rattle.courier_notation.specs.Programs.{body_at, dependencies_at, dependency_at, nothing_at, program_of};
+
+use crate::declarations::declarations_of;
+use crate::declared::{Declaration, Dependency, WrittenProgram};
+use crate::limits::MOST_PARTS;
+use crate::marks::{
+    behind_begin, behind_close_parenthesis, behind_colon, behind_dot, behind_end, behind_equal,
+    behind_open_parenthesis, behind_program, behind_semicolon, behind_upon, behind_version,
+    next_part, wrong,
+};
+use crate::parts::{long_of, name_of, small_of};
+use crate::reason::Reason;
+use crate::stop::Stop;
+use crate::token::Token;
+use std::alloc::Global;
+
+#[tactic(auto, unfolding(crate::specs::Programs::dependency_at))]
+fn dependency_of(tokens: &[Token]) -> Result<(Dependency, &[Token]), Stop>
+    ensures { Gives (λ x. (x.0, x.1.now)) result (dependency_at tokens.now) }
+{
+    let (name, rest) = name_of(tokens)?;
+    let inside = behind_open_parenthesis(rest)?;
+    let (number, rest) = long_of(inside)?;
+    let rest = behind_close_parenthesis(rest)?;
+    let rest = behind_version(rest)?;
+    let (version, rest) = small_of(rest)?;
+    Ok((
+        Dependency {
+            name,
+            number,
+            version,
+        },
+        rest,
+    ))
+}
+
+fn some_dependencies(alloc: Global, tokens: &[Token]) -> Result<(Vec<Dependency>, &[Token]), Stop>
+    ensures { Gives (λ x. (x.0.items, x.1.now)) result (listed dependency_at most_parts tokens.now) }
+{
+    let mut dependencies = Vec::new(alloc);
+    let mut rest = tokens;
+    for _ in 0..MOST_PARTS {
+        let (dependency, after) = dependency_of(rest)?;
+        dependencies.push(dependency)?;
+        match next_part(after) {
+            Some(next) => rest = next,
+            None => return Ok((dependencies, after)),
+        }
+    }
+    Err(wrong(rest, Reason::TooManyParts))
+}
+
+#[tactic(auto, unfolding(crate::specs::Programs::dependencies_at))]
+fn dependencies_of(alloc: Global, tokens: &[Token]) -> Result<(Vec<Dependency>, &[Token]), Stop>
+    ensures { Gives (λ x. (x.0.items, x.1.now)) result (dependencies_at tokens.now) }
+{
+    match tokens {
+        [Token::Depends, rest @ ..] => {
+            let inside = behind_upon(rest)?;
+            let (dependencies, rest) = some_dependencies(alloc, inside)?;
+            let rest = behind_semicolon(rest)?;
+            Ok((dependencies, rest))
+        }
+        _ => Ok((Vec::new(alloc), tokens)),
+    }
+}
+
+#[tactic(auto, unfolding(crate::specs::Programs::body_at))]
+fn body_of(
+    alloc: Global,
+    tokens: &[Token],
+) -> Result<((Vec<Dependency>, Vec<Declaration>), &[Token]), Stop>
+    ensures { Gives (λ x. ((x.0.0.items, declaration_views x.0.1.items), x.1.now)) result (body_at tokens.now) }
+{
+    let begun = behind_begin(tokens)?;
+    let (dependencies, rest) = dependencies_of(alloc, begun)?;
+    let (declarations, rest) = declarations_of(alloc, rest)?;
+    let ended = behind_end(rest)?;
+    let rest = behind_dot(ended)?;
+    Ok(((dependencies, declarations), rest))
+}
+
+/// The program, if nothing stands behind it.
+fn ended(program: WrittenProgram, tokens: &[Token]) -> Result<WrittenProgram, Stop>
+    ensures { Gives program_view result (nothing_at (program_view program) tokens.now) }
+{
+    if tokens.len() > 0 {
+        return Err(wrong(tokens, Reason::Trailing));
+    }
+    Ok(program)
+}
+
+/// The program that the tokens are, all of them.
+#[tactic(auto, unfolding(crate::specs::Programs::program_of))]
+pub fn read_program(alloc: Global, tokens: &[Token]) -> Result<WrittenProgram, Stop>
+    ensures { Gives program_view result (program_of tokens.now) }
+{
+    let (name, rest) = name_of(tokens)?;
+    let rest = behind_colon(rest)?;
+    let rest = behind_program(rest)?;
+    let (number, rest) = long_of(rest)?;
+    let rest = behind_version(rest)?;
+    let (version, rest) = small_of(rest)?;
+    let rest = behind_equal(rest)?;
+    let ((dependencies, declarations), rest) = body_of(alloc, rest)?;
+    ended(
+        WrittenProgram {
+            name,
+            number,
+            version,
+            dependencies,
+            declarations,
+        },
+        rest,
+    )
+}

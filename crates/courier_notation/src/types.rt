@@ -1,0 +1,253 @@
+//! Types read from tokens, from left to right.
+ghost use Rattle.courier_notation.specs.Written.{TypeModel, candidate_model, candidate_models, field_model};
+ghost use Rattle.courier_notation.specs.Written.{field_models, type_model};
+ghost use Rattle.courier_notation.specs.Reading.{Gives, array_behind, candidate_at, choice_behind};
+ghost use Rattle.courier_notation.specs.Reading.{enumeration_behind, field_at, fields_at, fields_behind, listed};
+ghost use Rattle.courier_notation.specs.Reading.{long_behind, most_parts, over, record_behind, reference_behind};
+ghost use Rattle.courier_notation.specs.Reading.{sequence_behind, type_at, type_behind};
+
+use crate::limits::MOST_PARTS;
+use crate::marks::{
+    behind_arrow, behind_close_brace, behind_close_bracket, behind_colon, behind_of,
+    behind_open_brace, behind_open_bracket, next_part, wrong,
+};
+use crate::parts::{
+    designators_of, maximum_of, members_of, names_of, numeric_of, reference_of, tag_of,
+};
+use crate::reason::Reason;
+use crate::stop::Stop;
+use crate::token::Token;
+use crate::written::{Numeric, WrittenType};
+use std::alloc::Global;
+
+#[tactic(auto, unfolding(crate::specs::Reading::enumeration_behind))]
+fn enumeration_of(alloc: Global, tokens: &[Token]) -> Result<(WrittenType, &[Token]), Stop>
+    ensures { Gives (λ x. (type_model x.0, x.1.now)) result (enumeration_behind tokens.now) }
+{
+    let (members, rest) = members_of(alloc, tokens)?;
+    let rest = behind_close_brace(rest)?;
+    Ok((WrittenType::Enumeration(members), rest))
+}
+
+fn long_of(tokens: &[Token]) -> Result<(WrittenType, &[Token]), Stop>
+    ensures { Gives (λ x. (type_model x.0, x.1.now)) result (long_behind tokens.now) }
+{
+    match tokens {
+        [Token::Cardinal, rest @ ..] => Ok((WrittenType::LongCardinal, rest)),
+        [Token::Integer, rest @ ..] => Ok((WrittenType::LongInteger, rest)),
+        _ => Err(wrong(tokens, Reason::NoType)),
+    }
+}
+
+/// Names, and their type behind a colon.
+#[cycle(types)]
+#[tactic(auto, unfolding(crate::specs::Reading::field_at))]
+fn field_of(
+    alloc: Global,
+    depth: usize,
+    tokens: &[Token],
+) -> Result<((Vec<u32>, WrittenType), &[Token]), Stop>
+    ensures { Gives (λ x. (field_model x.0, x.1.now)) result (field_at (type_at depth) tokens.now) }
+{
+    let (names, rest) = names_of(alloc, tokens)?;
+    let rest = behind_colon(rest)?;
+    let (written, rest) = type_of(alloc, depth, rest)?;
+    Ok(((names, written), rest))
+}
+
+#[cycle(types)]
+fn fields_of(
+    alloc: Global,
+    depth: usize,
+    tokens: &[Token],
+) -> Result<(Vec<(Vec<u32>, WrittenType)>, &[Token]), Stop>
+    ensures { Gives (λ x. (field_models x.0.items, x.1.now)) result (listed (field_at (type_at depth)) most_parts tokens.now) }
+{
+    let mut fields = Vec::new(alloc);
+    let mut rest = tokens;
+    for _ in 0..MOST_PARTS {
+        let (field, after) = field_of(alloc, depth, rest)?;
+        fields.push(field)?;
+        match next_part(after) {
+            Some(next) => rest = next,
+            None => return Ok((fields, after)),
+        }
+    }
+    Err(wrong(rest, Reason::TooManyParts))
+}
+
+/// Components up to a bracket, perhaps none.
+#[cycle(types)]
+#[tactic(auto, unfolding(crate::specs::Reading::fields_behind))]
+fn fields_inside(
+    alloc: Global,
+    depth: usize,
+    tokens: &[Token],
+) -> Result<(Vec<(Vec<u32>, WrittenType)>, &[Token]), Stop>
+    ensures { Gives (λ x. (field_models x.0.items, x.1.now)) result (fields_behind (type_at depth) tokens.now) }
+{
+    match tokens {
+        [Token::CloseBracket, rest @ ..] => Ok((Vec::new(alloc), rest)),
+        _ => {
+            let (fields, rest) = fields_of(alloc, depth, tokens)?;
+            let rest = behind_close_bracket(rest)?;
+            Ok((fields, rest))
+        }
+    }
+}
+
+/// Components in brackets.
+#[cycle(types)]
+#[tactic(auto, unfolding(crate::specs::Reading::fields_at))]
+pub fn bracketed(
+    alloc: Global,
+    depth: usize,
+    tokens: &[Token],
+) -> Result<(Vec<(Vec<u32>, WrittenType)>, &[Token]), Stop>
+    ensures { Gives (λ x. (field_models x.0.items, x.1.now)) result (fields_at (type_at depth) tokens.now) }
+{
+    let inside = behind_open_bracket(tokens)?;
+    fields_inside(alloc, depth, inside)
+}
+
+/// Designators, and their type behind an arrow.
+#[cycle(types)]
+#[tactic(auto, unfolding(crate::specs::Reading::candidate_at))]
+fn candidate_of(
+    alloc: Global,
+    depth: usize,
+    tokens: &[Token],
+) -> Result<((Vec<(u32, Option<Numeric>)>, WrittenType), &[Token]), Stop>
+    ensures { Gives (λ x. (candidate_model x.0, x.1.now)) result (candidate_at (type_at depth) tokens.now) }
+{
+    let (designators, rest) = designators_of(alloc, tokens)?;
+    let rest = behind_arrow(rest)?;
+    let (written, rest) = type_of(alloc, depth, rest)?;
+    Ok(((designators, written), rest))
+}
+
+#[cycle(types)]
+fn candidates_of(
+    alloc: Global,
+    depth: usize,
+    tokens: &[Token],
+) -> Result<(Vec<(Vec<(u32, Option<Numeric>)>, WrittenType)>, &[Token]), Stop>
+    ensures { Gives (λ x. (candidate_models x.0.items, x.1.now)) result
+        (listed (candidate_at (type_at depth)) most_parts tokens.now) }
+{
+    let mut candidates = Vec::new(alloc);
+    let mut rest = tokens;
+    for _ in 0..MOST_PARTS {
+        let (candidate, after) = candidate_of(alloc, depth, rest)?;
+        candidates.push(candidate)?;
+        match next_part(after) {
+            Some(next) => rest = next,
+            None => return Ok((candidates, after)),
+        }
+    }
+    Err(wrong(rest, Reason::TooManyParts))
+}
+
+#[cycle(types)]
+#[tactic(auto, unfolding(crate::specs::Reading::array_behind))]
+fn array_of(alloc: Global, depth: usize, tokens: &[Token]) -> Result<(WrittenType, &[Token]), Stop>
+    ensures { Gives (λ x. (type_model x.0, x.1.now)) result (array_behind (type_at depth) tokens.now) }
+{
+    let (number, rest) = numeric_of(tokens)?;
+    let rest = behind_of(rest)?;
+    let (element, rest) = type_of(alloc, depth, rest)?;
+    Ok((WrittenType::Array(number, Box::new(alloc, element)?), rest))
+}
+
+#[cycle(types)]
+#[tactic(auto, unfolding(crate::specs::Reading::sequence_behind))]
+fn sequence_of(
+    alloc: Global,
+    depth: usize,
+    tokens: &[Token],
+) -> Result<(WrittenType, &[Token]), Stop>
+    ensures { Gives (λ x. (type_model x.0, x.1.now)) result (sequence_behind (type_at depth) tokens.now) }
+{
+    let (most, rest) = maximum_of(tokens)?;
+    let rest = behind_of(rest)?;
+    let (element, rest) = type_of(alloc, depth, rest)?;
+    Ok((WrittenType::Sequence(most, Box::new(alloc, element)?), rest))
+}
+
+#[cycle(types)]
+fn record_of(alloc: Global, depth: usize, tokens: &[Token]) -> Result<(WrittenType, &[Token]), Stop>
+    ensures { Gives (λ x. (type_model x.0, x.1.now)) result (record_behind (type_at depth) tokens.now) }
+{
+    let (fields, rest) = bracketed(alloc, depth, tokens)?;
+    Ok((WrittenType::Record(fields), rest))
+}
+
+#[cycle(types)]
+#[tactic(auto, unfolding(crate::specs::Reading::choice_behind))]
+fn choice_of(alloc: Global, depth: usize, tokens: &[Token]) -> Result<(WrittenType, &[Token]), Stop>
+    ensures { Gives (λ x. (type_model x.0, x.1.now)) result (choice_behind (type_at depth) tokens.now) }
+{
+    let (tag, rest) = tag_of(tokens)?;
+    let rest = behind_of(rest)?;
+    let inside = behind_open_brace(rest)?;
+    let (candidates, rest) = candidates_of(alloc, depth, inside)?;
+    let rest = behind_close_brace(rest)?;
+    Ok((WrittenType::Choice(tag, candidates), rest))
+}
+
+fn named_of(name: u32, tokens: &[Token]) -> Result<(WrittenType, &[Token]), Stop>
+    ensures { Gives (λ x. (type_model x.0, x.1.now)) result (over TypeModel.named (reference_behind name tokens.now)) }
+{
+    let (reference, rest) = reference_of(name, tokens)?;
+    Ok((WrittenType::Named(reference), rest))
+}
+
+/// The type that begins with the token.
+#[cycle(types)]
+#[tactic(auto, unfolding(crate::specs::Reading::type_behind))]
+fn type_behind(
+    alloc: Global,
+    depth: usize,
+    first: Token,
+    tokens: &[Token],
+) -> Result<(WrittenType, &[Token]), Stop>
+    ensures { Gives (λ x. (type_model x.0, x.1.now)) result (type_behind (type_at depth) first tokens.now) }
+{
+    match first {
+        Token::Boolean => Ok((WrittenType::Boolean, tokens)),
+        Token::Cardinal => Ok((WrittenType::Cardinal, tokens)),
+        Token::Integer => Ok((WrittenType::Integer, tokens)),
+        Token::Unspecified => Ok((WrittenType::Unspecified, tokens)),
+        Token::String => Ok((WrittenType::Text, tokens)),
+        Token::Long => long_of(tokens),
+        Token::OpenBrace => enumeration_of(alloc, tokens),
+        Token::Array => array_of(alloc, depth, tokens),
+        Token::Sequence => sequence_of(alloc, depth, tokens),
+        Token::Record => record_of(alloc, depth, tokens),
+        Token::Choice => choice_of(alloc, depth, tokens),
+        Token::Name(name) => named_of(name, tokens),
+        _ => Err(Stop::Wrong {
+            left: tokens.len() + 1,
+            reason: Reason::NoType,
+        }),
+    }
+}
+
+/// The type at the front of the tokens, in which types stand in one another at most so deep, and the tokens behind it.
+#[cycle(types)]
+#[tactic(auto, unfolding(crate::specs::Reading::type_at))]
+pub fn type_of(
+    alloc: Global,
+    depth: usize,
+    tokens: &[Token],
+) -> Result<(WrittenType, &[Token]), Stop>
+    ensures { Gives (λ x. (type_model x.0, x.1.now)) result (type_at depth tokens.now) }
+{
+    if depth == 0 {
+        return Err(wrong(tokens, Reason::TooDeep));
+    }
+    match tokens {
+        [] => Err(wrong(tokens, Reason::NoType)),
+        [first, rest @ ..] => type_behind(alloc, depth - 1, *first, rest),
+    }
+}

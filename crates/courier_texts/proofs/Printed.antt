@@ -1,0 +1,118 @@
+-- What was printed so far, and what is still printed.
+use Rattle.std.proofs.Common.{◌≡◌, ℕ, zero, suc, ◌+◌, ◌≤◌, ◌<◌, Bool, cond, List, [], ◌∷◌, ◌++◌, length, drop, get_or, codes, Vec, Box, Global, map, refl, sym, ap, ◌∙◌, append_assoc, arith, rules, eq-eqb, ne_eqb}
+use Rattle.std.proofs.lemmas.List.{drop_more, append-nil}
+use Rattle.courier_types.specs.declared.value.Value.{Value, Fields as VFields, Choice as VChoice, the_lemmas as value_lemmas}
+use Rattle.courier_types.specs.Value.{ValueModel, no_values, value_model, value_models}
+use Rattle.courier_texts.specs.declared.named.Named.{Named, Record, Choice, the_lemmas}
+use Rattle.courier_texts.specs.Named.{NamedModel, ComponentModels, component_and, variant_and, named_model, members_seen, components_seen, variants_seen, component_models, variant_models}
+use Rattle.courier_texts.specs.Printing.{member_text, elements_text, components_text, variant_text, value_text}
+
+pub item_here : {X : Type 0} (xs : List X) (i : ℕ) (x : X) → i < length xs → x ≡ get_or xs i x → drop i xs ≡ x ∷ drop (i + 1) xs
+item_here xs i x lt e = drop_more xs i x lt ∙ ap (λ y. y ∷ drop (i + 1) xs) (sym e)
+
+pub drop_past : {A : Type 0} (xs : List A) (i : ℕ) → length xs ≤ i → drop i xs ≡ []
+drop_past [] zero h = refl
+drop_past [] (suc i) h = refl
+drop_past (x ∷ xs) zero h = absurd (omega arith)
+drop_past (x ∷ xs) (suc i) h = drop_past xs i (omega arith)
+
+-- a part was printed behind what stands in front of it
+printed : (before mid after front text more : List ℕ) → mid ≡ before ++ front → after ≡ mid ++ text → after ++ more ≡ before ++ ((front ++ text) ++ more)
+printed before mid after front text more p q = rw (q, p) (simp append_assoc)
+
+-- ---- members
+
+pub at_member : (members : List (Vec ℕ Global × ℕ)) (i : ℕ) (m : Vec ℕ Global × ℕ) (word : ℕ) → drop i members ≡ m ∷ drop (i + 1) members → m.1 ≡ word → member_text (members_seen (drop i members)) word ≡ m.0.items
+at_member members i m word here h = ap (λ ms. member_text (members_seen ms) word) here ∙ ap (λ (b : Bool). cond b m.0.items (member_text (members_seen (drop (i + 1) members)) word)) (eq-eqb m.1 word h)
+
+pub past_member : (members : List (Vec ℕ Global × ℕ)) (i : ℕ) (m : Vec ℕ Global × ℕ) (word : ℕ) → drop i members ≡ m ∷ drop (i + 1) members → (m.1 ≡ word → ⊥) → member_text (members_seen (drop i members)) word ≡ member_text (members_seen (drop (i + 1) members)) word
+past_member members i m word here h = ap (λ ms. member_text (members_seen ms) word) here ∙ ap (λ (b : Bool). cond b m.0.items (member_text (members_seen (drop (i + 1) members)) word)) (ne_eqb m.1 word h)
+
+-- ---- elements
+
+pub more_elements : (one : ValueModel → List ℕ) (before mid after front : List ℕ) (values : List Value) (i : ℕ) (v : Value) (total : List ℕ) → drop i values ≡ v ∷ drop (i + 1) values → mid ≡ before ++ front → after ≡ mid ++ one (value_model v)
+    → before ++ elements_text front one (value_models (drop i values)) ≡ total → after ++ elements_text (codes ", ") one (value_models (drop (i + 1) values)) ≡ total
+more_elements one before mid after front values i v total here p q so_far =
+    printed before mid after front (one (value_model v)) (elements_text (codes ", ") one (value_models (drop (i + 1) values))) p q
+    ∙ ap (λ vs. before ++ elements_text front one (value_models vs)) (sym here) ∙ so_far
+
+pub no_more_elements : (one : ValueModel → List ℕ) (before front : List ℕ) (values : List Value) (i : ℕ) (total : List ℕ) → length values ≤ i → before ++ elements_text front one (value_models (drop i values)) ≡ total → before ≡ total
+no_more_elements one before front values i total le so_far =
+    sym (append-nil before) ∙ ap (λ vs. before ++ elements_text front one (value_models vs)) (sym (drop_past values i le)) ∙ so_far
+
+-- ---- components
+
+pub more_components : (before mid after front : List ℕ) (parts : List (Vec ℕ Global × Named)) (values : List Value) (i : ℕ) (part : Vec ℕ Global × Named) (v : Value) (total : List ℕ) → drop i parts ≡ part ∷ drop (i + 1) parts → drop i values ≡ v ∷ drop (i + 1) values
+    → mid ≡ before ++ front → after ≡ mid ++ (part.0.items ++ codes ": " ++ value_text (named_model part.1) (value_model v))
+    → before ++ components_text front (component_models (drop i parts)) (value_models (drop i values)) ≡ total → after ++ components_text (codes ", ") (component_models (drop (i + 1) parts)) (value_models (drop (i + 1) values)) ≡ total
+unfolding components_text
+more_components before mid after front parts values i part v total here there p q so_far =
+    printed before mid after front (part.0.items ++ codes ": " ++ value_text (named_model part.1) (value_model v)) (components_text (codes ", ") (component_models (drop (i + 1) parts)) (value_models (drop (i + 1) values))) p q
+    ∙ ap (λ vs. before ++ components_text front (component_models (part ∷ drop (i + 1) parts)) (value_models vs)) (sym there)
+    ∙ ap (λ ps. before ++ components_text front (component_models ps) (value_models (drop i values))) (sym here) ∙ so_far
+
+none_left : (front : List ℕ) (parts : ComponentModels) → components_text front parts no_values ≡ []
+unfolding components_text
+none_left front ComponentModels.no_components = refl
+none_left front (component_and name part parts) = refl
+
+pub no_more_values : (before front : List ℕ) (parts : List (Vec ℕ Global × Named)) (values : List Value) (i : ℕ) (total : List ℕ) → length values ≤ i → before ++ components_text front (component_models (drop i parts)) (value_models (drop i values)) ≡ total → before ≡ total
+no_more_values before front parts values i total le so_far =
+    sym (append-nil before) ∙ ap (λ (l : List ℕ). before ++ l) (sym (none_left front (component_models (drop i parts))))
+    ∙ ap (λ vs. before ++ components_text front (component_models (drop i parts)) (value_models vs)) (sym (drop_past values i le)) ∙ so_far
+
+no_part_left : (front : List ℕ) (vs : List Value) → components_text front ComponentModels.no_components (value_models vs) ≡ []
+unfolding components_text
+no_part_left front [] = refl
+no_part_left front (v ∷ vs) = refl
+
+pub no_more_parts : (before front : List ℕ) (parts : List (Vec ℕ Global × Named)) (values : List Value) (i : ℕ) (total : List ℕ) → length parts ≤ i → before ++ components_text front (component_models (drop i parts)) (value_models (drop i values)) ≡ total → before ≡ total
+no_more_parts before front parts values i total le so_far =
+    sym (append-nil before) ∙ ap (λ (l : List ℕ). before ++ l) (sym (no_part_left front (drop i values)))
+    ∙ ap (λ ps. before ++ components_text front (component_models ps) (value_models (drop i values))) (sym (drop_past parts i le)) ∙ so_far
+
+-- ---- candidates
+
+pub at_variant : (parts : List (Vec ℕ Global × (ℕ × Named))) (i : ℕ) (m : Vec ℕ Global × (ℕ × Named)) (d : ℕ) (v : ValueModel) → drop i parts ≡ m ∷ drop (i + 1) parts → m.1.0 ≡ d
+    → variant_text (variant_models (drop i parts)) d v ≡ m.0.items ++ codes " " ++ value_text (named_model m.1.1) v
+unfolding variant_text value_text
+at_variant parts i m d v here h =
+    ap (λ ps. variant_text (variant_models ps) d v) here ∙ ap (λ (b : Bool). cond b (m.0.items ++ codes " " ++ value_text (named_model m.1.1) v) (variant_text (variant_models (drop (i + 1) parts)) d v)) (eq-eqb m.1.0 d h)
+
+pub past_variant : (parts : List (Vec ℕ Global × (ℕ × Named))) (i : ℕ) (m : Vec ℕ Global × (ℕ × Named)) (d : ℕ) (v : ValueModel) → drop i parts ≡ m ∷ drop (i + 1) parts → (m.1.0 ≡ d → ⊥)
+    → variant_text (variant_models (drop i parts)) d v ≡ variant_text (variant_models (drop (i + 1) parts)) d v
+unfolding variant_text value_text
+past_variant parts i m d v here h =
+    ap (λ ps. variant_text (variant_models ps) d v) here ∙ ap (λ (b : Bool). cond b (m.0.items ++ codes " " ++ value_text (named_model m.1.1) v) (variant_text (variant_models (drop (i + 1) parts)) d v)) (ne_eqb m.1.0 d h)
+
+pub no_variant : (parts : List (Vec ℕ Global × (ℕ × Named))) (i : ℕ) (d : ℕ) (v : ValueModel) → length parts ≤ i → variant_text (variant_models (drop i parts)) d v ≡ []
+unfolding variant_text
+no_variant parts i d v le = ap (λ ps. variant_text (variant_models ps) d v) (drop_past parts i le)
+
+-- ---- what a type and a value are seen as
+
+components_are : (xs : List (Vec ℕ Global × Named)) → components_seen (map (λ c. (c.0, named_model c.1)) xs) ≡ component_models xs
+components_are [] = refl
+components_are (x ∷ xs) = ap (component_and x.0.items (named_model x.1)) (components_are xs)
+
+record_level : (v : Vec (Vec ℕ Global × Named) Global) → named_model (Record v) ≡ NamedModel.components (components_seen (map (λ c. (c.0, named_model c.1)) v.items))
+record_level v = search (rules, the_lemmas)
+
+pub named_record : (v : Vec (Vec ℕ Global × Named) Global) → named_model (Record v) ≡ NamedModel.components (component_models v.items)
+named_record v = record_level v ∙ ap NamedModel.components (components_are v.items)
+
+variants_are : (xs : List (Vec ℕ Global × (ℕ × Named))) → variants_seen (map (λ m. (m.0, (m.1.0, named_model m.1.1))) xs) ≡ variant_models xs
+variants_are [] = refl
+variants_are (x ∷ xs) = ap (variant_and x.0.items x.1.0 (named_model x.1.1)) (variants_are xs)
+
+choice_level : (v : Vec (Vec ℕ Global × (ℕ × Named)) Global) → named_model (Choice v) ≡ NamedModel.choice (variants_seen (map (λ m. (m.0, (m.1.0, named_model m.1.1))) v.items))
+choice_level v = search (rules, the_lemmas)
+
+pub named_choice : (v : Vec (Vec ℕ Global × (ℕ × Named)) Global) → named_model (Choice v) ≡ NamedModel.choice (variant_models v.items)
+named_choice v = choice_level v ∙ ap NamedModel.choice (variants_are v.items)
+
+pub value_fields : (v : Vec Value Global) → value_model (VFields v) ≡ ValueModel.fields (value_models v.items)
+value_fields v = search (rules, value_lemmas)
+
+pub value_chosen : (d : ℕ) (b : Box Value Global) → value_model (VChoice d b) ≡ ValueModel.choice d (value_model b.value)
+value_chosen d b = search (rules, value_lemmas)

@@ -1,0 +1,82 @@
+//! The shapes of types with names.
+ghost use Rattle.std.specs.Prelude.{◌≡◌, IfOk, map};
+ghost use Rattle.courier_types.specs.Shape.{ShapeModel, member_models, shape_model, shape_models};
+ghost use Rattle.courier_texts.specs.Named.{component_models, members_of, named_model, shape_of as shape_of_named, shapes_of, variant_models};
+
+use crate::named::Named;
+use courier_types::Shape;
+use std::alloc::{AllocError, Global};
+
+/// The words of the members.
+fn words_of(alloc: Global, members: &[(Vec<u8>, u16)]) -> Result<Vec<u16>, AllocError>
+    ensures { IfOk result (λ words. words.items ≡ map (λ m. m.1) members.now) }
+{
+    let mut words = Vec::new(alloc);
+    for member in members {
+        words.push(member.1)?;
+    }
+    Ok(words)
+}
+
+#[cycle(shapes)]
+fn shapes_of_components(
+    alloc: Global,
+    components: &[(Vec<u8>, Named)],
+) -> Result<Vec<Shape>, AllocError>
+    ensures { IfOk result (λ shapes. shape_models shapes.items ≡ shapes_of (component_models components.now)) }
+{
+    let mut shapes = Vec::new(alloc);
+    for component in components {
+        shapes.push(shape_of(alloc, &component.1)?)?;
+    }
+    Ok(shapes)
+}
+
+#[cycle(shapes)]
+fn members_of_variants(
+    alloc: Global,
+    variants: &[(Vec<u8>, (u16, Named))],
+) -> Result<Vec<(u16, Shape)>, AllocError>
+    ensures { IfOk result (λ members. member_models members.items ≡ members_of (variant_models variants.now)) }
+{
+    let mut members = Vec::new(alloc);
+    for variant in variants {
+        members.push((variant.1.0, shape_of(alloc, &variant.1.1)?))?;
+    }
+    Ok(members)
+}
+
+/// The shape of a record of these components. The only error is want of memory.
+#[cycle(shapes)]
+pub fn shape_of_record(alloc: Global, components: &[(Vec<u8>, Named)]) -> Result<Shape, AllocError>
+    ensures { IfOk result (λ shape. shape_model shape ≡ ShapeModel.fields (shapes_of (component_models components.now))) }
+{
+    Ok(Shape::Fields(shapes_of_components(alloc, components)?))
+}
+
+/// The shape of a type: what is left of it without names. The only error is want of memory.
+#[cycle(shapes)]
+pub fn shape_of(alloc: Global, named: &Named) -> Result<Shape, AllocError>
+    ensures { IfOk result (λ shape. shape_model shape ≡ shape_of_named (named_model named.now)) }
+{
+    match named {
+        Named::Boolean => Ok(Shape::Boolean),
+        Named::Cardinal => Ok(Shape::Cardinal),
+        Named::LongCardinal => Ok(Shape::LongCardinal),
+        Named::Integer => Ok(Shape::Integer),
+        Named::LongInteger => Ok(Shape::LongInteger),
+        Named::Unspecified => Ok(Shape::Unspecified),
+        Named::Text => Ok(Shape::Text),
+        Named::Enumeration(members) => Ok(Shape::Enumeration(words_of(alloc, members)?)),
+        Named::Array(count, element) => {
+            let shape = shape_of(alloc, element)?;
+            Ok(Shape::Array(*count, Box::new(alloc, shape)?))
+        }
+        Named::Sequence(most, element) => {
+            let shape = shape_of(alloc, element)?;
+            Ok(Shape::Sequence(*most, Box::new(alloc, shape)?))
+        }
+        Named::Record(components) => shape_of_record(alloc, components),
+        Named::Choice(variants) => Ok(Shape::Choice(members_of_variants(alloc, variants)?)),
+    }
+}

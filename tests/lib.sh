@@ -1,0 +1,90 @@
+# shellcheck shell=sh
+# What the scripts of this folder share. Each goes to the top of the clone and reads this file: it has then a folder $work, which goes
+# when the script ends, and counts what passed and what failed.
+work=$(mktemp -d)
+trap 'rm -rf "$work"' EXIT
+passed=0
+failed=0
+
+# Whether there is a command of this name.
+has() {
+    command -v "$1" > "$work/path" 2>&1
+}
+
+pass() {
+    passed=$((passed + 1))
+}
+
+# Counts a failure, and prints its name and a file: the one that is named, or else what the last run said on standard error.
+fail() {
+    failed=$((failed + 1))
+    echo "FAILED $1"
+    if [ -s "${2:-$work/err}" ]; then cat "${2:-$work/err}"; fi
+}
+
+# Runs the words: they must end with 0, and write nothing on standard error. What they write is then in $work/out.
+expect() {
+    name=$1
+    shift
+    if "$@" > "$work/new" 2> "$work/err" && [ ! -s "$work/err" ]; then pass; else fail "$name"; fi
+    mv "$work/new" "$work/out"
+}
+
+left_out() {
+    echo "left out, for want of $1: $2"
+}
+
+# Prints the counts, and ends the script: with 1 where something failed.
+finish() {
+    echo "$passed passed, $failed failed"
+    [ "$failed" -eq 0 ]
+    exit
+}
+
+# The C compiler: $compiler, empty where there is none.
+find_compiler() {
+    compiler=
+    for one in "${CC:-gcc}" gcc cc clang; do
+        if [ -z "$compiler" ] && has "$one"; then compiler=$one; fi
+    done
+}
+
+# The C++ compiler: $plus, empty where there is none.
+find_plus() {
+    plus=
+    for one in "${CXX:-g++}" g++ c++ clang++; do
+        if [ -z "$plus" ] && has "$one"; then plus=$one; fi
+    done
+}
+
+# Proves, builds and runs the program of a crate once, with the words. It is then $program, and its folder $crate. A program that is not
+# built ends the script.
+build_program() {
+    name=$1
+    crate=crates/$name
+    program=$PWD/$crate/out/$name
+    shift
+    rm -f "$program"
+    given=/dev/null
+    if [ -e "$crate/stdin" ]; then given=$crate/stdin; fi
+    if ! (cd "$crate" && rt run "$@") < "$given" > "$work/build" 2>&1 || [ ! -x "$program" ]; then
+        cat "$work/build"
+        echo "the program $name was not built"
+        exit 1
+    fi
+}
+
+# Builds what `refuse_growth` puts before a program.
+build_refusing() {
+    gcc -O1 -shared -fPIC -o "$work/refuse_growth.so" tests/refuse_growth.c
+}
+
+# Runs the words with the growth of this number refused, for at most a minute. What they write is then in $work/out, their status is
+# $ended, and $work/refused is there if they asked for so many.
+refuse_growth() {
+    number=$1
+    shift
+    rm -f "$work/refused"
+    timeout 60 env REFUSE_AT="$number" REFUSED="$work/refused" LD_PRELOAD="$work/refuse_growth.so" "$@" > "$work/out" 2> "$work/err"
+    ended=$?
+}
