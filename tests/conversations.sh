@@ -1,6 +1,6 @@
 #!/bin/sh
-# Refuses each growth of the program `test_conversations` in turn, while a caller calls and while a server is fed a call, and looks at
-# what each side then does. Its last line is 'N passed, M failed', and it ends with 1 where one failed. It builds the program first.
+# Builds the program `test_conversations`, and refuses each growth of it in turn, while a caller calls and while a server is fed a call.
+# It looks at what each side then does.
 set -u
 cd "$(dirname "$0")/.."
 . tests/lib.sh

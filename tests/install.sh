@@ -1,7 +1,6 @@
 #!/bin/sh
-# Tries install.sh: first with a kit that builds nothing, in seconds, and then with the real one, under a fresh folder. What stands there
-# is used, and taken away again.
-# What it leaves out because a tool is missing it says. Its last line is 'N passed, M failed', and it ends with 1 where one failed.
+# Tries install.sh: first with a kit that builds nothing, in seconds, and then with the real one, under a fresh folder. The installed
+# files are used, and removed again. It says which tests it leaves out because a tool is missing.
 set -u
 cd "$(dirname "$0")/.."
 . tests/lib.sh

@@ -1,6 +1,6 @@
 #!/bin/sh
-# Compares what the pages in docs/ quote of the code with the code, by tests/pages.py; and tries on copies that each way in which a
-# page can differ is found. Its last line is 'N passed, M failed', and it ends with 1 where one failed. It builds nothing.
+# Compares the code that the pages in docs/ quote with the code itself, by tests/pages.py, and tries on copies that each way in which a
+# page can differ is found. It builds nothing.
 set -u
 cd "$(dirname "$0")/.."
 . tests/lib.sh
@@ -72,9 +72,9 @@ found a_crate_that_the_map_lacks crates.txt '$a xns_more: xns_idp' 'docs/MAP.md:
 found a_crate_that_went crates.txt '/^dump_alone:/d' 'docs/MAP.md: crates.txt has no dump_alone'
 found a_name_that_went docs/ENDPOINT.md 's/`is_full`/`is_quite_full`/' 'docs/ENDPOINT.md: is_quite_full is not in the code'
 gone tests/plays.sh tests/plays.sh
-gone crates/xns_idp/src/places.rt crates/xns_idp/src/places.rt
-gone crates/xns_spp/specs/Acceptance.antt 'specs/Acceptance.antt of xns_spp'
-gone crates/xns_spp/specs/Early.antt 'Early.antt of xns_spp'
+gone crates/xns_spp/specs/Acceptance.antt crates/xns_spp/specs/Acceptance.antt
+gone crates/xns_idp/src/places.rt 'src/places.rt of xns_idp'
+gone crates/courier_sessions/specs/Talks.antt 'Talks.antt of courier_sessions'
 
 # What was changed in the code is quoted anew.
 sed -i 's/^    ensures fault { IfErr result (λ f. /    ensures fault { IfErr result (λ e. /' "$right/$code"

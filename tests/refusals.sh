@@ -1,10 +1,9 @@
 #!/bin/sh
-# Refuses each growth of the program `test_refusals` in turn. Each of its lines is a call that can take memory: every one is refused at least
-# once, stands then as before, and answers when it is called again. Three lines are calls that must take none: they answer in every run in
-# which their shape was made. The record with a choice of a text is refused three times, once for each of its parts, and an early item
-# twice, for its body and for the reply. Then it refuses each growth of a whole conversation between two hosts of `test_hosts`: it comes to
-# the same end each time. The script's last line is 'N passed, M failed', and it ends with 1 where one failed. It builds the programs
-# first.
+# Builds the program `test_refusals`, and refuses each growth of it in turn. Each of its lines calls a function that can take memory. Each
+# function is refused memory at least once, leaves all as it was, and returns its result when it is called again. Three lines call
+# functions that must take none: they return in every run in which their shape was made. The record with a choice of a text is refused
+# three times, once for each of its parts, and an early item twice, for its body and for the reply. Then the script refuses each growth of
+# a whole conversation between two hosts of `test_hosts`, which ends the same each time.
 set -u
 cd "$(dirname "$0")/.."
 . tests/lib.sh

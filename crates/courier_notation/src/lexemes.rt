@@ -8,6 +8,7 @@ ghost use Rattle.courier_notation.specs.Reading.{Gives};
 
 use crate::bytes::{is_blank, is_digit, is_letter, is_line_end, is_name_byte};
 use crate::keywords::{keyword_of, mark_of};
+use crate::limits::MOST_NAME;
 use crate::reason::Reason;
 use crate::stop::Stop;
 use crate::token::Token;
@@ -126,7 +127,11 @@ fn word_of(bytes: &[u8]) -> Result<(Lexeme<'_>, &[u8]), Stop>
     let (word, rest) = name_and_rest(bytes);
     match keyword_of(word) {
         Some(token) => Ok((Lexeme::Plain(token), rest)),
-        None => Ok((Lexeme::Name(word), rest)),
+        None if word.len() <= MOST_NAME => Ok((Lexeme::Name(word), rest)),
+        None => Err(Stop::Wrong {
+            left: bytes.len(),
+            reason: Reason::LongName,
+        }),
     }
 }
 

@@ -7,16 +7,17 @@ use Rattle.xns_spp.specs.Ends.{is_open, is_ours_at}
 use Rattle.xns_spp.specs.Header.{reply_control}
 use Rattle.xns_spp.specs.Meant.{own_meant}
 use Rattle.xns_spp.specs.Packet.{SppPacketModel, spp_packet_spelling}
+use Rattle.xns_spp.specs.Peers.{IsNamed, IsHeard, Counts}
 use Rattle.xns_spp.specs.Receiving.{after_receive}
 use Rattle.xns_spp.specs.Sending.{system_packet, after_flush, flush_answer, after_tick}
-use Rattle.xns_spp.specs.State.{State, window_top, send_limit}
+use Rattle.xns_spp.specs.State.{State, window_top}
 use Rattle.item_world.proofs.Fronts.{front_get}
-use Rattle.item_world.proofs.Heard.{IsHeard, heard_acknowledged, heard_allowed, heard_open, its_own}
 use Rattle.item_world.proofs.Kept.{flushed, delivers_lands}
 use Rattle.item_world.proofs.Later.{run_later}
 use Rattle.item_world.proofs.Moves.{IsProperAs, system_proper_as}
 use Rattle.item_world.proofs.Onward.{Kept, Pair, flip, stands, links, IsNew, is_alive, ticked, took, lands_now, peer_moves, arrived, proper_heard, Asked, asked, Knows, Goes, goes, longer}
 use Rattle.item_world.proofs.Sides.{same_end, other_other}
+use Rattle.xns_spp.specs.declared.ends.Ends.{Ends}
 use Rattle.item_world.specs.EndLaws.{EndLaws}
 use Rattle.item_world.specs.Events.{arrival, flushing, stepped, delivers, run}
 use Rattle.item_world.specs.Invariant.{Stands, Holds}
@@ -40,12 +41,18 @@ pub record IsAlike (s t : State) : Type 0 where
   pub acknowledged : t.acknowledged ≡ s.acknowledged
   pub accepted : t.accepted ≡ s.accepted
 
-alike_by : (s : State) (b : Bool) → IsAlike s (if b then record s { sent = send_limit s } else s)
-alike_by s true = record { ends = refl; allowed = refl; top = refl; handed = refl; taken = refl; acknowledged = refl; accepted = refl }
-alike_by s false = record { ends = refl; allowed = refl; top = refl; handed = refl; taken = refl; acknowledged = refl; accepted = refl }
-
-pub alike : (s : State) → IsAlike s (after_flush s)
-alike s = alike_by s (is_open s.ends)
+pub alike : EndLaws → (s : State) → IsAlike s (after_flush s)
+alike laws s =
+    let is = laws.alone.flush s in
+    record {
+      ends = ap (λ (t : State). t.ends) is;
+      allowed = ap (λ (t : State). t.allowed) is;
+      top = ap window_top is;
+      handed = ap (λ (t : State). t.handed) is;
+      taken = ap (λ (t : State). t.taken) is;
+      acknowledged = ap (λ (t : State). t.acknowledged) is;
+      accepted = ap (λ (t : State). t.accepted) is;
+    }
 
 -- ---- a packet is delivered that was just sent
 
@@ -86,7 +93,7 @@ told_by : Kept → (w : World) (side : Side) (t o : State) (k : ℕ) → Pair w 
 told_by kept w side t o k x before z h =
     let laws : EndLaws = kept.laws in
     let p : State = after_flush o in
-    let l : IsAlike o p = alike o in
+    let l : IsAlike o p = alike laws o in
     let q : SppPacketModel = system_packet o reply_control in
     let bytes : List ℕ = spp_packet_spelling q in
     let y : Pair w (other side) p t = flip w side t p x in
@@ -94,18 +101,19 @@ told_by kept w side t o k x before z h =
     let back : Stands t p = stands w side t p x in
     let proper : IsProperAs (moment p t) p q (own_meant o o.sent) = system_proper_as laws o p t reply_control before (omega (arith, l.top)) l.taken (lit< tt) refl in
     let ours : is_ours_at t.ends q ≡ true =
-    subst (λ (e : _). is_ours_at t.ends (system_packet (record o { ends = e }) reply_control) ≡ true) l.ends
-    (its_own p.ends t.ends (system_packet (record o { ends = p.ends }) reply_control) to.fits.ends back.fits.ends (links w (other side) p t y) (links w side t p x) (record { source = refl; source_id = refl; target = refl; target_id = refl })) in
+    laws.peers.ours p.ends t.ends q to.fits.ends back.fits.ends (links w (other side) p t y) (links w side t p x)
+    (subst (λ (e : Ends). IsNamed e q) (sym l.ends) (laws.peers.system o reply_control)) in
     let heard : IsHeard t bytes q (own_meant o o.sent) = proper_heard laws p t q (own_meant o o.sent) to back proper ours in
+    let counts : Counts t bytes q (own_meant o o.sent) = laws.counts t bytes q (own_meant o o.sent) heard in
     let new : IsNew w (other side) p t k bytes = record { at = moment o t; is = h; sender = sym (ap length l.taken); receiver = refl } in
     let u : State = after_receive t bytes in
-    let m : IsAlike u (after_flush u) = alike u in
+    let m : IsAlike u (after_flush u) = alike laws u in
     let f = flip (delivers w k) (other side) p (after_flush u) (delivered kept w (other side) p t k bytes y new) in
     record {
       pair = subst (λ (e : Side). Pair (delivers w k) e (after_flush u) p) (other_other side) f;
-      ready = ap is_open m.ends ∙ heard_open t bytes q (own_meant o o.sent) heard before.fits.ends.id_known;
-      acknowledged = omega (arith, heard_acknowledged t bytes q (own_meant o o.sent) heard, m.acknowledged, ap length l.taken);
-      allowed = omega (arith, heard_allowed t bytes q (own_meant o o.sent) heard, m.allowed, l.top);
+      ready = ap is_open m.ends ∙ counts.opens before.fits.ends.id_known;
+      acknowledged = omega (arith, counts.acknowledged, m.acknowledged, ap length l.taken);
+      allowed = omega (arith, counts.allowed, m.allowed, l.top);
     }
 
 -- the first two of the events
@@ -153,7 +161,7 @@ by_item k w side s p x none left a true h =
     let w1 : World = ticks w side in
     let w2 : World = delivers w1 (length w.bag) in
     let o : State = after_flush (after_receive p a.a.bytes) in
-    let same : o.handed ≡ p.handed = (alike (after_receive p a.a.bytes)).handed ∙ (laws.stays.receive p a.a.bytes).handed in
+    let same : o.handed ≡ p.handed = (alike laws (after_receive p a.a.bytes)).handed ∙ (laws.stays.receive p a.a.bytes).handed in
     let P : Event → Type 0 = IsFurther (length w.bag) in
     let s3 : List Event = Take (other side) ∷ [] in
     let s2 : List Event = Deliver (length w.bag) ∷ s3 in
@@ -173,12 +181,12 @@ by_item k w side s p x none left a false h =
     let w3 : World = delivers w2 (length w1.bag) in
     let w4 : World = ticks w3 side in
     let w5 : World = delivers w4 (length w3.bag) in
-    let handed : o.handed ≡ p.handed = (alike o0).handed ∙ (laws.stays.receive p a.a.bytes).handed in
+    let handed : o.handed ≡ p.handed = (alike laws o0).handed ∙ (laws.stays.receive p a.a.bytes).handed in
     let bytes : List ℕ = spp_packet_spelling (system_packet o0 reply_control) in
     let u0 : State = after_receive t bytes in
     let u : State = after_flush u0 in
     let accepted : length u.accepted ≡ length s.accepted =
-    ap length (alike u0).accepted ∙ (ap length (laws.stays.receive t bytes).accepted ∙ ap length (laws.stays.tick s).accepted) in
+    ap length (alike laws u0).accepted ∙ (ap length (laws.stays.receive t bytes).accepted ∙ ap length (laws.stays.tick s).accepted) in
     let knows : Knows w3 side u o = a.second in
     let there : Stands o u = stands w3 (other side) o u (flip w3 side u o knows.pair) in
     let all : o.handed ≡ length o.taken = omega (arith, ltb-false o.handed (length o.taken) h, there.fits.bounds.handed_taken) in
@@ -186,7 +194,7 @@ by_item k w side s p x none left a false h =
     let e0 : State = after_receive o g.bytes in
     let e : State = after_flush e0 in
     let last : Pair w5 side (after_tick u) e = delivered k w4 side (after_tick u) o (length w3.bag) g.bytes (ticked k w3 side u o knows.pair) g.new in
-    let same : e.handed ≡ o.handed = (alike e0).handed ∙ (laws.stays.receive o g.bytes).handed in
+    let same : e.handed ≡ o.handed = (alike laws e0).handed ∙ (laws.stays.receive o g.bytes).handed in
     let one : length w.bag ≤ length w1.bag = longer w w1 (run_later laws w (Tick side ∷ [])) in
     let three : length w.bag ≤ length w3.bag = longer w w3 (run_later laws w (Tick side ∷ Deliver (length w.bag) ∷ Deliver (length w1.bag) ∷ [])) in
     let P : Event → Type 0 = IsFurther (length w.bag) in
@@ -203,7 +211,7 @@ by_item k w side s p x none left a false h =
           (All-cons P (Tick side) s5 tt
           (All-cons P (Deliver (length w3.bag)) s6 three (one_by (length w.bag) (Take (other side)) tt)))));
       few = omega arith;
-      more = omega (arith, took laws w5 side (after_tick u) e last (omega (arith, g.takes, all, same, ap length (alike e0).taken)), same, handed);
+      more = omega (arith, took laws w5 side (after_tick u) e last (omega (arith, g.takes, all, same, ap length (alike laws e0).taken)), same, handed);
     }
 
 by_waiting : Kept → (w : World) (side : Side) (s p : State) (b : Bool) → nat_lt p.handed (length p.taken) ≡ b → Pair w side s p → p.handed < length s.accepted → AdvancesBy w side p.handed
@@ -246,7 +254,7 @@ asks_by k w side s p x all left =
     let u : State = after_flush (after_receive (after_tick s) (spp_packet_spelling (system_packet o0 reply_control))) in
     let knows : Knows w3 side u o = a.second in
     let there : Stands o u = stands w3 (other side) o u (flip w3 side u o knows.pair) in
-    let handed : o.handed ≡ p.handed = (alike o0).handed ∙ (laws.stays.receive p a.a.bytes).handed in
+    let handed : o.handed ≡ p.handed = (alike laws o0).handed ∙ (laws.stays.receive p a.a.bytes).handed in
     let one : length w.bag ≤ length w1.bag = longer w w1 (run_later laws w (Tick side ∷ [])) in
     let P : Event → Type 0 = IsFurther (length w.bag) in
     let s3 : List Event = Deliver (length w1.bag) ∷ [] in

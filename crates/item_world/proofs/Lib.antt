@@ -8,7 +8,6 @@ pub mod Networks
 pub mod Quiet
 pub mod Channels
 pub mod Plays
-pub mod Heard
 pub mod Onward
 pub mod Finishing
 pub mod Deliveries

@@ -1,25 +1,23 @@
 -- From every world some plain steps hand up one item more.
-use Rattle.std.proofs.Common.{◌≡◌, inl, inr, ℕ, ◌+◌, ◌-◌, ◌<◌, ◌≤◌, Bool, true, false, not, List, [], ◌∷◌, ◌++◌, length, map, nat_lt, Option, Some, None, refl, sym, ◌∙◌, ap, subst, arith, append-nil, lit<}
-use Rattle.std.specs.Prelude.{slice_get, All, if◌then◌else◌, ◌||◌, ◌&&◌, ◌==◌}
+use Rattle.std.proofs.Common.{◌≡◌, inl, inr, ℕ, ◌+◌, ◌-◌, ◌<◌, ◌≤◌, Bool, true, false, List, [], ◌∷◌, ◌++◌, length, map, nat_lt, Option, Some, None, refl, sym, ◌∙◌, ap, subst, arith, append-nil, lit<}
+use Rattle.std.specs.Prelude.{slice_get, All, if◌then◌else◌, ◌||◌}
 use Rattle.std.specs.Option.{option_to_list}
-use Rattle.std.proofs.lemmas.Bool.{lt-ltb, ltb-true, ltb-false}
+use Rattle.std.proofs.lemmas.Bool.{ltb-true, ltb-false}
 use Rattle.std.proofs.lemmas.List.{length-set, length-map}
 use Rattle.std.proofs.lemmas.List.Elements.{All-nil, All-cons}
-use Rattle.xns_spp.proofs.Lists.{All-slice_get}
-use Rattle.xns_spp.proofs.Telling.{resend_first_item}
 use Rattle.xns_spp.specs.Ends.{is_open, is_ours_at}
 use Rattle.xns_spp.specs.Fronts.{begins_length}
 use Rattle.xns_spp.specs.Growth.{IsOwnPacket}
-use Rattle.xns_spp.specs.Header.{acknowledge_bit, attention_bit, message_end_bit, has_bit, probe_control, reply_control, wants_reply}
+use Rattle.xns_spp.specs.Header.{reply_control}
 use Rattle.xns_spp.specs.Meant.{Meant, own_meant}
 use Rattle.xns_spp.specs.Packet.{SppPacketModel, spelled, spp_packet_spelling, spp_packet_of}
+use Rattle.xns_spp.specs.Peers.{IsLinked, IsHeard, Counts, Asks}
 use Rattle.xns_spp.specs.Receiving.{receive_answer, after_receive}
-use Rattle.xns_spp.specs.Sending.{data_packet, system_packet, packets_from, tick_packets, tick_answer, after_tick, after_take}
+use Rattle.xns_spp.specs.Sending.{data_packet, system_packet, tick_packets, tick_answer, after_tick, after_take}
 use Rattle.xns_spp.specs.State.{State, window_top, send_limit}
 use Rattle.xns_spp.specs.declared.item.Item.{Item}
 use Rattle.item_world.proofs.Arrivals.{read_as_meant}
-use Rattle.item_world.proofs.Fronts.{element}
-use Rattle.item_world.proofs.Heard.{IsHeard, heard_reply, heard_acknowledged, heard_allowed, heard_takes, heard_open, IsNamed, its_own}
+use Rattle.item_world.proofs.Fronts.{element, all_get}
 use Rattle.item_world.proofs.Later.{all_later}
 use Rattle.item_world.proofs.Moves.{IsProper, IsProperAs, as_proper, system_proper_as, item_proper_as, own_proper}
 use Rattle.item_world.proofs.Sides.{same_end, same_other, same_marked, other_other}
@@ -29,7 +27,7 @@ use Rattle.item_world.specs.Going.{Later, as_sent}
 use Rattle.item_world.specs.Invariant.{IsSoundSpelling, Stands, Holds}
 use Rattle.item_world.specs.Landing.{answered, landed, reached}
 use Rattle.item_world.specs.Laws.{EachStepKeepsTheOrder}
-use Rattle.item_world.specs.Progress.{IsPlain, IsWire, Stirs, IsLinked, Linked}
+use Rattle.item_world.specs.Progress.{IsPlain, IsWire, Stirs, Linked}
 use Rattle.item_world.specs.Side.{other}
 use Rattle.item_world.specs.World.{World, end_of, moment, emitted, moved, marked, lifetime, is_past, ticks, takes}
 use Rattle.item_world.specs.declared.emitted.Emitted.{Emitted}
@@ -165,62 +163,6 @@ proper_heard laws t p q m to back i ours =
       behind = omega (arith, i.sound.acknowledges, to.went_out);
     }
 
-pub system_named : (s : State) (control : ℕ) → IsNamed s.ends (system_packet s control)
-system_named s control = record { source = refl; source_id = refl; target = refl; target_id = refl }
-
-data_named : (s : State) (i : ℕ) (x : Item) → IsNamed s.ends (data_packet s i x)
-data_named s i x = record { source = refl; source_id = refl; target = refl; target_id = refl }
-
-pub own_named : (s t : State) (q : SppPacketModel) → IsOwnPacket s t q → IsNamed s.ends q
-own_named s t q (inl i) = subst (IsNamed s.ends) (sym i.is) (system_named s i.control)
-own_named s t q (inr i) = subst (IsNamed s.ends) (sym i.is) (data_named s i.number i.item)
-
--- ---- a tick asks for a reply while an item is not acknowledged
-
-item_asks : (a l : Bool) → has_bit (acknowledge_bit + (if a then attention_bit else 0) + (if l then message_end_bit else 0)) acknowledge_bit ≡ true
-item_asks true true = refl
-item_asks true false = refl
-item_asks false true = refl
-item_asks false false = refl
-
-data_asks : (s : State) (i : ℕ) (x : Item) → wants_reply (data_packet s i x).header ≡ true
-data_asks s i x = ap (λ (b : Bool). b || s.ends.peer_id == 0) (item_asks x.attention x.last)
-
-abbrev first_of : State → Bool → Bool → Bool → Option SppPacketModel
-first_of s ready some left =
-    slice_get
-    (if not ready then system_packet s probe_control ∷ []
-    else if some then packets_from s s.acknowledged
-    else if left then system_packet s probe_control ∷ []
-    else []) 0
-
--- the first packet of a tick asks for a reply
-record Asks (s : State) : Type 0 where
-  packet : SppPacketModel
-  is : slice_get (tick_packets s) 0 ≡ Some packet
-  asks : wants_reply packet.header ≡ true
-
-tick_asks : (s : State) (p q : Bool) → is_open s.ends ≡ p → nat_lt s.acknowledged (send_limit s) ≡ q → s.acknowledged < length s.accepted → Asks s
-tick_asks s false q ready some left = record {
-  packet = system_packet s probe_control;
-  is = ap (λ (b : Bool). first_of s b (nat_lt s.acknowledged (send_limit s)) (nat_lt s.acknowledged (length s.accepted))) ready;
-  asks = refl;
-}
-tick_asks s true true ready some left =
-    let there = element s.accepted s.acknowledged left in
-    record {
-      packet = data_packet s s.acknowledged there.0;
-      is = resend_first_item s there.0 ready there.1 (ltb-true s.acknowledged (send_limit s) some);
-      asks = data_asks s s.acknowledged there.0;
-    }
-tick_asks s true false ready some left = record {
-  packet = system_packet s probe_control;
-  is = ap (λ (b : Bool). first_of s b (nat_lt s.acknowledged (send_limit s)) (nat_lt s.acknowledged (length s.accepted))) ready
-      ∙ (ap (λ (b : Bool). first_of s true b (nat_lt s.acknowledged (length s.accepted))) some
-      ∙ ap (λ (b : Bool). first_of s true false b) (lt-ltb s.acknowledged (length s.accepted) left));
-  asks = refl;
-}
-
 -- ---- an end asks, and is told
 
 -- after a tick its first packet comes to the peer, which answers it
@@ -235,27 +177,28 @@ pub record Asked (w : World) (side : Side) (s p : State) : Type 0 where
 pub asked : Kept → (w : World) (side : Side) (s p : State) → Pair w side s p → s.acknowledged < length s.accepted → Asked w side s p
 asked k w side s p x left =
     let laws : EndLaws = k.laws in
-    let a : Asks s = tick_asks s (is_open s.ends) (nat_lt s.acknowledged (send_limit s)) refl refl left in
+    let a : Asks s = laws.asks.asks s left in
     let q : SppPacketModel = a.packet in
     let t : State = after_tick s in
     let v : World = ticks w side in
     let y : Pair v side t p = ticked k w side s p x in
-    let own : IsOwnPacket s t q = All-slice_get (IsOwnPacket s t) (tick_packets s) 0 q (laws.goes_out.tick s) a.is in
+    let own : IsOwnPacket s t q = all_get (IsOwnPacket s t) (tick_packets s) 0 q (laws.goes_out.tick s) a.first in
     let before : Stands s p = stands w side s p x in
     let now : Stands t p = stands v side t p y in
     let back : Stands p t = stands v (other side) p t (flip v side t p y) in
     let proper : IsProper (moment t p) t q = own_proper laws s t p q before now (laws.grows.tick s before.fits) (laws.hears.tick s).taken own in
     let ours : is_ours_at p.ends q ≡ true =
-    its_own s.ends p.ends q before.fits.ends back.fits.ends (links w side s p x) (links w (other side) p s (flip w side s p x)) (own_named s t q own) in
+    laws.peers.ours s.ends p.ends q before.fits.ends back.fits.ends (links w side s p x) (links w (other side) p s (flip w side s p x)) (laws.peers.own s t q own) in
     let heard = proper_heard laws t p q proper.meant now back (as_proper (moment t p) t q proper) ours in
     let bytes : List ℕ = spp_packet_spelling q in
-    let new : IsNew v side t p (length w.bag) bytes = record { at = moment t p; is = ticked_packet k w side s p q x a.is; sender = refl; receiver = refl } in
+    let reply = (laws.counts p bytes q proper.meant heard).reply a.asks in
+    let new : IsNew v side t p (length w.bag) bytes = record { at = moment t p; is = ticked_packet k w side s p q x a.first; sender = refl; receiver = refl } in
     record {
       bytes = bytes;
       new = new;
-      answer = heard_reply p bytes q proper.meant heard a.asks;
+      answer = reply;
       pair = arrived k v side t p (length w.bag) bytes y new;
-      reply = replied v side t p (length w.bag) bytes (spp_packet_spelling (system_packet (after_receive p bytes) reply_control)) y new (heard_reply p bytes q proper.meant heard a.asks);
+      reply = replied v side t p (length w.bag) bytes (spp_packet_spelling (system_packet (after_receive p bytes) reply_control)) y new reply;
     }
 
 -- an open end that knows what its peer has taken and has room for
@@ -276,8 +219,9 @@ told kept w side s p k x h =
     let back : Stands s p = stands w side s p x in
     let proper : IsProperAs (moment p s) p q (own_meant p p.sent) = system_proper_as laws p p s reply_control to (omega arith) refl (lit< tt) refl in
     let ours : is_ours_at s.ends q ≡ true =
-    its_own p.ends s.ends q to.fits.ends back.fits.ends (links w (other side) p s y) (links w side s p x) (system_named p reply_control) in
+    laws.peers.ours p.ends s.ends q to.fits.ends back.fits.ends (links w (other side) p s y) (links w side s p x) (laws.peers.system p reply_control) in
     let heard : IsHeard s bytes q (own_meant p p.sent) = proper_heard laws p s q (own_meant p p.sent) to back proper ours in
+    let counts : Counts s bytes q (own_meant p p.sent) = laws.counts s bytes q (own_meant p p.sent) heard in
     let new : IsNew w (other side) p s k bytes = record { at = moment p s; is = h; sender = refl; receiver = refl } in
     let z = arrived kept w (other side) p s k bytes y new in
     let t : State = after_receive s bytes in
@@ -285,17 +229,12 @@ told kept w side s p k x h =
     let f : Pair v (other (other side)) t p = flip v (other side) p t z in
     record {
       pair = subst (λ (u : Side). Pair v u t p) (other_other side) f;
-      ready = heard_open s bytes q (own_meant p p.sent) heard to.fits.ends.id_known;
-      acknowledged = heard_acknowledged s bytes q (own_meant p p.sent) heard;
-      allowed = heard_allowed s bytes q (own_meant p p.sent) heard;
+      ready = counts.opens to.fits.ends.id_known;
+      acknowledged = counts.acknowledged;
+      allowed = counts.allowed;
     }
 
 -- ---- the next item goes out, and is taken
-
-after_by : (s : State) (p q : Bool) → is_open s.ends ≡ p → nat_lt s.acknowledged (send_limit s) ≡ q → p ≡ true → q ≡ true → (after_tick s).sent ≡ send_limit s
-after_by s p q h i c d =
-    ap (λ (b : Bool). (if b && nat_lt s.acknowledged (send_limit s) then record s { sent = send_limit s } else s).sent) (h ∙ c)
-    ∙ ap (λ (b : Bool). (if true && b then record s { sent = send_limit s } else s).sent) (i ∙ d)
 
 pub record Goes (w : World) (side : Side) (s p : State) : Type 0 where
   pub bytes : List ℕ
@@ -316,16 +255,16 @@ goes k w side s p knows none left =
     let there = element s.accepted n (omega (arith, next, left)) in
     let item : Item = there.0 in
     let q : SppPacketModel = data_packet s n item in
-    let first : slice_get (tick_packets s) 0 ≡ Some q = resend_first_item s item knows.ready there.1 may in
+    let first : slice_get (tick_packets s) 0 ≡ Some q = laws.first_again.packet s item knows.ready there.1 may in
     let t : State = after_tick s in
     let v : World = ticks w side in
     let y : Pair v side t p = ticked k w side s p x in
     let now : Stands t p = stands v side t p y in
     let back : Stands p t = stands v (other side) p t (flip v side t p y) in
-    let out : t.sent ≡ send_limit s = after_by s (is_open s.ends) (nat_lt n (send_limit s)) refl refl knows.ready (lt-ltb n (send_limit s) may) in
+    let out : t.sent ≡ send_limit s = laws.asks.sent s knows.ready may in
     let proper : IsProperAs (moment t p) t q (own_meant s n) = item_proper_as laws s t p n item before now (laws.grows.tick s before.fits) (laws.hears.tick s).taken there.1 (omega arith) (omega (arith, out, may)) in
     let ours : is_ours_at p.ends q ≡ true =
-    its_own s.ends p.ends q before.fits.ends here.fits.ends (links w side s p x) (links w (other side) p s (flip w side s p x)) (data_named s n item) in
+    laws.peers.ours s.ends p.ends q before.fits.ends here.fits.ends (links w side s p x) (links w (other side) p s (flip w side s p x)) (laws.peers.item s n item) in
     let bytes : List ℕ = spp_packet_spelling q in
     let heard : IsHeard p bytes q (own_meant s n) = proper_heard laws t p q (own_meant s n) now back proper ours in
     let new : IsNew v side t p (length w.bag) bytes = record { at = moment t p; is = ticked_packet k w side s p q x first; sender = refl; receiver = refl } in
@@ -333,7 +272,7 @@ goes k w side s p knows none left =
       bytes = bytes;
       new = new;
       pair = arrived k v side t p (length w.bag) bytes y new;
-      takes = heard_takes p bytes q (own_meant s n) heard (laws.says.brings s n item knows.ready) next room;
+      takes = (laws.counts p bytes q (own_meant s n) heard).takes (laws.says.brings s n item knows.ready) next room;
     }
 
 -- ---- one item more is handed up

@@ -3,8 +3,8 @@ use Rattle.std.specs.Prelude.{◌≡◌, ◌⊎◌, ◌≤◌, ◌<◌, ◌+◌,
 use Rattle.xns_spp.specs.Numbers.{most_items}
 use Rattle.xns_spp.specs.Sending.{is_full}
 use Rattle.xns_spp.specs.Packet.{SppPacketModel, spp_packet_of}
+use Rattle.xns_spp.specs.Peers.{IsLinked}
 use Rattle.xns_spp.specs.declared.ends.Ends.{Ends}
-use Rattle.xns_spp.specs.declared.role.Role.TheVariants.{Responder}
 use Rattle.item_world.specs.declared.emitted.Emitted.{Emitted}
 use Rattle.item_world.specs.declared.event.Event.{Event}
 use Rattle.item_world.specs.declared.event.Event.TheVariants.{Deliver, Tick, Take}
@@ -104,12 +104,6 @@ pub record StirsOut (w : World) (side : Side) : Type 0 where
       × ((end_of (came_next w side) (other side)).handed < length (end_of (came_next w side) (other side)).taken)
 
 -- ---- what is known of the ends' addresses at every moment
-
--- an end beside its peer: it knows the peer's address, and its identifier or none; one of both was made for the other
-pub record IsLinked (e f : Ends) : Type 0 where
-  pub peer : e.peer ≡ f.own
-  pub peer_id : (e.peer_id ≡ 0) ⊎ (e.peer_id ≡ f.id)
-  pub one : (e.role ≡ Responder) ⊎ (f.role ≡ Responder)
 
 -- the bytes, where they are a packet, are one from this end
 abbrev pub IsFrom : Ends → List ℕ → Type 0
