@@ -20,7 +20,7 @@ import subprocess
 import sys
 import time
 
-ALL, SOL_PACKET, ADD_MEMBERSHIP, PROMISCUOUS, OUTGOING = 3, 263, 1, 1, 4
+SO_RCVBUFFORCE, ALL, SOL_PACKET, ADD_MEMBERSHIP, PROMISCUOUS, OUTGOING = 33, 3, 263, 1, 1, 4
 HEAD, AT_ONCE, ROOM = 14, 64, 1 << 22
 CAPTURE_HEAD = struct.pack("<IHHiIII", 0xA1B2C3D4, 2, 4, 0, 0, 65535, 1)  # frames of Ethernet, times in microseconds
 PATIENT = {"first_wait": 50, "longest_wait": 200, "tries": 100}
@@ -38,7 +38,7 @@ def stop(*_):
 
 def opened(interface):
     one = socket.socket(socket.AF_PACKET, socket.SOCK_RAW, 0)
-    one.setsockopt(socket.SOL_SOCKET, socket.SO_RCVBUF, ROOM)
+    one.setsockopt(socket.SOL_SOCKET, SO_RCVBUFFORCE, ROOM)
     number = socket.if_nametoindex(interface)
     one.setsockopt(SOL_PACKET, ADD_MEMBERSHIP, number.to_bytes(4, sys.byteorder) + PROMISCUOUS.to_bytes(2, sys.byteorder) + bytes(10))
     one.bind((interface, ALL))
@@ -90,15 +90,14 @@ def capture(interface, path):
     frames = opened(interface)
     with open(path, "wb") as file:
         file.write(CAPTURE_HEAD)
-        file.flush()
-        try:
-            while True:
-                select.select([frames], [], [])
+        stops = []
+        signal.signal(signal.SIGTERM, lambda *_: stops.append(True))
+        while select.select([frames], [], [], 0.1)[0] or not stops:  # what came before the signal is read still
+            try:
                 frame, now = frames.recv(65535), time.time()
-                file.write(struct.pack("<IIII", int(now), int(now % 1 * 1_000_000), len(frame), len(frame)) + frame)
-                file.flush()
-        except Stopped:
-            pass
+            except OSError:
+                continue
+            file.write(struct.pack("<IIII", int(now), int(now % 1 * 1_000_000), len(frame), len(frame)) + frame)
 
 
 def add(interface, station, *numbers):

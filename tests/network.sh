@@ -114,6 +114,16 @@ answers() {
     done
 }
 
+# Waits until two programs read all frames at station 2, for ten seconds at most.
+listened() {
+    tries=0
+    until [ "$(at 2 awk '$4 == "0003" && $6 == 1' /proc/net/packet | wc -l)" -eq 2 ]; do
+        tries=$((tries + 1))
+        [ $tries -lt 100 ] || return 1
+        sleep 0.1
+    done
+}
+
 # What the words print must be these lines.
 prints() {
     name=$1
@@ -132,6 +142,7 @@ for language in C Python; do
     begin 2 xns-net watch -i eth0
     watching=$started
     watched=$said
+    expect 'all frames are read' listened
     if [ $language = C ]; then begin 1 "$work/server" -i eth0; else begin 1 xns-net serve -i eth0; fi
     expect "a server in $language answers Echo" answers 2 1
     prints "calls of C to a server in $language" "return 0 1
@@ -148,7 +159,11 @@ $longest" at 2 "$work/client" -i eth0 "$(station 1)" 1 2 65535 x131060
         expect "xns-net ping $host" at 2 xns-net ping $host -i eth0 -c 2 --interval 0.1 --wait 0.3
         expect 'has its replies' grep -q '^2 sent, 2 answered.* 0% lost$' "$work/out"
     done
-    sleep 0.3
+    tries=0
+    until [ "$(grep -c ' call ' "$watched") $(grep -c ' return \| reject ' "$watched")" = '6 6' ] || [ $tries -eq 50 ]; do
+        tries=$((tries + 1))
+        sleep 0.1
+    done
     kill -INT "$watching"
     kill "$capturing"
     wait "$watching" "$capturing" 2> /dev/null
@@ -156,8 +171,9 @@ $longest" at 2 "$work/client" -i eth0 "$(station 1)" 1 2 65535 x131060
     cp "$work/out" "$work/calls"
     expect 'has each call' test "$(grep -c ' call ' "$work/calls")" -eq 6
     expect 'and each answer' test "$(grep -c ' return ' "$work/calls") $(grep -c ' reject ' "$work/calls")" = '5 1'
-    cut -d' ' -f3- "$work/calls" | sort > "$work/wanted"
-    cut -d' ' -f3- "$watched" | sort > "$work/out"
+    for one in "$work/calls" "$watched"; do grep ' call \| return \| reject ' "$one" | cut -d' ' -f3- | sed 's/ of [0-9]* / /' > "$one.lines"; done
+    mv "$work/calls.lines" "$work/wanted"
+    mv "$watched.lines" "$work/out"
     if cmp "$work/wanted" "$work/out" > "$work/err" 2>&1; then pass; else fail "xns-net watch beside a server in $language"; fi
     if has tshark; then
         expect 'tshark and xns dump agree' python3 tests/network.py agree "$work/$language.pcap"

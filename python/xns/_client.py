@@ -192,10 +192,12 @@ class Client:
 
     def _open_again(self) -> None:
         """Opens a new connection, where it is time for it."""
+        if self._reopens is None:
+            return
         rested = self._conversation.rested
         self._station.take_in()
         self._conversation.fetch()
-        if self._reopens is not None and (self._conversation.closed is not None or rested >= 1000 * self._reopens):
+        if self._conversation.closed is not None or rested >= 1000 * self._reopens:
             self._conversation.leave()
             self._conversation.open()
 

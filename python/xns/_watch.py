@@ -2,6 +2,7 @@
 import os
 import select
 import shutil
+import signal
 import socket
 import subprocess
 import sys
@@ -11,8 +12,10 @@ from ._links import FRAME_TYPE
 
 _ALL = 3  # the kernel's number for frames of each type; only so it shows those that this machine sends
 _SOL_PACKET, _ADD_MEMBERSHIP, _PROMISCUOUS = 263, 1, 1
+_FORCE_ROOM = 33  # SO_RCVBUFFORCE
 _ROOM = 1 << 22  # bytes that the kernel keeps meanwhile
 _SIZE = 2048
+_LOOKED_AT = 0.2  # seconds after which it is looked whether a signal came
 
 
 def program() -> Optional[str]:
@@ -25,10 +28,14 @@ def program() -> Optional[str]:
 def _opened(interface: str) -> socket.socket:
     frames = socket.socket(socket.AF_PACKET, socket.SOCK_DGRAM, 0)  # nothing comes before it is bound
     try:
-        frames.setsockopt(socket.SOL_SOCKET, socket.SO_RCVBUF, _ROOM)
+        try:
+            frames.setsockopt(socket.SOL_SOCKET, _FORCE_ROOM, _ROOM)
+        except PermissionError:  # it takes CAP_NET_ADMIN; else the system has a limit
+            frames.setsockopt(socket.SOL_SOCKET, socket.SO_RCVBUF, _ROOM)
         number = socket.if_nametoindex(interface)
         frames.setsockopt(_SOL_PACKET, _ADD_MEMBERSHIP, number.to_bytes(4, sys.byteorder) + _PROMISCUOUS.to_bytes(2, sys.byteorder) + bytes(10))
         frames.bind((interface, _ALL))
+        frames.setblocking(False)
     except OSError:
         frames.close()
         raise
@@ -36,12 +43,14 @@ def _opened(interface: str) -> socket.socket:
 
 
 def _copy(frames: socket.socket, lines: BinaryIO, count: Optional[int]) -> None:
-    """Writes each packet as a line of hex, up to so many."""
-    while count is None or count > 0:
-        select.select([frames], [], [])
+    """Writes each packet as a line of hex, up to so many, until SIGINT or SIGTERM comes: what came before that is written still."""
+    stops = []
+    for one in (signal.SIGINT, signal.SIGTERM):
+        signal.signal(one, lambda *_: stops.append(True))
+    while (count is None or count > 0) and (select.select([frames], [], [], _LOOKED_AT)[0] or not stops):
         try:
             packet, (_, kind, *_) = frames.recvfrom(_SIZE)
-        except OSError:  # the interface is down for a while
+        except OSError:  # nothing is there, or the interface is down for a while
             continue
         if kind == FRAME_TYPE and packet:
             lines.write(packet.hex().encode() + b"\n")
@@ -53,18 +62,12 @@ def watch(interface: str, command: Optional[str], count: Optional[int]) -> int:
     """Gives the packets of an interface to `xns calls` or `xns dump`, or without a command prints them in hex, until Ctrl-C ends it or so many have come."""
     with _opened(interface) as frames:
         if command is None:
-            try:
-                _copy(frames, sys.stdout.buffer, count)
-            except KeyboardInterrupt:
-                pass
+            _copy(frames, sys.stdout.buffer, count)
             return 0
         found = program()
         if found is None:
             raise FileNotFoundError("there is no program xns beside this one or in the search path")
         with subprocess.Popen([found, command], stdin=subprocess.PIPE, start_new_session=True) as reader:  # Ctrl-C is for us: it ends with its input
-            try:
-                _copy(frames, reader.stdin, count)
-            except KeyboardInterrupt:
-                pass
+            _copy(frames, reader.stdin, count)
             reader.stdin.close()
         return 0
