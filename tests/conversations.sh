@@ -10,8 +10,8 @@ build_refusing
 add=0000000100000007000200010005
 versions='<00030003|'
 
-# The line with each growth refused in turn: the program ends with 1 and prints nothing, or the answer is one of those in the file
-# `allowed`, each a whole line. The answer that no growth was refused for is the first; of the others one is seen at least.
+# Runs the line with each growth refused in turn: the program ends with 1 and prints nothing, or prints one of the lines of the file
+# `allowed`. The first of them is printed where no growth is refused; at least one of the others is seen.
 refuse_each() {
     name=$1
     printf '%s\n' "$2" > "$work/in"

@@ -97,7 +97,7 @@ for option in --help -h; do
     expect 'tells how it is called' grep -qx 'usage: sh install.sh PREFIX' "$work/out"
 done
 
-# What can't be written is seen before anything is proved, and nothing is left.
+# A folder that can't be written in is found before anything is proved, and nothing is left there.
 mkdir "$work/way"
 touch "$work/way/share"
 ends 'a file in the place of a folder' 1 "install.sh: $work/way/share cannot be made" sh "$script" "$work/way"
@@ -125,7 +125,7 @@ ends 'a proof that fails' 1 "$notice" sh "$script" "$work/none/deep"
 [ ! -e "$work/none" ] || fail 'after a proof that fails a folder is left'
 rm "$work/kit/refuses"
 
-# What is put there, and taken away with the folders that were made.
+# The installed files, and that they are removed with the folders that were made.
 ends 'installing' 0 "$notice" sh "$script" "$work/made/deep"
 # shellcheck disable=SC2086
 holds 'what is there' "$work/made/deep" $folders $files
@@ -149,7 +149,7 @@ ends 'a newer one over it' 0 "$notice" sh "$script" "$work/versions"
 # shellcheck disable=SC2086
 holds 'leaves nothing of the older' "$work/versions" $folders $files
 
-# Under another folder, whose name may have a blank.
+# Installing under another folder, whose name may have a blank.
 ends 'installing under DESTDIR' 0 "$notice" env DESTDIR="$work/a stage" sh "$script" /opt/xns/
 # shellcheck disable=SC2046,SC2086
 holds 'what is there under DESTDIR' "$work/a stage" opt opt/xns $(printf 'opt/xns/%s\n' $folders $files)
@@ -200,7 +200,7 @@ expect 'reads a packet' grep -q '^1 echo request 4869$' "$work/out"
 sed -n '/^    \$ xns calls/,/^$/p' README.md | sed '1d; /^$/d; s/^    //' > "$work/shown"
 expect 'the calls that the README shows' sh -c "[ -s '$work/shown' ] && '$prefix/bin/xns' calls < examples/six-calls.hex | head -6 | cmp - '$work/shown'"
 
-# VERSION is the one that names the version.
+# The file VERSION has the version; all other places repeat it.
 expect 'the version of the header' grep -qx "#define XNS_VERSION \"$(cat VERSION)\"" include/xns.h
 expect 'help' "$prefix/bin/xns" --help
 head -1 "$work/out" > "$work/first"

@@ -21,8 +21,8 @@ if cmp "$work/out" "$crate/stdout"; then pass; else fail 'the program prints ano
 
 # ---- each growth refused in turn
 
-# The line stands twice. What it prints where nothing is refused is looked at first, and then each growth is refused until it is one of
-# the second's: a play that wanted memory is played whole the next time.
+# First it checks the text of the line where nothing is refused. Then it gives the program the line twice, and refuses each growth up to
+# the first one of the second play: a play that was refused memory runs whole the next time.
 refuse_each() {
     name=$1
     printf '%s\n' "$2" > "$work/in"

@@ -8,7 +8,7 @@ set -u
 cd "$(dirname "$0")/.."
 . tests/lib.sh
 
-# Runs a program with each growth refused in turn, until a run asks for fewer. `$1` judges what a run put out.
+# Runs a program with each growth refused in turn, until a run asks for fewer. `$1` judges the output of a run.
 refuse_each() {
     judge=$1
     shift
@@ -24,12 +24,12 @@ refuse_each() {
     echo "$((growth - 1)) growths were refused"
 }
 
-# All calls but the refused one answer.
+# All functions but the refused one return their results.
 stands() {
     [ $ended -eq 0 ] && ! grep -q 'broken$' "$work/out" && [ "$(grep -vc 'done$' "$work/out")" -le 1 ]
 }
 
-# The conversation comes to its end; a run that is refused the memory for its own words has none.
+# The conversation ends as ever; a run that is refused the memory for its own words has none.
 comes_to_its_end() {
     [ "$(cat "$work/out")" = 'a whole conversation: done' ] || { [ $ended -ne 0 ] && [ ! -s "$work/out" ] && [ $growth -le 8 ]; }
 }
@@ -43,7 +43,7 @@ refuse_each stands "$program"
 # The last run was refused nothing.
 if cmp -s "$work/out" "$crate/stdout"; then pass; else fail 'with nothing refused:' "$work/out"; fi
 
-# A call that takes no memory answers in all runs but so many, in which what it is called with was refused.
+# A function that takes no memory returns in all runs but so many, in which its arguments were refused memory.
 takes_none() {
     if [ "$(grep -cxF "$1: done" "$work/all")" -eq $((growth - 1 - $2)) ] && [ "$(grep -cxF "$1: not called" "$work/all")" -eq "$2" ]; then
         pass
@@ -52,7 +52,7 @@ takes_none() {
     fi
 }
 
-# A call is refused so often, and then answers.
+# A function is refused so often, and then returns.
 takes() {
     if [ "$(grep -cxF "$1: refused, then done" "$work/all")" "$2" "$3" ]; then
         pass
