@@ -1,0 +1,6 @@
+pub mod Refused
+pub mod Meanings
+pub mod Scopes
+pub mod Types
+pub mod Declarations
+pub mod Resolving
