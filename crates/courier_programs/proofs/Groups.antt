@@ -1,5 +1,5 @@
 -- Parts that are written together, group by group, as a loop does.
-use Rattle.std.proofs.Common.{◌≡◌, ℕ, ◌+◌, ◌≤◌, List, [], ◌∷◌, length, drop, Option, Vec, Global, Result, Ok, Err, refl, sym, ap, ◌∙◌}
+use Rattle.std.proofs.Common.{◌≡◌, ℕ, ◌+◌, ◌≤◌, List, ◌∷◌, length, drop, Option, Vec, Global, Result, Ok, Err, refl, sym, ap, ◌∙◌}
 use Rattle.courier_notation.specs.declared.written.WrittenType.{WrittenType}
 use Rattle.courier_notation.specs.Written.{Designator, candidate_models, candidates_from, field_models, fields_from, TypeModel, type_model}
 use Rattle.courier_texts.specs.Named.{NamedModel}
@@ -9,7 +9,7 @@ use Rattle.courier_programs.specs.Meanings.{Components}
 use Rattle.courier_programs.specs.Refused.{NameFault, Refuses, steps}
 use Rattle.courier_programs.specs.Scopes.{Env}
 use Rattle.courier_programs.specs.Types.{Candidates, Members, candidate_group, candidates_meant, component_step, components_meant, once}
-use Rattle.courier_programs.proofs.Searching.{drop_past}
+use Rattle.courier_programs.proofs.Items.{drop_past}
 
 -- ---- components
 

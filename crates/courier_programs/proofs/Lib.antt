@@ -1,5 +1,4 @@
 pub mod Groups
+pub mod Items
 pub mod Models
-pub mod Searching
-pub mod Stepping
 pub mod Writing

@@ -1,5 +1,5 @@
 -- Types that are made of parts, as they are seen.
-use Rattle.std.proofs.Common.{◌≡◌, ℕ, List, [], ◌∷◌, Vec, Global, map, refl, sym, ap, ◌∙◌, rules}
+use Rattle.std.proofs.Common.{◌≡◌, ℕ, List, [], ◌∷◌, Vec, Global, map, refl, ap, ◌∙◌, rules}
 use Rattle.courier_texts.specs.declared.named.Named.{Named, Record, Choice, the_lemmas}
 use Rattle.courier_texts.specs.Named.{NamedModel, component_and, variant_and, component_models, named_model, components_seen as level_components, variants_seen as level_variants}
 use Rattle.courier_programs.specs.Meanings.{components_seen, components_from}

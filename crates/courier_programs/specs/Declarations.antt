@@ -1,7 +1,6 @@
 -- What a declaration stands for (XSIS 038112, Courier, Remote programs). That a recursive type may be declared and not used, and
 -- that a procedure's and an error's numbers differ, are this project's rules.
-use Rattle.std.specs.Prelude.{◌≡◌, ℕ, ◌-◌, ◌==◌, List, [], ◌∷◌, ◌++◌, map, Option, Some, None, Result, Ok, Err, Bool, true, false, if◌then◌else◌, is_some}
-use Rattle.std.specs.Global.{Vec}
+use Rattle.std.specs.Prelude.{ℕ, ◌-◌, ◌==◌, List, [], ◌∷◌, ◌++◌, Option, Some, None, Result, Ok, Err, Bool, true, false, if◌then◌else◌, is_some}
 use Rattle.std.specs.List.{find}
 use Rattle.courier_types.specs.Check.{shape_fault}
 use Rattle.courier_types.specs.declared.shape_fault.ShapeFault.{ShapeFault}
@@ -11,9 +10,8 @@ use Rattle.courier_notation.specs.declared.declared.Constant.{Constant}
 use Rattle.courier_notation.specs.declared.declared.Constant.TheVariants as constants
 use Rattle.courier_notation.specs.declared.declared.Dependency.{Dependency}
 use Rattle.courier_notation.specs.declared.limits.TheConstants.{MOST_DEPTH}
-use Rattle.courier_notation.specs.declared.written.Reference.{Reference}
 use Rattle.courier_notation.specs.Written.{TypeModel, fields_from}
-use Rattle.courier_notation.specs.ProgramModels.{DeclaredModel, FieldList, ProgramModel}
+use Rattle.courier_notation.specs.ProgramModels.{DeclaredModel, FieldList}
 use Rattle.courier_texts.specs.Named.{NamedModel, shape_of, shapes_of}
 use Rattle.courier_programs.specs.declared.declarations.Added.{Added}
 use Rattle.courier_programs.specs.declared.declarations.Added.TheVariants as additions
@@ -21,8 +19,8 @@ use Rattle.courier_programs.specs.declared.limits.TheConstants.{MOST_TYPE_PARTS}
 use Rattle.courier_programs.specs.declared.name_reason.NameReason.TheVariants as reasons
 use Rattle.courier_programs.specs.declared.program.Program.{Program}
 use Rattle.courier_programs.specs.Meanings.{Components, components_from, FieldsModel, ProcedureModel, ErrorModel, MeaningModel, MeaningList, meaning_of, ResolvedModel, meaning_model, procedure_model, error_model}
-use Rattle.courier_programs.specs.Refused.{NameFault, ◌>>=◌, steps}
-use Rattle.courier_programs.specs.Scopes.{Env, text_of, program_by, dependency_of, look_up, last_name, value_named, spent}
+use Rattle.courier_programs.specs.Refused.{NameFault, ◌>>=◌}
+use Rattle.courier_programs.specs.Scopes.{Env, text_of, value_named, spent}
 use Rattle.courier_programs.specs.Types.{type_meant, components_meant}
 
 abbrev pub most_depth : ℕ
@@ -125,7 +123,7 @@ is_type (DeclaredModel.is_type type) = true
 is_type _ = false
 
 -- what a declaration may refer to: what was declared before it
-abbrev pub env_at : List (Vec ℕ) → List Program → List Dependency → MeaningList → ℕ → Bool → Env
+abbrev pub env_at : List (List ℕ) → List Program → List Dependency → MeaningList → ℕ → Bool → Env
 env_at names before dependencies meanings own type = record {
   names = names;
   before = before;
@@ -140,7 +138,7 @@ abbrev pub once_meant : Env → ResolvedModel → ℕ × DeclaredModel → ℕ �
 once_meant e p d room = if is_some (meaning_of p.meanings (text_of e.names d.0)) then Err (d.0, reasons.DoubledName) else declaration_meant e p d.1 room
 
 -- the program behind a declaration, and what is left of the room for parts
-unfoldable pub declaration_step : List (Vec ℕ) → List Program → List Dependency → ResolvedModel × ℕ → ℕ × DeclaredModel → Result (ResolvedModel × ℕ) NameFault
+unfoldable pub declaration_step : List (List ℕ) → List Program → List Dependency → ResolvedModel × ℕ → ℕ × DeclaredModel → Result (ResolvedModel × ℕ) NameFault
 declaration_step names before dependencies st d =
     once_meant (env_at names before dependencies st.0.meanings d.0 (is_type d.1)) st.0 d st.1
     >>= λ added. Ok (with_addition st.0 (text_of names d.0) added.0, added.1)

@@ -4,3 +4,4 @@ pub mod Scopes
 pub mod Types
 pub mod Declarations
 pub mod Resolving
+pub mod Texts

@@ -1,5 +1,5 @@
 -- What names stand for, without where it lies in memory.
-use Rattle.std.specs.Prelude.{◌≡◌, ℕ, List, [], ◌∷◌, map, Option, Some, None, if◌then◌else◌, option_map, slice_get}
+use Rattle.std.specs.Prelude.{ℕ, List, [], ◌∷◌, map, Option, option_map}
 use Rattle.std.specs.Global.{Vec}
 use Rattle.std.specs.List.{find}
 use Rattle.std.specs.Str.{bytes_eq}

@@ -1,6 +1,6 @@
 -- What a name refers to (XSIS 038112, Courier, Remote programs): to what was declared before it in the same program, or in a
 -- program that this one depends upon. Which fault is told is this project's rule.
-use Rattle.std.specs.Prelude.{◌≡◌, ℕ, ◌-◌, ◌==◌, ◌&&◌, List, [], ◌∷◌, map, Option, Some, None, Result, Ok, Err, Bool, true, false, nat_lt, if◌then◌else◌, slice_get}
+use Rattle.std.specs.Prelude.{ℕ, ◌-◌, ◌==◌, ◌&&◌, List, [], map, Option, Some, None, Result, Ok, Err, Bool, false, nat_lt, if◌then◌else◌, slice_get}
 use Rattle.std.specs.Global.{Vec}
 use Rattle.std.specs.List.{find}
 use Rattle.std.specs.Str.{bytes_eq}
@@ -18,16 +18,19 @@ use Rattle.courier_programs.specs.Refused.{NameFault, ◌>>=◌}
 
 -- what a declaration may refer to
 pub record Env : Type 0 where
-  pub names : List (Vec ℕ)
+  pub names : List (List ℕ)
   pub before : List Program
   pub dependencies : List Dependency
   pub meanings : MeaningList
   pub own : ℕ
   pub is_type : Bool
 
+abbrev pub names_seen : List (Vec ℕ) → List (List ℕ)
+names_seen names = map (λ v. v.items) names
+
 abbrev pub env : Scope → Env
 env s = record {
-  names = s.names.now;
+  names = names_seen s.names.now;
   before = s.before.now;
   dependencies = s.dependencies.now;
   meanings = meanings_seen s.meanings.now;
@@ -35,12 +38,12 @@ env s = record {
   is_type = s.is_type;
 }
 
-abbrev pub text_or_none : Option (Vec ℕ) → List ℕ
-text_or_none (Some v) = v.items
+abbrev pub text_or_none : Option (List ℕ) → List ℕ
+text_or_none (Some text) = text
 text_or_none None = []
 
 -- the text of the name of that number
-abbrev pub text_of : List (Vec ℕ) → ℕ → List ℕ
+abbrev pub text_of : List (List ℕ) → ℕ → List ℕ
 text_of names name = text_or_none (slice_get names name)
 
 -- the program that was read with that number and version
@@ -48,7 +51,7 @@ abbrev pub program_by : List Program → ℕ → ℕ → Option Program
 program_by programs number version = find (λ p. (p.number == number) && (p.version == version)) programs
 
 -- the dependency of that name
-abbrev pub dependency_of : List (Vec ℕ) → List Dependency → ℕ → Option Dependency
+abbrev pub dependency_of : List (List ℕ) → List Dependency → ℕ → Option Dependency
 dependency_of names dependencies name = find (λ d. bytes_eq (text_of names d.name) (text_of names name)) dependencies
 
 abbrev pub read_or_unknown : ℕ → Option Program → Result Program NameFault

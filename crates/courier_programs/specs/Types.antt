@@ -1,6 +1,6 @@
 -- What a type that is written stands for (XSIS 038112, Courier, Data types): a type in which nothing is referred to. Which fault
 -- is told, and the room for parts, are this project's rules.
-use Rattle.std.specs.Prelude.{◌≡◌, ℕ, zero, suc, ◌-◌, ◌==◌, List, [], ◌∷◌, ◌++◌, map, Option, Some, None, Result, Ok, Err, Bool, true, false, nat_eq, if◌then◌else◌, option_map, is_some}
+use Rattle.std.specs.Prelude.{ℕ, zero, suc, ◌-◌, List, [], ◌∷◌, ◌++◌, map, Option, Some, None, Result, Ok, Err, Bool, nat_eq, if◌then◌else◌, option_map, is_some}
 use Rattle.std.specs.Global.{Vec}
 use Rattle.std.specs.List.{find, list_any}
 use Rattle.std.specs.Str.{bytes_eq}

@@ -10,7 +10,7 @@ ghost use Rattle.courier_programs.specs.Declarations.{declaration_meant, declara
 ghost use Rattle.courier_programs.specs.Declarations.{procedure_meant, settled, sound, whole_fields as whole_fields_of, whole_type as whole_type_of, with_addition};
 ghost use Rattle.courier_programs.specs.Meanings.{error_model, fields_model, meaning_model, procedure_model, resolved_model};
 ghost use Rattle.courier_programs.specs.Refused.{Gives};
-ghost use Rattle.courier_programs.specs.Scopes.{env};
+ghost use Rattle.courier_programs.specs.Scopes.{env, names_seen};
 
 use crate::bytes::text;
 use crate::finding::{error_of, procedure_of};
@@ -295,7 +295,7 @@ pub(crate) fn take_declaration(
     declaration: &Declaration,
     room: usize,
 ) -> Result<usize, Refusal>
-    ensures { Gives (λ left. (resolved_model program.new, left)) result (declaration_step names.now before.now dependencies.now (resolved_model program.old, room) (declaration_view declaration.now)) }
+    ensures { Gives (λ left. (resolved_model program.new, left)) result (declaration_step (names_seen names.now) before.now dependencies.now (resolved_model program.old, room) (declaration_view declaration.now)) }
 {
     let scope = Scope {
         names,

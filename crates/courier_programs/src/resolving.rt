@@ -7,7 +7,7 @@ ghost use Rattle.courier_programs.specs.Meanings.{resolved_model};
 ghost use Rattle.courier_programs.specs.Refused.{Gives, steps};
 ghost use Rattle.courier_programs.specs.Resolving.{dependency_step, reported as reported_in, reports_step, resolved};
 ghost use Rattle.courier_programs.specs.Resolving.{empty_program as empty_program_of, with_dependencies as with_dependencies_of, with_reports as with_reports_of};
-ghost use Rattle.courier_programs.specs.Scopes.{env};
+ghost use Rattle.courier_programs.specs.Scopes.{env, names_seen};
 
 use crate::bytes::text;
 use crate::declarations::take_declaration;
@@ -27,7 +27,7 @@ fn take_dependency(
     earlier: &mut Vec<Dependency>,
     dependency: Dependency,
 ) -> Result<(), Refusal>
-    ensures { Gives (λ _. earlier.new.items) result (dependency_step names.now before.now earlier.old.items dependency) }
+    ensures { Gives (λ _. earlier.new.items) result (dependency_step (names_seen names.now) before.now earlier.old.items dependency) }
 {
     if dependency_of(names, earlier, dependency.name).is_some() {
         return Err(wrong(dependency.name, NameReason::DoubledName));
@@ -48,7 +48,7 @@ fn dependencies_of(
     before: &[Program],
     written: &[Dependency],
 ) -> Result<Vec<Dependency>, Refusal>
-    ensures { Gives (λ x. x.items) result (steps (dependency_step names.now before.now) [] written.now) }
+    ensures { Gives (λ x. x.items) result (steps (dependency_step (names_seen names.now) before.now) [] written.now) }
 {
     let mut dependencies = Vec::new(alloc);
     for dependency in written {
@@ -67,7 +67,7 @@ fn take_declarations(
     declarations: &[Declaration],
     room: usize,
 ) -> Result<usize, Refusal>
-    ensures { Gives (λ left. (resolved_model program.new, left)) result (steps (declaration_step names.now before.now dependencies.now) (resolved_model program.old, room) (declaration_views declarations.now)) }
+    ensures { Gives (λ left. (resolved_model program.new, left)) result (steps (declaration_step (names_seen names.now) before.now dependencies.now) (resolved_model program.old, room) (declaration_views declarations.now)) }
 {
     let mut left = room;
     for declaration in declarations {
@@ -138,7 +138,7 @@ fn with_reports(
     program: Program,
     written: &WrittenProgram,
 ) -> Result<Program, Refusal>
-    ensures { Gives resolved_model result (with_reports_of names.now before.now dependencies.now (resolved_model program) (program_view written.now)) }
+    ensures { Gives resolved_model result (with_reports_of (names_seen names.now) before.now dependencies.now (resolved_model program) (program_view written.now)) }
 {
     let scope = Scope {
         names,
@@ -158,7 +158,7 @@ fn empty_program(
     names: &[Vec<u8>],
     written: &WrittenProgram,
 ) -> Result<Program, AllocError>
-    ensures { IfOk result (λ program. resolved_model program ≡ empty_program_of names.now (program_view written.now)) }
+    ensures { IfOk result (λ program. resolved_model program ≡ empty_program_of (names_seen names.now) (program_view written.now)) }
 {
     let name = Vec::from_slice(alloc, text(names, written.name))?;
     Ok(Program {
@@ -180,7 +180,7 @@ fn with_dependencies(
     dependencies: &[Dependency],
     written: &WrittenProgram,
 ) -> Result<Program, Refusal>
-    ensures { Gives resolved_model result (with_dependencies_of names.now before.now dependencies.now (program_view written.now)) }
+    ensures { Gives resolved_model result (with_dependencies_of (names_seen names.now) before.now dependencies.now (program_view written.now)) }
 {
     let mut program = empty_program(alloc, names, written)?;
     let _left = take_declarations(
@@ -206,7 +206,7 @@ pub fn resolve(
     before: &[Program],
     written: &WrittenProgram,
 ) -> Result<Program, Refusal>
-    ensures { Gives resolved_model result (resolved names.now before.now (program_view written.now)) }
+    ensures { Gives resolved_model result (resolved (names_seen names.now) before.now (program_view written.now)) }
 {
     if program_of(before, written.number, written.version).is_some() {
         return Err(wrong(written.name, NameReason::DoubledProgram));

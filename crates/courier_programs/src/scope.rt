@@ -5,7 +5,7 @@ ghost use Rattle.courier_texts.specs.Named.{named_model};
 ghost use Rattle.courier_programs.specs.Meanings.{meaning_model, meaning_of as meaning_in, meanings_seen};
 ghost use Rattle.courier_programs.specs.Refused.{Gives};
 ghost use Rattle.courier_programs.specs.Scopes.{dependency_of as dependency_in, env, is_itself as is_itself_of, last_name as last_name_of};
-ghost use Rattle.courier_programs.specs.Scopes.{look_up as look_up_of, program_named, spent, type_named as type_named_of};
+ghost use Rattle.courier_programs.specs.Scopes.{look_up as look_up_of, names_seen, program_named, spent, type_named as type_named_of};
 ghost use Rattle.courier_programs.specs.Scopes.{value_named as value_named_of, word_by, word_of as word_of_numeric};
 
 use crate::bytes::{is_same, text};
@@ -52,7 +52,7 @@ pub(crate) fn dependency_of(
     dependencies: &[Dependency],
     name: u32,
 ) -> Option<Dependency>
-    ensures { result ≡ dependency_in names.now dependencies.now name }
+    ensures { result ≡ dependency_in (names_seen names.now) dependencies.now name }
 {
     for dependency in dependencies {
         if is_same(text(names, dependency.name), text(names, name)) {

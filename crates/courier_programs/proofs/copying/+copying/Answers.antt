@@ -1,4 +1,4 @@
-use Rattle.std.proofs.Common.{◌≡◌, ap, sym, ◌∙◌}
+use Rattle.std.proofs.Common.{ap, sym, ◌∙◌}
 use Rattle.courier_texts.specs.Named.{NamedModel, named_model}
 use Rattle.courier_programs.specs.Meanings.{components_from}
 use Rattle.courier_programs.specs.Types.{variants_from}

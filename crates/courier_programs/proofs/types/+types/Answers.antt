@@ -1,4 +1,4 @@
-use Rattle.std.proofs.Common.{[], option_map, refl, sym, ap, ◌∙◌, arith}
+use Rattle.std.proofs.Common.{[], option_map, refl, ap, ◌∙◌, arith}
 use Rattle.std.proofs.lemmas.Result.{err_from_is_err_and}
 use Rattle.courier_notation.specs.Written.{candidate_models, candidates_from, field_models, fields_from, type_model}
 use Rattle.courier_texts.specs.Named.{members_seen}
@@ -7,7 +7,7 @@ use Rattle.courier_programs.specs.Scopes.{env}
 use Rattle.courier_programs.specs.Types.{candidates_meant, candidates_seen, choice_meant, components_meant, fields_meant, type_level_meant, type_meant}
 use Rattle.courier_programs.proofs.Groups.{candidates_stop, components_stop, more_candidates, more_components, names_stop, no_more_candidates, no_more_components}
 use Rattle.courier_programs.proofs.Models.{model_choice, model_record}
-use Rattle.courier_programs.proofs.Searching.{item_here}
+use Rattle.courier_programs.proofs.Items.{item_here}
 use Rattle.courier_programs.proofs.Writing.{written_choice, written_record}
 use Rattle.courier_programs.proofs.types.+types.Goals as goal
 
