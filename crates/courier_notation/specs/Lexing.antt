@@ -1,6 +1,6 @@
 -- The tokens of a text (XSIS 038112, Courier). That a comment ends at two dashes or with its line is as in Mesa; that a name has
 -- letters and digits alone, and a string no quote, are this project's.
-use Rattle.std.specs.Prelude.{ℕ, zero, suc, ◌+◌, ◌*◌, ◌-◌, ◌==◌, ◌&&◌, ◌||◌, not, List, [], ◌∷◌, ◌++◌, length, map, Bool, false, Option, Some, None, Result, Ok, Err, nat_lt, nat_le, if◌then◌else◌, codes}
+use Rattle.std.specs.Prelude.{ℕ, zero, suc, ◌+◌, ◌*◌, ◌-◌, ◌==◌, ◌&&◌, ◌||◌, not, List, [], ◌∷◌, ◌++◌, length, map, Bool, false, Option, Some, None, Result, Ok, Err, IsOk, nat_lt, nat_le, if◌then◌else◌, codes}
 use Rattle.std.specs.Str.{bytes_eq}
 use Rattle.courier_notation.specs.declared.lexed.Lexed.{Lexed}
 use Rattle.courier_notation.specs.declared.limits.TheConstants.{MOST_NAME, MOST_TEXT, MOST_TOKENS}
@@ -162,6 +162,10 @@ lexeme_at b bytes =
 abbrev pub lexeme_in : List ℕ → LexemeRead
 lexeme_in [] = Err (0, reasons.BadByte)
 lexeme_in (b ∷ bytes) = lexeme_at b bytes
+
+-- the text begins with a token, behind blanks and comments
+abbrev pub HasToken : List ℕ → Type 0
+HasToken text = IsOk (lexeme_in (skipped false text))
 
 -- ---- texts
 

@@ -1,8 +1,8 @@
 //! A text read token by token.
 ghost use Rattle.std.specs.Prelude.{◌≡◌, ◌∷◌, [], ◌++◌, ◌+◌, ◌<◌, ◌≤◌, map, vec_len, IfOk, OnOk};
 ghost use Rattle.courier_notation.specs.declared.token.Token.TheVariants.{Name as NameToken, Quoted as QuotedToken};
-ghost use Rattle.courier_notation.specs.Lexing.{with_lexeme, with_token, lexed_from, lexeme_view, lexing_of, lexing_view, most_tokens, nothing_read};
-ghost use Rattle.courier_notation.specs.Reading.{Gives};
+ghost use Rattle.courier_notation.specs.Lexing.{HasToken, with_lexeme, with_token, lexed_from, lexeme_view, lexing_of, lexing_view, most_tokens, nothing_read};
+ghost use Rattle.courier_notation.specs.Reading.{Gives, IfNoMemory};
 
 use crate::lexed::Lexed;
 use crate::lexemes::{Lexeme, behind_blanks, lexeme_of};
@@ -65,7 +65,8 @@ fn add(alloc: Global, lexed: &mut Lexed, lexeme: Lexeme, left: usize) -> Result<
 
 /// The tokens of a text that is not too long.
 fn lex_within(alloc: Global, text: &[u8]) -> Result<Lexed, Stop>
-    ensures { Gives lexing_view result (lexed_from most_tokens nothing_read text.now) }
+    ensures exact { Gives lexing_view result (lexed_from most_tokens nothing_read text.now) }
+    ensures memory { IfNoMemory result (HasToken text.now) }
 {
     let mut lexed = Lexed {
         tokens: Vec::new(alloc),
@@ -92,10 +93,11 @@ fn lex_within(alloc: Global, text: &[u8]) -> Result<Lexed, Stop>
 /// The tokens of a text of at most 262,144 bytes, of which there are fewer than 65,536; or the first fault.
 ///
 /// A text that is longer has the fault `TooLong` behind the last byte that it may have, whatever else is
-/// wrong with it.
+/// wrong with it. `NoMemory` only where a growth was refused, and the text begins with a token.
 #[tactic(auto, unfolding(crate::specs::Lexing::lexing_of))]
 pub fn lex(alloc: Global, text: &[u8]) -> Result<Lexed, Stop>
-    ensures { Gives lexing_view result (lexing_of text.now) }
+    ensures exact { Gives lexing_view result (lexing_of text.now) }
+    ensures memory { IfNoMemory result (HasToken text.now) }
 {
     if text.len() > MOST_TEXT {
         return Err(Stop::Wrong {

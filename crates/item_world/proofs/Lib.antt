@@ -12,5 +12,4 @@ pub mod Onward
 pub mod Finishing
 pub mod Deliveries
 pub mod Outward
-pub mod FinishingBy
 pub mod Linking
