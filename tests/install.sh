@@ -33,11 +33,12 @@ holds() {
 }
 
 version=$(cat VERSION)
-pages='C CAPTURES COURIER ENDPOINT FORMATS GLOSSARY PROMISES PROOF WORLD'
-folders='bin include lib lib/pkgconfig share share/doc share/doc/xns share/doc/xns/examples share/man share/man/man1 share/xns share/xns/python'
-files="bin/xns include/xns.h lib/libxns.a lib/libxns.so lib/libxns.so.0 lib/libxns.so.$version lib/pkgconfig/xns.pc share/man/man1/xns.1"
+pages='C CAPTURES COURIER ENDPOINT FORMATS GLOSSARY NETWORKS PROMISES PROOF WORLD'
+folders='bin include lib lib/pkgconfig share share/doc share/doc/xns share/doc/xns/examples share/man share/man/man1 share/xns share/xns/python share/xns/python/xns'
+files="bin/xns bin/xns-net include/xns.h lib/libxns.a lib/libxns.so lib/libxns.so.0 lib/libxns.so.$version lib/pkgconfig/xns.pc share/man/man1/xns.1"
 for page in $pages; do files="$files share/doc/xns/$page.md"; done
-files="$files share/doc/xns/examples/six-calls.hex share/xns/installed share/xns/python/xns.py"
+files="$files share/doc/xns/examples/six-calls.hex share/xns/installed"
+for module in python/xns/*.py; do files="$files share/xns/$module"; done
 
 mkdir -p "$work/kit/bin" "$work/kit/c" "$work/copy/crates/xns" "$work/copy/crates/xns_c"
 cp -r install.sh release.sh VERSION docs include python examples "$work/copy/"
@@ -135,8 +136,8 @@ mkdir -p "$work/kept/lib" "$work/kept/share/doc"
 ends 'installing in a folder that is there' 0 "$notice" sh -c "cd '$work' && sh '$script' ./kept/"
 expect 'its folder for pkg-config' grep -qx "prefix=$work/kept" "$work/kept/lib/pkgconfig/xns.pc"
 touch "$work/kept/bin/another"
-mkdir "$work/kept/share/xns/python/__pycache__"
-touch "$work/kept/share/xns/python/__pycache__/xns.cpython-311.pyc"
+mkdir "$work/kept/share/xns/python/xns/__pycache__"
+touch "$work/kept/share/xns/python/xns/__pycache__/_told.cpython-311.pyc"
 expect 'taking it away there' sh "$script" --uninstall "$work/kept"
 holds 'leaves what was there, and what another put there' "$work/kept" bin bin/another lib share share/doc
 ends 'taking it away twice' 1 "install.sh: nothing was installed under $work/kept" sh "$script" --uninstall "$work/kept"
@@ -186,7 +187,7 @@ expect 'their names are printed' cmp "$work/expected" "$work/names"
         # shellcheck disable=SC2086
         "$prefix/bin/xns" $words
     done
-    cat "$prefix/share/man/man1/xns.1" "$prefix/include/xns.h" "$prefix/share/xns/python/xns.py" "$prefix"/share/doc/xns/C*.md
+    cat "$prefix/share/man/man1/xns.1" "$prefix/include/xns.h" "$prefix"/share/xns/python/xns/*.py "$prefix"/share/doc/xns/C*.md
 } | grep -o '[A-Z][A-Z]*\.md' | sort -u > "$work/pages"
 [ -s "$work/pages" ] || fail 'no page is named'
 while read -r page; do
@@ -223,7 +224,7 @@ if has pkg-config; then
     expect 'is that of VERSION' cmp VERSION "$work/out"
     from=$(pkg-config --cflags --libs xns)
     find_plus
-    for example in endpoints fields echo courier server client; do
+    for example in endpoints fields echo courier server client ping epoll; do
         # shellcheck disable=SC2086
         expect "$example against the shared library" "$compiler" $flags -std=c99 examples/c/$example.c $from -o "$work/$example"
     done

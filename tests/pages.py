@@ -30,7 +30,7 @@ FROM_ROOT = re.compile(r"(?:crates|tests|docs|examples|python|bench|include)/[\w
 PARTS = ("src", "specs", "proofs", "must-fail")
 IN_CRATE = re.compile(r"(?:[\w+-]+/)*[\w+-]+\.(?:rt|antt)")
 CODE_NAME = re.compile(r"[A-Za-z]\w*(?:(?:::|\.)\w+)*(?:\(\))?")
-CODE = ("crates/*/src/**/*", "crates/*/specs/**/*", "crates/*/stdin", "crates.txt", "include/*", "python/*", "bench/**/*", "tests/**/*",
+CODE = ("crates/*/src/**/*", "crates/*/specs/**/*", "crates/*/stdin", "crates.txt", "include/*", "python/**/*", "bench/**/*", "tests/**/*",
         "examples/**/*")
 MADE = re.compile(r"crates/mine\b|.*/out(?:/|$)")
 CLAUSE = re.compile(r" *(?:requires|ensures) (\w+) \{")
