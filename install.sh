@@ -9,7 +9,7 @@ usage: sh install.sh PREFIX
 
 Proves and builds the program xns and the library for C, and installs under the folder PREFIX:
 
-    bin/xns
+    bin/xns, bin/xns-net
     include/xns.h
     lib/libxns.a, lib/libxns.so and its versions, lib/pkgconfig/xns.pc
     share/man/man1/xns.1
@@ -53,8 +53,8 @@ remove_empty() {
 # Removes the files that the list names, and what Python keeps beside its module.
 remove_files() {
     sed -n 's/^file //p' "$1" | while read -r file; do rm -f "$root/$file"; done
-    rm -f "$root"/share/xns/python/__pycache__/xns.*.pyc
-    rmdir "$root/share/xns/python/__pycache__" 2> /dev/null || :
+    rm -f "$root"/share/xns/python/__pycache__/xns.*.pyc "$root"/share/xns/python/xns/__pycache__/*.pyc
+    rmdir "$root/share/xns/python/__pycache__" "$root/share/xns/python/xns/__pycache__" 2> /dev/null || :
 }
 
 uninstall() {
@@ -140,10 +140,12 @@ done
 
 version=$(cat VERSION)
 soname=libxns.so.${version%%.*}
-pages='C CAPTURES COURIER ENDPOINT FORMATS GLOSSARY PROMISES PROOF WORLD'
-files="bin/xns include/xns.h lib/libxns.a lib/libxns.so.$version lib/$soname lib/libxns.so lib/pkgconfig/xns.pc share/man/man1/xns.1"
+pages='C CAPTURES COURIER ENDPOINT FORMATS GLOSSARY NETWORKS PROMISES PROOF WORLD'
+files="bin/xns bin/xns-net include/xns.h lib/libxns.a lib/libxns.so.$version lib/$soname lib/libxns.so lib/pkgconfig/xns.pc share/man/man1/xns.1"
 for page in $pages; do files="$files share/doc/xns/$page.md"; done
-files="$files share/doc/xns/examples/six-calls.hex share/xns/python/xns.py share/xns/installed"
+files="$files share/doc/xns/examples/six-calls.hex share/xns/installed"
+modules=$(cd python/xns && echo *.py)
+for module in $modules; do files="$files share/xns/python/xns/$module"; done
 for file in $files; do
     folder=$root/$(dirname "$file")
     make_folder "$folder"
@@ -204,6 +206,7 @@ installed=yes
 remove_files "$work/old"
 install -m 644 "$work/list" "$root/share/xns/installed"
 install -m 755 crates/xns/out/xns "$root/bin/xns"
+install -m 755 python/xns-net "$root/bin/xns-net"
 install -m 644 include/xns.h "$root/include/xns.h"
 install -m 644 "$work/archive/libxns.a" "$root/lib/libxns.a"
 install -m 755 "$work/libxns.so" "$root/lib/libxns.so.$version"
@@ -213,5 +216,5 @@ install -m 644 "$work/xns.pc" "$root/lib/pkgconfig/xns.pc"
 install -m 644 "$work/xns.1" "$root/share/man/man1/xns.1"
 for page in $pages; do install -m 644 "docs/$page.md" "$root/share/doc/xns/$page.md"; done
 install -m 644 examples/six-calls.hex "$root/share/doc/xns/examples/six-calls.hex"
-install -m 644 python/xns.py "$root/share/xns/python/xns.py"
+for module in $modules; do install -m 644 "python/xns/$module" "$root/share/xns/python/xns/$module"; done
 for file in $files; do echo "$root/$file"; done

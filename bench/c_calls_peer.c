@@ -1,5 +1,5 @@
-/* Makes the calls of c_calls.c between two endpoints of the library, whose program writes and reads the messages itself: what two hosts take beside it is
- * what they do besides. It has no clock, waits for nothing and sends nothing again: its network loses nothing. c_calls_peer CALLS. */
+/* Makes the calls of c_calls.c between two endpoints of the library. Its program writes and reads the messages itself, and has no clock, no timeouts and no
+ * retransmission: its network loses nothing. The difference to c_calls.c is the cost of the hosts. c_calls_peer CALLS. */
 #include "xns.h"
 #include <stdio.h>
 #include <stdlib.h>
@@ -13,7 +13,7 @@ static void must(bool done) {
     if (!done) exit(1);
 }
 
-/* Sends an item, which carries what is to be said of those that came too. */
+/* Sends an item, whose packet also acknowledges the items that came. */
 static void send(struct xns_endpoint *from, struct xns_endpoint *to, const uint8_t *bytes, size_t size) {
     uint8_t packet[XNS_LONGEST_PACKET], reply[XNS_REPLY];
     struct xns_received received;

@@ -2,9 +2,9 @@
 #[path = "peer/packets.rs"]
 mod packets;
 
-use packets::{be, cycle, nearest, nibble};
+use packets::{be, cycle, nearest, next_line, nibble};
 use std::collections::{BTreeMap, HashMap};
-use std::io::{self, BufRead, Write};
+use std::io::{self, Write};
 
 // A flow: host, socket and identifier of its source, then of its target.
 type Key = [u8; 20];
@@ -133,13 +133,8 @@ fn main() {
     let mut places: HashMap<Key, usize> = HashMap::new();
     let mut connections: Vec<[Side; 2]> = Vec::new();
     let mut flows: Vec<(usize, usize)> = Vec::new();
-    loop {
-        line.clear();
-        if input.read_until(b'\n', &mut line).unwrap() == 0 { break; }
-        if line.last() == Some(&b'\n') { line.pop(); }
-        if line.last() == Some(&b'\r') { line.pop(); }
+    while next_line(&mut input, &mut line) {
         n += 1;
-        line.retain(|c| *c != b' ' && *c != b'\t');
         output.write_all(&out).unwrap();
         out.clear();
         bytes.clear();

@@ -4,9 +4,9 @@
 #[path = "peer/packets.rs"]
 mod packets;
 
-use packets::{be, cycle, nearest, nibble};
+use packets::{be, cycle, nearest, next_line, nibble};
 use std::collections::HashMap;
-use std::io::{self, BufRead, Write};
+use std::io::{self, Write};
 
 fn hex(out: &mut Vec<u8>, b: &[u8]) {
     const D: &[u8; 16] = b"0123456789abcdef";
@@ -42,13 +42,8 @@ fn main() {
     let mut n = 0u32;
     let mut refused = false;
     let mut items: HashMap<[u8; 20], u64> = HashMap::new();
-    loop {
-        line.clear();
-        if input.read_until(b'\n', &mut line).unwrap() == 0 { break; }
-        if line.last() == Some(&b'\n') { line.pop(); }
-        if line.last() == Some(&b'\r') { line.pop(); }
+    while next_line(&mut input, &mut line) {
         n += 1;
-        line.retain(|c| *c != b' ' && *c != b'\t');
         out.clear();
         bytes.clear();
         if line.len() % 2 == 1 { refused = true; writeln!(out, "{n} hex refused OddLength").unwrap(); }

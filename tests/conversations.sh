@@ -1,6 +1,6 @@
 #!/bin/sh
-# Refuses each growth of the program `test_conversations` in turn, while a caller calls and while a server is fed a call, and looks at
-# what each side then does. Its last line is 'N passed, M failed', and it ends with 1 where one failed. It builds the program first.
+# Builds the program `test_conversations`, and refuses each growth of it in turn, while a caller calls and while a server is fed a call.
+# It looks at what each side then does.
 set -u
 cd "$(dirname "$0")/.."
 . tests/lib.sh
@@ -10,8 +10,8 @@ build_refusing
 add=0000000100000007000200010005
 versions='<00030003|'
 
-# The line with each growth refused in turn: the program ends with 1 and prints nothing, or the answer is one of those in the file
-# `allowed`, each a whole line. The answer that no growth was refused for is the first; of the others one is seen at least.
+# Runs the line with each growth refused in turn: the program ends with 1 and prints nothing, or prints one of the lines of the file
+# `allowed`. The first of them is printed where no growth is refused; at least one of the others is seen.
 refuse_each() {
     name=$1
     printf '%s\n' "$2" > "$work/in"

@@ -1,7 +1,6 @@
 #!/bin/sh
-# Tries install.sh: first with a kit that builds nothing, in seconds, and then with the real one, under a fresh folder. What stands there
-# is used, and taken away again.
-# What it leaves out because a tool is missing it says. Its last line is 'N passed, M failed', and it ends with 1 where one failed.
+# Tries install.sh: first with a kit that builds nothing, in seconds, and then with the real one, under a fresh folder. The installed
+# files are used, and removed again. It says which tests it leaves out because a tool is missing.
 set -u
 cd "$(dirname "$0")/.."
 . tests/lib.sh
@@ -34,11 +33,12 @@ holds() {
 }
 
 version=$(cat VERSION)
-pages='C CAPTURES COURIER ENDPOINT FORMATS GLOSSARY PROMISES PROOF WORLD'
-folders='bin include lib lib/pkgconfig share share/doc share/doc/xns share/doc/xns/examples share/man share/man/man1 share/xns share/xns/python'
-files="bin/xns include/xns.h lib/libxns.a lib/libxns.so lib/libxns.so.0 lib/libxns.so.$version lib/pkgconfig/xns.pc share/man/man1/xns.1"
+pages='C CAPTURES COURIER ENDPOINT FORMATS GLOSSARY NETWORKS PROMISES PROOF WORLD'
+folders='bin include lib lib/pkgconfig share share/doc share/doc/xns share/doc/xns/examples share/man share/man/man1 share/xns share/xns/python share/xns/python/xns'
+files="bin/xns bin/xns-net include/xns.h lib/libxns.a lib/libxns.so lib/libxns.so.0 lib/libxns.so.$version lib/pkgconfig/xns.pc share/man/man1/xns.1"
 for page in $pages; do files="$files share/doc/xns/$page.md"; done
-files="$files share/doc/xns/examples/six-calls.hex share/xns/installed share/xns/python/xns.py"
+files="$files share/doc/xns/examples/six-calls.hex share/xns/installed"
+for module in python/xns/*.py; do files="$files share/xns/$module"; done
 
 mkdir -p "$work/kit/bin" "$work/kit/c" "$work/copy/crates/xns" "$work/copy/crates/xns_c"
 cp -r install.sh release.sh VERSION docs include python examples "$work/copy/"
@@ -97,7 +97,7 @@ for option in --help -h; do
     expect 'tells how it is called' grep -qx 'usage: sh install.sh PREFIX' "$work/out"
 done
 
-# What can't be written is seen before anything is proved, and nothing is left.
+# A folder that can't be written in is found before anything is proved, and nothing is left there.
 mkdir "$work/way"
 touch "$work/way/share"
 ends 'a file in the place of a folder' 1 "install.sh: $work/way/share cannot be made" sh "$script" "$work/way"
@@ -125,7 +125,7 @@ ends 'a proof that fails' 1 "$notice" sh "$script" "$work/none/deep"
 [ ! -e "$work/none" ] || fail 'after a proof that fails a folder is left'
 rm "$work/kit/refuses"
 
-# What is put there, and taken away with the folders that were made.
+# The installed files, and that they are removed with the folders that were made.
 ends 'installing' 0 "$notice" sh "$script" "$work/made/deep"
 # shellcheck disable=SC2086
 holds 'what is there' "$work/made/deep" $folders $files
@@ -136,8 +136,8 @@ mkdir -p "$work/kept/lib" "$work/kept/share/doc"
 ends 'installing in a folder that is there' 0 "$notice" sh -c "cd '$work' && sh '$script' ./kept/"
 expect 'its folder for pkg-config' grep -qx "prefix=$work/kept" "$work/kept/lib/pkgconfig/xns.pc"
 touch "$work/kept/bin/another"
-mkdir "$work/kept/share/xns/python/__pycache__"
-touch "$work/kept/share/xns/python/__pycache__/xns.cpython-311.pyc"
+mkdir "$work/kept/share/xns/python/xns/__pycache__"
+touch "$work/kept/share/xns/python/xns/__pycache__/_told.cpython-311.pyc"
 expect 'taking it away there' sh "$script" --uninstall "$work/kept"
 holds 'leaves what was there, and what another put there' "$work/kept" bin bin/another lib share share/doc
 ends 'taking it away twice' 1 "install.sh: nothing was installed under $work/kept" sh "$script" --uninstall "$work/kept"
@@ -149,7 +149,7 @@ ends 'a newer one over it' 0 "$notice" sh "$script" "$work/versions"
 # shellcheck disable=SC2086
 holds 'leaves nothing of the older' "$work/versions" $folders $files
 
-# Under another folder, whose name may have a blank.
+# Installing under another folder, whose name may have a blank.
 ends 'installing under DESTDIR' 0 "$notice" env DESTDIR="$work/a stage" sh "$script" /opt/xns/
 # shellcheck disable=SC2046,SC2086
 holds 'what is there under DESTDIR' "$work/a stage" opt opt/xns $(printf 'opt/xns/%s\n' $folders $files)
@@ -187,7 +187,7 @@ expect 'their names are printed' cmp "$work/expected" "$work/names"
         # shellcheck disable=SC2086
         "$prefix/bin/xns" $words
     done
-    cat "$prefix/share/man/man1/xns.1" "$prefix/include/xns.h" "$prefix/share/xns/python/xns.py" "$prefix"/share/doc/xns/C*.md
+    cat "$prefix/share/man/man1/xns.1" "$prefix/include/xns.h" "$prefix"/share/xns/python/xns/*.py "$prefix"/share/doc/xns/C*.md
 } | grep -o '[A-Z][A-Z]*\.md' | sort -u > "$work/pages"
 [ -s "$work/pages" ] || fail 'no page is named'
 while read -r page; do
@@ -200,7 +200,7 @@ expect 'reads a packet' grep -q '^1 echo request 4869$' "$work/out"
 sed -n '/^    \$ xns calls/,/^$/p' README.md | sed '1d; /^$/d; s/^    //' > "$work/shown"
 expect 'the calls that the README shows' sh -c "[ -s '$work/shown' ] && '$prefix/bin/xns' calls < examples/six-calls.hex | head -6 | cmp - '$work/shown'"
 
-# VERSION is the one that names the version.
+# The file VERSION has the version; all other places repeat it.
 expect 'the version of the header' grep -qx "#define XNS_VERSION \"$(cat VERSION)\"" include/xns.h
 expect 'help' "$prefix/bin/xns" --help
 head -1 "$work/out" > "$work/first"
@@ -224,7 +224,7 @@ if has pkg-config; then
     expect 'is that of VERSION' cmp VERSION "$work/out"
     from=$(pkg-config --cflags --libs xns)
     find_plus
-    for example in endpoints fields echo courier server client; do
+    for example in endpoints fields echo courier server client ping epoll; do
         # shellcheck disable=SC2086
         expect "$example against the shared library" "$compiler" $flags -std=c99 examples/c/$example.c $from -o "$work/$example"
     done

@@ -1,6 +1,7 @@
 # shellcheck shell=sh
-# What the scripts of this folder share. Each goes to the top of the clone and reads this file: it has then a folder $work, which goes
-# when the script ends, and counts what passed and what failed.
+# What the scripts of this folder share. Each goes to the top of the clone and reads this file. It then has a folder $work, which is
+# removed when the script ends, and counts the tests that pass and those that fail. Its last line is 'N passed, M failed', and it ends
+# with 1 where a test failed.
 work=$(mktemp -d)
 trap 'rm -rf "$work"' EXIT
 passed=0

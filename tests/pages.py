@@ -15,6 +15,7 @@ A file or folder that a page or README.md names from the root, as `crates/xns_id
 docs/MAP.md a name without its folder, as `places.rt`, stands for one in the crate that was named before it. The map's table of crates
 has a row for each line of crates.txt.
 A name of code that a page in docs/ has, as `Endpoint::send` or `xns_decode`, is to stand somewhere in the code.
+A clause that docs/PROMISES.md names behind its functions, as `exact` in "`read`: `exact`", is to be a clause of one of them.
 Another root than this repository is named last.
 """
 import pathlib
@@ -29,9 +30,11 @@ FROM_ROOT = re.compile(r"(?:crates|tests|docs|examples|python|bench|include)/[\w
 PARTS = ("src", "specs", "proofs", "must-fail")
 IN_CRATE = re.compile(r"(?:[\w+-]+/)*[\w+-]+\.(?:rt|antt)")
 CODE_NAME = re.compile(r"[A-Za-z]\w*(?:(?:::|\.)\w+)*(?:\(\))?")
-CODE = ("crates/*/src/**/*", "crates/*/specs/**/*", "crates/*/stdin", "crates.txt", "include/*", "python/*", "bench/**/*", "tests/**/*",
+CODE = ("crates/*/src/**/*", "crates/*/specs/**/*", "crates/*/stdin", "crates.txt", "include/*", "python/**/*", "bench/**/*", "tests/**/*",
         "examples/**/*")
 MADE = re.compile(r"crates/mine\b|.*/out(?:/|$)")
+CLAUSE = re.compile(r" *(?:requires|ensures) (\w+) \{")
+PROMISED = re.compile(r"(.*?[^:]):([^:].*)")
 EXPORT = re.compile(r"^pub use [^;]*;", re.MULTILINE)
 
 
@@ -263,6 +266,44 @@ def map_faults(root):
             + ["docs/MAP.md: crates.txt has no %s" % name for name in sorted(shown - listed)])
 
 
+def clauses_by_function(root):
+    """The names of the clauses of each function, by its name and by that with its type's."""
+    clauses = {}
+    for path in root.glob("crates/*/src/**/*.rt"):
+        holder, names_here = None, []
+        for line in path.read_text().split("\n"):
+            opened, function, clause = CONTAINER.match(line), FUNCTION.match(line), CLAUSE.match(line)
+            if opened and line.endswith("{"):
+                holder = opened[1]
+            elif line.startswith("}"):
+                holder = None
+            elif function:
+                names_here = [function[3]] + (["%s::%s" % (holder, function[3])] if holder and function[1] else [])
+                for name in names_here:
+                    clauses.setdefault(name, set())
+            elif clause:
+                for name in names_here:
+                    clauses[name].add(clause[1])
+    return clauses
+
+
+def missing_clauses(root):
+    """The clauses that docs/PROMISES.md names and that none of their functions has, each with the functions. A name without a type has
+    that of the name before it."""
+    clauses, missing = clauses_by_function(root), []
+    for row in (root / "docs/PROMISES.md").read_text().split("\n"):
+        for part in row.strip("|").split(" | ")[-1].split(";") if row.startswith("| ") else []:
+            promised = PROMISED.match(part)
+            holder, functions = None, []
+            for name in NAMED.findall(promised[1]) if promised else []:
+                front, apart, _ = name.rpartition("::")
+                holder = front if apart else holder
+                functions += [known for known in ("%s::%s" % (holder, name), name) if known in clauses][:1]
+            missing += ["%s of %s" % (clause, ", ".join(functions)) for clause in (NAMED.findall(promised[2]) if functions else [])
+                        if re.fullmatch(r"\w+", clause) and not any(clause in clauses[function] for function in functions)]
+    return missing
+
+
 def main(words):
     write = words[:1] == ["--write"]
     root = pathlib.Path(words[-1] if words[int(write):] else pathlib.Path(__file__).parent.parent).resolve()
@@ -275,6 +316,7 @@ def main(words):
         pages = [Page(root, path) for path in paths]
     faults = [fault for page in pages for fault in page.faults]
     faults += map_faults(root)
+    faults += ["docs/PROMISES.md: there is no clause %s" % name for name in missing_clauses(root)]
     words_known = words_of_code(root)
     for path in paths:
         faults += ["%s: %s is not in the code" % (path.relative_to(root), name) for name in unknown_names(path, words_known)]

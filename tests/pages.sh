@@ -1,6 +1,6 @@
 #!/bin/sh
-# Compares what the pages in docs/ quote of the code with the code, by tests/pages.py; and tries on copies that each way in which a
-# page can differ is found. Its last line is 'N passed, M failed', and it ends with 1 where one failed. It builds nothing.
+# Compares the code that the pages in docs/ quote with the code itself, by tests/pages.py, and tries on copies that each way in which a
+# page can differ is found. It builds nothing.
 set -u
 cd "$(dirname "$0")/.."
 . tests/lib.sh
@@ -18,7 +18,7 @@ mkdir "$right"
 tar c --exclude=out --exclude=.git . | tar x -C "$right"
 python3 tests/pages.py --write "$right" > /dev/null
 
-# Changes one file by one edit of sed, and wants it to be said by these words.
+# Changes one file by one edit of sed: tests/pages.py must say so by these words.
 found() {
     name=$1
     file=$2
@@ -34,7 +34,7 @@ found() {
     cp "$work/before" "$right/$file"
 }
 
-# Takes a file away, and wants it to be said by these words.
+# Takes a file away: tests/pages.py must say so by these words.
 gone() {
     mv "$right/$1" "$work/before"
     wanted "$1 is gone" "there is no $2"
@@ -66,17 +66,18 @@ found a_crate_that_never_was $page 's/^```rust quote xns_idp decode$/```rust quo
 found a_page_without_a_quote docs/crates/commands.md 's/^```rust quote .*/```text/' 'docs/crates/commands.md: no contract is quoted'
 found a_block_from_nowhere $page 's/^```rust part .*/```rust/' 'does not say where it is from'
 found a_caller_that_changed crates/examples/src/packet.rt 's/body: &packet.body/body: \&packet.data/' 'crates/examples/src/packet.rt has no lines'
-found a_block_without_an_end docs/crates/commands.md '$d' 'docs/crates/commands.md: a block has no end'
+found a_block_without_an_end docs/crates/xns_small.md '$d' 'docs/crates/xns_small.md: a block has no end'
 
 found a_crate_that_the_map_lacks crates.txt '$a xns_more: xns_idp' 'docs/MAP.md: xns_more is not there'
 found a_crate_that_went crates.txt '/^dump_alone:/d' 'docs/MAP.md: crates.txt has no dump_alone'
+found a_clause_that_went docs/PROMISES.md 's/`encode`, `encode_parts`: `ok`/`encode`, `encode_parts`: `good`/' 'docs/PROMISES.md: there is no clause good of encode, encode_parts'
 found a_name_that_went docs/ENDPOINT.md 's/`is_full`/`is_quite_full`/' 'docs/ENDPOINT.md: is_quite_full is not in the code'
 gone tests/plays.sh tests/plays.sh
-gone crates/xns_idp/src/places.rt crates/xns_idp/src/places.rt
-gone crates/xns_spp/specs/Acceptance.antt 'specs/Acceptance.antt of xns_spp'
-gone crates/xns_spp/specs/Early.antt 'Early.antt of xns_spp'
+gone crates/xns_spp/specs/Acceptance.antt crates/xns_spp/specs/Acceptance.antt
+gone crates/xns_idp/src/places.rt 'src/places.rt of xns_idp'
+gone crates/courier_sessions/specs/Talks.antt 'Talks.antt of courier_sessions'
 
-# What was changed in the code is quoted anew.
+# A changed contract is quoted anew.
 sed -i 's/^    ensures fault { IfErr result (λ f. /    ensures fault { IfErr result (λ e. /' "$right/$code"
 if python3 tests/pages.py --write "$right" > /dev/null && grep -q 'ensures fault { IfErr result (λ e. ' "$right/$page"; then
     pass

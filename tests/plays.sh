@@ -1,8 +1,7 @@
 #!/bin/sh
-# Compares what the program `test_plays` prints with a second account of it, tests/plays.py, which was written from the documents; and
-# refuses each growth of it in turn, while items are played, while calls are, and while a server is given packets. Each run must end by
-# itself, and tell want of memory and nothing else, or the whole text; the same play that comes next must then be played whole. Its last
-# line is 'N passed, M failed', and it ends with 1 where one failed. It builds the program first.
+# Builds the program `test_plays`, and compares its text with a second account, tests/plays.py, which was written from the documents.
+# Then it refuses each growth in turn, while items are played, while calls are, and while a server is given packets. Each run must end by
+# itself, and print the whole text, or that memory was refused and nothing else; the same play must then run whole when it comes next.
 set -u
 cd "$(dirname "$0")/.."
 . tests/lib.sh
@@ -22,8 +21,8 @@ if cmp "$work/out" "$crate/stdout"; then pass; else fail 'the program prints ano
 
 # ---- each growth refused in turn
 
-# The line stands twice. What it prints where nothing is refused is looked at first, and then each growth is refused until it is one of
-# the second's: a play that wanted memory is played whole the next time.
+# First it checks the text of the line where nothing is refused. Then it gives the program the line twice, and refuses each growth up to
+# the first one of the second play: a play that was refused memory runs whole the next time.
 refuse_each() {
     name=$1
     printf '%s\n' "$2" > "$work/in"

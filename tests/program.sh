@@ -1,6 +1,6 @@
 #!/bin/sh
-# Checks the built program: its exit statuses, what it writes, and that it says one line on standard error where it ends with 2 or 3.
-# Its last line is 'N passed, M failed', and it ends with 1 where one failed. It builds the program first.
+# Builds the program `xns`, and checks its exit statuses, its output, and that it writes one line to standard error where it ends with 2
+# or 3.
 set -u
 cd "$(dirname "$0")/.."
 . tests/lib.sh

@@ -1,15 +1,16 @@
 #!/usr/bin/env python3
 """What has to be read to know what a clause says: each definition that it needs, once, in reading order, with its file.
 
-usage: reading.py CRATE FILE FUNCTION [CLAUSE] [--stop]   a function, a method (Type::name) or a law: all its clauses, or one with what
+usage: reading.py CRATE FILE FUNCTION [CLAUSE] [--stop|--stop-ends]
+                                                          a function, a method (Type::name) or a law: all its clauses, or one with what
                                                           the function requires
        reading.py --table                                 the table of docs/PROOF.md
        reading.py --check                                 whether docs/PROOF.md has this table, and the two machines
        reading.py --write                                 puts both into docs/PROOF.md, where they stand
 
 A definition is one of specs/, or a struct, an enum or a trait of src/. Its lines are those of its text without comments and blank lines.
-The names of the standard library and of the kit's crates are not followed. With --stop neither are the names of STEPS: what the ends and the
-sessions of the program do, which the law takes as they are."""
+A constant's are those of its line. The names of the standard library and of the kit's crates are not followed. With --stop neither are the
+names of STEPS: what the ends and the sessions of the program do, which the law takes as they are; with --stop-ends only those of ENDS."""
 import pathlib
 import re
 import sys
@@ -18,28 +19,36 @@ ROOT = pathlib.Path(__file__).resolve().parent.parent
 CRATES = ROOT / "crates"
 PAGE = ROOT / "docs" / "PROOF.md"
 
-# what docs/PROOF.md gives figures for: its name, crate, file, function, clause (None: all) and whether STEPS are left out
+# what the program's ends do: the contracts of `Endpoint` cite them
+ENDS = frozenset("""initiator_state responder_state after_send send_answer after_take take_answer after_receive receive_answer after_flush
+    flush_answer after_tick tick_answer after_resend resend_answer told_answer is_full waiting_count is_ours State IsItem Holds""".split())
+
+# and what its sessions make of items: the contracts of `Caller` and `Server` cite them
+STEPS = ENDS | frozenset("caller_items server_items server_state answers decided decision after_decision Serving Service IsFitting".split())
+
+NOTHING = frozenset()
+
+# what docs/PROOF.md gives figures for: its name, crate, file, function, clause (None: all) and what is left out: NOTHING, ENDS or STEPS
 SUBJECTS = [
-    ("`entries_keep_the_order`, the ledger alone", "xns_world", "laws/calls.rt", "entries_keep_the_order", None, True),
-    ("`each_step_is_an_entry`, the headline for calls, with the network", "xns_world", "laws/calls.rt", "each_step_is_an_entry", None, True),
-    ("the same, with what ends and sessions do", "xns_world", "laws/calls.rt", "each_step_is_an_entry", None, False),
-    ("`moves_keep_the_order`, the channel alone", "item_world", "laws.rt", "moves_keep_the_order", None, False),
-    ("`each_step_is_a_move`, the headline for items, with the network", "item_world", "laws.rt", "each_step_is_a_move", None, True),
-    ("the same, with what ends do", "item_world", "laws.rt", "each_step_is_a_move", None, False),
-    ("`play_calls`: `once`", "xns_world", "call_play.rt", "play_calls", "once", False),
-    ("`decode`", "xns_idp", "decoding.rt", "decode", None, False),
-    ("`Endpoint::receive`", "xns_spp", "endpoint.rt", "Endpoint::receive", None, False),
-    ("`dump`", "xns_dump", "dumping.rt", "dump", None, False),
-    ("`calls`", "xns_calls", "calling.rt", "calls", None, False),
+    ("`entries_keep_the_order`, the ledger alone", "xns_world", "laws/calls.rt", "entries_keep_the_order", None, STEPS),
+    ("`each_step_is_an_entry`, the headline for calls, with the network", "xns_world", "laws/calls.rt", "each_step_is_an_entry", None, STEPS),
+    ("the same, with what its words mean: calls and outcomes as items", "xns_world", "laws/calls.rt", "each_step_is_an_entry", None, ENDS),
+    ("the same, with what ends do too", "xns_world", "laws/calls.rt", "each_step_is_an_entry", None, NOTHING),
+    ("`moves_keep_the_order`, the channel alone", "item_world", "laws.rt", "moves_keep_the_order", None, NOTHING),
+    ("`each_step_is_a_move`, the headline for items, with the network", "item_world", "laws.rt", "each_step_is_a_move", None, STEPS),
+    ("the same, with what ends do", "item_world", "laws.rt", "each_step_is_a_move", None, NOTHING),
+    ("`play_items`: `finishes`, with the network", "item_world", "play.rt", "play_items", "finishes", STEPS),
+    ("`no_play_is_stuck`, with the network", "xns_world", "laws/calls.rt", "no_play_is_stuck", None, STEPS),
+    ("the same, with what ends and sessions do", "xns_world", "laws/calls.rt", "no_play_is_stuck", None, NOTHING),
+    ("`play_calls`: `once`", "xns_world", "call_play.rt", "play_calls", "once", NOTHING),
+    ("`decode`", "xns_idp", "decoding.rt", "decode", None, NOTHING),
+    ("`Endpoint::receive`", "xns_spp", "endpoint.rt", "Endpoint::receive", None, NOTHING),
+    ("`dump`", "xns_dump", "dumping.rt", "dump", None, NOTHING),
+    ("`calls`", "xns_calls", "calling.rt", "calls", None, NOTHING),
 ]
 
 # the definitions that docs/PROOF.md shows whole
 MACHINES = ["item_world/specs/Channel.antt", "xns_world/specs/Ledger.antt"]
-
-# what the program's ends and sessions do, and what its sessions make of items: the contracts of `Endpoint`, `Caller` and `Server` cite them
-STEPS = set("""initiator_state responder_state after_send send_answer after_take take_answer after_receive receive_answer after_flush
-    flush_answer after_tick tick_answer after_resend resend_answer told_answer is_full waiting_count is_ours State IsItem Holds
-    caller_items server_items server_state answers decided decision after_decision Serving Service IsFitting""".split())
 
 WORD = re.compile(r"[^\s(){}\[\],;]+")
 HEAD = re.compile(r"^(?:(?:abbrev|unfoldable|mutual|pub|data|record|ruleset)\s+)*([^\s(){}:]+)(?=[\s(){:]|$)")
@@ -162,11 +171,26 @@ def declared(crate, name):
     return TEXTS[key]
 
 
+def constant(crate, name):
+    """The constant of this name, of a module or a type."""
+    key = (crate, "const", name)
+    if key not in TEXTS:
+        TEXTS[key] = None
+        for path in code(crate):
+            found = re.search(r"^\s*(?:pub(?:\([^)]*\))? )?const %s\b[^;]*;" % re.escape(name), path.read_text(), re.M)
+            if found:
+                TEXTS[key] = Chunk(text_of(path), bare(found.group(0)))
+                break
+    return TEXTS[key]
+
+
 def in_module(module, name):
     parts = module.split(".")
     if parts[0] != "Rattle" or not (CRATES / parts[1]).is_dir():
         return None
     crate, rest = parts[1], parts[3:]
+    if rest and rest[-1] == "TheConstants":
+        return constant(crate, name)
     if rest and rest[0] in ("declared", "contracts"):
         if rest[-1] in ("TheVariants", "TheImpl"):
             rest = rest[:-1]
@@ -220,12 +244,12 @@ def clauses(crate, path, function, clause):
 
 
 def needed(first, stop):
-    """Each definition that a contract needs, the lower ones first."""
+    """Each definition that a contract needs, the lower ones first, but for these names."""
     order, seen = [], {id(first)}
 
     def visit(chunk):
         for word in chunk.words():
-            if stop and word.split(".")[-1] in STEPS:
+            if word.split(".")[-1] in stop:
                 continue
             # a trait's own names, as S.serving
             found = resolve(chunk.file, word)
@@ -275,8 +299,8 @@ def main(words):
         elif now != page:
             print("docs/PROOF.md is not what tests/reading.py --write makes of it; the table is:\n" + table())
         return int(words == ["--check"] and now != page)
-    stop = "--stop" in words
-    words = [word for word in words if word != "--stop"]
+    stop = STEPS if "--stop" in words else ENDS if "--stop-ends" in words else NOTHING
+    words = [word for word in words if not word.startswith("--stop")]
     if len(words) not in (3, 4):
         print(__doc__)
         return 2

@@ -1,15 +1,14 @@
 #!/bin/sh
-# Refuses each growth of the program `test_refusals` in turn. Each of its lines is a call that can take memory: every one is refused at least
-# once, stands then as before, and answers when it is called again. Three lines are calls that must take none: they answer in every run in
-# which their shape was made. The record with a choice of a text is refused three times, once for each of its parts, and an early item
-# twice, for its body and for the reply. Then it refuses each growth of a whole conversation between two hosts of `test_hosts`: it comes to
-# the same end each time. The script's last line is 'N passed, M failed', and it ends with 1 where one failed. It builds the programs
-# first.
+# Builds the program `test_refusals`, and refuses each growth of it in turn. Each of its lines calls a function that can take memory. Each
+# function is refused memory at least once, leaves all as it was, and returns its result when it is called again. Three lines call
+# functions that must take none: they return in every run in which their shape was made. The record with a choice of a text is refused
+# three times, once for each of its parts, and an early item twice, for its body and for the reply. Then the script refuses each growth of
+# a whole conversation between two hosts of `test_hosts`, which ends the same each time.
 set -u
 cd "$(dirname "$0")/.."
 . tests/lib.sh
 
-# Runs a program with each growth refused in turn, until a run asks for fewer. `$1` judges what a run put out.
+# Runs a program with each growth refused in turn, until a run asks for fewer. `$1` judges the output of a run.
 refuse_each() {
     judge=$1
     shift
@@ -25,12 +24,12 @@ refuse_each() {
     echo "$((growth - 1)) growths were refused"
 }
 
-# All calls but the refused one answer.
+# All functions but the refused one return their results.
 stands() {
     [ $ended -eq 0 ] && ! grep -q 'broken$' "$work/out" && [ "$(grep -vc 'done$' "$work/out")" -le 1 ]
 }
 
-# The conversation comes to its end; a run that is refused the memory for its own words has none.
+# The conversation ends as ever; a run that is refused the memory for its own words has none.
 comes_to_its_end() {
     [ "$(cat "$work/out")" = 'a whole conversation: done' ] || { [ $ended -ne 0 ] && [ ! -s "$work/out" ] && [ $growth -le 8 ]; }
 }
@@ -44,7 +43,7 @@ refuse_each stands "$program"
 # The last run was refused nothing.
 if cmp -s "$work/out" "$crate/stdout"; then pass; else fail 'with nothing refused:' "$work/out"; fi
 
-# A call that takes no memory answers in all runs but so many, in which what it is called with was refused.
+# A function that takes no memory returns in all runs but so many, in which its arguments were refused memory.
 takes_none() {
     if [ "$(grep -cxF "$1: done" "$work/all")" -eq $((growth - 1 - $2)) ] && [ "$(grep -cxF "$1: not called" "$work/all")" -eq "$2" ]; then
         pass
@@ -53,7 +52,7 @@ takes_none() {
     fi
 }
 
-# A call is refused so often, and then answers.
+# A function is refused so often, and then returns.
 takes() {
     if [ "$(grep -cxF "$1: refused, then done" "$work/all")" "$2" "$3" ]; then
         pass

@@ -23,18 +23,21 @@ pub struct Item {
     pub body: Vec<u8>,
 }
 
+#[inline]
 fn word(bytes: &[u8], place: usize) -> u16 {
     u16::from_be_bytes([bytes[place], bytes[place + 1]])
 }
 
 /// The standard's loop.
 #[cfg(standard)]
+#[inline]
 fn sum(bytes: &[u8]) -> u16 {
     cycle(bytes)
 }
 
 /// In 16 lanes, since the weights of words repeat after 16; the lanes are filled from the end.
 #[cfg(not(standard))]
+#[inline]
 fn sum(bytes: &[u8]) -> u16 {
     let head = bytes.len() / 2 % 16;
     let mut lanes = [0u32; 16];
@@ -50,12 +53,14 @@ fn sum(bytes: &[u8]) -> u16 {
     (weighed.sum::<u64>() % 65535) as u16
 }
 
+#[inline]
 fn write_address(out: &mut Vec<u8>, address: &Address) {
     out.extend_from_slice(&address.network.to_be_bytes());
     out.extend_from_slice(&address.host);
     out.extend_from_slice(&address.socket.to_be_bytes());
 }
 
+#[inline]
 fn read_address(bytes: &[u8]) -> Address {
     Address {
         network: u32::from_be_bytes(bytes[0..4].try_into().unwrap()),
@@ -83,6 +88,7 @@ pub struct Received {
 }
 
 impl Received {
+    #[inline]
     fn dropped(dropped: Dropped) -> Received {
         Received { took: 0, reply: None, dropped: Some(dropped) }
     }
@@ -107,6 +113,7 @@ pub struct End {
 }
 
 impl End {
+    #[inline]
     pub fn new(is_initiator: bool, own: Address, id: u16, peer: Address, peer_id: u16, window: usize, backlog: usize) -> End {
         End {
             is_initiator,
@@ -127,10 +134,12 @@ impl End {
         }
     }
 
+    #[inline]
     fn top(&self) -> u64 {
         (self.handed + self.window as u64 - 1).min(MOST_ITEMS - 1)
     }
 
+    #[inline]
     fn write(&self, control: u8, stream: u8, sequence: u64, body: &[u8]) -> Vec<u8> {
         let length = 42 + body.len();
         let mut out = Vec::with_capacity(length + length % 2);
@@ -153,6 +162,7 @@ impl End {
         out
     }
 
+    #[inline]
     pub fn send(&mut self, item: Item) -> Result<(), Item> {
         let size = item.body.len();
         if size > 534 || item.attention && size != 1 || self.accepted == MOST_ITEMS || self.unacknowledged.len() == self.backlog {
@@ -164,10 +174,12 @@ impl End {
     }
 
     /// Whether no further item is accepted.
+    #[inline]
     pub fn is_full(&self) -> bool {
         self.unacknowledged.len() == self.backlog || self.accepted == MOST_ITEMS
     }
 
+    #[inline]
     pub fn flush(&mut self) -> Vec<Vec<u8>> {
         if self.peer_id == 0 {
             return Vec::new();
@@ -184,6 +196,7 @@ impl End {
     }
 
     /// The packets not yet acknowledged, or one that asks for a reply where none may go out.
+    #[inline]
     pub fn tick(&mut self) -> Vec<Vec<u8>> {
         let limit = self.accepted.min(self.allowed);
         if self.peer_id == 0 || limit <= self.acknowledged && self.acknowledged < self.accepted {
@@ -193,6 +206,7 @@ impl End {
         self.flush()
     }
 
+    #[inline]
     fn is_ours(&self, target: &Address, source: &Address, header: &[u8]) -> bool {
         let (source_id, target_id) = (word(header, 2), word(header, 4));
         let is_from_peer = source.host == self.peer.host && source.socket == self.peer.socket && source_id == self.peer_id;
@@ -208,6 +222,7 @@ impl End {
     }
 
     /// Takes in a packet, and says what became of it.
+    #[inline]
     pub fn receive(&mut self, bytes: &[u8]) -> Received {
         if bytes.len() < 30 {
             return Received::dropped(Dropped::NotIdp);
@@ -259,6 +274,7 @@ impl End {
     }
 
     /// Keeps an item for which there is room, and takes those whose turn has come: how many, or why the item is not kept.
+    #[inline]
     fn keep(&mut self, sequence: Option<u64>, header: &[u8], body: &[u8]) -> Result<usize, Dropped> {
         let top = self.top();
         let number = match sequence {
@@ -285,6 +301,7 @@ impl End {
         Ok((self.taken - before) as usize)
     }
 
+    #[inline]
     pub fn take(&mut self) -> Option<Item> {
         if self.handed == self.taken {
             return None;

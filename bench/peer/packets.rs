@@ -1,6 +1,8 @@
 //! What the peers do alike with the bytes of packets.
 #![allow(dead_code)]
 
+use std::io::BufRead;
+
 /// The checksum by the standard's loop: for each word add it with end-around carry, and rotate left by one.
 #[inline]
 pub fn cycle(bytes: &[u8]) -> u16 {
@@ -35,4 +37,20 @@ pub fn nibble(digit: u8) -> Option<u8> {
 #[inline]
 pub fn be(bytes: &[u8]) -> u64 {
     bytes.iter().fold(0, |number, byte| number << 8 | u64::from(*byte))
+}
+
+/// Reads the next line, without its end, blanks and tabs. Whether there is one.
+#[inline]
+pub fn next_line(input: &mut impl BufRead, line: &mut Vec<u8>) -> bool {
+    line.clear();
+    if input.read_until(b'\n', line).unwrap() == 0 {
+        return false;
+    }
+    for end in [b'\n', b'\r'] {
+        if line.last() == Some(&end) {
+            line.pop();
+        }
+    }
+    line.retain(|byte| *byte != b' ' && *byte != b'\t');
+    true
 }

@@ -1,33 +1,45 @@
-/* A client of server.c over UDP, one packet a datagram: client PORT NUMBER .. adds each number to the tally, prints what it is answered, and closes. */
-#define _POSIX_C_SOURCE 200809L
-#include "udp.h"
+/* A client of server.c: client PORT NUMBER .. adds each number to the tally, prints what it is answered, and closes; client -i INTERFACE STATION NUMBER ..
+ * does so on Ethernet, and net.h has the other networks. xBYTES in the place of a number has so many bytes returned, made even, and prints whether they are
+ * the same. */
+#ifndef _GNU_SOURCE
+#define _GNU_SOURCE
+#endif
+#include "net.h"
 
-static const struct xns_address HERE = { 1, { 0, 0, 0xaa, 0, 3, 4 }, 0 }, SERVER = { 1, { 0, 0, 0xaa, 0, 1, 2 }, XNS_SOCKET_COURIER };
 static const struct xns_settings SETTINGS = { 1, 0, 0, 100, 1000, 0, 6 }; /* a server that is silent for 4.5 seconds is gone */
 static struct xns_host host;
 static size_t connection;
+static uint16_t sent[XNS_MOST_CALL_WORDS], words[XNS_MOST_MESSAGE_WORDS];
+static size_t sent_count; /* of the words that are to come back; 0 where the call adds */
 
-/* A socket of our host that no other client on this machine has: its number is that of our port. */
-static uint16_t own_socket(int udp) {
-    struct sockaddr_in place = udp_place(0);
-    socklen_t size = sizeof place;
-    getsockname(udp, (struct sockaddr *)&place, &size);
-    return ntohs(place.sin_port);
+/* The words of the next call, and its procedure. */
+static uint16_t next_call(const char *next, size_t *count) {
+    sent_count = 0;
+    *count = 1;
+    sent[0] = next == NULL ? 0 : (uint16_t)atoi(next);
+    if (next == NULL || next[0] != 'x') return 1;
+    sent_count = ((size_t)atol(next + 1) + 1) / 2;
+    if (sent_count > XNS_MOST_CALL_WORDS) sent_count = XNS_MOST_CALL_WORDS;
+    for (size_t i = 0; i < sent_count; i++) sent[i] = (uint16_t)(i * 2654435761u >> 7);
+    *count = sent_count;
+    return 2;
 }
 
-/* Adds the next number; closes where there is none. What is refused memory is tried again. */
+/* Makes the next call; closes where there is none. What is refused memory is tried again. */
 static void go_on(uint64_t now, const char *next) {
-    const uint16_t number = next == NULL ? 0 : (uint16_t)atoi(next);
+    size_t count;
+    const uint16_t procedure = next_call(next, &count);
     enum xns_result told;
-    do told = next == NULL ? xns_host_close(&host, now, connection) : xns_host_call(&host, now, connection, 7, 1, 1, &number, 1);
+    do told = next == NULL ? xns_host_close(&host, now, connection) : xns_host_call(&host, now, connection, 7, 1, procedure, sent, count);
     while (told == XNS_NO_MEMORY);
     check(told);
 }
 
-static void print_answer(const struct xns_message *message, const uint16_t *words, size_t count) {
+static void print_answer(const struct xns_message *message, size_t count) {
     static const char *const kinds[] = { "call", "reject", "return", "abort" };
     fputs(kinds[message->kind], stdout);
-    for (size_t i = 0; i < count; i++) printf(" %u", words[i]);
+    if (sent_count > 0) printf(" %zu bytes, %s", 2 * count, count == sent_count && memcmp(words, sent, 2 * count) == 0 ? "the same" : "others");
+    for (size_t i = 0; sent_count == 0 && i < count; i++) printf(" %u", words[i]);
     putchar('\n');
 }
 
@@ -40,30 +52,32 @@ static int status_of(const struct xns_event *closed) {
 }
 
 int main(int count, char **given) {
-    static uint16_t words[XNS_MOST_MESSAGE_WORDS];
+    struct xns_address here = { 1, { 0 }, 0 }, server = { 1, { 0 }, XNS_SOCKET_COURIER };
+    struct link link = { 0 };
     uint64_t now = milliseconds();
     uint8_t secret[32];
     struct xns_event event = XNS_EVENT_INIT;
     size_t length;
-    int udp;
-    if (count < 2) return 2;
-    udp = udp_open(0);
-    new_secret(secret);
-    check(xns_host_new(&host, &HERE, &SETTINGS, secret));
-    check(xns_host_connect(&host, now, (uint32_t)atoi(given[1]), own_socket(udp), &SERVER, &connection));
-    go_on(now, *(given += 2));
+    (void)count;
+    given = net_open(&link, NET_ASKS, given + 1, server.host);
+    if (given == NULL) return 2;
+    memcpy(here.host, link.station, 6);
+    random_bytes(secret, sizeof secret);
+    check(xns_host_new(&host, &here, &SETTINGS, secret));
+    check(xns_host_connect(&host, now, link.via, link.socket, &server, &connection));
+    go_on(now, *given);
     while (event.kind != XNS_EVENT_CLOSED) {
-        udp_send_packets(udp, &host, now);
-        udp_wait(udp, xns_host_wake(&host));
+        link_send_packets(&link, &host, now);
+        link_wait(&link, xns_host_wake(&host));
         now = milliseconds();
-        udp_receive_packets(udp, &host, now);
+        link_receive_packets(&link, &host, now);
         while (xns_host_next_event(&host, &event, words, XNS_MOST_MESSAGE_WORDS, &length) == XNS_OK) {
             if (event.kind != XNS_EVENT_ANSWER) continue;
-            print_answer(&event.message, words, length);
+            print_answer(&event.message, length);
             go_on(now, *++given);
         }
     }
-    udp_send_packets(udp, &host, now);
+    link_send_packets(&link, &host, now);
     xns_host_free(&host);
     return status_of(&event);
 }

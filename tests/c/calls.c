@@ -1,5 +1,5 @@
-/* Each call of xns.h but those of a host: its results, where they stand in the structs, what it writes and what it leaves. Then the calls of a connection with
- * the k-th growth refused, for every k. Prints ok, or ends with 1 at the first that is not so. */
+/* Calls each function of xns.h but those of a host, and compares its result, the fields and the bytes that it writes, and those that it leaves. Then it calls
+ * the functions of a connection with the k-th growth refused, for every k. Prints ok, or ends with 1 at the first difference. */
 #include "xns.h"
 #include <stdio.h>
 #include <stdlib.h>
@@ -20,7 +20,7 @@ static const uint8_t answer[] = { 0x59, 0x52, 0, 0x2a, 0, 5, 0, 0, 0, 1, 0, 0, 0
 /* The item 0003 0003, with its mark, on its way from a. */
 static const uint8_t versions[] = { 0xcf, 0x2a, 0, 0x2e, 0, 5, 0, 0, 0, 1, 0, 0, 0xaa, 0, 1, 2, 0, 5, 0, 0, 0, 1, 0, 0, 0xaa, 0, 3, 4, 4, 0, 0x50, 0, 0x12, 0x34, 0x56, 0x78, 0, 0, 0, 0, 0, 3, 0, 3, 0, 3 };
 
-/* A struct with bytes behind it that no call may write. */
+/* A struct with bytes behind it that no function may write. */
 #define GUARDED(type) struct { type it; uint8_t behind[16]; }
 #define GUARD(x) memset(&(x), 0xee, sizeof (x))
 #define IS_GUARDED(x) (memcmp((x).behind, "\xee\xee\xee\xee\xee\xee\xee\xee\xee\xee\xee\xee\xee\xee\xee\xee", 16) == 0)
@@ -122,7 +122,7 @@ static void formats(void) {
     CHECK(xns_opening(answer, sizeof answer, &peer.it, &peer_id) == XNS_NOTHING && peer_id == 7 && is_left((uint8_t *)&peer, 0, sizeof peer));
 }
 
-/* A call again as long as it is refused memory, which happens once at most. */
+/* Calls a function again while it is refused memory, which happens once at most. */
 #define AGAIN(call) do { uint32_t result = (call); if (result == XNS_NO_MEMORY) { CHECK(growths >= refuse_at && refuse_at > 0); result = (call); } CHECK(result == XNS_OK); } while (0)
 
 /* A call of program 7, version 2, procedure 1 with the word 5, and the reject of it for its version, with the words 1 and 2. */
@@ -239,7 +239,7 @@ static void bad_messages(void) {
     CHECK(xns_message_write(&message.it, words, 2, buffer, 8, &written) == XNS_OK && written == 8);
 }
 
-/* No endpoint, or one that was freed, answers as none. */
+/* Each function says so of a handle with no endpoint, and of one whose endpoint is freed. */
 static void no_endpoint(struct xns_endpoint *none) {
     struct xns_item item;
     struct xns_received received;
@@ -345,7 +345,7 @@ static void connection(void) {
     no_endpoint(&b);
 }
 
-/* The writers with each growth refused: nothing is written, and the next call does it. */
+/* Each writer with each growth refused: it writes nothing, and writes all when it is called again. */
 static void refused_writers(void) {
     struct xns_address own = at_b;
     uint8_t buffer[600];

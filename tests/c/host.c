@@ -1,5 +1,6 @@
-/* Each call of a host: its results, what it writes and what it leaves; two hosts that talk, for small and large windows, and with the k-th growth refused, for
- * every k; and each way in which a connection closes. The network is memory, and time is played. Prints ok, or ends with 1 at the first that is not so. */
+/* Calls each function of a host, and compares its result, the bytes that it writes and those that it leaves. Two hosts talk, with small and large windows, and
+ * with the k-th growth refused, for every k; and a connection closes in each way. The network is memory, and time is a number. Prints ok, or ends with 1 at the
+ * first difference. */
 #include "xns.h"
 #include <stdio.h>
 #include <stdlib.h>
@@ -40,7 +41,7 @@ static bool carry(struct xns_host *from, struct xns_host *to, uint32_t via) {
     return moved;
 }
 
-/* What is to go out goes out, both ways; where nothing is, time passes. */
+/* Carries the packets of both hosts; where there are none, time passes. */
 static void turn(void) {
     bool moved = carry(&client, &service, CLIENT_VIA);
     uint64_t wake = xns_host_wake(&client);
@@ -78,7 +79,7 @@ static void free_both(void) {
     xns_host_free(&service);
 }
 
-/* A call with so many words, as the service is told of it. */
+/* A call with so many words is the next event of the service. */
 static struct xns_event calls(size_t number, size_t length) {
     struct xns_event call;
     for (size_t i = 0; i < length; i++) given[i] = (uint16_t)(i * 7 + length);
@@ -89,7 +90,7 @@ static struct xns_event calls(size_t number, size_t length) {
     return call;
 }
 
-/* The answer as the client is told of it. */
+/* The answer is the next event of the client. */
 static void hears(size_t number, uint8_t kind, uint16_t code, size_t length) {
     struct xns_event answer = await(&client, XNS_EVENT_ANSWER);
     CHECK(answer.number == number && answer.message.kind == kind && answer.message.number == code && answer.message.program == 0);
@@ -135,7 +136,7 @@ static void converse(size_t window, size_t backlog) {
 
 /* ---- what each call answers */
 
-/* No host, or one that was freed, answers as none, and writes nothing. */
+/* Each function says so of a handle with no host, and of one whose host is freed, and writes nothing. */
 static void no_host(struct xns_host *none) {
     struct xns_event event;
     struct xns_address peer;
@@ -169,7 +170,7 @@ static void services(void) {
     no_host(&service);
 }
 
-/* An Echo request is answered by the way it came; other packets are the program's. */
+/* An Echo request is answered by the `via` that it came by; other packets are the program's. */
 static void strangers(void) {
     const struct xns_address echo = { 1, { 0, 0, 0xaa, 0, 1, 2 }, XNS_SOCKET_ECHO }, other = { 1, { 0, 0, 0xaa, 0, 1, 3 }, XNS_SOCKET_ECHO };
     uint8_t packet[XNS_LONGEST_PACKET], reply[XNS_LONGEST_PACKET];
@@ -225,7 +226,7 @@ static void refusals(void) {
     free_both();
 }
 
-/* The longest messages. An event whose words have no room stays, and a call that stays is answered unseen. */
+/* The longest messages. An event whose words have no room stays, and the program may answer a call that stays. */
 static void short_buffers(void) {
     struct xns_event event;
     uint8_t packet[XNS_LONGEST_PACKET];
@@ -267,7 +268,7 @@ static void short_buffers(void) {
 
 /* ---- how a connection closes */
 
-/* Between two words of the peer so many packets go out, at these times, and then it is silent. Time that goes back is the latest. */
+/* Between two packets of the peer so many packets go out, at these times, and then the peer counts as silent. A time that goes back counts as the latest. */
 static void silent(void) {
     const struct xns_settings settings = { .first_wait = 100, .longest_wait = 300, .tries = 4 };
     static const uint64_t waits[] = { 0, 100, 200, 300, 300 };
@@ -295,7 +296,7 @@ static void silent(void) {
     free_both();
 }
 
-/* A peer that waits for an answer asks from time to time, and is answered; one that is never to ask has nothing to wait for. */
+/* A peer that waits for an answer sends probes, and gets replies; one that never probes has nothing to wait for. */
 static void idle(void) {
     const struct xns_settings never = { .idle = UINT32_MAX };
     struct xns_event call;
@@ -331,7 +332,7 @@ static void not_served(void) {
     free_both();
 }
 
-/* A peer that is an endpoint alone: what it sends comes to a host, and back. */
+/* A peer that is an endpoint alone: its packets go to a host, and the replies come back. */
 static void exchange(struct xns_endpoint *peer, struct xns_host *host) {
     uint8_t packet[XNS_LONGEST_PACKET], reply[XNS_REPLY];
     struct xns_received received;

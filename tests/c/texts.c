@@ -1,5 +1,5 @@
-/* What programs take from the header itself, as C and as C++: the initializers, the texts of the results, null pointers with the length 0, and the version,
- * which it prints. Ends with 1 at the first that is not so. */
+/* The parts that the header defines itself, as C and as C++: the initializers, the texts of the results, null pointers with the length 0, and the version,
+ * which it prints. Ends with 1 at the first difference. */
 #include "xns.h"
 #include <stdio.h>
 #include <stdlib.h>

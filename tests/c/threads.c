@@ -15,7 +15,7 @@ static void carry(struct xns_host *from, struct xns_host *to) {
     while (xns_host_next_packet(from, 0, packet, sizeof packet, &length, &via) == XNS_OK) CHECK(xns_host_receive(to, 0, via, packet, length) == XNS_OK);
 }
 
-/* The next event, which the one host comes to by what the other says. */
+/* The next event of one host, once the packets of the other have come. */
 static struct xns_event await(struct xns_host *host, struct xns_host *other, uint16_t *words, size_t *count) {
     struct xns_event event;
     while (xns_host_next_event(host, &event, words, WORDS, count) == XNS_NOTHING) {

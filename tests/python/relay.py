@@ -2,6 +2,7 @@
 no client says."""
 import heapq
 import random
+import select
 import selectors
 import socket
 import struct
@@ -157,3 +158,56 @@ class Peer:
         """The next item that comes."""
         self.until(lambda: self.endpoint.waiting)
         return self.endpoint.take()
+
+
+class Hub(threading.Thread):
+    """A hub of emulators: gives each frame that comes by one stream to all others."""
+
+    def __init__(self):
+        super().__init__(daemon=True)
+        self.listens, self.streams, self.ends = socket.create_server((LOCAL, 0)), {}, False
+        self.port, self.frames, self.shortest = self.listens.getsockname()[1], 0, 2**16
+
+    def run(self):
+        while not self.ends:
+            for one in select.select([self.listens, *self.streams], [], [], 0.05)[0]:
+                if one is self.listens:
+                    self.streams[one.accept()[0]] = b""
+                elif one in self.streams:
+                    self.take_in(one)
+        for one in [self.listens, *self.streams]:
+            one.close()
+
+    def take_in(self, stream):
+        try:
+            more = stream.recv(65536)
+        except OSError:
+            more = b""
+        if not more:
+            del self.streams[stream]
+            stream.close()
+            return
+        left = self.streams[stream] + more
+        while len(left) >= 2 and len(left) >= 2 + int.from_bytes(left[:2], "big"):
+            size = 2 + int.from_bytes(left[:2], "big")
+            self.frames, self.shortest = self.frames + 1, min(self.shortest, size - 2)
+            for other in self.streams:
+                if other is not stream:
+                    other.sendall(left[:size])
+            left = left[size:]
+        self.streams[stream] = left
+
+    def first(self):
+        """The stream that was there first, once there is one."""
+        while not self.streams:
+            time.sleep(0.01)
+        return next(iter(self.streams))
+
+    def drop(self):
+        """All streams end; their stations may come back."""
+        for one in list(self.streams):
+            one.shutdown(socket.SHUT_RDWR)
+
+    def stop(self):
+        self.ends = True
+        self.join()

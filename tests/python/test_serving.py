@@ -13,17 +13,20 @@ PROGRAMS = [(7, 1, 2)]
 QUICK = {"first_wait": 50, "longest_wait": 200, "tries": 5, "idle": 500}  # asked after half a second, and silent after one more
 
 
-class End(Exception):
-    """Ends a server."""
-
-
 def doubles(call):
-    """Procedure 1 returns its words twice, 2 ends the server, 3 is an error, and there is no other."""
+    """Procedure 1 returns its words twice, 2 fails in the way that its word says, 3 is an error, and there is no other."""
     if call.procedure == 2:
-        raise End
+        return FAILURES[xns.Reader(call.words).cardinal()]()
     if call.procedure == 1:
         return xns.returns(call.words * 2)
     return xns.aborts(9, [8]) if call.procedure == 3 else xns.rejects(xns.Reject.NO_SUCH_PROCEDURE)
+
+
+def fails():
+    raise KeyError("no such word")
+
+
+FAILURES = [fails, lambda: None, lambda: xns.returns([1] * 65535), lambda: xns.returns([65536]), lambda: xns.returns(b"12"), lambda: xns.aborts("no number")]
 
 
 def exchanges(udp):
@@ -43,17 +46,14 @@ def exchanges(udp):
 
 class Serving(unittest.TestCase):
     def setUp(self):
-        self.udp, self.ended = bound(), None
+        self.udp, self.stops = bound(), threading.Event()
         self.addCleanup(self.udp.close)
         self.thread = threading.Thread(target=self.serve, daemon=True)
         self.thread.start()
         self.addCleanup(self.stop)
 
     def serve(self):
-        try:
-            xns.serve(self.udp, SERVER, PROGRAMS, doubles, exchanges(self.udp), connections=2, **QUICK)
-        except End as ended:
-            self.ended = ended
+        xns.serve(self.udp, SERVER, PROGRAMS, doubles, exchanges(self.udp), self.stops, connections=2, **QUICK)
 
     def client(self, **settings):
         udp = bound()
@@ -71,13 +71,9 @@ class Serving(unittest.TestCase):
             pass
 
     def stop(self):
-        """A call of procedure 2 ends the server, and is not answered. The clients of before are gone by then."""
-        deadline = time.monotonic() + 20
-        while self.thread.is_alive() and time.monotonic() < deadline:
-            with self.assertRaises(TimeoutError):
-                self.client(longest_wait=50, tries=2).call(7, 1, 2)
-        self.thread.join(1)
-        self.assertIsInstance(self.ended, End)
+        self.stops.set()
+        self.thread.join(10)
+        self.assertFalse(self.thread.is_alive())
 
     def told(self, answer):
         return answer.kind, answer.code, answer.words
@@ -101,6 +97,27 @@ class Serving(unittest.TestCase):
         self.assertEqual(self.told(client.call(8, 1, 1)), (xns.Kind.REJECT, xns.Reject.NO_SUCH_PROGRAM, []))
         self.assertEqual(self.told(client.call(7, 3, 1)), (xns.Kind.REJECT, xns.Reject.NO_SUCH_VERSION, [1, 2]))
         self.assertEqual(self.told(client.call(7, 1, 4)), (xns.Kind.REJECT, xns.Reject.NO_SUCH_PROCEDURE, []))
+
+    def test_a_call_that_fails_is_rejected_and_ends_nothing(self):
+        client = self.client()
+        self.assertEqual(self.told(client.call(7, 1, 2)), (xns.Kind.REJECT, xns.Reject.INVALID_ARGUMENTS, []))  # there is no word
+        for failure in range(len(FAILURES)):
+            with self.assertLogs("xns", "ERROR") as logged:
+                self.assertEqual(self.told(client.call(7, 1, 2, [failure])), (xns.Kind.REJECT, xns.UNSPECIFIED, []))
+            self.assertIn("program 7, version 1, procedure 2", logged.output[0])
+        self.assertEqual(client.call(7, 1, 1, [3]).words, [3, 3])
+
+    def test_a_server_that_is_stopped_closes_its_connections(self):
+        client = self.client()
+        client.call(7, 1, 1)
+        self.stops.set()
+        client.wait(0.6)
+        self.thread.join(1)
+        self.assertFalse(self.thread.is_alive())
+        with self.assertRaises(xns.ClosedError):
+            client.call(7, 1, 1)
+        with self.assertRaises(TimeoutError):
+            self.client(longest_wait=50, tries=1).call(7, 1, 1)
 
     def test_a_client_more_than_there_is_room_for_waits_for_another_to_go(self):
         first, second = self.client(), self.client()
@@ -192,11 +209,11 @@ class Alone(unittest.TestCase):
         return answer
 
     def test_attention_amid_a_call(self):
-        with self.assertRaises(xns.Attention):
+        with self.assertRaises(xns.AttentionError):
             self.answered_by(self.says(xns.Item(b"\1", attention=True, last=False)))
 
     def test_an_answer_to_another_call(self):
-        with self.assertRaises(xns.WrongTransaction):
+        with self.assertRaises(xns.WrongTransactionError):
             self.answered_by(self.says(xns.Item(bytes.fromhex("00027777"))))
 
     def test_a_server_that_closes(self):

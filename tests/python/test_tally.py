@@ -13,7 +13,7 @@ import time
 import unittest
 
 import xns
-from relay import Peer, Relay, bound, send_all_kinds
+from relay import Hub, Peer, Relay, bound, send_all_kinds
 
 TALLY = [sys.executable, str(pathlib.Path(__file__).resolve().parents[2] / "examples" / "python" / "tally.py")]
 PYTHON = [*TALLY, "serve"], [*TALLY, "add"]
@@ -122,6 +122,30 @@ class TallyTest(unittest.TestCase):
             with Serving(server) as serving:
                 answers = serving.client(client, [65535, 65535, 2]).communicate(timeout=60)
             self.assertEqual(answers, ("return 0 65535\nreturn 1 65534\nreturn 2 0\n", ""))
+
+    def test_a_hub_of_emulators(self):
+        """Both languages by way of a hub: `xns-net` for Python."""
+        station, net = "0000aa000102", [sys.executable, "-m", "xns.net"]
+        hub = Hub()
+        hub.start()
+        try:
+            for server in [[*net, "serve", "--nethub", f":{hub.port}", "--station", station], *([[*C[0], "-n", str(hub.port), station]] if C else [])]:
+                process = subprocess.Popen(server, stdout=subprocess.DEVNULL, stderr=subprocess.PIPE, text=True)
+                while len(hub.streams) < 1:
+                    time.sleep(0.01)
+                call = [*net, "call", station, "7", "1", "1", "0005", "--nethub", f":{hub.port}"]
+                self.assertEqual(subprocess.run(call, stdout=subprocess.PIPE, text=True, timeout=60).stdout, "return 0000 0005\n")
+                if C:
+                    add = [*C[1], "-n", str(hub.port), "0000aa000304", station, "7", "x131060"]
+                    told = subprocess.run(add, stdout=subprocess.PIPE, text=True, timeout=60).stdout
+                    self.assertEqual(told, "return 0 12\nreturn 131060 bytes, the same\n")
+                process.terminate()
+                self.assertEqual((process.communicate(timeout=60)[1], process.returncode), ("", 0))
+                while hub.streams:
+                    time.sleep(0.01)
+            self.assertEqual(hub.shortest, 60)
+        finally:
+            hub.stop()
 
     def test_datagrams_of_any_kind(self):
         for server, client in BOTH:

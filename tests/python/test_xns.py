@@ -39,18 +39,18 @@ class HeaderTest(unittest.TestCase):
 
     def test_calls(self):
         declared = re.findall(r"^(?!static)[a-z][\w ]*[ *]xns_(\w+)\(", HEADER, re.M)
-        self.assertEqual(sorted(declared), sorted(xns._CALLS))
+        self.assertEqual(sorted(declared), sorted(xns._library.CALLS))
 
     def test_version(self):
         self.assertEqual(xns.version(), re.search(r'XNS_VERSION "(.*)"', HEADER).group(1))
 
     def test_errors(self):
-        self.assertEqual(xns.NoMemory.result, xns.Result.NO_MEMORY)
-        self.assertTrue(issubclass(xns.WrongTransaction, xns.XnsError))
+        self.assertEqual(xns.NoMemoryError.result, xns.Result.NO_MEMORY)
+        self.assertTrue(issubclass(xns.WrongTransactionError, xns.XnsError))
         body = re.search(r"\*xns_result_text\(.*?\n}", HEADER, re.S).group(0)
         texts = dict(re.findall(r'case XNS_(\w+): return "(.*)";', body))
-        self.assertEqual({"OK", "NOTHING"} | {one.name for one in xns._TEXTS}, set(texts))
-        self.assertTrue(all(texts[one.name] == text for one, text in xns._TEXTS.items()))
+        self.assertEqual({"OK", "NOTHING"} | {one.name for one in xns._errors.TEXTS}, set(texts))
+        self.assertTrue(all(texts[one.name] == text for one, text in xns._errors.TEXTS.items()))
 
 
 class ValueTest(unittest.TestCase):
@@ -62,21 +62,21 @@ class ValueTest(unittest.TestCase):
         reader = xns.Reader(self.WORDS)
         values = [reader.cardinal(), reader.long_cardinal(), reader.integer(), reader.long_integer(), reader.boolean(), reader.boolean()]
         self.assertEqual(values, [513, 70000, -2, -70000, True, False])
-        self.assertRaises(xns.LeftOver, reader.end)
-        self.assertRaises(xns.LeftOver, reader.count)
+        self.assertRaises(xns.LeftOverError, reader.end)
+        self.assertRaises(xns.LeftOverError, reader.count)
         reader = xns.Reader([3])
         self.assertEqual(reader.count(3), 3)
         reader.end()
-        self.assertRaises(xns.Truncated, reader.cardinal)
-        self.assertRaises(xns.OverMaximum, xns.Reader([3]).count, 2)
-        self.assertRaises(xns.NotBoolean, xns.Reader([2]).boolean)
+        self.assertRaises(xns.TruncatedError, reader.cardinal)
+        self.assertRaises(xns.OverMaximumError, xns.Reader([3]).count, 2)
+        self.assertRaises(xns.NotBooleanError, xns.Reader([2]).boolean)
 
     def test_read_text(self):
         reader = xns.Reader([5, 0x4865, 0x6C6C, 0x6FFF, 2, 0x4869, 0, 3, 0x4869])
         self.assertEqual([reader.text(), reader.text(), reader.text()], [b"Hello", b"Hi", b""])
-        self.assertRaises(xns.Truncated, reader.text)
-        self.assertRaises(xns.Truncated, reader.cardinal)
-        self.assertRaises(xns.Truncated, xns.Reader([]).text)
+        self.assertRaises(xns.TruncatedError, reader.text)
+        self.assertRaises(xns.TruncatedError, reader.cardinal)
+        self.assertRaises(xns.TruncatedError, xns.Reader([]).text)
         longest = bytes(range(256)) * 256
         self.assertEqual(xns.Reader(xns.Writer().text(longest[1:]).words).text(), longest[1:])
 
@@ -84,8 +84,8 @@ class ValueTest(unittest.TestCase):
         writer = xns.Writer().cardinal(513).long_cardinal(70000).integer(-2).long_integer(-70000)
         self.assertEqual(writer.boolean(True).boolean(False).count(3, 3).words, self.WORDS)
         self.assertEqual(xns.Writer().text(b"Hello").words, [5, 0x4865, 0x6C6C, 0x6F00])
-        self.assertRaises(xns.OverMaximum, writer.count, 4, 3)
-        self.assertRaises(xns.TooLong, writer.text, bytes(65536))
+        self.assertRaises(xns.OverMaximumError, writer.count, 4, 3)
+        self.assertRaises(xns.TooLongError, writer.text, bytes(65536))
         self.assertRaises(ValueError, writer.integer, 32768)
 
 
@@ -96,12 +96,12 @@ class PacketTest(unittest.TestCase):
         self.assertEqual(xns.encode(packet), REQUEST)
 
     def test_faults(self):
-        for data, error in ((REQUEST[:29], xns.Short), (REQUEST[:33], xns.Cut), (b"\x53\x24" + REQUEST[2:], xns.BadSum)):
+        for data, error in ((REQUEST[:29], xns.ShortError), (REQUEST[:33], xns.CutError), (b"\x53\x24" + REQUEST[2:], xns.BadSumError)):
             with self.assertRaises(error):
                 xns.decode(data)
-        with self.assertRaises(xns.TooLong):
+        with self.assertRaises(xns.TooLongError):
             xns.encode(xns.Packet(HERE, THERE, 2, bytes(547)))
-        with self.assertRaises(xns.BadArgument):
+        with self.assertRaises(xns.BadArgumentError):
             xns.checksum(b"\1")
 
     def test_numbers_are_not_cut(self):
@@ -127,7 +127,7 @@ class PacketTest(unittest.TestCase):
         self.assertIsNone(xns.echo_accept(THERE, REPLY))
         self.assertIsNone(xns.echo_accept(HERE, REQUEST))
         self.assertEqual(len(xns.echo_request(THERE, HERE, bytes(544))), 576)
-        with self.assertRaises(xns.TooLong):
+        with self.assertRaises(xns.TooLongError):
             xns.echo_request(THERE, HERE, bytes(545))
 
     def test_error(self):
@@ -139,7 +139,7 @@ class PacketTest(unittest.TestCase):
         body = xns.exchange_write(0x00010002, 3, b"\xaa\xbb")
         self.assertEqual(body.hex(), "000100020003aabb")
         self.assertEqual(xns.exchange_read(body), (0x00010002, 3, b"\xaa\xbb"))
-        with self.assertRaises(xns.Short):
+        with self.assertRaises(xns.ShortError):
             xns.exchange_read(body[:5])
 
     def test_asking(self):
@@ -152,9 +152,9 @@ class PacketTest(unittest.TestCase):
         self.assertEqual(xns.exchange_reply(HERE._replace(socket=5), request, b"Hello"), response)
         self.assertIsNone(xns.exchange_reply(HERE, request, b"Hello"))
         self.assertIsNone(xns.exchange_reply(HERE._replace(socket=5), REQUEST, b"Hello"))
-        with self.assertRaises(xns.TooLong):
+        with self.assertRaises(xns.TooLongError):
             xns.exchange_reply(HERE._replace(socket=5), request, bytes(541))
-        with self.assertRaises(xns.BadArgument):
+        with self.assertRaises(xns.BadArgumentError):
             xns.exchange_request(THERE, xns.Address(1, b"\xff" * 6, 5), 1, 5, b"")
 
     def test_header(self):
@@ -166,7 +166,7 @@ class PacketTest(unittest.TestCase):
         message = xns.message_read(bytes.fromhex("00000001000000070002000100050006"))
         self.assertEqual(message, xns.Message(xns.Kind.CALL, [5, 6], 0, 1, 7, 2, 1))
         self.assertEqual(xns.message_write(message).hex(), "00000001000000070002000100050006")
-        for data, error in (("00", xns.OddLength), ("0000", xns.ShortMessage), ("00040001", xns.UnknownKind)):
+        for data, error in (("00", xns.OddLengthError), ("0000", xns.ShortMessageError), ("00040001", xns.UnknownKindError)):
             with self.assertRaises(error):
                 xns.message_read(bytes.fromhex(data))
 
@@ -225,26 +225,26 @@ class EndpointTest(unittest.TestCase):
 
     def test_refused_items(self):
         a, _ = connected(8, 2)
-        for body, attention, error in ((bytes(535), False, xns.TooLong), (b"12", True, xns.AttentionSize)):
+        for body, attention, error in ((bytes(535), False, xns.TooLongError), (b"12", True, xns.AttentionSizeError)):
             with self.assertRaises(error):
                 a.send(body, attention=attention)
         a.send(b"1")
         self.assertEqual((a.room_to_send, a.is_full), (1, False))
         a.send(b"2")
         self.assertTrue(a.is_full)
-        with self.assertRaises(xns.Full):
+        with self.assertRaises(xns.FullError):
             a.send(b"3")
 
     def test_bad_arguments(self):
         for identifier, window in ((0, 8), (1, 0), (1, 65)):
-            with self.assertRaises(xns.BadArgument):
+            with self.assertRaises(xns.BadArgumentError):
                 xns.Endpoint.initiator(THERE, identifier, HERE, window)
 
     def test_freed(self):
         with xns.Endpoint.initiator(THERE, 1, HERE) as end:
             pass
         self.assertFalse(end.is_open)
-        with self.assertRaises(xns.NoEndpoint):
+        with self.assertRaises(xns.NoEndpointError):
             end.tick()
         end.free()
 
@@ -287,14 +287,14 @@ class HostTest(unittest.TestCase):
             (xns.rejects(xns.Reject.INVALID_ARGUMENTS), (xns.Kind.REJECT, 3, [])),
         ):
             number = self.call([5])
-            with self.assertRaises(xns.Busy):
+            with self.assertRaises(xns.BusyError):
                 self.client.call(self.now, self.number, 7, 2, 1, [5])
             self.service.answer(self.now, number, reply)
             self.assertEqual(self.told(self.client), xns.Answer(self.number, *wanted))
             self.assertEqual((list(self.client.events()), list(self.service.events())), ([], []))
             with self.assertRaises(LookupError):
                 self.service.answer(self.now, number, reply)
-        with self.assertRaises(xns.PeerCalls):
+        with self.assertRaises(xns.PeerCallsError):
             self.service.call(self.now, number, 7, 2, 1)
 
     def test_unlisted(self):
@@ -308,7 +308,7 @@ class HostTest(unittest.TestCase):
         number = self.call(words)
         self.service.answer(self.now, number, xns.returns([7] * xns.MOST_MESSAGE_WORDS))
         self.assertEqual(self.told(self.client).words, [7] * xns.MOST_MESSAGE_WORDS)
-        with self.assertRaises(xns.TooLong):
+        with self.assertRaises(xns.TooLongError):
             self.client.call(self.now, self.number, 7, 1, 1, words + [0])
         for word in (65536, -1):
             with self.assertRaises(ValueError):
@@ -317,7 +317,7 @@ class HostTest(unittest.TestCase):
     def test_closing(self):
         number = self.call([5])
         self.client.close(self.now, self.number)
-        with self.assertRaises(xns.Closing):
+        with self.assertRaises(xns.ClosingError):
             self.client.call(self.now, self.number, 7, 2, 1)
         self.service.answer(self.now, number, xns.returns())
         self.carry()
@@ -359,7 +359,7 @@ class HostTest(unittest.TestCase):
         self.assertEqual(list(self.service.events()), [])  # it is read when the call is answered
         self.service.answer(self.now, call.number, xns.returns())
         self.assertEqual(list(self.service.events()), [xns.Closed(call.number, xns.Why.REFUSED, xns.Result.ATTENTION)])
-        with self.assertRaises(xns.Closing):
+        with self.assertRaises(xns.ClosingError):
             self.service.answer(self.now, call.number, xns.returns())
         say([])
         self.call([6])  # the other one goes on
@@ -375,23 +375,23 @@ class HostTest(unittest.TestCase):
         self.assertEqual(self.client.peer(self.number), HERE._replace(socket=5))
         self.assertEqual(self.service.peer(self.call([])), THERE)
         self.assertEqual((self.client.connections, self.service.connections), (1, 1))
-        with self.assertRaises(xns.NoConnection):
+        with self.assertRaises(xns.NoConnectionError):
             self.client.peer(64)
         for _ in range(63):
             self.client.connect(0, 3, 7, HERE)
-        with self.assertRaises(xns.NoSlot):
+        with self.assertRaises(xns.NoSlotError):
             self.client.connect(0, 3, 7, HERE)
         for number in range(15):
             self.service.serve(100 + number)
         self.service.serve(5)
-        with self.assertRaises(xns.TooManyServices):
+        with self.assertRaises(xns.TooManyServicesError):
             self.service.serve(200)
 
     def test_settings(self):
         for name, value in (("tries", 0), ("tries", 256), ("window", 65), ("backlog", -1), ("connections", 65536), ("idle", 2**32), ("idle", 2**64)):
             with self.assertRaises(ValueError):
                 xns.Host(HERE, **{name: value})
-        with self.assertRaises(xns.BadArgument):
+        with self.assertRaises(xns.BadArgumentError):
             xns.Host(HERE, longest_wait=249)
         with self.assertRaises(TypeError):
             xns.Host(HERE, waits=9)
@@ -452,7 +452,7 @@ class HostTest(unittest.TestCase):
 
     def test_freed(self):
         self.client.free()
-        with self.assertRaises(xns.NoHost):
+        with self.assertRaises(xns.NoHostError):
             self.client.receive(0, 0, REQUEST)
         self.assertEqual((self.client.connections, self.client.wake()), (0, None))
         self.client.free()

@@ -134,7 +134,7 @@ abbrev pub CallsAreHeard : Type 0
 CallsAreHeard = (fed : List Item) (made : List RawCall) → AllByRecursion IsShortCall made → Begins fed (caller_items made)
     → HearsCalls fed made
 
--- a part of what messages are cut into says fewer messages
+-- a prefix of what messages are cut into, but for the whole, says fewer messages
 abbrev pub APartSaysLess : Type 0
-APartSaysLess = (fed : List Item) (sent : List Message) → Begins fed (items_of sent) → length fed < length (items_of sent) → 0 < length sent
-    → length (conversation fed) < length sent
+APartSaysLess = (fed : List Item) (sent : List Message) → Begins fed (items_of sent) → length fed < length (items_of sent)
+    → 0 < length sent → length (conversation fed) < length sent

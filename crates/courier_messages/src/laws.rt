@@ -95,7 +95,8 @@ pub fn calls_are_heard()
     ensures { CallsAreHeard }
 {}
 
-/// A part of what messages are cut into says fewer messages.
+/// A prefix of what messages are cut into says fewer messages than the whole, since the last item of each message ends it. So once all
+/// messages were heard, all items were.
 pub fn a_part_says_less()
     ensures { APartSaysLess }
 {}

@@ -1,10 +1,10 @@
 -- A text read token by token, as the loop does.
-use Rattle.std.proofs.Common.{◌≡◌, ℕ, suc, ◌-◌, ◌+◌, ◌≤◌, ◌<◌, List, [], ◌∷◌, length, false, Result, Ok, Err, refl, sym, ◌∙◌, get_or, drop, arith}
+use Rattle.std.proofs.Common.{◌≡◌, ℕ, suc, ◌-◌, ◌+◌, ◌≤◌, ◌<◌, List, [], ◌∷◌, length, false, Result, Ok, Err, refl, sym, ap, ◌∙◌, ◌⊎◌, inl, inr, get_or, drop, arith}
 use Rattle.courier_notation.specs.declared.reason.Reason.TheVariants.{TooManyTokens}
 use Rattle.courier_notation.specs.declared.stop.Stop.{Stop}
 use Rattle.courier_notation.specs.declared.stop.Stop.TheVariants as stops
 use Rattle.courier_notation.specs.Reading.{Fault, Fails}
-use Rattle.courier_notation.specs.Lexing.{Lexing, LexemeModel, with_lexeme, lexeme_in, skipped, lexed_at, lexed_from}
+use Rattle.courier_notation.specs.Lexing.{HasToken, Lexing, LexemeModel, with_lexeme, lexeme_in, skipped, lexed_at, lexed_from}
 
 -- a text that has bytes is its first byte and the others
 pub first_and_rest : (bytes : List ℕ) → 0 < length bytes → bytes ≡ get_or bytes 0 0 ∷ drop 1 bytes
@@ -43,3 +43,10 @@ too_many most i lexing rest total le so_far =
     let k : most - i ≡ 0 = omega arith in
     let step : lexed_from (most - i) lexing rest ≡ Err (length rest, TooManyTokens) = rw k refl in
     sym so_far ∙ step
+
+-- the text begins with a token, since one is read there, or one was read before
+pub token_there : (text rest begun : List ℕ) (x : LexemeModel × List ℕ) → (rest ≡ text) ⊎ HasToken text → begun ≡ skipped false rest → lexeme_in begun ≡ Ok x → HasToken text
+token_there text rest begun x (inl same) h e =
+    let read : lexeme_in (skipped false text) ≡ Ok x = ap (λ (t : List ℕ). lexeme_in (skipped false t)) (sym same) ∙ ap lexeme_in (sym h) ∙ e in
+    rw read refl
+token_there text rest begun x (inr there) h e = there

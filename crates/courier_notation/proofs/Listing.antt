@@ -4,7 +4,7 @@ use Rattle.courier_notation.specs.declared.reason.Reason.TheVariants.{TooManyPar
 use Rattle.courier_notation.specs.declared.stop.Stop.{Stop}
 use Rattle.courier_notation.specs.declared.stop.Stop.TheVariants as stops
 use Rattle.courier_notation.specs.declared.token.Token.{Token}
-use Rattle.courier_notation.specs.Reading.{Fault, Fails, Reader, over, behind_comma, listed}
+use Rattle.courier_notation.specs.Reading.{Fault, Fails, Stops, Reader, over, behind_comma, listed}
 
 -- what was read before, and what is still read
 abbrev pub with_front : {A : Type 0} → List A → Result (List A × List Token) Fault → Result (List A × List Token) Fault
@@ -50,3 +50,8 @@ is_full one front most i ts total le so_far =
     let k : most - i ≡ 0 = omega arith in
     let step : with_front front (listed one (most - i) ts) ≡ Err (length ts, TooManyParts) = rw k refl in
     sym so_far ∙ step
+
+-- a reader that wants no memory stops there
+pub stops_fails : {Y : Type 0} (e : Stop) (reading : Result Y Fault) → Stops e reading → Fails e reading
+stops_fails (stops.Wrong left reason) reading h = h
+stops_fails stops.NoMemory reading h = tt

@@ -1,9 +1,9 @@
 -- The tokens of a text (XSIS 038112, Courier). That a comment ends at two dashes or with its line is as in Mesa; that a name has
 -- letters and digits alone, and a string no quote, are this project's.
-use Rattle.std.specs.Prelude.{ℕ, zero, suc, ◌+◌, ◌*◌, ◌-◌, ◌==◌, ◌&&◌, ◌||◌, not, List, [], ◌∷◌, ◌++◌, length, map, Bool, false, Option, Some, None, Result, Ok, Err, nat_lt, nat_le, if◌then◌else◌, codes}
+use Rattle.std.specs.Prelude.{ℕ, zero, suc, ◌+◌, ◌*◌, ◌-◌, ◌==◌, ◌&&◌, ◌||◌, not, List, [], ◌∷◌, ◌++◌, length, map, Bool, false, Option, Some, None, Result, Ok, Err, IsOk, nat_lt, nat_le, if◌then◌else◌, codes}
 use Rattle.std.specs.Str.{bytes_eq}
 use Rattle.courier_notation.specs.declared.lexed.Lexed.{Lexed}
-use Rattle.courier_notation.specs.declared.limits.TheConstants.{MOST_TOKENS}
+use Rattle.courier_notation.specs.declared.limits.TheConstants.{MOST_NAME, MOST_TEXT, MOST_TOKENS}
 use Rattle.courier_notation.specs.declared.lexemes.Lexeme.{Lexeme}
 use Rattle.courier_notation.specs.declared.lexemes.Lexeme.TheVariants as lexemes
 use Rattle.courier_notation.specs.declared.reason.Reason.TheVariants as reasons
@@ -112,12 +112,19 @@ lexeme_view (lexemes.Quoted bytes) = LexemeModel.quoted bytes.now
 abbrev pub LexemeRead : Type 0
 LexemeRead = Result (LexemeModel × List ℕ) Fault
 
-abbrev pub keyword_or_name : Option Token → List ℕ → LexemeModel
-keyword_or_name (Some token) word = LexemeModel.plain token
-keyword_or_name None word = LexemeModel.name word
+abbrev pub most_name : ℕ
+most_name = MOST_NAME
+
+-- a keyword, or a name that is not too long
+abbrev pub keyword_or_name : Option Token → List ℕ → List ℕ → ℕ → LexemeRead
+keyword_or_name (Some token) word behind whole = Ok (LexemeModel.plain token, behind)
+keyword_or_name None word behind whole =
+    if nat_le (length word) most_name then Ok (LexemeModel.name word, behind) else Err (whole, reasons.LongName)
 
 abbrev pub word_at : List ℕ → LexemeRead
-word_at bytes = let word = front_of is_name_byte bytes in Ok (keyword_or_name (keyword_of word) word, behind_front is_name_byte bytes)
+word_at bytes =
+    let word = front_of is_name_byte bytes in
+    keyword_or_name (keyword_of word) word (behind_front is_name_byte bytes) (length bytes)
 
 abbrev pub number_or_fault : Option ℕ → List ℕ → ℕ → LexemeRead
 number_or_fault (Some number) behind whole = Ok (LexemeModel.plain (tokens.Number number), behind)
@@ -155,6 +162,10 @@ lexeme_at b bytes =
 abbrev pub lexeme_in : List ℕ → LexemeRead
 lexeme_in [] = Err (0, reasons.BadByte)
 lexeme_in (b ∷ bytes) = lexeme_at b bytes
+
+-- the text begins with a token, behind blanks and comments
+abbrev pub HasToken : List ℕ → Type 0
+HasToken text = IsOk (lexeme_in (skipped false text))
 
 -- ---- texts
 
@@ -201,6 +212,11 @@ lexed_from (suc n) lexing bytes = lexed_at (lexed_from n) lexing (skipped false 
 abbrev pub most_tokens : ℕ
 most_tokens = MOST_TOKENS
 
--- what is read of a whole text
-abbrev pub lexing_of : List ℕ → Result Lexing Fault
-lexing_of text = lexed_from most_tokens nothing_read text
+abbrev pub most_text : ℕ
+most_text = MOST_TEXT
+
+-- what is read of a whole text; one that is too long is refused behind the last byte that it may have
+unfoldable pub lexing_of : List ℕ → Result Lexing Fault
+lexing_of text =
+    if nat_le (length text) most_text then lexed_from most_tokens nothing_read text else
+    Err (length text - most_text, reasons.TooLong)

@@ -1,5 +1,5 @@
 -- Reading a program from left to right (XSIS 038112, Courier). Which fault is told is this project's rule.
-use Rattle.std.specs.Prelude.{ℕ, zero, suc, ◌+◌, List, [], ◌∷◌, length, Result, Ok, Err, Bool, true, false, nat_lt, if◌then◌else◌}
+use Rattle.std.specs.Prelude.{◌≡◌, ℕ, zero, suc, ◌+◌, List, [], ◌∷◌, length, Result, Ok, Err, Bool, true, false, nat_lt, if◌then◌else◌}
 use Rattle.courier_notation.specs.declared.declared.Constant.{Constant}
 use Rattle.courier_notation.specs.declared.declared.Constant.TheVariants as constants
 use Rattle.courier_notation.specs.declared.declared.Dependency.{Dependency}
@@ -220,17 +220,13 @@ abbrev pub nothing_at : {A : Type 0} → A → List Token → Result A Fault
 nothing_at x [] = Ok x
 nothing_at x (t ∷ ts) = Err (suc (length ts), reasons.Trailing)
 
-unfoldable pub body_at : Reader (List Dependency × List (ℕ × DeclaredModel))
-body_at ts = do
-  begun ← begin_at ts
-  dependencies ← dependencies_at begun
-  declarations ← declarations_at most_declarations dependencies.1
-  ended ← end_at declarations.1
-  rest ← dot_at ended
-  Ok ((dependencies.0, declarations.0), rest)
+-- the program's name, its number and its version
+abbrev pub Header : Type 0
+Header = ℕ × ℕ × ℕ
 
-unfoldable pub program_of : List Token → Result ProgramModel Fault
-program_of ts = do
+-- what stands before the dependencies and the declarations
+unfoldable pub header_at : Reader Header
+header_at ts = do
   name ← name_at ts
   t1 ← colon_at name.1
   t2 ← program_at t1
@@ -238,5 +234,28 @@ program_of ts = do
   t3 ← version_at number.1
   version ← small_at t3
   t4 ← equal_at version.1
-  body ← body_at t4
-  nothing_at (record { name = name.0; number = number.0; version = version.0; dependencies = body.0.0; declarations = body.0.1 }) body.1
+  t5 ← begin_at t4
+  Ok ((name.0, number.0, version.0), t5)
+
+unfoldable pub body_at : Reader (List Dependency × List (ℕ × DeclaredModel))
+body_at ts = do
+  dependencies ← dependencies_at ts
+  declarations ← declarations_at most_declarations dependencies.1
+  ended ← end_at declarations.1
+  rest ← dot_at ended
+  Ok ((dependencies.0, declarations.0), rest)
+
+abbrev pub program_with : Header → List Dependency × List (ℕ × DeclaredModel) → ProgramModel
+program_with header body =
+    record { name = header.0; number = header.1; version = header.2; dependencies = body.0; declarations = body.1 }
+
+unfoldable pub program_of : List Token → Result ProgramModel Fault
+program_of ts = do
+  header ← header_at ts
+  body ← body_at header.1
+  nothing_at (program_with header.0 body.0) body.1
+
+-- Memory is wanted for a program: its header is right, and something is declared behind it.
+abbrev pub WantsBody : Result (Header × List Token) Fault → Type 0
+WantsBody (Ok x) = is_end x.1 ≡ false
+WantsBody (Err e) = ⊥

@@ -33,6 +33,25 @@ abbrev pub Gives : {X Y : Type 0} → (X → Y) → Result X Stop → Result Y F
 Gives view (Ok x) reading = reading ≡ Ok (view x)
 Gives view (Err stop) reading = Fails stop reading
 
+-- reading stops there, and wants no memory
+abbrev pub Stops : {Y : Type 0} → Stop → Result Y Fault → Type 0
+Stops (stops.Wrong left reason) reading = reading ≡ Err (left, reason)
+Stops stops.NoMemory reading = ⊥
+
+-- a function that wants no memory answered what reading gives, seen by view
+abbrev pub Reads : {X Y : Type 0} → (X → Y) → Result X Stop → Result Y Fault → Type 0
+Reads view (Ok x) reading = reading ≡ Ok (view x)
+Reads view (Err stop) reading = Stops stop reading
+
+-- if reading stopped for want of memory, it was wanted
+abbrev pub IsWanted : Stop → Type 0 → Type 0
+IsWanted (stops.Wrong left reason) wants = Unit {0}
+IsWanted stops.NoMemory wants = wants
+
+abbrev pub IfNoMemory : {X : Type 0} → Result X Stop → Type 0 → Type 0
+IfNoMemory (Ok x) wants = Unit {0}
+IfNoMemory (Err stop) wants = IsWanted stop wants
+
 -- what is read of tokens, and the tokens behind it
 abbrev pub Reader : Type 0 → Type 0
 Reader A = List Token → Result (A × List Token) Fault

@@ -1,7 +1,7 @@
 //! Constants read from tokens, from left to right.
 ghost use Rattle.std.specs.Prelude.{◌≡◌};
 ghost use Rattle.courier_notation.specs.declared.declared.Constant.TheVariants.{Other};
-ghost use Rattle.courier_notation.specs.Reading.{Gives, listed, most_parts, over};
+ghost use Rattle.courier_notation.specs.Reading.{Gives, Reads, listed, most_parts, over};
 ghost use Rattle.courier_notation.specs.Programs.{begins_constant as begins_constant_of, chosen_behind};
 ghost use Rattle.courier_notation.specs.Programs.{component_behind, constant_at, constant_behind, element_at};
 ghost use Rattle.courier_notation.specs.Programs.{elements_behind, long_at};
@@ -117,7 +117,7 @@ fn elements_inside(
 }
 
 fn negative_of(tokens: &[Token]) -> Result<(Constant, &[Token]), Stop>
-    ensures { Gives (λ x. (x.0, x.1.now)) result (over (λ n. Other) (long_at tokens.now)) }
+    ensures { Reads (λ x. (x.0, x.1.now)) result (over (λ n. Other) (long_at tokens.now)) }
 {
     let (_number, rest) = long_of(tokens)?;
     Ok((Constant::Other, rest))

@@ -1,9 +1,11 @@
 //! Declarations read from tokens, from left to right.
+
+ghost use Rattle.std.specs.Prelude.{◌≡◌, false};
 ghost use Rattle.courier_notation.specs.ProgramModels.{declaration_view, declaration_views, declared_view};
 ghost use Rattle.courier_notation.specs.Written.{field_models};
-ghost use Rattle.courier_notation.specs.Reading.{Gives};
+ghost use Rattle.courier_notation.specs.Reading.{Gives, IfNoMemory};
 ghost use Rattle.courier_notation.specs.Programs.{arguments_at, constant_declared, declaration_at, declarations_at};
-ghost use Rattle.courier_notation.specs.Programs.{declared_at, error_behind, most_declarations, procedure_behind};
+ghost use Rattle.courier_notation.specs.Programs.{declared_at, error_behind, is_end as is_end_of, most_declarations, procedure_behind};
 ghost use Rattle.courier_notation.specs.Programs.{reports_at, results_at, type_declared};
 
 use crate::constants::constant_of;
@@ -134,10 +136,8 @@ fn declaration_of(alloc: Global, tokens: &[Token]) -> Result<(Declaration, &[Tok
     Ok((Declaration { name, declared }, rest))
 }
 
-pub fn declarations_of(
-    alloc: Global,
-    tokens: &[Token],
-) -> Result<(Vec<Declaration>, &[Token]), Stop>
+/// Declarations up to `END`, perhaps none.
+fn some_declarations(alloc: Global, tokens: &[Token]) -> Result<(Vec<Declaration>, &[Token]), Stop>
     ensures { Gives (λ x. (declaration_views x.0.items, x.1.now)) result (declarations_at most_declarations tokens.now) }
 {
     let mut declarations = Vec::new(alloc);
@@ -154,4 +154,19 @@ pub fn declarations_of(
         return Ok((declarations, rest));
     }
     Err(wrong(rest, Reason::TooManyDeclarations))
+}
+
+/// Declarations up to `END`.
+#[tactic(auto, unfolding(crate::specs::Programs::declarations_at))]
+pub fn declarations_of(
+    alloc: Global,
+    tokens: &[Token],
+) -> Result<(Vec<Declaration>, &[Token]), Stop>
+    ensures exact { Gives (λ x. (declaration_views x.0.items, x.1.now)) result (declarations_at most_declarations tokens.now) }
+    ensures memory { IfNoMemory result (is_end_of tokens.now ≡ false) }
+{
+    if is_end(tokens) {
+        return Ok((Vec::new(alloc), tokens));
+    }
+    some_declarations(alloc, tokens)
 }

@@ -4,10 +4,11 @@ ghost use Rattle.courier_notation.specs.Lexing.{digits_number, long_of, behind_f
 ghost use Rattle.courier_notation.specs.Lexing.{equal_at, front_of, is_digit as is_digit_of};
 ghost use Rattle.courier_notation.specs.Lexing.{is_name_byte as is_name_byte_of, is_no_quote, lexeme_at, lexeme_in};
 ghost use Rattle.courier_notation.specs.Lexing.{lexeme_view, mark_at, number_at, quoted_at, skipped, word_at};
-ghost use Rattle.courier_notation.specs.Reading.{Gives};
+ghost use Rattle.courier_notation.specs.Reading.{Reads};
 
 use crate::bytes::{is_blank, is_digit, is_letter, is_line_end, is_name_byte};
 use crate::keywords::{keyword_of, mark_of};
+use crate::limits::MOST_NAME;
 use crate::reason::Reason;
 use crate::stop::Stop;
 use crate::token::Token;
@@ -121,17 +122,21 @@ fn number_of(digits: &[u8]) -> Option<u32>
 }
 
 fn word_of(bytes: &[u8]) -> Result<(Lexeme<'_>, &[u8]), Stop>
-    ensures { Gives (λ x. (lexeme_view x.0, x.1.now)) result (word_at bytes.now) }
+    ensures { Reads (λ x. (lexeme_view x.0, x.1.now)) result (word_at bytes.now) }
 {
     let (word, rest) = name_and_rest(bytes);
     match keyword_of(word) {
         Some(token) => Ok((Lexeme::Plain(token), rest)),
-        None => Ok((Lexeme::Name(word), rest)),
+        None if word.len() <= MOST_NAME => Ok((Lexeme::Name(word), rest)),
+        None => Err(Stop::Wrong {
+            left: bytes.len(),
+            reason: Reason::LongName,
+        }),
     }
 }
 
 fn number_lexeme(bytes: &[u8]) -> Result<(Lexeme<'_>, &[u8]), Stop>
-    ensures { Gives (λ x. (lexeme_view x.0, x.1.now)) result (number_at bytes.now) }
+    ensures { Reads (λ x. (lexeme_view x.0, x.1.now)) result (number_at bytes.now) }
 {
     let (digits, rest) = digits_and_rest(bytes);
     match number_of(digits) {
@@ -145,7 +150,7 @@ fn number_lexeme(bytes: &[u8]) -> Result<(Lexeme<'_>, &[u8]), Stop>
 
 /// A string, behind its first quote.
 fn quoted_of(bytes: &[u8]) -> Result<(Lexeme<'_>, &[u8]), Stop>
-    ensures { Gives (λ x. (lexeme_view x.0, x.1.now)) result (quoted_at bytes.now) }
+    ensures { Reads (λ x. (lexeme_view x.0, x.1.now)) result (quoted_at bytes.now) }
 {
     let (string, rest) = string_and_rest(bytes);
     match rest {
@@ -159,7 +164,7 @@ fn quoted_of(bytes: &[u8]) -> Result<(Lexeme<'_>, &[u8]), Stop>
 
 /// An arrow, or an equals sign alone, behind this.
 fn equal_of(bytes: &[u8]) -> Result<(Lexeme<'_>, &[u8]), Stop>
-    ensures { Gives (λ x. (lexeme_view x.0, x.1.now)) result (equal_at bytes.now) }
+    ensures { Reads (λ x. (lexeme_view x.0, x.1.now)) result (equal_at bytes.now) }
 {
     match bytes {
         [b'>', rest @ ..] => Ok((Lexeme::Plain(Token::Arrow), rest)),
@@ -168,7 +173,7 @@ fn equal_of(bytes: &[u8]) -> Result<(Lexeme<'_>, &[u8]), Stop>
 }
 
 fn mark_lexeme(mark: Option<Token>, bytes: &[u8]) -> Result<(Lexeme<'_>, &[u8]), Stop>
-    ensures { Gives (λ x. (lexeme_view x.0, x.1.now)) result (mark_at mark bytes.now) }
+    ensures { Reads (λ x. (lexeme_view x.0, x.1.now)) result (mark_at mark bytes.now) }
 {
     match mark {
         Some(token) => Ok((Lexeme::Plain(token), bytes)),
@@ -183,7 +188,7 @@ fn mark_lexeme(mark: Option<Token>, bytes: &[u8]) -> Result<(Lexeme<'_>, &[u8]),
 #[tactic(auto, unfolding(crate::specs::Lexing::lexeme_at))]
 fn lexeme_by<'a>(first: u8, text: &'a [u8], bytes: &'a [u8]) -> Result<(Lexeme<'a>, &'a [u8]), Stop>
     requires { text.now ≡ first ∷ bytes.now }
-    ensures { Gives (λ x. (lexeme_view x.0, x.1.now)) result (lexeme_at first bytes.now) }
+    ensures { Reads (λ x. (lexeme_view x.0, x.1.now)) result (lexeme_at first bytes.now) }
 {
     if is_letter(first) {
         word_of(text)
@@ -201,7 +206,7 @@ fn lexeme_by<'a>(first: u8, text: &'a [u8], bytes: &'a [u8]) -> Result<(Lexeme<'
 /// The first lexeme of a text that begins with no blank.
 pub fn lexeme_of(text: &[u8]) -> Result<(Lexeme<'_>, &[u8]), Stop>
     requires { 0 < length text.now }
-    ensures { Gives (λ x. (lexeme_view x.0, x.1.now)) result (lexeme_in text.now) }
+    ensures { Reads (λ x. (lexeme_view x.0, x.1.now)) result (lexeme_in text.now) }
 {
     let first = text[0];
     lexeme_by(first, text, text.split_at(1).1)

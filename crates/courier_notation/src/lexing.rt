@@ -1,12 +1,12 @@
 //! A text read token by token.
 ghost use Rattle.std.specs.Prelude.{◌≡◌, ◌∷◌, [], ◌++◌, ◌+◌, ◌<◌, ◌≤◌, map, vec_len, IfOk, OnOk};
 ghost use Rattle.courier_notation.specs.declared.token.Token.TheVariants.{Name as NameToken, Quoted as QuotedToken};
-ghost use Rattle.courier_notation.specs.Lexing.{with_lexeme, with_token, lexeme_view, lexing_of, lexing_view};
-ghost use Rattle.courier_notation.specs.Reading.{Gives};
+ghost use Rattle.courier_notation.specs.Lexing.{HasToken, with_lexeme, with_token, lexed_from, lexeme_view, lexing_of, lexing_view, most_tokens, nothing_read};
+ghost use Rattle.courier_notation.specs.Reading.{Gives, IfNoMemory};
 
 use crate::lexed::Lexed;
 use crate::lexemes::{Lexeme, behind_blanks, lexeme_of};
-use crate::limits::MOST_TOKENS;
+use crate::limits::{MOST_TEXT, MOST_TOKENS};
 use crate::reason::Reason;
 use crate::stop::Stop;
 use crate::token::Token;
@@ -63,9 +63,10 @@ fn add(alloc: Global, lexed: &mut Lexed, lexeme: Lexeme, left: usize) -> Result<
     add_token(lexed, token, left)
 }
 
-/// The tokens of a text, of which there are fewer than 65,536.
-pub fn lex(alloc: Global, text: &[u8]) -> Result<Lexed, Stop>
-    ensures { Gives lexing_view result (lexing_of text.now) }
+/// The tokens of a text that is not too long.
+fn lex_within(alloc: Global, text: &[u8]) -> Result<Lexed, Stop>
+    ensures exact { Gives lexing_view result (lexed_from most_tokens nothing_read text.now) }
+    ensures memory { IfNoMemory result (HasToken text.now) }
 {
     let mut lexed = Lexed {
         tokens: Vec::new(alloc),
@@ -87,4 +88,22 @@ pub fn lex(alloc: Global, text: &[u8]) -> Result<Lexed, Stop>
         left: rest.len(),
         reason: Reason::TooManyTokens,
     })
+}
+
+/// The tokens of a text of at most 262,144 bytes, of which there are fewer than 65,536; or the first fault.
+///
+/// A text that is longer has the fault `TooLong` behind the last byte that it may have, whatever else is
+/// wrong with it. `NoMemory` only where a growth was refused, and the text begins with a token.
+#[tactic(auto, unfolding(crate::specs::Lexing::lexing_of))]
+pub fn lex(alloc: Global, text: &[u8]) -> Result<Lexed, Stop>
+    ensures exact { Gives lexing_view result (lexing_of text.now) }
+    ensures memory { IfNoMemory result (HasToken text.now) }
+{
+    if text.len() > MOST_TEXT {
+        return Err(Stop::Wrong {
+            left: text.len() - MOST_TEXT,
+            reason: Reason::TooLong,
+        });
+    }
+    lex_within(alloc, text)
 }

@@ -10,5 +10,11 @@ pub const MOST_PARTS: usize = 1024;
 /// The number of declarations of a program.
 pub const MOST_DECLARATIONS: usize = 4096;
 
+/// The number of bytes of a text.
+pub const MOST_TEXT: usize = 262_144;
+
+/// The number of bytes of a name.
+pub const MOST_NAME: usize = 255;
+
 /// One more than the number of tokens of a text.
 pub const MOST_TOKENS: usize = 65_536;

@@ -1,7 +1,7 @@
 //! Single tokens that have to stand where they stand.
 ghost use Rattle.std.specs.Prelude.{◌≡◌, IfNone, IfSome, None, Some, length};
 ghost use Rattle.courier_notation.specs.declared.stop.Stop.TheVariants.{Wrong};
-ghost use Rattle.courier_notation.specs.Reading.{Gives, arrow_at, behind_comma, close_brace_at, close_bracket_at};
+ghost use Rattle.courier_notation.specs.Reading.{Reads, arrow_at, behind_comma, close_brace_at, close_bracket_at};
 ghost use Rattle.courier_notation.specs.Reading.{close_parenthesis_at, colon_at, of_at, open_brace_at};
 ghost use Rattle.courier_notation.specs.Reading.{open_bracket_at, open_parenthesis_at};
 ghost use Rattle.courier_notation.specs.Programs.{begin_at, dot_at, end_at, equal_at, is_end as is_end_of};
@@ -22,7 +22,7 @@ pub fn wrong(tokens: &[Token], reason: Reason) -> Stop
 }
 
 pub fn behind_of(tokens: &[Token]) -> Result<&[Token], Stop>
-    ensures { Gives (λ x. x.now) result (of_at tokens.now) }
+    ensures { Reads (λ x. x.now) result (of_at tokens.now) }
 {
     match tokens {
         [Token::Of, rest @ ..] => Ok(rest),
@@ -31,7 +31,7 @@ pub fn behind_of(tokens: &[Token]) -> Result<&[Token], Stop>
 }
 
 pub fn behind_arrow(tokens: &[Token]) -> Result<&[Token], Stop>
-    ensures { Gives (λ x. x.now) result (arrow_at tokens.now) }
+    ensures { Reads (λ x. x.now) result (arrow_at tokens.now) }
 {
     match tokens {
         [Token::Arrow, rest @ ..] => Ok(rest),
@@ -40,7 +40,7 @@ pub fn behind_arrow(tokens: &[Token]) -> Result<&[Token], Stop>
 }
 
 pub fn behind_colon(tokens: &[Token]) -> Result<&[Token], Stop>
-    ensures { Gives (λ x. x.now) result (colon_at tokens.now) }
+    ensures { Reads (λ x. x.now) result (colon_at tokens.now) }
 {
     match tokens {
         [Token::Colon, rest @ ..] => Ok(rest),
@@ -49,7 +49,7 @@ pub fn behind_colon(tokens: &[Token]) -> Result<&[Token], Stop>
 }
 
 pub fn behind_open_brace(tokens: &[Token]) -> Result<&[Token], Stop>
-    ensures { Gives (λ x. x.now) result (open_brace_at tokens.now) }
+    ensures { Reads (λ x. x.now) result (open_brace_at tokens.now) }
 {
     match tokens {
         [Token::OpenBrace, rest @ ..] => Ok(rest),
@@ -58,7 +58,7 @@ pub fn behind_open_brace(tokens: &[Token]) -> Result<&[Token], Stop>
 }
 
 pub fn behind_close_brace(tokens: &[Token]) -> Result<&[Token], Stop>
-    ensures { Gives (λ x. x.now) result (close_brace_at tokens.now) }
+    ensures { Reads (λ x. x.now) result (close_brace_at tokens.now) }
 {
     match tokens {
         [Token::CloseBrace, rest @ ..] => Ok(rest),
@@ -67,7 +67,7 @@ pub fn behind_close_brace(tokens: &[Token]) -> Result<&[Token], Stop>
 }
 
 pub fn behind_open_bracket(tokens: &[Token]) -> Result<&[Token], Stop>
-    ensures { Gives (λ x. x.now) result (open_bracket_at tokens.now) }
+    ensures { Reads (λ x. x.now) result (open_bracket_at tokens.now) }
 {
     match tokens {
         [Token::OpenBracket, rest @ ..] => Ok(rest),
@@ -76,7 +76,7 @@ pub fn behind_open_bracket(tokens: &[Token]) -> Result<&[Token], Stop>
 }
 
 pub fn behind_close_bracket(tokens: &[Token]) -> Result<&[Token], Stop>
-    ensures { Gives (λ x. x.now) result (close_bracket_at tokens.now) }
+    ensures { Reads (λ x. x.now) result (close_bracket_at tokens.now) }
 {
     match tokens {
         [Token::CloseBracket, rest @ ..] => Ok(rest),
@@ -85,7 +85,7 @@ pub fn behind_close_bracket(tokens: &[Token]) -> Result<&[Token], Stop>
 }
 
 pub fn behind_open_parenthesis(tokens: &[Token]) -> Result<&[Token], Stop>
-    ensures { Gives (λ x. x.now) result (open_parenthesis_at tokens.now) }
+    ensures { Reads (λ x. x.now) result (open_parenthesis_at tokens.now) }
 {
     match tokens {
         [Token::OpenParenthesis, rest @ ..] => Ok(rest),
@@ -94,7 +94,7 @@ pub fn behind_open_parenthesis(tokens: &[Token]) -> Result<&[Token], Stop>
 }
 
 pub fn behind_close_parenthesis(tokens: &[Token]) -> Result<&[Token], Stop>
-    ensures { Gives (λ x. x.now) result (close_parenthesis_at tokens.now) }
+    ensures { Reads (λ x. x.now) result (close_parenthesis_at tokens.now) }
 {
     match tokens {
         [Token::CloseParenthesis, rest @ ..] => Ok(rest),
@@ -114,7 +114,7 @@ pub fn next_part(tokens: &[Token]) -> Option<&[Token]>
 }
 
 pub fn behind_begin(tokens: &[Token]) -> Result<&[Token], Stop>
-    ensures { Gives (λ x. x.now) result (begin_at tokens.now) }
+    ensures { Reads (λ x. x.now) result (begin_at tokens.now) }
 {
     match tokens {
         [Token::Begin, rest @ ..] => Ok(rest),
@@ -123,7 +123,7 @@ pub fn behind_begin(tokens: &[Token]) -> Result<&[Token], Stop>
 }
 
 pub fn behind_end(tokens: &[Token]) -> Result<&[Token], Stop>
-    ensures { Gives (λ x. x.now) result (end_at tokens.now) }
+    ensures { Reads (λ x. x.now) result (end_at tokens.now) }
 {
     match tokens {
         [Token::End, rest @ ..] => Ok(rest),
@@ -132,7 +132,7 @@ pub fn behind_end(tokens: &[Token]) -> Result<&[Token], Stop>
 }
 
 pub fn behind_program(tokens: &[Token]) -> Result<&[Token], Stop>
-    ensures { Gives (λ x. x.now) result (program_at tokens.now) }
+    ensures { Reads (λ x. x.now) result (program_at tokens.now) }
 {
     match tokens {
         [Token::Program, rest @ ..] => Ok(rest),
@@ -141,7 +141,7 @@ pub fn behind_program(tokens: &[Token]) -> Result<&[Token], Stop>
 }
 
 pub fn behind_version(tokens: &[Token]) -> Result<&[Token], Stop>
-    ensures { Gives (λ x. x.now) result (version_at tokens.now) }
+    ensures { Reads (λ x. x.now) result (version_at tokens.now) }
 {
     match tokens {
         [Token::Version, rest @ ..] => Ok(rest),
@@ -150,7 +150,7 @@ pub fn behind_version(tokens: &[Token]) -> Result<&[Token], Stop>
 }
 
 pub fn behind_upon(tokens: &[Token]) -> Result<&[Token], Stop>
-    ensures { Gives (λ x. x.now) result (upon_at tokens.now) }
+    ensures { Reads (λ x. x.now) result (upon_at tokens.now) }
 {
     match tokens {
         [Token::Upon, rest @ ..] => Ok(rest),
@@ -159,7 +159,7 @@ pub fn behind_upon(tokens: &[Token]) -> Result<&[Token], Stop>
 }
 
 pub fn behind_equal(tokens: &[Token]) -> Result<&[Token], Stop>
-    ensures { Gives (λ x. x.now) result (equal_at tokens.now) }
+    ensures { Reads (λ x. x.now) result (equal_at tokens.now) }
 {
     match tokens {
         [Token::Equal, rest @ ..] => Ok(rest),
@@ -168,7 +168,7 @@ pub fn behind_equal(tokens: &[Token]) -> Result<&[Token], Stop>
 }
 
 pub fn behind_semicolon(tokens: &[Token]) -> Result<&[Token], Stop>
-    ensures { Gives (λ x. x.now) result (semicolon_at tokens.now) }
+    ensures { Reads (λ x. x.now) result (semicolon_at tokens.now) }
 {
     match tokens {
         [Token::Semicolon, rest @ ..] => Ok(rest),
@@ -177,7 +177,7 @@ pub fn behind_semicolon(tokens: &[Token]) -> Result<&[Token], Stop>
 }
 
 pub fn behind_dot(tokens: &[Token]) -> Result<&[Token], Stop>
-    ensures { Gives (λ x. x.now) result (dot_at tokens.now) }
+    ensures { Reads (λ x. x.now) result (dot_at tokens.now) }
 {
     match tokens {
         [Token::Dot, rest @ ..] => Ok(rest),

@@ -1,5 +1,5 @@
 //! Names, numbers and the parts of types, read from tokens.
-ghost use Rattle.courier_notation.specs.Reading.{Gives, designator_at, designator_behind, listed, maximum_at};
+ghost use Rattle.courier_notation.specs.Reading.{Gives, Reads, designator_at, designator_behind, listed, maximum_at};
 ghost use Rattle.courier_notation.specs.Reading.{member_at, most_parts, name_at, numeric_at, reference_behind};
 ghost use Rattle.courier_notation.specs.Reading.{tag_at, word_of};
 ghost use Rattle.courier_notation.specs.Programs.{long_at, reference_at, small_at, small_or_fault};
@@ -13,7 +13,7 @@ use crate::written::{Numeric, Reference};
 use std::alloc::Global;
 
 pub fn name_of(tokens: &[Token]) -> Result<(u32, &[Token]), Stop>
-    ensures { Gives (λ x. (x.0, x.1.now)) result (name_at tokens.now) }
+    ensures { Reads (λ x. (x.0, x.1.now)) result (name_at tokens.now) }
 {
     match tokens {
         [Token::Name(name), rest @ ..] => Ok((*name, rest)),
@@ -23,7 +23,7 @@ pub fn name_of(tokens: &[Token]) -> Result<(u32, &[Token]), Stop>
 
 /// The reference that begins with the name.
 pub fn reference_of(name: u32, tokens: &[Token]) -> Result<(Reference, &[Token]), Stop>
-    ensures { Gives (λ x. (x.0, x.1.now)) result (reference_behind name tokens.now) }
+    ensures { Reads (λ x. (x.0, x.1.now)) result (reference_behind name tokens.now) }
 {
     match tokens {
         [Token::Dot, rest @ ..] => {
@@ -36,7 +36,7 @@ pub fn reference_of(name: u32, tokens: &[Token]) -> Result<(Reference, &[Token])
 
 /// The number, if it is a word; the tokens are those behind it.
 fn word_behind(number: u32, tokens: &[Token]) -> Result<(Numeric, &[Token]), Stop>
-    ensures { Gives (λ x. (x.0, x.1.now)) result (word_of number tokens.now) }
+    ensures { Reads (λ x. (x.0, x.1.now)) result (word_of number tokens.now) }
 {
     if number < 65_536 {
         Ok((Numeric::Number(number as u16), tokens))
@@ -50,7 +50,7 @@ fn word_behind(number: u32, tokens: &[Token]) -> Result<(Numeric, &[Token]), Sto
 
 #[tactic(auto, unfolding(crate::specs::Reading::numeric_at))]
 pub fn numeric_of(tokens: &[Token]) -> Result<(Numeric, &[Token]), Stop>
-    ensures { Gives (λ x. (x.0, x.1.now)) result (numeric_at tokens.now) }
+    ensures { Reads (λ x. (x.0, x.1.now)) result (numeric_at tokens.now) }
 {
     match tokens {
         [Token::Number(number), rest @ ..] => word_behind(*number, rest),
@@ -80,7 +80,7 @@ pub fn names_of(alloc: Global, tokens: &[Token]) -> Result<(Vec<u32>, &[Token]),
 
 #[tactic(auto, unfolding(crate::specs::Reading::member_at))]
 fn member_of(tokens: &[Token]) -> Result<((u32, Numeric), &[Token]), Stop>
-    ensures { Gives (λ x. (x.0, x.1.now)) result (member_at tokens.now) }
+    ensures { Reads (λ x. (x.0, x.1.now)) result (member_at tokens.now) }
 {
     let (name, rest) = name_of(tokens)?;
     let inside = behind_open_parenthesis(rest)?;
@@ -110,7 +110,7 @@ fn designator_of_name(
     name: u32,
     tokens: &[Token],
 ) -> Result<((u32, Option<Numeric>), &[Token]), Stop>
-    ensures { Gives (λ x. (x.0, x.1.now)) result (designator_behind name tokens.now) }
+    ensures { Reads (λ x. (x.0, x.1.now)) result (designator_behind name tokens.now) }
 {
     match tokens {
         [Token::OpenParenthesis, rest @ ..] => {
@@ -124,7 +124,7 @@ fn designator_of_name(
 
 #[tactic(auto, unfolding(crate::specs::Reading::designator_at))]
 fn designator_of(tokens: &[Token]) -> Result<((u32, Option<Numeric>), &[Token]), Stop>
-    ensures { Gives (λ x. (x.0, x.1.now)) result (designator_at tokens.now) }
+    ensures { Reads (λ x. (x.0, x.1.now)) result (designator_at tokens.now) }
 {
     let (name, rest) = name_of(tokens)?;
     designator_of_name(name, rest)
@@ -150,7 +150,7 @@ pub fn designators_of(
 }
 
 pub fn tag_of(tokens: &[Token]) -> Result<(Option<Reference>, &[Token]), Stop>
-    ensures { Gives (λ x. (x.0, x.1.now)) result (tag_at tokens.now) }
+    ensures { Reads (λ x. (x.0, x.1.now)) result (tag_at tokens.now) }
 {
     match tokens {
         [Token::Name(name), rest @ ..] => {
@@ -163,7 +163,7 @@ pub fn tag_of(tokens: &[Token]) -> Result<(Option<Reference>, &[Token]), Stop>
 
 #[tactic(auto, unfolding(crate::specs::Reading::maximum_at))]
 pub fn maximum_of(tokens: &[Token]) -> Result<(Option<Numeric>, &[Token]), Stop>
-    ensures { Gives (λ x. (x.0, x.1.now)) result (maximum_at tokens.now) }
+    ensures { Reads (λ x. (x.0, x.1.now)) result (maximum_at tokens.now) }
 {
     match tokens {
         [Token::Of, ..] => Ok((None, tokens)),
@@ -175,7 +175,7 @@ pub fn maximum_of(tokens: &[Token]) -> Result<(Option<Numeric>, &[Token]), Stop>
 }
 
 pub fn long_of(tokens: &[Token]) -> Result<(u32, &[Token]), Stop>
-    ensures { Gives (λ x. (x.0, x.1.now)) result (long_at tokens.now) }
+    ensures { Reads (λ x. (x.0, x.1.now)) result (long_at tokens.now) }
 {
     match tokens {
         [Token::Number(number), rest @ ..] => Ok((*number, rest)),
@@ -185,7 +185,7 @@ pub fn long_of(tokens: &[Token]) -> Result<(u32, &[Token]), Stop>
 
 /// The number, if it is a word; the tokens are those behind it.
 fn small_behind(number: u32, tokens: &[Token]) -> Result<(u16, &[Token]), Stop>
-    ensures { Gives (λ x. (x.0, x.1.now)) result (small_or_fault number tokens.now) }
+    ensures { Reads (λ x. (x.0, x.1.now)) result (small_or_fault number tokens.now) }
 {
     if number < 65_536 {
         Ok((number as u16, tokens))
@@ -199,7 +199,7 @@ fn small_behind(number: u32, tokens: &[Token]) -> Result<(u16, &[Token]), Stop>
 
 #[tactic(auto, unfolding(crate::specs::Programs::small_at))]
 pub fn small_of(tokens: &[Token]) -> Result<(u16, &[Token]), Stop>
-    ensures { Gives (λ x. (x.0, x.1.now)) result (small_at tokens.now) }
+    ensures { Reads (λ x. (x.0, x.1.now)) result (small_at tokens.now) }
 {
     let (number, rest) = long_of(tokens)?;
     small_behind(number, rest)
@@ -207,7 +207,7 @@ pub fn small_of(tokens: &[Token]) -> Result<(u16, &[Token]), Stop>
 
 #[tactic(auto, unfolding(crate::specs::Programs::reference_at))]
 fn whole_reference(tokens: &[Token]) -> Result<(Reference, &[Token]), Stop>
-    ensures { Gives (λ x. (x.0, x.1.now)) result (reference_at tokens.now) }
+    ensures { Reads (λ x. (x.0, x.1.now)) result (reference_at tokens.now) }
 {
     let (name, rest) = name_of(tokens)?;
     reference_of(name, rest)

@@ -1,7 +1,10 @@
 //! A program read from tokens, from left to right.
+
+ghost use Rattle.std.specs.Prelude.{◌≡◌, false};
 ghost use Rattle.courier_notation.specs.ProgramModels.{declaration_views, program_view};
-ghost use Rattle.courier_notation.specs.Reading.{Gives, listed, most_parts};
-ghost use Rattle.courier_notation.specs.Programs.{body_at, dependencies_at, dependency_at, nothing_at, program_of};
+ghost use Rattle.courier_notation.specs.Reading.{Gives, IfNoMemory, Reads, listed, most_parts};
+ghost use Rattle.courier_notation.specs.Programs.{WantsBody, body_at, dependencies_at, dependency_at, header_at, is_end};
+ghost use Rattle.courier_notation.specs.Programs.{nothing_at, program_of};
 
 use crate::declarations::declarations_of;
 use crate::declared::{Declaration, Dependency, WrittenProgram};
@@ -19,7 +22,7 @@ use std::alloc::Global;
 
 #[tactic(auto, unfolding(crate::specs::Programs::dependency_at))]
 fn dependency_of(tokens: &[Token]) -> Result<(Dependency, &[Token]), Stop>
-    ensures { Gives (λ x. (x.0, x.1.now)) result (dependency_at tokens.now) }
+    ensures { Reads (λ x. (x.0, x.1.now)) result (dependency_at tokens.now) }
 {
     let (name, rest) = name_of(tokens)?;
     let inside = behind_open_parenthesis(rest)?;
@@ -55,7 +58,8 @@ fn some_dependencies(alloc: Global, tokens: &[Token]) -> Result<(Vec<Dependency>
 
 #[tactic(auto, unfolding(crate::specs::Programs::dependencies_at))]
 fn dependencies_of(alloc: Global, tokens: &[Token]) -> Result<(Vec<Dependency>, &[Token]), Stop>
-    ensures { Gives (λ x. (x.0.items, x.1.now)) result (dependencies_at tokens.now) }
+    ensures exact { Gives (λ x. (x.0.items, x.1.now)) result (dependencies_at tokens.now) }
+    ensures memory { IfNoMemory result (is_end tokens.now ≡ false) }
 {
     match tokens {
         [Token::Depends, rest @ ..] => {
@@ -68,35 +72,10 @@ fn dependencies_of(alloc: Global, tokens: &[Token]) -> Result<(Vec<Dependency>, 
     }
 }
 
-#[tactic(auto, unfolding(crate::specs::Programs::body_at))]
-fn body_of(
-    alloc: Global,
-    tokens: &[Token],
-) -> Result<((Vec<Dependency>, Vec<Declaration>), &[Token]), Stop>
-    ensures { Gives (λ x. ((x.0.0.items, declaration_views x.0.1.items), x.1.now)) result (body_at tokens.now) }
-{
-    let begun = behind_begin(tokens)?;
-    let (dependencies, rest) = dependencies_of(alloc, begun)?;
-    let (declarations, rest) = declarations_of(alloc, rest)?;
-    let ended = behind_end(rest)?;
-    let rest = behind_dot(ended)?;
-    Ok(((dependencies, declarations), rest))
-}
-
-/// The program, if nothing stands behind it.
-fn ended(program: WrittenProgram, tokens: &[Token]) -> Result<WrittenProgram, Stop>
-    ensures { Gives program_view result (nothing_at (program_view program) tokens.now) }
-{
-    if tokens.len() > 0 {
-        return Err(wrong(tokens, Reason::Trailing));
-    }
-    Ok(program)
-}
-
-/// The program that the tokens are, all of them.
-#[tactic(auto, unfolding(crate::specs::Programs::program_of))]
-pub fn read_program(alloc: Global, tokens: &[Token]) -> Result<WrittenProgram, Stop>
-    ensures { Gives program_view result (program_of tokens.now) }
+/// The name, the number and the version of the program, up to its `BEGIN`.
+#[tactic(auto, unfolding(crate::specs::Programs::header_at))]
+fn header_of(tokens: &[Token]) -> Result<((u32, u32, u16), &[Token]), Stop>
+    ensures { Reads (λ x. (x.0, x.1.now)) result (header_at tokens.now) }
 {
     let (name, rest) = name_of(tokens)?;
     let rest = behind_colon(rest)?;
@@ -105,6 +84,45 @@ pub fn read_program(alloc: Global, tokens: &[Token]) -> Result<WrittenProgram, S
     let rest = behind_version(rest)?;
     let (version, rest) = small_of(rest)?;
     let rest = behind_equal(rest)?;
+    let rest = behind_begin(rest)?;
+    Ok(((name, number, version), rest))
+}
+
+/// The dependencies and the declarations, up to the dot.
+#[tactic(auto, unfolding(crate::specs::Programs::body_at))]
+fn body_of(
+    alloc: Global,
+    tokens: &[Token],
+) -> Result<((Vec<Dependency>, Vec<Declaration>), &[Token]), Stop>
+    ensures exact { Gives (λ x. ((x.0.0.items, declaration_views x.0.1.items), x.1.now)) result (body_at tokens.now) }
+    ensures memory { IfNoMemory result (is_end tokens.now ≡ false) }
+{
+    let (dependencies, rest) = dependencies_of(alloc, tokens)?;
+    let (declarations, rest) = declarations_of(alloc, rest)?;
+    let ended = behind_end(rest)?;
+    let rest = behind_dot(ended)?;
+    Ok(((dependencies, declarations), rest))
+}
+
+/// The program, if nothing stands behind it.
+fn ended(program: WrittenProgram, tokens: &[Token]) -> Result<WrittenProgram, Stop>
+    ensures { Reads program_view result (nothing_at (program_view program) tokens.now) }
+{
+    if tokens.len() > 0 {
+        return Err(wrong(tokens, Reason::Trailing));
+    }
+    Ok(program)
+}
+
+/// The program that the tokens are, all of them; or the first fault.
+///
+/// `NoMemory` only where a growth was refused, and something stands between `BEGIN` and `END`.
+#[tactic(auto, unfolding(crate::specs::Programs::program_of))]
+pub fn read_program(alloc: Global, tokens: &[Token]) -> Result<WrittenProgram, Stop>
+    ensures exact { Gives program_view result (program_of tokens.now) }
+    ensures memory { IfNoMemory result (WantsBody (header_at tokens.now)) }
+{
+    let ((name, number, version), rest) = header_of(tokens)?;
     let ((dependencies, declarations), rest) = body_of(alloc, rest)?;
     ended(
         WrittenProgram {

@@ -92,7 +92,13 @@ pub enum Reason {
     /// The string has no closing quote.
     #[error("the string has no closing quote")]
     OpenString,
+    /// The name has more bytes than `MOST_NAME`.
+    #[error("the name has over 255 bytes")]
+    LongName,
     /// The text has more than 65,535 tokens.
     #[error("the text has over 65,535 tokens")]
     TooManyTokens,
+    /// The text has more bytes than `MOST_TEXT`.
+    #[error("the text has over 262,144 bytes")]
+    TooLong,
 }

@@ -1,7 +1,7 @@
 //! Types read from tokens, from left to right.
 ghost use Rattle.courier_notation.specs.Written.{TypeModel, candidate_model, candidate_models, field_model};
 ghost use Rattle.courier_notation.specs.Written.{field_models, type_model};
-ghost use Rattle.courier_notation.specs.Reading.{Gives, array_behind, candidate_at, choice_behind};
+ghost use Rattle.courier_notation.specs.Reading.{Gives, Reads, array_behind, candidate_at, choice_behind};
 ghost use Rattle.courier_notation.specs.Reading.{enumeration_behind, field_at, fields_at, fields_behind, listed};
 ghost use Rattle.courier_notation.specs.Reading.{long_behind, most_parts, over, record_behind, reference_behind};
 ghost use Rattle.courier_notation.specs.Reading.{sequence_behind, type_at, type_behind};
@@ -30,7 +30,7 @@ fn enumeration_of(alloc: Global, tokens: &[Token]) -> Result<(WrittenType, &[Tok
 }
 
 fn long_of(tokens: &[Token]) -> Result<(WrittenType, &[Token]), Stop>
-    ensures { Gives (λ x. (type_model x.0, x.1.now)) result (long_behind tokens.now) }
+    ensures { Reads (λ x. (type_model x.0, x.1.now)) result (long_behind tokens.now) }
 {
     match tokens {
         [Token::Cardinal, rest @ ..] => Ok((WrittenType::LongCardinal, rest)),
@@ -196,7 +196,7 @@ fn choice_of(alloc: Global, depth: usize, tokens: &[Token]) -> Result<(WrittenTy
 }
 
 fn named_of(name: u32, tokens: &[Token]) -> Result<(WrittenType, &[Token]), Stop>
-    ensures { Gives (λ x. (type_model x.0, x.1.now)) result (over TypeModel.named (reference_behind name tokens.now)) }
+    ensures { Reads (λ x. (type_model x.0, x.1.now)) result (over TypeModel.named (reference_behind name tokens.now)) }
 {
     let (reference, rest) = reference_of(name, tokens)?;
     Ok((WrittenType::Named(reference), rest))

@@ -1,11 +1,11 @@
 -- What was printed so far, and what is still printed.
 use Rattle.std.proofs.Common.{◌≡◌, ℕ, zero, suc, ◌+◌, ◌≤◌, ◌<◌, Bool, cond, List, [], ◌∷◌, ◌++◌, length, drop, get_or, codes, Vec, Box, Global, map, refl, sym, ap, ◌∙◌, append_assoc, arith, rules, eq-eqb, ne_eqb}
-use Rattle.std.proofs.lemmas.List.{drop_more, append-nil}
+use Rattle.std.proofs.lemmas.List.{drop_more}
 use Rattle.courier_types.specs.declared.value.Value.{Value, Fields as VFields, Choice as VChoice, the_lemmas as value_lemmas}
 use Rattle.courier_types.specs.Value.{ValueModel, no_values, value_model, value_models}
 use Rattle.courier_texts.specs.declared.named.Named.{Named, Record, Choice, the_lemmas}
 use Rattle.courier_texts.specs.Named.{NamedModel, ComponentModels, component_and, variant_and, named_model, members_seen, components_seen, variants_seen, component_models, variant_models}
-use Rattle.courier_texts.specs.Printing.{member_text, elements_text, components_text, variant_text, value_text}
+use Rattle.courier_texts.specs.Printing.{member_text, components_text, variant_text, value_text}
 
 pub item_here : {X : Type 0} (xs : List X) (i : ℕ) (x : X) → i < length xs → x ≡ get_or xs i x → drop i xs ≡ x ∷ drop (i + 1) xs
 item_here xs i x lt e = drop_more xs i x lt ∙ ap (λ y. y ∷ drop (i + 1) xs) (sym e)
@@ -16,9 +16,9 @@ drop_past [] (suc i) h = refl
 drop_past (x ∷ xs) zero h = absurd (omega arith)
 drop_past (x ∷ xs) (suc i) h = drop_past xs i (omega arith)
 
--- a part was printed behind what stands in front of it
-printed : (before mid after front text more : List ℕ) → mid ≡ before ++ front → after ≡ mid ++ text → after ++ more ≡ before ++ ((front ++ text) ++ more)
-printed before mid after front text more p q = rw (q, p) (simp append_assoc)
+pub some_left : {A : Type 0} (xs : List A) (i : ℕ) → i < length xs → (x : A) × (drop i xs ≡ x ∷ drop (i + 1) xs)
+some_left [] i lt = absurd (omega arith)
+some_left (x ∷ xs) i lt = (get_or (x ∷ xs) i x, drop_more (x ∷ xs) i x lt)
 
 -- ---- members
 
@@ -28,48 +28,39 @@ at_member members i m word here h = ap (λ ms. member_text (members_seen ms) wor
 pub past_member : (members : List (Vec ℕ Global × ℕ)) (i : ℕ) (m : Vec ℕ Global × ℕ) (word : ℕ) → drop i members ≡ m ∷ drop (i + 1) members → (m.1 ≡ word → ⊥) → member_text (members_seen (drop i members)) word ≡ member_text (members_seen (drop (i + 1) members)) word
 past_member members i m word here h = ap (λ ms. member_text (members_seen ms) word) here ∙ ap (λ (b : Bool). cond b m.0.items (member_text (members_seen (drop (i + 1) members)) word)) (ne_eqb m.1 word h)
 
--- ---- elements
-
-pub more_elements : (one : ValueModel → List ℕ) (before mid after front : List ℕ) (values : List Value) (i : ℕ) (v : Value) (total : List ℕ) → drop i values ≡ v ∷ drop (i + 1) values → mid ≡ before ++ front → after ≡ mid ++ one (value_model v)
-    → before ++ elements_text front one (value_models (drop i values)) ≡ total → after ++ elements_text (codes ", ") one (value_models (drop (i + 1) values)) ≡ total
-more_elements one before mid after front values i v total here p q so_far =
-    printed before mid after front (one (value_model v)) (elements_text (codes ", ") one (value_models (drop (i + 1) values))) p q
-    ∙ ap (λ vs. before ++ elements_text front one (value_models vs)) (sym here) ∙ so_far
-
-pub no_more_elements : (one : ValueModel → List ℕ) (before front : List ℕ) (values : List Value) (i : ℕ) (total : List ℕ) → length values ≤ i → before ++ elements_text front one (value_models (drop i values)) ≡ total → before ≡ total
-no_more_elements one before front values i total le so_far =
-    sym (append-nil before) ∙ ap (λ vs. before ++ elements_text front one (value_models vs)) (sym (drop_past values i le)) ∙ so_far
-
 -- ---- components
 
-pub more_components : (before mid after front : List ℕ) (parts : List (Vec ℕ Global × Named)) (values : List Value) (i : ℕ) (part : Vec ℕ Global × Named) (v : Value) (total : List ℕ) → drop i parts ≡ part ∷ drop (i + 1) parts → drop i values ≡ v ∷ drop (i + 1) values
-    → mid ≡ before ++ front → after ≡ mid ++ (part.0.items ++ codes ": " ++ value_text (named_model part.1) (value_model v))
-    → before ++ components_text front (component_models (drop i parts)) (value_models (drop i values)) ≡ total → after ++ components_text (codes ", ") (component_models (drop (i + 1) parts)) (value_models (drop (i + 1) values)) ≡ total
+pub components_here : (front : List ℕ) (parts : List (Vec ℕ Global × Named)) (values : List Value) (i : ℕ) (part : Vec ℕ Global × Named) (v : Value) → drop i parts ≡ part ∷ drop (i + 1) parts → drop i values ≡ v ∷ drop (i + 1) values
+    → components_text front (component_models (drop i parts)) (value_models (drop i values)) ≡ front ++ ((part.0.items ++ codes ": " ++ value_text (named_model part.1) (value_model v)) ++ components_text (codes ", ") (component_models (drop (i + 1) parts)) (value_models (drop (i + 1) values)))
 unfolding components_text
-more_components before mid after front parts values i part v total here there p q so_far =
-    printed before mid after front (part.0.items ++ codes ": " ++ value_text (named_model part.1) (value_model v)) (components_text (codes ", ") (component_models (drop (i + 1) parts)) (value_models (drop (i + 1) values))) p q
-    ∙ ap (λ vs. before ++ components_text front (component_models (part ∷ drop (i + 1) parts)) (value_models vs)) (sym there)
-    ∙ ap (λ ps. before ++ components_text front (component_models ps) (value_models (drop i values))) (sym here) ∙ so_far
+components_here front parts values i part v here there =
+    ap (λ ps. components_text front (component_models ps) (value_models (drop i values))) here
+    ∙ ap (λ vs. components_text front (component_models (part ∷ drop (i + 1) parts)) (value_models vs)) there
+    ∙ append_assoc front (part.0.items ++ codes ": " ++ value_text (named_model part.1) (value_model v)) (components_text (codes ", ") (component_models (drop (i + 1) parts)) (value_models (drop (i + 1) values)))
+
+pub front_first : (front : List ℕ) (parts : List (Vec ℕ Global × Named)) (values : List Value) (i : ℕ) (part : Vec ℕ Global × Named) → drop i parts ≡ part ∷ drop (i + 1) parts → i < length values
+    → (left : List ℕ) × (components_text front (component_models (drop i parts)) (value_models (drop i values)) ≡ front ++ left)
+front_first front parts values i part here lt =
+    let some = some_left values i lt in
+    ((part.0.items ++ codes ": " ++ value_text (named_model part.1) (value_model some.0)) ++ components_text (codes ", ") (component_models (drop (i + 1) parts)) (value_models (drop (i + 1) values)), components_here front parts values i part some.0 here some.1)
 
 none_left : (front : List ℕ) (parts : ComponentModels) → components_text front parts no_values ≡ []
 unfolding components_text
 none_left front ComponentModels.no_components = refl
 none_left front (component_and name part parts) = refl
 
-pub no_more_values : (before front : List ℕ) (parts : List (Vec ℕ Global × Named)) (values : List Value) (i : ℕ) (total : List ℕ) → length values ≤ i → before ++ components_text front (component_models (drop i parts)) (value_models (drop i values)) ≡ total → before ≡ total
-no_more_values before front parts values i total le so_far =
-    sym (append-nil before) ∙ ap (λ (l : List ℕ). before ++ l) (sym (none_left front (component_models (drop i parts))))
-    ∙ ap (λ vs. before ++ components_text front (component_models (drop i parts)) (value_models vs)) (sym (drop_past values i le)) ∙ so_far
+pub no_value_text : (front : List ℕ) (parts : List (Vec ℕ Global × Named)) (values : List Value) (i : ℕ) → length values ≤ i → components_text front (component_models (drop i parts)) (value_models (drop i values)) ≡ []
+no_value_text front parts values i le =
+    ap (λ vs. components_text front (component_models (drop i parts)) (value_models vs)) (drop_past values i le) ∙ none_left front (component_models (drop i parts))
 
 no_part_left : (front : List ℕ) (vs : List Value) → components_text front ComponentModels.no_components (value_models vs) ≡ []
 unfolding components_text
 no_part_left front [] = refl
 no_part_left front (v ∷ vs) = refl
 
-pub no_more_parts : (before front : List ℕ) (parts : List (Vec ℕ Global × Named)) (values : List Value) (i : ℕ) (total : List ℕ) → length parts ≤ i → before ++ components_text front (component_models (drop i parts)) (value_models (drop i values)) ≡ total → before ≡ total
-no_more_parts before front parts values i total le so_far =
-    sym (append-nil before) ∙ ap (λ (l : List ℕ). before ++ l) (sym (no_part_left front (drop i values)))
-    ∙ ap (λ ps. before ++ components_text front (component_models ps) (value_models (drop i values))) (sym (drop_past parts i le)) ∙ so_far
+pub no_part_text : (front : List ℕ) (parts : List (Vec ℕ Global × Named)) (values : List Value) (i : ℕ) → length parts ≤ i → components_text front (component_models (drop i parts)) (value_models (drop i values)) ≡ []
+no_part_text front parts values i le =
+    ap (λ ps. components_text front (component_models ps) (value_models (drop i values))) (drop_past parts i le) ∙ no_part_left front (drop i values)
 
 -- ---- candidates
 

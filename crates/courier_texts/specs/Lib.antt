@@ -1,2 +1,4 @@
 pub mod Named
 pub mod Printing
+pub mod Laws
+pub mod Appending

@@ -3,10 +3,15 @@
 //! words.
 #![tactic(auto)]
 
+mod appending;
+pub mod laws;
 mod named;
 mod printing;
 mod shapes;
+mod text_refusal;
 
+pub use appending::MOST_TEXT;
 pub use named::Named;
 pub use printing::{print_record, print_value};
 pub use shapes::{shape_of, shape_of_record};
+pub use text_refusal::TextRefusal;

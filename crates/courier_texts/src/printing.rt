@@ -1,39 +1,45 @@
 //! Values printed by their types, in Courier's notation of constants.
-ghost use Rattle.std.specs.Prelude.{◌≡◌, ◌++◌, ◌<◌, [], OnOk, codes};
+
+ghost use Rattle.std.specs.Prelude.{◌≡◌, ◌++◌, ◌<◌, ◌≤◌, [], codes, vec_len};
 ghost use Rattle.std.specs.List.{flat_map};
 ghost use Rattle.std.specs.Fmt.{decimal, signed_decimal};
 ghost use Rattle.courier_types.specs.Value.{value_model, value_models};
 ghost use Rattle.courier_texts.specs.Named.{component_models, members_seen, named_model, variant_models};
+ghost use Rattle.courier_texts.specs.Appending.{Appends, most_text};
 ghost use Rattle.courier_texts.specs.Printing.{boolean_text, components_text, elements_text, escaped, hex_digit, member_text};
 ghost use Rattle.courier_texts.specs.Printing.{quoted as quoted_of, quoted_byte, value_text, variant_text};
 
+use crate::appending::append;
 use crate::named::Named;
+use crate::text_refusal::TextRefusal;
 use courier_types::Value;
 use itoa::Buffer;
-use std::alloc::AllocError;
 
-fn print_boolean(out: &mut Vec<u8>, bit: bool) -> Result<(), AllocError>
-    ensures { OnOk result (out.new.items ≡ out.old.items ++ boolean_text bit) }
+fn print_boolean(out: &mut Vec<u8>, bit: bool) -> Result<(), TextRefusal>
+    requires { vec_len out.old ≤ most_text }
+    ensures { Appends result (boolean_text bit) out.old out.new }
 {
     if bit {
-        out.extend_from_slice(b"TRUE")
+        append(out, b"TRUE")
     } else {
-        out.extend_from_slice(b"FALSE")
+        append(out, b"FALSE")
     }
 }
 
-fn print_number(out: &mut Vec<u8>, number: u32) -> Result<(), AllocError>
-    ensures { OnOk result (out.new.items ≡ out.old.items ++ decimal number) }
+fn print_number(out: &mut Vec<u8>, number: u32) -> Result<(), TextRefusal>
+    requires { vec_len out.old ≤ most_text }
+    ensures { Appends result (decimal number) out.old out.new }
 {
     let mut buffer = Buffer::new();
-    out.extend_from_slice(buffer.format(number).as_bytes())
+    append(out, buffer.format(number).as_bytes())
 }
 
-fn print_signed(out: &mut Vec<u8>, number: i32) -> Result<(), AllocError>
-    ensures { OnOk result (out.new.items ≡ out.old.items ++ signed_decimal number) }
+fn print_signed(out: &mut Vec<u8>, number: i32) -> Result<(), TextRefusal>
+    requires { vec_len out.old ≤ most_text }
+    ensures { Appends result (signed_decimal number) out.old out.new }
 {
     let mut buffer = Buffer::new();
-    out.extend_from_slice(buffer.format(number).as_bytes())
+    append(out, buffer.format(number).as_bytes())
 }
 
 fn digit_of(value: u8) -> u8
@@ -43,20 +49,25 @@ fn digit_of(value: u8) -> u8
     if value < 10 { 48 + value } else { 87 + value }
 }
 
-fn print_escaped(out: &mut Vec<u8>, byte: u8) -> Result<(), AllocError>
-    ensures { OnOk result (out.new.items ≡ out.old.items ++ escaped byte) }
+fn print_escaped(out: &mut Vec<u8>, byte: u8) -> Result<(), TextRefusal>
+    requires { vec_len out.old ≤ most_text }
+    ensures { Appends result (escaped byte) out.old out.new }
 {
-    out.extend_from_slice(&[b'\\', b'x', digit_of(byte / 16), digit_of(byte % 16)])
+    append(
+        out,
+        &[b'\\', b'x', digit_of(byte / 16), digit_of(byte % 16)],
+    )
 }
 
-fn print_byte(out: &mut Vec<u8>, byte: u8) -> Result<(), AllocError>
-    ensures { OnOk result (out.new.items ≡ out.old.items ++ quoted_byte byte) }
+fn print_byte(out: &mut Vec<u8>, byte: u8) -> Result<(), TextRefusal>
+    requires { vec_len out.old ≤ most_text }
+    ensures { Appends result (quoted_byte byte) out.old out.new }
 {
     if byte == b'"' {
-        return out.extend_from_slice(b"\\\"");
+        return append(out, b"\\\"");
     }
     if byte == b'\\' {
-        return out.extend_from_slice(b"\\\\");
+        return append(out, b"\\\\");
     }
     if byte < 32 {
         return print_escaped(out, byte);
@@ -64,11 +75,12 @@ fn print_byte(out: &mut Vec<u8>, byte: u8) -> Result<(), AllocError>
     if 126 < byte {
         return print_escaped(out, byte);
     }
-    out.extend_from_slice(&[byte])
+    append(out, &[byte])
 }
 
-fn print_bytes(out: &mut Vec<u8>, bytes: &[u8]) -> Result<(), AllocError>
-    ensures { OnOk result (out.new.items ≡ out.old.items ++ flat_map quoted_byte bytes.now) }
+fn print_bytes(out: &mut Vec<u8>, bytes: &[u8]) -> Result<(), TextRefusal>
+    requires { vec_len out.old ≤ most_text }
+    ensures { Appends result (flat_map quoted_byte bytes.now) out.old out.new }
 {
     for byte in bytes {
         print_byte(out, *byte)?;
@@ -76,20 +88,22 @@ fn print_bytes(out: &mut Vec<u8>, bytes: &[u8]) -> Result<(), AllocError>
     Ok(())
 }
 
-fn print_text(out: &mut Vec<u8>, bytes: &[u8]) -> Result<(), AllocError>
-    ensures { OnOk result (out.new.items ≡ out.old.items ++ quoted_of bytes.now) }
+fn print_text(out: &mut Vec<u8>, bytes: &[u8]) -> Result<(), TextRefusal>
+    requires { vec_len out.old ≤ most_text }
+    ensures { Appends result (quoted_of bytes.now) out.old out.new }
 {
-    out.extend_from_slice(b"\"")?;
+    append(out, b"\"")?;
     print_bytes(out, bytes)?;
-    out.extend_from_slice(b"\"")
+    append(out, b"\"")
 }
 
-fn print_member(out: &mut Vec<u8>, members: &[(Vec<u8>, u16)], word: u16) -> Result<(), AllocError>
-    ensures { OnOk result (out.new.items ≡ out.old.items ++ member_text (members_seen members.now) word) }
+fn print_member(out: &mut Vec<u8>, members: &[(Vec<u8>, u16)], word: u16) -> Result<(), TextRefusal>
+    requires { vec_len out.old ≤ most_text }
+    ensures { Appends result (member_text (members_seen members.now) word) out.old out.new }
 {
     for member in members {
         if member.1 == word {
-            return out.extend_from_slice(&member.0);
+            return append(out, &member.0);
         }
     }
     Ok(())
@@ -97,13 +111,13 @@ fn print_member(out: &mut Vec<u8>, members: &[(Vec<u8>, u16)], word: u16) -> Res
 
 /// Elements with commas between.
 #[cycle(print)]
-fn print_elements(out: &mut Vec<u8>, element: &Named, values: &[Value]) -> Result<(), AllocError>
-    ensures { OnOk result (out.new.items ≡ out.old.items
-        ++ elements_text [] (value_text (named_model element.now)) (value_models values.now)) }
+fn print_elements(out: &mut Vec<u8>, element: &Named, values: &[Value]) -> Result<(), TextRefusal>
+    requires { vec_len out.old ≤ most_text }
+    ensures { Appends result (elements_text [] (value_text (named_model element.now)) (value_models values.now)) out.old out.new }
 {
     let mut front: &[u8] = b"";
     for value in values {
-        out.extend_from_slice(front)?;
+        append(out, front)?;
         print_value(out, element, value)?;
         front = b", ";
     }
@@ -112,13 +126,14 @@ fn print_elements(out: &mut Vec<u8>, element: &Named, values: &[Value]) -> Resul
 
 /// Elements in brackets.
 #[cycle(print)]
-fn print_list(out: &mut Vec<u8>, element: &Named, values: &[Value]) -> Result<(), AllocError>
-    ensures { OnOk result (out.new.items ≡ out.old.items ++ (codes "["
-        ++ elements_text [] (value_text (named_model element.now)) (value_models values.now) ++ codes "]")) }
+fn print_list(out: &mut Vec<u8>, element: &Named, values: &[Value]) -> Result<(), TextRefusal>
+    requires { vec_len out.old ≤ most_text }
+    ensures { Appends result (codes "["
+        ++ elements_text [] (value_text (named_model element.now)) (value_models values.now) ++ codes "]") out.old out.new }
 {
-    out.extend_from_slice(b"[")?;
+    append(out, b"[")?;
     print_elements(out, element, values)?;
-    out.extend_from_slice(b"]")
+    append(out, b"]")
 }
 
 #[cycle(print)]
@@ -127,12 +142,13 @@ fn print_component(
     name: &[u8],
     part: &Named,
     value: &Value,
-) -> Result<(), AllocError>
-    ensures { OnOk result (out.new.items ≡ out.old.items ++ (name.now ++ codes ": "
-        ++ value_text (named_model part.now) (value_model value.now))) }
+) -> Result<(), TextRefusal>
+    requires { vec_len out.old ≤ most_text }
+    ensures { Appends result (name.now ++ codes ": "
+        ++ value_text (named_model part.now) (value_model value.now)) out.old out.new }
 {
-    out.extend_from_slice(name)?;
-    out.extend_from_slice(b": ")?;
+    append(out, name)?;
+    append(out, b": ")?;
     print_value(out, part, value)
 }
 
@@ -142,34 +158,37 @@ fn print_components(
     out: &mut Vec<u8>,
     components: &[(Vec<u8>, Named)],
     values: &[Value],
-) -> Result<(), AllocError>
-    ensures { OnOk result (out.new.items ≡ out.old.items ++ components_text [] (component_models components.now) (value_models values.now)) }
+) -> Result<(), TextRefusal>
+    requires { vec_len out.old ≤ most_text }
+    ensures { Appends result (components_text [] (component_models components.now) (value_models values.now)) out.old out.new }
 {
     let mut front: &[u8] = b"";
     for (i, component) in components.iter().enumerate() {
         if i >= values.len() {
             return Ok(());
         }
-        out.extend_from_slice(front)?;
+        append(out, front)?;
         print_component(out, &component.0, &component.1, &values[i])?;
         front = b", ";
     }
     Ok(())
 }
 
-/// Components in brackets.
+/// Appends the text of a record of these components, whose values these are. The errors are those of
+/// `print_value`.
 #[cycle(print)]
 pub fn print_record(
     out: &mut Vec<u8>,
     components: &[(Vec<u8>, Named)],
     values: &[Value],
-) -> Result<(), AllocError>
-    ensures { OnOk result (out.new.items ≡ out.old.items ++ (codes "["
-        ++ components_text [] (component_models components.now) (value_models values.now) ++ codes "]")) }
+) -> Result<(), TextRefusal>
+    requires { vec_len out.old ≤ most_text }
+    ensures { Appends result (codes "["
+        ++ components_text [] (component_models components.now) (value_models values.now) ++ codes "]") out.old out.new }
 {
-    out.extend_from_slice(b"[")?;
+    append(out, b"[")?;
     print_components(out, components, values)?;
-    out.extend_from_slice(b"]")
+    append(out, b"]")
 }
 
 #[cycle(print)]
@@ -178,12 +197,13 @@ fn print_variant(
     name: &[u8],
     part: &Named,
     value: &Value,
-) -> Result<(), AllocError>
-    ensures { OnOk result (out.new.items ≡ out.old.items ++ (name.now ++ codes " "
-        ++ value_text (named_model part.now) (value_model value.now))) }
+) -> Result<(), TextRefusal>
+    requires { vec_len out.old ≤ most_text }
+    ensures { Appends result (name.now ++ codes " "
+        ++ value_text (named_model part.now) (value_model value.now)) out.old out.new }
 {
-    out.extend_from_slice(name)?;
-    out.extend_from_slice(b" ")?;
+    append(out, name)?;
+    append(out, b" ")?;
     print_value(out, part, value)
 }
 
@@ -193,8 +213,9 @@ fn print_chosen(
     variants: &[(Vec<u8>, (u16, Named))],
     designator: u16,
     value: &Value,
-) -> Result<(), AllocError>
-    ensures { OnOk result (out.new.items ≡ out.old.items ++ variant_text (variant_models variants.now) designator (value_model value.now)) }
+) -> Result<(), TextRefusal>
+    requires { vec_len out.old ≤ most_text }
+    ensures { Appends result (variant_text (variant_models variants.now) designator (value_model value.now)) out.old out.new }
 {
     for variant in variants {
         if variant.1.0 == designator {
@@ -204,13 +225,17 @@ fn print_chosen(
     Ok(())
 }
 
-/// Appends the text of a value of the type. Of a value that does not fit the type's shape, what does is printed.
+/// Appends the text of a value of the type, in Courier's notation of constants.
 ///
-/// The only error is want of memory, after which a part of the text may stand.
+/// `LongText` exactly where `out` would have more than `MOST_TEXT` bytes with it, unless memory runs out first;
+/// `NoMemory` only where the text has no room in `out` and a growth was refused. After either, a part of the
+/// text may stand in `out`. Of a value that does not fit the type's shape, the text of the parts that do is
+/// appended.
 #[cycle(print)]
 #[tactic(auto, unfolding(crate::specs::Printing::value_text))]
-pub fn print_value(out: &mut Vec<u8>, named: &Named, value: &Value) -> Result<(), AllocError>
-    ensures { OnOk result (out.new.items ≡ out.old.items ++ value_text (named_model named.now) (value_model value.now)) }
+pub fn print_value(out: &mut Vec<u8>, named: &Named, value: &Value) -> Result<(), TextRefusal>
+    requires { vec_len out.old ≤ most_text }
+    ensures { Appends result (value_text (named_model named.now) (value_model value.now)) out.old out.new }
 {
     match (named, value) {
         (Named::Boolean, Value::Boolean(bit)) => print_boolean(out, *bit),

@@ -15,7 +15,7 @@ use Rattle.item_world.specs.declared.side.Side.TheVariants.{A, B}
 use Rattle.xns_spp.specs.Packet.{SppPacketModel, spp_packet_of}
 use Rattle.xns_host.specs.Deeds as deeds
 use Rattle.xns_host.specs.Deeds.{Deed, with_answer}
-use Rattle.xns_host.specs.Step.{Promises, Step}
+use Rattle.xns_host.specs.Step.{Promises, Step, WaitsBy}
 use Rattle.xns_host.specs.Acting.{Acts, idling, calling, handing, answering}
 use Rattle.xns_host.specs.Closing.{drains}
 use Rattle.xns_host.specs.Living.{Deeds, GoesFrom}
@@ -218,10 +218,10 @@ pub pair_closes : (p : Pair) (c d : Connection) (side : Side) (now : ℕ) → c 
 pair_closes p c d side now is step promises = pair_acts p c d side no_more (λ h. h) is step.packets (λ h l. idling) promises.story
 
 -- its waits come by steps of that moment, or stay
-pub waits_on : {E : Type 0} (now : ℕ) (deed : Deed) (c d : Connection) (r : Result (Unit {0}) E) → OnOk r (Promises now deed c d) → OnErr r (d ≡ c)
-    → StepsAt now c.wait d.wait
-waits_on now deed c d (Ok u) promises same = promises.steps
-waits_on now deed c d (Err e) promises same = subst (λ (x : Connection). StepsAt now c.wait x.wait) (sym same) still
+pub waits_on : {E : Type 0} (now : ℕ) (deed : Deed) (c d : Connection) (r : Result (Unit {0}) E)
+    → (WaitsBy deed now c.wait d.wait → StepsAt now c.wait d.wait) → OnOk r (Step now deed c d) → OnErr r (d ≡ c) → StepsAt now c.wait d.wait
+waits_on now deed c d (Ok u) steps step same = steps step.steps
+waits_on now deed c d (Err e) steps step same = subst (λ (x : Connection). StepsAt now c.wait x.wait) (sym same) still
 
 waits_there : (x y z : Connection) (now : ℕ) → x ≡ y → StepsAt now x.wait z.wait → StepsAt now y.wait z.wait
 waits_there x y z now same steps = subst (λ (k : Connection). StepsAt now k.wait z.wait) same steps

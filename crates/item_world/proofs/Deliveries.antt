@@ -1,26 +1,20 @@
--- The same with the events of a play, in which an end that answered a packet flushes.
-use Rattle.std.proofs.Common.{◌≡◌, ℕ, ◌<◌, ◌≤◌, Bool, true, false, List, [], ◌∷◌, length, nat_lt, Some, None, refl, sym, ◌∙◌, ap, subst, arith, lit<}
-use Rattle.std.specs.Prelude.{slice_get, All, if◌then◌else◌}
+-- From every world some events hand up one item more, and have all acknowledged.
+use Rattle.std.proofs.Common.{◌≡◌, ℕ, ◌<◌, ◌≤◌, Bool, true, false, List, [], ◌∷◌, length, nat_lt, Some, refl, sym, ◌∙◌, ap, subst, arith}
+use Rattle.std.specs.Prelude.{slice_get, All}
 use Rattle.std.proofs.lemmas.Bool.{ltb-true, ltb-false}
 use Rattle.std.proofs.lemmas.List.Elements.{All-nil, All-cons}
-use Rattle.xns_spp.specs.Ends.{is_open, is_ours_at}
 use Rattle.xns_spp.specs.Header.{reply_control}
-use Rattle.xns_spp.specs.Meant.{own_meant}
-use Rattle.xns_spp.specs.Packet.{SppPacketModel, spp_packet_spelling}
+use Rattle.xns_spp.specs.Packet.{spp_packet_spelling}
 use Rattle.xns_spp.specs.Receiving.{after_receive}
-use Rattle.xns_spp.specs.Sending.{system_packet, after_flush, flush_answer, after_tick}
-use Rattle.xns_spp.specs.State.{State, window_top, send_limit}
+use Rattle.xns_spp.specs.Sending.{system_packet, after_flush, after_tick}
+use Rattle.xns_spp.specs.State.{State}
 use Rattle.item_world.proofs.Fronts.{front_get}
-use Rattle.item_world.proofs.Heard.{IsHeard, heard_acknowledged, heard_allowed, heard_open, its_own}
 use Rattle.item_world.proofs.Kept.{flushed, delivers_lands}
 use Rattle.item_world.proofs.Later.{run_later}
-use Rattle.item_world.proofs.Moves.{IsProperAs, system_proper_as}
-use Rattle.item_world.proofs.Onward.{Kept, Pair, flip, stands, links, IsNew, is_alive, ticked, took, lands_now, peer_moves, arrived, proper_heard, Asked, asked, Knows, Goes, goes, longer}
-use Rattle.item_world.proofs.Sides.{same_end, other_other}
+use Rattle.item_world.proofs.Onward.{Kept, Pair, flip, stands, IsNew, ticked, took, lands_now, arrived, Asked, asked, Knows, Goes, goes, longer, alike, lands_there, flushed_pair, Told, told_out, knows_flushed}
 use Rattle.item_world.specs.EndLaws.{EndLaws}
-use Rattle.item_world.specs.Events.{arrival, flushing, stepped, delivers, run}
+use Rattle.item_world.specs.Events.{arrival, stepped, delivers, run}
 use Rattle.item_world.specs.Invariant.{Stands, Holds}
-use Rattle.item_world.specs.Landing.{answered, landed, landing}
 use Rattle.item_world.specs.Progress.{Linked, IsFurther}
 use Rattle.item_world.specs.Side.{other}
 use Rattle.item_world.specs.World.{World, end_of, moment, emitted, flushes, ticks}
@@ -29,45 +23,11 @@ use Rattle.item_world.specs.declared.event.Event.{Event}
 use Rattle.item_world.specs.declared.event.Event.TheVariants.{Deliver, Tick, Take}
 use Rattle.item_world.specs.declared.side.Side.{Side}
 
--- ---- what a flush leaves
-
-pub record IsAlike (s t : State) : Type 0 where
-  pub ends : t.ends ≡ s.ends
-  pub allowed : t.allowed ≡ s.allowed
-  pub top : window_top t ≡ window_top s
-  pub handed : t.handed ≡ s.handed
-  pub taken : t.taken ≡ s.taken
-  pub acknowledged : t.acknowledged ≡ s.acknowledged
-  pub accepted : t.accepted ≡ s.accepted
-
-alike_by : (s : State) (b : Bool) → IsAlike s (if b then record s { sent = send_limit s } else s)
-alike_by s true = record { ends = refl; allowed = refl; top = refl; handed = refl; taken = refl; acknowledged = refl; accepted = refl }
-alike_by s false = record { ends = refl; allowed = refl; top = refl; handed = refl; taken = refl; acknowledged = refl; accepted = refl }
-
-pub alike : (s : State) → IsAlike s (after_flush s)
-alike s = alike_by s (is_open s.ends)
-
 -- ---- a packet is delivered that was just sent
-
-pub lands_there : (w : World) (side : Side) (s p : State) (k : ℕ) (bytes : List ℕ) → Pair w side s p → (i : IsNew w side s p k bytes) → landing w k ≡ Some (other side, answered w k (emitted side i.at bytes))
-lands_there w side s p k bytes x i =
-    let y : Emitted = emitted side i.at bytes in
-    ap (landed w k) i.is ∙ ap (λ (b : Bool). if b then None else Some (other side, answered w k y)) (is_alive i.at (length (end_of w side).taken) (length (end_of w (other side)).taken)
-    (i.sender ∙ sym (ap (λ (t : State). length t.taken) x.here)) (i.receiver ∙ sym (ap (λ (t : State). length t.taken) x.there)))
 
 delivers_now : (w : World) (side : Side) (s p : State) (k : ℕ) (bytes : List ℕ) → Pair w side s p → IsNew w side s p k bytes → delivers w k ≡ flushes (stepped w (arrival k)) (other side)
 delivers_now w side s p k bytes x i =
     delivers_lands w k ∙ (ap (flushed w) (lands_there w side s p k bytes x i) ∙ ap (λ (v : World). flushes v (other side)) (sym (lands_now w side s p k bytes x i)))
-
-pub flushed_pair : Kept → (w : World) (side : Side) (s p : State) → Pair w side s p → Pair (flushes w (other side)) side s (after_flush p)
-flushed_pair k w side s p x =
-    let t : State = end_of w (other side) in
-    record {
-      here = peer_moves w side (after_flush t) (flush_answer t) ∙ x.here;
-      there = same_end w (other side) (after_flush t) (flush_answer t) ∙ ap after_flush x.there;
-      holds = k.order.each w (flushing (other side)) tt x.holds;
-      linked = k.links w (flushing (other side)) tt x.holds x.linked;
-    }
 
 -- from a world in which the packet came
 delivered : Kept → (w : World) (side : Side) (s p : State) (k : ℕ) (bytes : List ℕ) → Pair w side s p → IsNew w side s p k bytes → Pair (delivers w k) side s (after_flush (after_receive p bytes))
@@ -81,32 +41,15 @@ still_there w v side k x e h = ap (λ (u : World). slice_get u.bag k) e ∙ fron
 
 -- ---- an end asks, and is told
 
-told_by : Kept → (w : World) (side : Side) (t o : State) (k : ℕ) → Pair w side t (after_flush o) → Stands o t → Pair w side t (after_flush o) → slice_get w.bag k ≡ Some (emitted (other side) (moment o t) (spp_packet_spelling (system_packet o reply_control)))
+told_by : Kept → (w : World) (side : Side) (t o : State) (k : ℕ) → Pair w side t (after_flush o) → Stands o t
+    → slice_get w.bag k ≡ Some (emitted (other side) (moment o t) (spp_packet_spelling (system_packet o reply_control)))
     → Knows (delivers w k) side (after_flush (after_receive t (spp_packet_spelling (system_packet o reply_control)))) (after_flush o)
-told_by kept w side t o k x before z h =
-    let laws : EndLaws = kept.laws in
-    let p : State = after_flush o in
-    let l : IsAlike o p = alike o in
-    let q : SppPacketModel = system_packet o reply_control in
-    let bytes : List ℕ = spp_packet_spelling q in
-    let y : Pair w (other side) p t = flip w side t p x in
-    let to : Stands p t = stands w (other side) p t y in
-    let back : Stands t p = stands w side t p x in
-    let proper : IsProperAs (moment p t) p q (own_meant o o.sent) = system_proper_as laws o p t reply_control before (omega (arith, l.top)) l.taken (lit< tt) refl in
-    let ours : is_ours_at t.ends q ≡ true =
-    subst (λ (e : _). is_ours_at t.ends (system_packet (record o { ends = e }) reply_control) ≡ true) l.ends
-    (its_own p.ends t.ends (system_packet (record o { ends = p.ends }) reply_control) to.fits.ends back.fits.ends (links w (other side) p t y) (links w side t p x) (record { source = refl; source_id = refl; target = refl; target_id = refl })) in
-    let heard : IsHeard t bytes q (own_meant o o.sent) = proper_heard laws p t q (own_meant o o.sent) to back proper ours in
-    let new : IsNew w (other side) p t k bytes = record { at = moment o t; is = h; sender = sym (ap length l.taken); receiver = refl } in
-    let u : State = after_receive t bytes in
-    let m : IsAlike u (after_flush u) = alike u in
-    let f = flip (delivers w k) (other side) p (after_flush u) (delivered kept w (other side) p t k bytes y new) in
-    record {
-      pair = subst (λ (e : Side). Pair (delivers w k) e (after_flush u) p) (other_other side) f;
-      ready = ap is_open m.ends ∙ heard_open t bytes q (own_meant o o.sent) heard before.fits.ends.id_known;
-      acknowledged = omega (arith, heard_acknowledged t bytes q (own_meant o o.sent) heard, m.acknowledged, ap length l.taken);
-      allowed = omega (arith, heard_allowed t bytes q (own_meant o o.sent) heard, m.allowed, l.top);
-    }
+told_by kept w side t o k x before h =
+    let u : State = after_receive t (spp_packet_spelling (system_packet o reply_control)) in
+    let told : Told w side t o k = told_out kept w side t o k x before h in
+    let v : World = stepped w (arrival k) in
+    let is : delivers w k ≡ flushes v side = delivers_lands w k ∙ ap (flushed w) told.lands in
+    subst (λ (e : World). Knows e side (after_flush u) (after_flush o)) (sym is) (knows_flushed kept v side u (after_flush o) told.knows)
 
 -- the first two of the events
 pub record AskedBy (w : World) (side : Side) (s p : State) : Type 0 where
@@ -130,7 +73,7 @@ asked_by k w side s p x y left =
     record {
       a = a;
       first = first;
-      second = told_by k w2 side t o (length w1.bag) first before first (still_there v w2 (other side) (length w1.bag) _ e a.reply);
+      second = told_by k w2 side t o (length w1.bag) first before (still_there v w2 (other side) (length w1.bag) _ e a.reply);
     }
 
 -- ---- one item more is handed up
@@ -153,7 +96,7 @@ by_item k w side s p x none left a true h =
     let w1 : World = ticks w side in
     let w2 : World = delivers w1 (length w.bag) in
     let o : State = after_flush (after_receive p a.a.bytes) in
-    let same : o.handed ≡ p.handed = (alike (after_receive p a.a.bytes)).handed ∙ (laws.stays.receive p a.a.bytes).handed in
+    let same : o.handed ≡ p.handed = (alike laws (after_receive p a.a.bytes)).handed ∙ (laws.stays.receive p a.a.bytes).handed in
     let P : Event → Type 0 = IsFurther (length w.bag) in
     let s3 : List Event = Take (other side) ∷ [] in
     let s2 : List Event = Deliver (length w.bag) ∷ s3 in
@@ -173,12 +116,12 @@ by_item k w side s p x none left a false h =
     let w3 : World = delivers w2 (length w1.bag) in
     let w4 : World = ticks w3 side in
     let w5 : World = delivers w4 (length w3.bag) in
-    let handed : o.handed ≡ p.handed = (alike o0).handed ∙ (laws.stays.receive p a.a.bytes).handed in
+    let handed : o.handed ≡ p.handed = (alike laws o0).handed ∙ (laws.stays.receive p a.a.bytes).handed in
     let bytes : List ℕ = spp_packet_spelling (system_packet o0 reply_control) in
     let u0 : State = after_receive t bytes in
     let u : State = after_flush u0 in
     let accepted : length u.accepted ≡ length s.accepted =
-    ap length (alike u0).accepted ∙ (ap length (laws.stays.receive t bytes).accepted ∙ ap length (laws.stays.tick s).accepted) in
+    ap length (alike laws u0).accepted ∙ (ap length (laws.stays.receive t bytes).accepted ∙ ap length (laws.stays.tick s).accepted) in
     let knows : Knows w3 side u o = a.second in
     let there : Stands o u = stands w3 (other side) o u (flip w3 side u o knows.pair) in
     let all : o.handed ≡ length o.taken = omega (arith, ltb-false o.handed (length o.taken) h, there.fits.bounds.handed_taken) in
@@ -186,7 +129,7 @@ by_item k w side s p x none left a false h =
     let e0 : State = after_receive o g.bytes in
     let e : State = after_flush e0 in
     let last : Pair w5 side (after_tick u) e = delivered k w4 side (after_tick u) o (length w3.bag) g.bytes (ticked k w3 side u o knows.pair) g.new in
-    let same : e.handed ≡ o.handed = (alike e0).handed ∙ (laws.stays.receive o g.bytes).handed in
+    let same : e.handed ≡ o.handed = (alike laws e0).handed ∙ (laws.stays.receive o g.bytes).handed in
     let one : length w.bag ≤ length w1.bag = longer w w1 (run_later laws w (Tick side ∷ [])) in
     let three : length w.bag ≤ length w3.bag = longer w w3 (run_later laws w (Tick side ∷ Deliver (length w.bag) ∷ Deliver (length w1.bag) ∷ [])) in
     let P : Event → Type 0 = IsFurther (length w.bag) in
@@ -203,7 +146,7 @@ by_item k w side s p x none left a false h =
           (All-cons P (Tick side) s5 tt
           (All-cons P (Deliver (length w3.bag)) s6 three (one_by (length w.bag) (Take (other side)) tt)))));
       few = omega arith;
-      more = omega (arith, took laws w5 side (after_tick u) e last (omega (arith, g.takes, all, same, ap length (alike e0).taken)), same, handed);
+      more = omega (arith, took laws w5 side (after_tick u) e last (omega (arith, g.takes, all, same, ap length (alike laws e0).taken)), same, handed);
     }
 
 by_waiting : Kept → (w : World) (side : Side) (s p : State) (b : Bool) → nat_lt p.handed (length p.taken) ≡ b → Pair w side s p → p.handed < length s.accepted → AdvancesBy w side p.handed
@@ -246,7 +189,7 @@ asks_by k w side s p x all left =
     let u : State = after_flush (after_receive (after_tick s) (spp_packet_spelling (system_packet o0 reply_control))) in
     let knows : Knows w3 side u o = a.second in
     let there : Stands o u = stands w3 (other side) o u (flip w3 side u o knows.pair) in
-    let handed : o.handed ≡ p.handed = (alike o0).handed ∙ (laws.stays.receive p a.a.bytes).handed in
+    let handed : o.handed ≡ p.handed = (alike laws o0).handed ∙ (laws.stays.receive p a.a.bytes).handed in
     let one : length w.bag ≤ length w1.bag = longer w w1 (run_later laws w (Tick side ∷ [])) in
     let P : Event → Type 0 = IsFurther (length w.bag) in
     let s3 : List Event = Deliver (length w1.bag) ∷ [] in

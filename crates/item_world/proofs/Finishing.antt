@@ -1,35 +1,38 @@
--- From every world some plain steps hand up all that was accepted.
-use Rattle.std.proofs.Common.{◌≡◌, ℕ, zero, suc, ◌+◌, ◌-◌, ◌*◌, ◌<◌, ◌≤◌, Bool, true, false, List, [], ◌∷◌, ◌++◌, length, map, take, nat_lt, Option, Some, None, refl, sym, ◌∙◌, ap, subst, arith, append-nil, length-append}
+-- From every world some events hand up all that was accepted, and have it acknowledged; so do their small steps.
+use Rattle.std.proofs.Common.{◌≡◌, ℕ, zero, suc, ◌+◌, ◌-◌, ◌*◌, ◌<◌, ◌≤◌, Bool, true, false, List, [], ◌∷◌, ◌++◌, length, take, nat_lt, Option, Some, None, refl, sym, ◌∙◌, ap, subst, arith, append-nil, length-append}
 use Rattle.std.specs.Prelude.{All, ◌||◌}
 use Rattle.xns_spp.specs.Acceptance.{is_backlog_full}
 use Rattle.xns_spp.specs.Numbers.{most_items}
 use Rattle.std.specs.Option.{option_to_list}
 use Rattle.std.proofs.Math.Nat.{le_refl}
 use Rattle.std.proofs.lemmas.Bool.{ltb-true, ltb-false, ne_eqb}
-use Rattle.std.proofs.lemmas.List.{length-map, length-take}
-use Rattle.std.proofs.lemmas.List.Elements.{All-nil, All-append, All-weaker, All-head, All-tail}
+use Rattle.std.proofs.lemmas.List.{length-take}
+use Rattle.std.proofs.lemmas.List.Elements.{All-nil, All-append, All-weaker, All-head, All-tail, All-cons}
 use Rattle.std.proofs.lemmas.List.Sums.{fold-append}
-use Rattle.xns_spp.specs.Fronts.{begins_length}
 use Rattle.xns_spp.specs.Growth.{Begins}
 use Rattle.xns_spp.specs.Receiving.{receive_answer, after_receive}
-use Rattle.xns_spp.specs.Sending.{is_full, after_tick, tick_answer, handing, take_answer, after_take}
+use Rattle.xns_spp.specs.Sending.{is_full, after_tick, tick_answer, handing, take_answer, after_take, after_flush, flush_answer}
 use Rattle.xns_spp.specs.State.{State, IsState, numbers_of}
 use Rattle.xns_spp.specs.declared.item.Item.{Item}
-use Rattle.item_world.proofs.Later.{all_later}
-use Rattle.item_world.proofs.Onward.{Kept, Advances, advances, Settles, settles}
+use Rattle.item_world.proofs.Later.{run_later}
+use Rattle.item_world.proofs.Onward.{Kept, longer}
 use Rattle.item_world.proofs.Sides.{each_end, same_marked, has_landed}
 use Rattle.item_world.specs.EndLaws.{EndLaws}
-use Rattle.item_world.specs.Events.{Step, IsStep, arrival, noise, sending, taking, flushing, ticking, resending, telling, stepped, all_stepped}
-use Rattle.item_world.specs.Going.{Later, as_sent}
+use Rattle.item_world.specs.Events.{Step, IsStep, arrival, taking, flushing, ticking, stepped, all_stepped, IsEvent, steps_of, happens, run, arrival_steps}
+use Rattle.item_world.specs.Going.{Later}
 use Rattle.item_world.specs.Invariant.{Holds}
-use Rattle.item_world.specs.Landing.{answered, landing, reached}
-use Rattle.item_world.specs.Progress.{IsPlain, IsDone, pending, Finishes, Linked}
+use Rattle.item_world.specs.Landing.{answered, landing}
+use Rattle.item_world.specs.Progress.{IsPlain, IsDone, pending, Finishes, Linked, IsFurther, FinishesByEvents}
 use Rattle.item_world.specs.Side.{other}
-use Rattle.item_world.specs.World.{World, start, end_of, moved, marked, sent_at, handed_at}
+use Rattle.item_world.specs.World.{World, start, end_of, moved, marked, sent_at, handed_at, flushes}
 use Rattle.item_world.specs.declared.emitted.Emitted.{Emitted}
 use Rattle.item_world.specs.declared.setup.Setup.{Setup}
 use Rattle.item_world.specs.declared.side.Side.{Side}
 use Rattle.item_world.specs.declared.side.Side.TheVariants.{A, B}
+use Rattle.item_world.proofs.Deliveries.{AdvancesBy, advances_by, SettlesBy, settles_by}
+use Rattle.item_world.proofs.Kept.{flushed, delivers_lands, steps_fit}
+use Rattle.item_world.specs.declared.event.Event.{Event}
+use Rattle.item_world.specs.declared.event.Event.TheVariants.{Deliver, Rest, Tick, Foreign, Send, Take}
 
 -- ---- what plain steps leave
 
@@ -68,48 +71,48 @@ land_works laws w k l e =
     let more : Ongoing v (answered w k x) = moved_works v (other x.side) (after_receive s x.bytes) (option_to_list (receive_answer s x.bytes).reply) (record { accepted = stays.accepted; handed = omega (arith, stays.handed); acknowledged = (laws.grows.receive s x.bytes).acknowledged }) in
     subst (λ (m : Side × World). Ongoing w m.1) i.leads (λ t. works_then (end_of w t) (end_of v t) (end_of (answered w k x) t) (same_works (end_of w t) (end_of v t) (same_marked w k x t)) (more t))
 
-pub reached_works : EndLaws → (w : World) (k : ℕ) (o : Option (Side × World)) → landing w k ≡ o → Ongoing w (reached w o)
-reached_works laws w k None e t = works_itself (end_of w t)
-reached_works laws w k (Some l) e t = land_works laws w k l e t
+flush_works : EndLaws → (s : State) → Works s (after_flush s)
+flush_works laws s = record { accepted = (laws.stays.flush s).accepted; handed = omega (arith, (laws.stays.flush s).handed); acknowledged = omega (arith, (laws.hears.flush s).acknowledged) }
 
-step_works : EndLaws → (n : ℕ) (w : World) (s : Step) → IsPlain n s → Ongoing w (stepped w s)
-step_works laws n w (arrival k) h = reached_works laws w k (landing w k) refl
-step_works laws n w (noise side bytes) h = absurd h
-step_works laws n w (sending side x) h = absurd h
-step_works laws n w (taking side) h = moved_works w side (after_take (end_of w side)) [] (handing_works (end_of w side) (take_answer (end_of w side)))
-step_works laws n w (flushing side) h = absurd h
-step_works laws n w (ticking side) h =
+arrival_works : EndLaws → (w : World) (k : ℕ) (o : Option (Side × World)) → landing w k ≡ o → Ongoing w (flushed w o)
+arrival_works laws w k None e t = works_itself (end_of w t)
+arrival_works laws w k (Some l) e t =
+    let v : World = l.1 in
+    works_then (end_of w t) (end_of v t) (end_of (flushes v l.0) t) (land_works laws w k l e t)
+    (moved_works v l.0 (after_flush (end_of v l.0)) (flush_answer (end_of v l.0)) (flush_works laws (end_of v l.0)) t)
+
+step_works : EndLaws → (n : ℕ) (w : World) (e : Event) → IsFurther n e → Ongoing w (happens w e)
+step_works laws n w (Deliver k) h = subst (λ (v : World). Ongoing w v) (sym (delivers_lands w k)) (arrival_works laws w k (landing w k) refl)
+step_works laws n w Rest h = absurd h
+step_works laws n w (Tick side) h =
     let stays = laws.stays.tick (end_of w side) in
     moved_works w side (after_tick (end_of w side)) (tick_answer (end_of w side))
     (record { accepted = stays.accepted; handed = omega (arith, stays.handed); acknowledged = omega (arith, (laws.hears.tick (end_of w side)).acknowledged) })
-step_works laws n w (resending side) h = absurd h
-step_works laws n w (telling side asks) h = absurd h
+step_works laws n w (Foreign side bytes) h = absurd h
+step_works laws n w (Send side x) h = absurd h
+step_works laws n w (Take side) h = moved_works w side (after_take (end_of w side)) [] (handing_works (end_of w side) (take_answer (end_of w side)))
 
-all_work : EndLaws → (n : ℕ) (w : World) (ss : List Step) → All (IsPlain n) ss → Ongoing w (all_stepped w ss)
+all_work : EndLaws → (n : ℕ) (w : World) (ss : List Event) → All (IsFurther n) ss → Ongoing w (run w ss)
 all_work laws n w [] h t = works_itself (end_of w t)
 all_work laws n w (s ∷ ss) h t =
-    works_then (end_of w t) (end_of (stepped w s) t) (end_of (all_stepped (stepped w s) ss) t) (step_works laws n w s (All-head (IsPlain n) s ss h) t)
-    (all_work laws n (stepped w s) ss (All-tail (IsPlain n) s ss h) t)
+    works_then (end_of w t) (end_of (happens w s) t) (end_of (run (happens w s) ss) t) (step_works laws n w s (All-head (IsFurther n) s ss h) t)
+    (all_work laws n (happens w s) ss (All-tail (IsFurther n) s ss h) t)
 
-plain_steps : (n : ℕ) (s : Step) → IsPlain n s → IsStep s
-plain_steps n (arrival k) h = tt
-plain_steps n (noise side bytes) h = absurd h
-plain_steps n (sending side x) h = absurd h
-plain_steps n (taking side) h = tt
-plain_steps n (flushing side) h = absurd h
-plain_steps n (ticking side) h = tt
-plain_steps n (resending side) h = absurd h
-plain_steps n (telling side asks) h = absurd h
+plain_steps : (n : ℕ) (e : Event) → IsFurther n e → IsEvent e
+plain_steps n (Deliver k) h = tt
+plain_steps n Rest h = tt
+plain_steps n (Tick side) h = tt
+plain_steps n (Foreign side bytes) h = tt
+plain_steps n (Send side x) h = absurd h
+plain_steps n (Take side) h = tt
 
-plain_before : (m n : ℕ) (s : Step) → m ≤ n → IsPlain n s → IsPlain m s
-plain_before m n (arrival k) le h = omega (arith, h)
-plain_before m n (noise side bytes) le h = absurd h
-plain_before m n (sending side x) le h = absurd h
-plain_before m n (taking side) le h = tt
-plain_before m n (flushing side) le h = absurd h
-plain_before m n (ticking side) le h = tt
-plain_before m n (resending side) le h = absurd h
-plain_before m n (telling side asks) le h = absurd h
+plain_before : (m n : ℕ) (e : Event) → m ≤ n → IsFurther n e → IsFurther m e
+plain_before m n (Deliver k) le h = omega (arith, h)
+plain_before m n Rest le h = absurd h
+plain_before m n (Tick side) le h = tt
+plain_before m n (Foreign side bytes) le h = absurd h
+plain_before m n (Send side x) le h = absurd h
+plain_before m n (Take side) le h = tt
 
 -- what always holds holds after them
 pub record Both (w : World) : Type 0 where
@@ -122,30 +125,32 @@ both_after k w (s ∷ ss) fits b =
     let step = All-head IsStep s ss fits in
     both_after k (stepped w s) ss (All-tail IsStep s ss fits) (record { holds = k.order.each w s step b.holds; linked = k.links w s step b.holds b.linked })
 
-both_plain : Kept → (n : ℕ) (w : World) (ss : List Step) → All (IsPlain n) ss → Both w → Both (all_stepped w ss)
-both_plain k n w ss h b = both_after k w ss (All-weaker (IsPlain n) IsStep (plain_steps n) ss h) b
+events_after : Kept → (w : World) (es : List Event) → All IsEvent es → Both w → Both (run w es)
+events_after k w [] fits b = b
+events_after k w (e ∷ es) fits b =
+    events_after k (happens w e) es (All-tail IsEvent e es fits) (both_after k w (steps_of w e) (steps_fit w e (All-head IsEvent e es fits)) b)
 
-longer : (u v : World) → Later u v → length u.bag ≤ length v.bag
-longer u v l = omega (arith, begins_length (map as_sent u.bag) (map as_sent v.bag) l.bag, length-map u.bag as_sent, length-map v.bag as_sent)
+both_plain : Kept → (n : ℕ) (w : World) (ss : List Event) → All (IsFurther n) ss → Both w → Both (run w ss)
+both_plain k n w ss h b = events_after k w ss (All-weaker (IsFurther n) IsEvent (plain_steps n) ss h) b
 
--- ---- plain steps one after another
+-- ---- events one after another
 
--- u goes on as v by so many plain steps at most
+-- u goes on as v by so many events at most
 record Leads (u v : World) (n : ℕ) : Type 0 where
-  steps : List Step
-  plain : All (IsPlain (length u.bag)) steps
+  steps : List Event
+  plain : All (IsFurther (length u.bag)) steps
   few : length steps ≤ n
-  is : all_stepped u steps ≡ v
+  is : run u steps ≡ v
 
 leads_then : Kept → (u v w : World) (m n : ℕ) → Leads u v m → Leads v w n → Leads u w (m + n)
 leads_then k u v w m n a b =
-    let more : length u.bag ≤ length v.bag = longer u v (subst (λ (x : World). Later u x) a.is (all_later k.laws u a.steps)) in
+    let more : length u.bag ≤ length v.bag = longer u v (subst (λ (x : World). Later u x) a.is (run_later k.laws u a.steps)) in
     record {
       steps = a.steps ++ b.steps;
-      plain = All-append (IsPlain (length u.bag)) a.steps b.steps a.plain
-          (All-weaker (IsPlain (length v.bag)) (IsPlain (length u.bag)) (λ s. plain_before (length u.bag) (length v.bag) s more) b.steps b.plain);
+      plain = All-append (IsFurther (length u.bag)) a.steps b.steps a.plain
+          (All-weaker (IsFurther (length v.bag)) (IsFurther (length u.bag)) (λ s. plain_before (length u.bag) (length v.bag) s more) b.steps b.plain);
       few = omega (arith, length-append a.steps b.steps, a.few, b.few);
-      is = fold-append stepped u a.steps b.steps ∙ (ap (λ (x : World). all_stepped x b.steps) a.is ∙ b.is);
+      is = fold-append happens u a.steps b.steps ∙ (ap (λ (x : World). run x b.steps) a.is ∙ b.is);
     }
 
 leads_both : Kept → (u v : World) (n : ℕ) → Leads u v n → Both u → Both v
@@ -156,7 +161,7 @@ leads_works laws u v n l = subst (λ (x : World). Ongoing u x) l.is (all_work la
 
 -- ---- one way
 
--- plain steps after which each item of a side is handed up at the other
+-- events after which each item of a side is handed up at the other
 record Reaches (w : World) (side : Side) (d : ℕ) : Type 0 where
   then : World
   leads : Leads w then (6 * d)
@@ -166,13 +171,13 @@ reaches : Kept → (d : ℕ) (w : World) (side : Side) (b : Bool) → nat_lt (en
     → length (end_of w side).accepted ≤ (end_of w (other side)).handed + d → Reaches w side d
 reaches k d w side false e h le = record {
   then = w;
-  leads = record { steps = []; plain = All-nil (IsPlain (length w.bag)); few = omega arith; is = refl };
+  leads = record { steps = []; plain = All-nil (IsFurther (length w.bag)); few = omega arith; is = refl };
   all = ltb-false (end_of w (other side)).handed (length (end_of w side).accepted) e;
 }
 reaches k zero w side true e h le = absurd (omega (arith, le, ltb-true (end_of w (other side)).handed (length (end_of w side).accepted) e))
 reaches k (suc d) w side true e h le =
-    let a : Advances w side (end_of w (other side)).handed = advances k w side h.holds h.linked (ltb-true (end_of w (other side)).handed (length (end_of w side).accepted) e) in
-    let v : World = all_stepped w a.steps in
+    let a : AdvancesBy w side (end_of w (other side)).handed = advances_by k w side h.holds h.linked (ltb-true (end_of w (other side)).handed (length (end_of w side).accepted) e) in
+    let v : World = run w a.steps in
     let l : Leads w v 6 = record { steps = a.steps; plain = a.plain; few = a.few; is = refl } in
     let works : Ongoing w v = leads_works k.laws w v 6 l in
     let left : length (end_of v side).accepted ≤ (end_of v (other side)).handed + d = omega (arith, ap length (works side).accepted, a.more, le) in
@@ -219,6 +224,15 @@ all_done k w v both works handed acknowledged =
       free = λ side less. not_full (end_of v side) (both.holds.ends side).fits (all side) (omega (arith, count side, less));
     }
 
+pub few_enough : (m n c : ℕ) → c ≤ 0 + 6 * m + 6 * n + 3 + 3 → c ≤ 6 * (m + n + 1)
+few_enough m n c h = omega arith
+
+pub le_then : (a b c : ℕ) → a ≤ b → b ≤ c → a ≤ c
+le_then a b c h i = omega arith
+
+pub still_left : (n h i : ℕ) → h ≤ i → n ≤ i + (n - h)
+still_left n h i a = omega arith
+
 -- one way after what was done, where the items of w are meant
 record Handed (w v : World) (side : Side) (n : ℕ) : Type 0 where
   then : World
@@ -249,19 +263,10 @@ learns_all : Kept → (w v : World) (side : Side) (c : ℕ) → Both w → Leads
 learns_all k w v side c h l le =
     let now : Both v = leads_both k w v c l h in
     let before : length (end_of v side).accepted ≡ length (end_of w side).accepted = ap length (leads_works k.laws w v c l side).accepted in
-    let r : Settles v side (length (end_of v side).accepted) = settles k v side now.holds now.linked (omega (arith, before, le)) in
-    let u : World = all_stepped v r.steps in
+    let r : SettlesBy v side (length (end_of v side).accepted) = settles_by k v side now.holds now.linked (omega (arith, before, le)) in
+    let u : World = run v r.steps in
     let on : Leads v u 3 = record { steps = r.steps; plain = r.plain; few = r.few; is = refl } in
     record { then = u; leads = leads_then k w v u c 3 l on; since = leads_works k.laws v u 3 on; all = omega (arith, before, r.all) }
-
-pub few_enough : (m n c : ℕ) → c ≤ 0 + 6 * m + 6 * n + 3 + 3 → c ≤ 6 * (m + n + 1)
-few_enough m n c h = omega arith
-
-pub le_then : (a b c : ℕ) → a ≤ b → b ≤ c → a ≤ c
-le_then a b c h i = omega arith
-
-pub still_left : (n h i : ℕ) → h ≤ i → n ≤ i + (n - h)
-still_left n h i a = omega arith
 
 by_sides : Kept → (w v : World) (n : ℕ) → Both w → Leads w v n → length (end_of w A).accepted ≤ (end_of v B).handed → length (end_of w B).accepted ≤ (end_of v A).handed → length (end_of w A).accepted ≤ (end_of v A).acknowledged
     → length (end_of w B).accepted ≤ (end_of v B).acknowledged → IsDone w v
@@ -282,24 +287,24 @@ last_done k w v2 m n h l to_b to_a c d =
 
 -- each end asks until it knows
 asks_both : Kept → (w v : World) (m n : ℕ) → Both w → Leads w v (0 + 6 * m + 6 * n) → length (end_of w A).accepted ≤ (end_of v B).handed → length (end_of w B).accepted ≤ (end_of v A).handed → m ≡ pending w A → n ≡ pending w B
-    → Finishes w
+    → FinishesByEvents w
 asks_both k w v m n h l to_b to_a is_m is_n =
     let c : Acknowledged w v A (0 + 6 * m + 6 * n + 3) = learns_all k w v A (0 + 6 * m + 6 * n) h l to_b in
     let d : Acknowledged w c.then B (0 + 6 * m + 6 * n + 3 + 3) =
     learns_all k w c.then B (0 + 6 * m + 6 * n + 3) h c.leads (le_then (length (end_of w B).accepted) (end_of v A).handed (end_of c.then A).handed to_a (c.since A).handed) in
     record {
       more = d.leads.steps;
-      plain = d.leads.plain;
+      further = d.leads.plain;
       few = subst (λ (j : ℕ). length d.leads.steps ≤ 6 * (pending w A + j + 1)) is_n
           (subst (λ (i : ℕ). length d.leads.steps ≤ 6 * (i + n + 1)) is_m (few_enough m n (length d.leads.steps) d.leads.few));
       done = subst (IsDone w) (sym d.leads.is) (last_done k w v m n h l to_b to_a c d);
     }
 
 -- first one way, then the other
-pub finishes : Kept → (w : World) → Holds w → Linked w → Finishes w
-finishes k w holds linked =
+pub finishes_by : Kept → (w : World) → Holds w → Linked w → FinishesByEvents w
+finishes_by k w holds linked =
     let h : Both w = record { holds = holds; linked = linked } in
-    let none : Leads w w 0 = record { steps = []; plain = All-nil (IsPlain (length w.bag)); few = omega arith; is = refl } in
+    let none : Leads w w 0 = record { steps = []; plain = All-nil (IsFurther (length w.bag)); few = omega arith; is = refl } in
     let a : Handed w w A (0 + 6 * pending w A) = hands_over k w w A 0 (pending w A) h none (still_left (length (end_of w A).accepted) (end_of w B).handed (end_of w B).handed (le_refl (end_of w B).handed)) in
     let b : Handed w a.then B (0 + 6 * pending w A + 6 * pending w B) =
     hands_over k w a.then B (0 + 6 * pending w A) (pending w B) h a.leads (still_left (length (end_of w B).accepted) (end_of w A).handed (end_of a.then A).handed (a.since A).handed) in
@@ -307,7 +312,79 @@ finishes k w holds linked =
     (le_then (length (end_of w A).accepted) (end_of a.then B).handed (end_of b.then B).handed a.all (b.since B).handed) b.all refl refl
 
 -- whatever was before
-pub always_finishes : Kept → (setup : Setup) (steps : List Step) → Holds (start setup) → Linked (start setup) → All IsStep steps → Finishes (all_stepped (start setup) steps)
+pub always_finishes_by : Kept → (setup : Setup) (events : List Event) → Holds (start setup) → Linked (start setup) → All IsEvent events → FinishesByEvents (run (start setup) events)
+always_finishes_by k setup events h l fits =
+    let b : Both (run (start setup) events) = events_after k (start setup) events fits (record { holds = h; linked = l }) in
+    finishes_by k (run (start setup) events) b.holds b.linked
+
+-- ---- as small steps
+
+-- the small steps of events, each in the world that those before lead to
+steps_along : World → List Event → List Step
+steps_along w [] = []
+steps_along w (e ∷ es) = steps_of w e ++ steps_along (happens w e) es
+
+along_run : (w : World) (es : List Event) → all_stepped w (steps_along w es) ≡ run w es
+unfolding steps_along
+along_run w [] = refl
+along_run w (e ∷ es) = fold-append stepped w (steps_of w e) (steps_along (happens w e) es) ∙ along_run (happens w e) es
+
+-- an event is of two small steps at most
+record IsPair (n : ℕ) (ss : List Step) : Type 0 where
+  plain : All (IsPlain n) ss
+  few : length ss ≤ 2
+
+one_plain : (n : ℕ) (s : Step) → IsPlain n s → IsPair n (s ∷ [])
+one_plain n s h = record { plain = All-cons (IsPlain n) s [] h (All-nil (IsPlain n)); few = omega arith }
+
+delivery_plain : (n k : ℕ) (o : Option (Side × World)) → n ≤ k → IsPair n (arrival_steps k o)
+delivery_plain n k None h = record { plain = All-nil (IsPlain n); few = omega arith }
+delivery_plain n k (Some l) h = record {
+  plain = All-cons (IsPlain n) (arrival k) (flushing l.0 ∷ []) h (All-cons (IsPlain n) (flushing l.0) [] tt (All-nil (IsPlain n)));
+  few = omega arith;
+}
+
+event_plain : (n : ℕ) (w : World) (e : Event) → IsFurther n e → IsPair n (steps_of w e)
+event_plain n w (Deliver k) h = delivery_plain n k (landing w k) h
+event_plain n w Rest h = absurd h
+event_plain n w (Tick side) h = one_plain n (ticking side) tt
+event_plain n w (Foreign side bytes) h = absurd h
+event_plain n w (Send side x) h = absurd h
+event_plain n w (Take side) h = one_plain n (taking side) tt
+
+record AreFew (n : ℕ) (ss : List Step) (most : ℕ) : Type 0 where
+  plain : All (IsPlain n) ss
+  few : length ss ≤ 2 * most
+
+along_plain : (n : ℕ) (w : World) (es : List Event) → All (IsFurther n) es → AreFew n (steps_along w es) (length es)
+unfolding steps_along
+along_plain n w [] h = record { plain = All-nil (IsPlain n); few = omega arith }
+along_plain n w (e ∷ es) h =
+    let first = event_plain n w e (All-head (IsFurther n) e es h) in
+    let more = along_plain n (happens w e) es (All-tail (IsFurther n) e es h) in
+    record {
+      plain = All-append (IsPlain n) (steps_of w e) (steps_along (happens w e) es) first.plain more.plain;
+      few = omega (arith, length-append (steps_of w e) (steps_along (happens w e) es), first.few, more.few);
+    }
+
+twelve_each : (c d n : ℕ) → c ≤ 2 * d → d ≤ 6 * n → c ≤ 12 * n
+twelve_each c d n h i = omega arith
+
+by_events_finishes : (w : World) → FinishesByEvents w → Finishes w
+by_events_finishes w f =
+    let steps = along_plain (length w.bag) w f.more f.further in
+    record {
+      more = steps_along w f.more;
+      plain = steps.plain;
+      few = twelve_each (length (steps_along w f.more)) (length f.more) (pending w A + pending w B + 1) steps.few f.few;
+      done = subst (IsDone w) (sym (along_run w f.more)) f.done;
+    }
+
+pub finishes : Kept → (w : World) → Holds w → Linked w → Finishes w
+finishes k w h l = by_events_finishes w (finishes_by k w h l)
+
+pub always_finishes : Kept → (setup : Setup) (steps : List Step) → Holds (start setup) → Linked (start setup) → All IsStep steps
+    → Finishes (all_stepped (start setup) steps)
 always_finishes k setup steps h l fits =
     let b : Both (all_stepped (start setup) steps) = both_after k (start setup) steps fits (record { holds = h; linked = l }) in
     finishes k (all_stepped (start setup) steps) b.holds b.linked

@@ -8,10 +8,8 @@ pub mod Networks
 pub mod Quiet
 pub mod Channels
 pub mod Plays
-pub mod Heard
 pub mod Onward
 pub mod Finishing
 pub mod Deliveries
 pub mod Outward
-pub mod FinishingBy
 pub mod Linking

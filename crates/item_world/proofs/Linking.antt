@@ -1,32 +1,28 @@
 -- What each small step leaves of the ends' addresses and identifiers, and that each packet of the bag tells its sender's.
-use Rattle.std.proofs.Common.{◌≡◌, ◌⊎◌, inl, inr, ℕ, Bool, true, false, List, [], ◌∷◌, map, Option, Some, None, Result, Ok, Err, refl, sym, ◌∙◌, ap, subst, append-nil, lit<}
-use Rattle.std.specs.Prelude.{slice_get, All, if◌then◌else◌, ◌&&◌, nat_lt}
+use Rattle.std.proofs.Common.{◌≡◌, ◌⊎◌, inl, inr, ℕ, Bool, true, false, List, [], ◌∷◌, map, Option, Some, None, Ok, refl, sym, ◌∙◌, ap, subst, append-nil, lit<}
+use Rattle.std.specs.Prelude.{slice_get, All, is_ok}
 use Rattle.std.specs.Option.{option_to_list}
-use Rattle.std.proofs.lemmas.Option.{get_or_from_slice_get, slice_get_within}
 use Rattle.std.proofs.lemmas.List.Elements.{All-nil, All-cons, All-append, All-map, All-set, All-weaker, All-head, All-tail}
-use Rattle.xns_spp.proofs.Deciding.{after_packet, after_bytes}
-use Rattle.xns_spp.specs.Ends.{is_open}
 use Rattle.xns_spp.specs.Growth.{IsOwnPacket}
 use Rattle.xns_spp.specs.Header.{reply_control}
 use Rattle.xns_spp.specs.Packet.{SppPacketModel, IsSppPacket, spelled, spp_packet_spelling, spp_packet_of}
-use Rattle.xns_spp.specs.Receiving.{arrival_fault, receive_answer, after_receive}
-use Rattle.xns_spp.specs.Sending.{system_packet, send_fault, accepting, after_send, handing, take_answer, after_take, flush_packets, flush_answer, after_flush, tick_packets, tick_answer, after_tick}
-use Rattle.xns_spp.specs.State.{State, IsState, send_limit}
+use Rattle.xns_spp.specs.Peers.{IsLinked, IsNamed, Learns}
+use Rattle.xns_spp.specs.Receiving.{receive_answer, after_receive}
+use Rattle.xns_spp.specs.Sending.{system_packet, send_answer, after_send, take_answer, after_take, flush_packets, flush_answer, after_flush, tick_packets, tick_answer, after_tick}
+use Rattle.xns_spp.specs.State.{State, IsState}
 use Rattle.xns_spp.specs.Telling.{resend_packet, resend_answer, after_resend, told_packet, told_answer}
-use Rattle.xns_spp.specs.declared.dropped.Dropped.{Dropped}
 use Rattle.xns_spp.specs.declared.ends.Ends.{Ends}
 use Rattle.xns_spp.specs.declared.item.Item.{Item}
 use Rattle.xns_spp.specs.declared.role.Role.TheVariants.{Responder}
-use Rattle.xns_spp.specs.declared.send_fault.SendFault.{SendFault}
-use Rattle.item_world.proofs.Heard.{IsNamed}
-use Rattle.item_world.proofs.Onward.{KeepsLinks, own_named, system_named}
+use Rattle.item_world.proofs.Fronts.{all_get}
+use Rattle.item_world.proofs.Onward.{KeepsLinks}
 use Rattle.item_world.proofs.Sides.{same_end, same_marked, other_other, each_side, has_landed, noise_changes_nothing}
 use Rattle.item_world.specs.EndLaws.{EndLaws}
 use Rattle.item_world.specs.Events.{arrival, noise, sending, taking, flushing, ticking, resending, telling}
 use Rattle.item_world.specs.Invariant.{Holds}
 use Rattle.item_world.specs.Landing.{answered, landing, reached}
 use Rattle.item_world.specs.Laws.{EachStepKeepsTheOrder}
-use Rattle.item_world.specs.Progress.{IsLinked, IsFrom, Linked}
+use Rattle.item_world.specs.Progress.{IsFrom, Linked}
 use Rattle.item_world.specs.Side.{other}
 use Rattle.item_world.specs.World.{World, end_of, start, moment, emitted, moved, marked}
 use Rattle.item_world.specs.declared.emitted.Emitted.{Emitted}
@@ -87,47 +83,48 @@ own_from : EndLaws → (s t : State) (ps : List SppPacketModel) → All IsSppPac
 own_from laws s t [] fits own = All-nil (IsFrom s.ends)
 own_from laws s t (p ∷ ps) fits own =
     All-cons (IsFrom s.ends) (spp_packet_spelling p) (map spp_packet_spelling ps)
-    (named_from laws s.ends p (All-head IsSppPacket p ps fits) (own_named s t p (All-head (IsOwnPacket s t) p ps own)))
+    (named_from laws s.ends p (All-head IsSppPacket p ps fits) (laws.peers.own s t p (All-head (IsOwnPacket s t) p ps own)))
     (own_from laws s t ps (All-tail IsSppPacket p ps fits) (All-tail (IsOwnPacket s t) p ps own))
 
 maybe_from : EndLaws → (s t : State) (o : Option SppPacketModel) → ((p : SppPacketModel) → o ≡ Some p → IsSppPacket p) → ((p : SppPacketModel) → o ≡ Some p → IsOwnPacket s t p) → All (IsFrom s.ends) (option_to_list (spelled o))
 maybe_from laws s t None fits own = All-nil (IsFrom s.ends)
 maybe_from laws s t (Some p) fits own =
-    All-cons (IsFrom s.ends) (spp_packet_spelling p) [] (named_from laws s.ends p (fits p refl) (own_named s t p (own p refl))) (All-nil (IsFrom s.ends))
+    All-cons (IsFrom s.ends) (spp_packet_spelling p) [] (named_from laws s.ends p (fits p refl) (laws.peers.own s t p (own p refl))) (All-nil (IsFrom s.ends))
 
 -- ---- the ends of an end that goes on
 
-sent_ends : (s : State) (n : ℕ) (b : Bool) → (if b then record s { sent = n } else s).ends ≡ s.ends
-sent_ends s n true = refl
-sent_ends s n false = refl
+send_ends : EndLaws → (s : State) (x : Item) (b : Bool) → is_ok (send_answer s x) ≡ b → (after_send s x).ends ≡ s.ends
+send_ends laws s x true h = ap (λ (t : State). t.ends) (laws.accepts.accepted s x h)
+send_ends laws s x false h = ap (λ (t : State). t.ends) (laws.accepts.refused s x h)
 
-accepting_ends : (s : State) (x : Item) (o : Option SendFault) → (accepting o s x).ends ≡ s.ends
-accepting_ends s x None = refl
-accepting_ends s x (Some f) = refl
-
-handing_ends : (s : State) (o : Option Item) → (handing o s).ends ≡ s.ends
-handing_ends s None = refl
-handing_ends s (Some x) = refl
+take_ends : EndLaws → (s : State) (o : Option Item) → take_answer s ≡ o → (after_take s).ends ≡ s.ends
+take_ends laws s None h = ap (λ (t : State). t.ends) (laws.hands_up.none s h)
+take_ends laws s (Some x) h = ap (λ (t : State). t.ends) (laws.hands_up.some s x h)
 
 -- an end that a packet of its peer comes to learns the peer's names, or nothing
-record Learns (e f d : Ends) : Type 0 where
+record Hears (e f d : Ends) : Type 0 where
   names : SameNames e f
   links : IsLinked f d
 
-learns_by : (e d : Ends) (p : SppPacketModel) (b : Bool) → (p.source ≡ d.own) × (p.header.source_id ≡ d.id) → IsLinked e d → Learns e (if b then e else record e { peer = p.source; peer_id = p.header.source_id }) d
-learns_by e d p true h l = record { names = record { own = refl; id = refl; role = refl }; links = l }
-learns_by e d p false h l = record { names = record { own = refl; id = refl; role = refl }; links = record { peer = h.0; peer_id = inr h.1; one = l.one } }
+same_hears : (e d : Ends) → IsLinked e d → Hears e e d
+same_hears e d l = record { names = record { own = refl; id = refl; role = refl }; links = l }
 
-learns_packet : (s : State) (d : Ends) (p : SppPacketModel) (o : Option Dropped) → (p.source ≡ d.own) × (p.header.source_id ≡ d.id) → IsLinked s.ends d → Learns s.ends (after_packet o s p).ends d
-learns_packet s d p (Some f) h l = record { names = record { own = refl; id = refl; role = refl }; links = l }
-learns_packet s d p None h l = learns_by s.ends d p (is_open s.ends) h l
+learned_hears : (e d : Ends) (b : List ℕ) (f : Ends) → IsFrom d b → IsLinked e d → Learns e b f → Hears e f d
+learned_hears e d b f from l learns =
+    let p : SppPacketModel = learns.packet in
+    let names = from p learns.read in
+    let now : Hears e (record e { peer = p.source; peer_id = p.header.source_id }) d = record {
+      names = record { own = refl; id = refl; role = refl };
+      links = record { peer = names.0; peer_id = inr names.1; one = l.one };
+    } in
+    subst (λ (x : Ends). Hears e x d) (sym learns.ends) now
 
-learns_bytes : (s : State) (d : Ends) (o : Result SppPacketModel Dropped) → ((p : SppPacketModel) → o ≡ Ok p → (p.source ≡ d.own) × (p.header.source_id ≡ d.id)) → IsLinked s.ends d → Learns s.ends (after_bytes s o).ends d
-learns_bytes s d (Err f) h l = record { names = record { own = refl; id = refl; role = refl }; links = l }
-learns_bytes s d (Ok p) h l = learns_packet s d p (arrival_fault s p) (h p refl) l
-
-learns : (s : State) (d : Ends) (b : List ℕ) → IsFrom d b → IsLinked s.ends d → Learns s.ends (after_receive s b).ends d
-learns s d b h l = learns_bytes s d (spp_packet_of b) h l
+hears : EndLaws → (s : State) (d : Ends) (b : List ℕ) → IsFrom d b → IsLinked s.ends d → Hears s.ends (after_receive s b).ends d
+hears laws s d b from l =
+    elim (laws.learns s b) as (λ o. Hears s.ends (after_receive s b).ends d) [
+      | inl same ↦ subst (λ (x : Ends). Hears s.ends x d) (sym same) (same_hears s.ends d l)
+      | inr learns ↦ learned_hears s.ends d b (after_receive s b).ends from l learns
+    ]
 
 -- ---- a packet comes
 
@@ -137,7 +134,7 @@ reply_from laws s b (Some r) e fits n =
     let t : State = after_receive s b in
     let q : SppPacketModel = system_packet t reply_control in
     let is : r ≡ spp_packet_spelling q = laws.goes_out.reply s b r e in
-    let from : IsFrom t.ends (spp_packet_spelling q) = named_from laws t.ends q (laws.packets.system_packet t reply_control fits (lit< tt)) (system_named t reply_control) in
+    let from : IsFrom t.ends (spp_packet_spelling q) = named_from laws t.ends q (laws.packets.system_packet t reply_control fits (lit< tt)) (laws.peers.system t reply_control) in
     let back : SameNames t.ends s.ends = record { own = sym n.own; id = sym n.id; role = sym n.role } in
     All-cons (IsFrom s.ends) r [] (subst (IsFrom s.ends) (sym is) (from_on t.ends s.ends (spp_packet_spelling q) back from)) (All-nil (IsFrom s.ends))
 
@@ -145,7 +142,7 @@ marked_links : (w : World) (k : ℕ) (x : Emitted) → slice_get w.bag k ≡ Som
 marked_links w k x is l =
     let v : World = marked w k x in
     let P : World → Emitted → Type 0 = λ u y. IsFrom (end_of u y.side).ends y.bytes in
-    let there : P w x = subst (P w) (get_or_from_slice_get w.bag k x x is) (l.bag k x (slice_get_within w.bag k x is)) in
+    let there : P w x = all_get (P w) w.bag k x l.bag is in
     record {
       ends = λ side. elim side as (λ t. IsLinked (end_of v t).ends (end_of v (other t)).ends) [ A ↦ l.ends A | B ↦ l.ends B ];
       bag = All-weaker (P w) (P v) (λ y h. subst (λ (t : State). IsFrom t.ends y.bytes) (sym (same_marked w k x y.side)) h) v.bag (All-set (P w) w.bag k (record x { delivered = true }) there l.bag);
@@ -164,9 +161,9 @@ answered_links laws w k x is fits l =
     let t : State = after_receive s x.bytes in
     let d : Ends = (end_of v (other side)).ends in
     let P : Emitted → Type 0 = λ y. IsFrom (end_of w y.side).ends y.bytes in
-    let there : P x = subst P (get_or_from_slice_get w.bag k x x is) (l.bag k x (slice_get_within w.bag k x is)) in
+    let there : P x = all_get P w.bag k x l.bag is in
     let from : IsFrom d x.bytes = from_peer v x.side x.bytes (subst (λ (y : State). IsFrom y.ends x.bytes) (sym (same_marked w k x x.side)) there) in
-    let e : Learns s.ends t.ends d = learns s d x.bytes from (m.ends side) in
+    let e : Hears s.ends t.ends d = hears laws s d x.bytes from (m.ends side) in
     let o : Option (List ℕ) = (receive_answer s x.bytes).reply in
     let good : IsState t = subst IsState (same_end v side t (option_to_list o)) fits in
     moved_links v side t (option_to_list o) e.names e.links (reply_from laws s x.bytes o refl good e.names) m
@@ -187,24 +184,24 @@ keeps_links laws order w (arrival k) fits h l = reached_links laws order w k (la
 keeps_links laws order w (noise side bytes) fits h l = subst Linked (sym (noise_changes_nothing laws w side bytes)) l
 keeps_links laws order w (sending side x) fits h l =
     let s : State = end_of w side in
-    stays_links w side (after_send s x) [] (accepting_ends s x (send_fault s x)) (All-nil (IsFrom s.ends)) l
+    stays_links w side (after_send s x) [] (send_ends laws s x (is_ok (send_answer s x)) refl) (All-nil (IsFrom s.ends)) l
 keeps_links laws order w (taking side) fits h l =
     let s : State = end_of w side in
-    stays_links w side (after_take s) [] (handing_ends s (take_answer s)) (All-nil (IsFrom s.ends)) l
+    stays_links w side (after_take s) [] (take_ends laws s (take_answer s) refl) (All-nil (IsFrom s.ends)) l
 keeps_links laws order w (flushing side) fits h l =
     let s : State = end_of w side in
     let good : IsState s = (h.ends side).fits in
-    stays_links w side (after_flush s) (flush_answer s) (sent_ends s (send_limit s) (is_open s.ends))
+    stays_links w side (after_flush s) (flush_answer s) (ap (λ (t : State). t.ends) (laws.alone.flush s))
     (own_from laws s (after_flush s) (flush_packets s) (laws.packets.flush s good) (laws.goes_out.flush s good)) l
 keeps_links laws order w (ticking side) fits h l =
     let s : State = end_of w side in
     let good : IsState s = (h.ends side).fits in
-    stays_links w side (after_tick s) (tick_answer s) (sent_ends s (send_limit s) (is_open s.ends && nat_lt s.acknowledged (send_limit s)))
+    stays_links w side (after_tick s) (tick_answer s) (ap (λ (t : State). t.ends) (laws.alone.tick s))
     (own_from laws s (after_tick s) (tick_packets s) (laws.packets.tick s good) (laws.goes_out.tick s)) l
 keeps_links laws order w (resending side) fits h l =
     let s : State = end_of w side in
     let good : IsState s = (h.ends side).fits in
-    stays_links w side (after_resend s) (option_to_list (resend_answer s)) (sent_ends s _ (is_open s.ends && nat_lt s.acknowledged (send_limit s)))
+    stays_links w side (after_resend s) (option_to_list (resend_answer s)) (ap (λ (t : State). t.ends) (laws.alone.resend s))
     (subst (λ (o : Option (List ℕ)). All (IsFrom s.ends) (option_to_list o)) (sym (laws.goes_out.resend_bytes s))
     (maybe_from laws s (after_resend s) (resend_packet s) (λ p e. laws.packets.resend s p good e) (λ p e. laws.goes_out.resend s p e))) l
 keeps_links laws order w (telling side asks) fits h l =

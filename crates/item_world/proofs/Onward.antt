@@ -1,37 +1,33 @@
--- From every world some plain steps hand up one item more.
-use Rattle.std.proofs.Common.{◌≡◌, inl, inr, ℕ, ◌+◌, ◌-◌, ◌<◌, ◌≤◌, Bool, true, false, not, List, [], ◌∷◌, ◌++◌, length, map, nat_lt, Option, Some, None, refl, sym, ◌∙◌, ap, subst, arith, append-nil, lit<}
-use Rattle.std.specs.Prelude.{slice_get, All, if◌then◌else◌, ◌||◌, ◌&&◌, ◌==◌}
+-- Two ends of a world: one asks, the other answers, and the next item goes over.
+use Rattle.xns_spp.specs.declared.ends.Ends.{Ends}
+use Rattle.std.proofs.Common.{◌≡◌, ℕ, ◌+◌, ◌-◌, ◌<◌, ◌≤◌, Bool, true, false, List, [], ◌∷◌, ◌++◌, length, map, nat_lt, Option, Some, None, refl, sym, ◌∙◌, ap, subst, arith, append-nil, lit<}
+use Rattle.std.specs.Prelude.{slice_get, if◌then◌else◌, ◌||◌}
 use Rattle.std.specs.Option.{option_to_list}
-use Rattle.std.proofs.lemmas.Bool.{lt-ltb, ltb-true, ltb-false}
 use Rattle.std.proofs.lemmas.List.{length-set, length-map}
-use Rattle.std.proofs.lemmas.List.Elements.{All-nil, All-cons}
-use Rattle.xns_spp.proofs.Lists.{All-slice_get}
-use Rattle.xns_spp.proofs.Telling.{resend_first_item}
 use Rattle.xns_spp.specs.Ends.{is_open, is_ours_at}
 use Rattle.xns_spp.specs.Fronts.{begins_length}
 use Rattle.xns_spp.specs.Growth.{IsOwnPacket}
-use Rattle.xns_spp.specs.Header.{acknowledge_bit, attention_bit, message_end_bit, has_bit, probe_control, reply_control, wants_reply}
+use Rattle.xns_spp.specs.Header.{reply_control}
 use Rattle.xns_spp.specs.Meant.{Meant, own_meant}
 use Rattle.xns_spp.specs.Packet.{SppPacketModel, spelled, spp_packet_spelling, spp_packet_of}
+use Rattle.xns_spp.specs.Peers.{IsLinked, IsHeard, Counts, Asks, IsNamed}
 use Rattle.xns_spp.specs.Receiving.{receive_answer, after_receive}
-use Rattle.xns_spp.specs.Sending.{data_packet, system_packet, packets_from, tick_packets, tick_answer, after_tick, after_take}
+use Rattle.xns_spp.specs.Sending.{data_packet, system_packet, tick_packets, tick_answer, after_tick, after_take, after_flush, flush_answer}
 use Rattle.xns_spp.specs.State.{State, window_top, send_limit}
 use Rattle.xns_spp.specs.declared.item.Item.{Item}
 use Rattle.item_world.proofs.Arrivals.{read_as_meant}
-use Rattle.item_world.proofs.Fronts.{element}
-use Rattle.item_world.proofs.Heard.{IsHeard, heard_reply, heard_acknowledged, heard_allowed, heard_takes, heard_open, IsNamed, its_own}
-use Rattle.item_world.proofs.Later.{all_later}
+use Rattle.item_world.proofs.Fronts.{element, all_get, front_get}
 use Rattle.item_world.proofs.Moves.{IsProper, IsProperAs, as_proper, system_proper_as, item_proper_as, own_proper}
 use Rattle.item_world.proofs.Sides.{same_end, same_other, same_marked, other_other}
 use Rattle.item_world.specs.EndLaws.{EndLaws}
-use Rattle.item_world.specs.Events.{Step, IsStep, arrival, taking, ticking, stepped, all_stepped}
+use Rattle.item_world.specs.Events.{Step, IsStep, arrival, ticking, stepped, flushing}
 use Rattle.item_world.specs.Going.{Later, as_sent}
 use Rattle.item_world.specs.Invariant.{IsSoundSpelling, Stands, Holds}
-use Rattle.item_world.specs.Landing.{answered, landed, reached}
+use Rattle.item_world.specs.Landing.{answered, landed, reached, landing}
 use Rattle.item_world.specs.Laws.{EachStepKeepsTheOrder}
-use Rattle.item_world.specs.Progress.{IsPlain, IsWire, Stirs, IsLinked, Linked}
+use Rattle.item_world.specs.Progress.{Linked}
 use Rattle.item_world.specs.Side.{other}
-use Rattle.item_world.specs.World.{World, end_of, moment, emitted, moved, marked, lifetime, is_past, ticks, takes}
+use Rattle.item_world.specs.World.{World, end_of, moment, emitted, moved, marked, lifetime, is_past, ticks, takes, flushes}
 use Rattle.item_world.specs.declared.emitted.Emitted.{Emitted}
 use Rattle.item_world.specs.declared.moment.Moment.{Moment}
 use Rattle.item_world.specs.declared.side.Side.{Side}
@@ -165,62 +161,6 @@ proper_heard laws t p q m to back i ours =
       behind = omega (arith, i.sound.acknowledges, to.went_out);
     }
 
-pub system_named : (s : State) (control : ℕ) → IsNamed s.ends (system_packet s control)
-system_named s control = record { source = refl; source_id = refl; target = refl; target_id = refl }
-
-data_named : (s : State) (i : ℕ) (x : Item) → IsNamed s.ends (data_packet s i x)
-data_named s i x = record { source = refl; source_id = refl; target = refl; target_id = refl }
-
-pub own_named : (s t : State) (q : SppPacketModel) → IsOwnPacket s t q → IsNamed s.ends q
-own_named s t q (inl i) = subst (IsNamed s.ends) (sym i.is) (system_named s i.control)
-own_named s t q (inr i) = subst (IsNamed s.ends) (sym i.is) (data_named s i.number i.item)
-
--- ---- a tick asks for a reply while an item is not acknowledged
-
-item_asks : (a l : Bool) → has_bit (acknowledge_bit + (if a then attention_bit else 0) + (if l then message_end_bit else 0)) acknowledge_bit ≡ true
-item_asks true true = refl
-item_asks true false = refl
-item_asks false true = refl
-item_asks false false = refl
-
-data_asks : (s : State) (i : ℕ) (x : Item) → wants_reply (data_packet s i x).header ≡ true
-data_asks s i x = ap (λ (b : Bool). b || s.ends.peer_id == 0) (item_asks x.attention x.last)
-
-abbrev first_of : State → Bool → Bool → Bool → Option SppPacketModel
-first_of s ready some left =
-    slice_get
-    (if not ready then system_packet s probe_control ∷ []
-    else if some then packets_from s s.acknowledged
-    else if left then system_packet s probe_control ∷ []
-    else []) 0
-
--- the first packet of a tick asks for a reply
-record Asks (s : State) : Type 0 where
-  packet : SppPacketModel
-  is : slice_get (tick_packets s) 0 ≡ Some packet
-  asks : wants_reply packet.header ≡ true
-
-tick_asks : (s : State) (p q : Bool) → is_open s.ends ≡ p → nat_lt s.acknowledged (send_limit s) ≡ q → s.acknowledged < length s.accepted → Asks s
-tick_asks s false q ready some left = record {
-  packet = system_packet s probe_control;
-  is = ap (λ (b : Bool). first_of s b (nat_lt s.acknowledged (send_limit s)) (nat_lt s.acknowledged (length s.accepted))) ready;
-  asks = refl;
-}
-tick_asks s true true ready some left =
-    let there = element s.accepted s.acknowledged left in
-    record {
-      packet = data_packet s s.acknowledged there.0;
-      is = resend_first_item s there.0 ready there.1 (ltb-true s.acknowledged (send_limit s) some);
-      asks = data_asks s s.acknowledged there.0;
-    }
-tick_asks s true false ready some left = record {
-  packet = system_packet s probe_control;
-  is = ap (λ (b : Bool). first_of s b (nat_lt s.acknowledged (send_limit s)) (nat_lt s.acknowledged (length s.accepted))) ready
-      ∙ (ap (λ (b : Bool). first_of s true b (nat_lt s.acknowledged (length s.accepted))) some
-      ∙ ap (λ (b : Bool). first_of s true false b) (lt-ltb s.acknowledged (length s.accepted) left));
-  asks = refl;
-}
-
 -- ---- an end asks, and is told
 
 -- after a tick its first packet comes to the peer, which answers it
@@ -235,27 +175,28 @@ pub record Asked (w : World) (side : Side) (s p : State) : Type 0 where
 pub asked : Kept → (w : World) (side : Side) (s p : State) → Pair w side s p → s.acknowledged < length s.accepted → Asked w side s p
 asked k w side s p x left =
     let laws : EndLaws = k.laws in
-    let a : Asks s = tick_asks s (is_open s.ends) (nat_lt s.acknowledged (send_limit s)) refl refl left in
+    let a : Asks s = laws.asks.asks s left in
     let q : SppPacketModel = a.packet in
     let t : State = after_tick s in
     let v : World = ticks w side in
     let y : Pair v side t p = ticked k w side s p x in
-    let own : IsOwnPacket s t q = All-slice_get (IsOwnPacket s t) (tick_packets s) 0 q (laws.goes_out.tick s) a.is in
+    let own : IsOwnPacket s t q = all_get (IsOwnPacket s t) (tick_packets s) 0 q (laws.goes_out.tick s) a.first in
     let before : Stands s p = stands w side s p x in
     let now : Stands t p = stands v side t p y in
     let back : Stands p t = stands v (other side) p t (flip v side t p y) in
     let proper : IsProper (moment t p) t q = own_proper laws s t p q before now (laws.grows.tick s before.fits) (laws.hears.tick s).taken own in
     let ours : is_ours_at p.ends q ≡ true =
-    its_own s.ends p.ends q before.fits.ends back.fits.ends (links w side s p x) (links w (other side) p s (flip w side s p x)) (own_named s t q own) in
+    laws.peers.ours s.ends p.ends q before.fits.ends back.fits.ends (links w side s p x) (links w (other side) p s (flip w side s p x)) (laws.peers.own s t q own) in
     let heard = proper_heard laws t p q proper.meant now back (as_proper (moment t p) t q proper) ours in
     let bytes : List ℕ = spp_packet_spelling q in
-    let new : IsNew v side t p (length w.bag) bytes = record { at = moment t p; is = ticked_packet k w side s p q x a.is; sender = refl; receiver = refl } in
+    let reply = (laws.counts p bytes q proper.meant heard).reply a.asks in
+    let new : IsNew v side t p (length w.bag) bytes = record { at = moment t p; is = ticked_packet k w side s p q x a.first; sender = refl; receiver = refl } in
     record {
       bytes = bytes;
       new = new;
-      answer = heard_reply p bytes q proper.meant heard a.asks;
+      answer = reply;
       pair = arrived k v side t p (length w.bag) bytes y new;
-      reply = replied v side t p (length w.bag) bytes (spp_packet_spelling (system_packet (after_receive p bytes) reply_control)) y new (heard_reply p bytes q proper.meant heard a.asks);
+      reply = replied v side t p (length w.bag) bytes (spp_packet_spelling (system_packet (after_receive p bytes) reply_control)) y new reply;
     }
 
 -- an open end that knows what its peer has taken and has room for
@@ -265,37 +206,7 @@ pub record Knows (w : World) (side : Side) (s p : State) : Type 0 where
   pub acknowledged : length p.taken ≤ s.acknowledged
   pub allowed : window_top p < s.allowed
 
-told : Kept → (w : World) (side : Side) (s p : State) (k : ℕ) → Pair w side s p → slice_get w.bag k ≡ Some (emitted (other side) (moment p s) (spp_packet_spelling (system_packet p reply_control)))
-    → Knows (stepped w (arrival k)) side (after_receive s (spp_packet_spelling (system_packet p reply_control))) p
-told kept w side s p k x h =
-    let laws : EndLaws = kept.laws in
-    let q : SppPacketModel = system_packet p reply_control in
-    let bytes : List ℕ = spp_packet_spelling q in
-    let y : Pair w (other side) p s = flip w side s p x in
-    let to : Stands p s = stands w (other side) p s y in
-    let back : Stands s p = stands w side s p x in
-    let proper : IsProperAs (moment p s) p q (own_meant p p.sent) = system_proper_as laws p p s reply_control to (omega arith) refl (lit< tt) refl in
-    let ours : is_ours_at s.ends q ≡ true =
-    its_own p.ends s.ends q to.fits.ends back.fits.ends (links w (other side) p s y) (links w side s p x) (system_named p reply_control) in
-    let heard : IsHeard s bytes q (own_meant p p.sent) = proper_heard laws p s q (own_meant p p.sent) to back proper ours in
-    let new : IsNew w (other side) p s k bytes = record { at = moment p s; is = h; sender = refl; receiver = refl } in
-    let z = arrived kept w (other side) p s k bytes y new in
-    let t : State = after_receive s bytes in
-    let v : World = stepped w (arrival k) in
-    let f : Pair v (other (other side)) t p = flip v (other side) p t z in
-    record {
-      pair = subst (λ (u : Side). Pair v u t p) (other_other side) f;
-      ready = heard_open s bytes q (own_meant p p.sent) heard to.fits.ends.id_known;
-      acknowledged = heard_acknowledged s bytes q (own_meant p p.sent) heard;
-      allowed = heard_allowed s bytes q (own_meant p p.sent) heard;
-    }
-
 -- ---- the next item goes out, and is taken
-
-after_by : (s : State) (p q : Bool) → is_open s.ends ≡ p → nat_lt s.acknowledged (send_limit s) ≡ q → p ≡ true → q ≡ true → (after_tick s).sent ≡ send_limit s
-after_by s p q h i c d =
-    ap (λ (b : Bool). (if b && nat_lt s.acknowledged (send_limit s) then record s { sent = send_limit s } else s).sent) (h ∙ c)
-    ∙ ap (λ (b : Bool). (if true && b then record s { sent = send_limit s } else s).sent) (i ∙ d)
 
 pub record Goes (w : World) (side : Side) (s p : State) : Type 0 where
   pub bytes : List ℕ
@@ -316,16 +227,16 @@ goes k w side s p knows none left =
     let there = element s.accepted n (omega (arith, next, left)) in
     let item : Item = there.0 in
     let q : SppPacketModel = data_packet s n item in
-    let first : slice_get (tick_packets s) 0 ≡ Some q = resend_first_item s item knows.ready there.1 may in
+    let first : slice_get (tick_packets s) 0 ≡ Some q = laws.first_again.packet s item knows.ready there.1 may in
     let t : State = after_tick s in
     let v : World = ticks w side in
     let y : Pair v side t p = ticked k w side s p x in
     let now : Stands t p = stands v side t p y in
     let back : Stands p t = stands v (other side) p t (flip v side t p y) in
-    let out : t.sent ≡ send_limit s = after_by s (is_open s.ends) (nat_lt n (send_limit s)) refl refl knows.ready (lt-ltb n (send_limit s) may) in
+    let out : t.sent ≡ send_limit s = laws.asks.sent s knows.ready may in
     let proper : IsProperAs (moment t p) t q (own_meant s n) = item_proper_as laws s t p n item before now (laws.grows.tick s before.fits) (laws.hears.tick s).taken there.1 (omega arith) (omega (arith, out, may)) in
     let ours : is_ours_at p.ends q ≡ true =
-    its_own s.ends p.ends q before.fits.ends here.fits.ends (links w side s p x) (links w (other side) p s (flip w side s p x)) (data_named s n item) in
+    laws.peers.ours s.ends p.ends q before.fits.ends here.fits.ends (links w side s p x) (links w (other side) p s (flip w side s p x)) (laws.peers.item s n item) in
     let bytes : List ℕ = spp_packet_spelling q in
     let heard : IsHeard p bytes q (own_meant s n) = proper_heard laws t p q (own_meant s n) now back proper ours in
     let new : IsNew v side t p (length w.bag) bytes = record { at = moment t p; is = ticked_packet k w side s p q x first; sender = refl; receiver = refl } in
@@ -333,7 +244,7 @@ goes k w side s p knows none left =
       bytes = bytes;
       new = new;
       pair = arrived k v side t p (length w.bag) bytes y new;
-      takes = heard_takes p bytes q (own_meant s n) heard (laws.says.brings s n item knows.ready) next room;
+      takes = (laws.counts p bytes q (own_meant s n) heard).takes (laws.says.brings s n item knows.ready) next room;
     }
 
 -- ---- one item more is handed up
@@ -349,226 +260,111 @@ took laws w side s p x lt =
 pub longer : (u v : World) → Later u v → length u.bag ≤ length v.bag
 longer u v l = omega (arith, begins_length (map as_sent u.bag) (map as_sent v.bag) l.bag, length-map u.bag as_sent, length-map v.bag as_sent)
 
--- some plain steps after which an end has handed up more than this
-pub record Advances (w : World) (side : Side) (handed : ℕ) : Type 0 where
-  pub steps : List Step
-  pub plain : All (IsPlain (length w.bag)) steps
-  pub few : length steps ≤ 6
-  pub more : handed < (end_of (all_stepped w steps) (other side)).handed
+-- ---- what a flush leaves of an end
 
--- of an end that has taken no more than it handed up; by whether the packet of the first tick brought an item
-by_test : (k : Kept) (w : World) (side : Side) (s p : State) → Pair w side s p → p.handed ≡ length p.taken → p.handed < length s.accepted → (a : Asked w side s p) (b : Bool)
-    → nat_lt (after_receive p a.bytes).handed (length (after_receive p a.bytes).taken) ≡ b → Advances w side p.handed
-by_test k w side s p x none left a true h =
-    let laws : EndLaws = k.laws in
-    let w1 : World = ticks w side in
-    let w2 : World = stepped w1 (arrival (length w.bag)) in
-    let o : State = after_receive p a.bytes in
-    let same : o.handed ≡ p.handed = (laws.stays.receive p a.bytes).handed in
+pub record IsAlike (s t : State) : Type 0 where
+  pub ends : t.ends ≡ s.ends
+  pub allowed : t.allowed ≡ s.allowed
+  pub top : window_top t ≡ window_top s
+  pub handed : t.handed ≡ s.handed
+  pub taken : t.taken ≡ s.taken
+  pub acknowledged : t.acknowledged ≡ s.acknowledged
+  pub accepted : t.accepted ≡ s.accepted
+
+pub alike : EndLaws → (s : State) → IsAlike s (after_flush s)
+alike laws s =
+    let is = laws.alone.flush s in
     record {
-      steps = ticking side ∷ arrival (length w.bag) ∷ taking (other side) ∷ [];
-      plain = All-cons (IsPlain (length w.bag)) (ticking side) (arrival (length w.bag) ∷ taking (other side) ∷ []) tt
-          (All-cons (IsPlain (length w.bag)) (arrival (length w.bag)) (taking (other side) ∷ []) (omega arith)
-          (All-cons (IsPlain (length w.bag)) (taking (other side)) [] tt (All-nil (IsPlain (length w.bag)))));
-      few = omega arith;
-      more = omega (arith, took laws w2 side (after_tick s) o a.pair (ltb-true o.handed (length o.taken) h), same);
+      ends = ap (λ (t : State). t.ends) is;
+      allowed = ap (λ (t : State). t.allowed) is;
+      top = ap window_top is;
+      handed = ap (λ (t : State). t.handed) is;
+      taken = ap (λ (t : State). t.taken) is;
+      acknowledged = ap (λ (t : State). t.acknowledged) is;
+      accepted = ap (λ (t : State). t.accepted) is;
     }
-by_test k w side s p x none left a false h =
-    let laws : EndLaws = k.laws in
-    let t : State = after_tick s in
-    let o : State = after_receive p a.bytes in
-    let w1 : World = ticks w side in
-    let w2 : World = stepped w1 (arrival (length w.bag)) in
-    let w3 : World = stepped w2 (arrival (length w1.bag)) in
-    let w4 : World = ticks w3 side in
-    let w5 : World = stepped w4 (arrival (length w3.bag)) in
-    let handed : o.handed ≡ p.handed = (laws.stays.receive p a.bytes).handed in
-    let bytes : List ℕ = spp_packet_spelling (system_packet o reply_control) in
+
+-- ---- where an end flushes
+
+pub lands_there : (w : World) (side : Side) (s p : State) (k : ℕ) (bytes : List ℕ) → Pair w side s p → (i : IsNew w side s p k bytes) → landing w k ≡ Some (other side, answered w k (emitted side i.at bytes))
+lands_there w side s p k bytes x i =
+    let y : Emitted = emitted side i.at bytes in
+    ap (landed w k) i.is ∙ ap (λ (b : Bool). if b then None else Some (other side, answered w k y)) (is_alive i.at (length (end_of w side).taken) (length (end_of w (other side)).taken)
+    (i.sender ∙ sym (ap (λ (t : State). length t.taken) x.here)) (i.receiver ∙ sym (ap (λ (t : State). length t.taken) x.there)))
+
+pub flushed_pair : Kept → (w : World) (side : Side) (s p : State) → Pair w side s p → Pair (flushes w (other side)) side s (after_flush p)
+flushed_pair k w side s p x =
+    let t : State = end_of w (other side) in
+    record {
+      here = peer_moves w side (after_flush t) (flush_answer t) ∙ x.here;
+      there = same_end w (other side) (after_flush t) (flush_answer t) ∙ ap after_flush x.there;
+      holds = k.order.each w (flushing (other side)) tt x.holds;
+      linked = k.links w (flushing (other side)) tt x.holds x.linked;
+    }
+
+pub flushed_here : Kept → (w : World) (side : Side) (s p : State) → Pair w side s p → Pair (flushes w side) side (after_flush s) p
+flushed_here k w side s p x =
+    let t : State = end_of w side in
+    record {
+      here = same_end w side (after_flush t) (flush_answer t) ∙ ap after_flush x.here;
+      there = same_other w side (after_flush t) (flush_answer t) ∙ x.there;
+      holds = k.order.each w (flushing side) tt x.holds;
+      linked = k.links w (flushing side) tt x.holds x.linked;
+    }
+
+-- a packet that was just sent is there still once its sender has flushed
+pub new_out : EndLaws → (w : World) (side : Side) (s p : State) (k : ℕ) (bytes : List ℕ) → IsNew w side s p k bytes → IsNew (flushes w side) side (after_flush s) p k bytes
+new_out laws w side s p k bytes i = record {
+  at = i.at;
+  is = front_get w.bag _ k (emitted side i.at bytes) i.is;
+  sender = i.sender ∙ sym (ap length (alike laws s).taken);
+  receiver = i.receiver;
+}
+
+pub lands_as : (w : World) (side : Side) (s p : State) (k : ℕ) (bytes : List ℕ) → Pair w side s p → IsNew w side s p k bytes → landing w k ≡ Some (other side, stepped w (arrival k))
+lands_as w side s p k bytes x i = lands_there w side s p k bytes x i ∙ ap (λ (v : World). Some (other side, v)) (sym (lands_now w side s p k bytes x i))
+
+-- the reply comes, which was made before its sender flushed
+pub record Told (w : World) (side : Side) (t o : State) (k : ℕ) : Type 0 where
+  pub lands : landing w k ≡ Some (side, stepped w (arrival k))
+  pub knows : Knows (stepped w (arrival k)) side (after_receive t (spp_packet_spelling (system_packet o reply_control))) (after_flush o)
+
+pub told_out : Kept → (w : World) (side : Side) (t o : State) (k : ℕ) → Pair w side t (after_flush o) → Stands o t → slice_get w.bag k ≡ Some (emitted (other side) (moment o t) (spp_packet_spelling (system_packet o reply_control))) → Told w side t o k
+told_out kept w side t o k x before h =
+    let laws : EndLaws = kept.laws in
+    let p : State = after_flush o in
+    let l : IsAlike o p = alike laws o in
+    let q : SppPacketModel = system_packet o reply_control in
+    let bytes : List ℕ = spp_packet_spelling q in
+    let y : Pair w (other side) p t = flip w side t p x in
+    let to : Stands p t = stands w (other side) p t y in
+    let back : Stands t p = stands w side t p x in
+    let proper : IsProperAs (moment p t) p q (own_meant o o.sent) = system_proper_as laws o p t reply_control before (omega (arith, l.top)) l.taken (lit< tt) refl in
+    let ours : is_ours_at t.ends q ≡ true =
+    laws.peers.ours p.ends t.ends q to.fits.ends back.fits.ends (links w (other side) p t y) (links w side t p x)
+    (subst (λ (e : Ends). IsNamed e q) (sym l.ends) (laws.peers.system o reply_control)) in
+    let heard : IsHeard t bytes q (own_meant o o.sent) = proper_heard laws p t q (own_meant o o.sent) to back proper ours in
+    let counts : Counts t bytes q (own_meant o o.sent) = laws.counts t bytes q (own_meant o o.sent) heard in
+    let new : IsNew w (other side) p t k bytes = record { at = moment o t; is = h; sender = sym (ap length l.taken); receiver = refl } in
     let u : State = after_receive t bytes in
-    let accepted : length u.accepted ≡ length s.accepted = ap length (laws.stays.receive t bytes).accepted ∙ ap length (laws.stays.tick s).accepted in
-    let knows : Knows w3 side u o = told k w2 side t o (length w1.bag) a.pair a.reply in
-    let there : Stands o u = stands w3 (other side) o u (flip w3 side u o knows.pair) in
-    let all : o.handed ≡ length o.taken = omega (arith, ltb-false o.handed (length o.taken) h, there.fits.bounds.handed_taken) in
-    let g : Goes w3 side u o = goes k w3 side u o knows all (omega (arith, all, handed, left, accepted)) in
-    let e : State = after_receive o g.bytes in
-    let same : e.handed ≡ o.handed = (laws.stays.receive o g.bytes).handed in
-    let one : length w.bag ≤ length w1.bag = longer w w1 (all_later laws w (ticking side ∷ [])) in
-    let three : length w.bag ≤ length w3.bag = longer w w3 (all_later laws w (ticking side ∷ arrival (length w.bag) ∷ arrival (length w1.bag) ∷ [])) in
-    let P : Step → Type 0 = IsPlain (length w.bag) in
-    let s6 : List Step = taking (other side) ∷ [] in
-    let s5 : List Step = arrival (length w3.bag) ∷ s6 in
-    let s4 : List Step = ticking side ∷ s5 in
-    let s3 : List Step = arrival (length w1.bag) ∷ s4 in
-    let s2 : List Step = arrival (length w.bag) ∷ s3 in
+    let v : World = stepped w (arrival k) in
+    let f : Pair v (other (other side)) u p = flip v (other side) p u (arrived kept w (other side) p t k bytes y new) in
     record {
-      steps = ticking side ∷ s2;
-      plain = All-cons P (ticking side) s2 tt
-          (All-cons P (arrival (length w.bag)) s3 (omega arith)
-          (All-cons P (arrival (length w1.bag)) s4 one
-          (All-cons P (ticking side) s5 tt
-          (All-cons P (arrival (length w3.bag)) s6 three
-          (All-cons P (taking (other side)) [] tt (All-nil P))))));
-      few = omega arith;
-      more = omega (arith, took laws w5 side (after_tick u) e g.pair (omega (arith, g.takes, all, same)), same, handed);
+      lands = subst (λ (e : Side). landing w k ≡ Some (e, v)) (other_other side) (lands_as w (other side) p t k bytes y new);
+      knows = record {
+        pair = subst (λ (e : Side). Pair v e u p) (other_other side) f;
+        ready = counts.opens before.fits.ends.id_known;
+        acknowledged = omega (arith, counts.acknowledged, ap length l.taken);
+        allowed = omega (arith, counts.allowed, l.top);
+      };
     }
 
-first_case : Kept → (w : World) (side : Side) (s p : State) → Pair w side s p → p.handed ≡ length p.taken → p.handed < length s.accepted → Advances w side p.handed
-first_case k w side s p x none left =
-    let before : Stands s p = stands w side s p x in
-    let a : Asked w side s p = asked k w side s p x (omega (arith, before.acknowledged, none, left)) in
-    by_test k w side s p x none left a (nat_lt (after_receive p a.bytes).handed (length (after_receive p a.bytes).taken)) refl
-
-by_waiting : Kept → (w : World) (side : Side) (s p : State) (b : Bool) → nat_lt p.handed (length p.taken) ≡ b → Pair w side s p → p.handed < length s.accepted → Advances w side p.handed
-by_waiting k w side s p true h x left = record {
-  steps = taking (other side) ∷ [];
-  plain = All-cons (IsPlain (length w.bag)) (taking (other side)) [] tt (All-nil (IsPlain (length w.bag)));
-  few = omega arith;
-  more = omega (arith, took k.laws w side s p x (ltb-true p.handed (length p.taken) h));
-}
-by_waiting k w side s p false h x left =
-    let there : Stands p s = stands w (other side) p s (flip w side s p x) in
-    first_case k w side s p x (omega (arith, ltb-false p.handed (length p.taken) h, there.fits.bounds.handed_taken)) left
-
--- wherever an item that a side accepted is not handed up at the other, some plain steps hand one up
-pub advances : Kept → (w : World) (side : Side) → Holds w → Linked w → (end_of w (other side)).handed < length (end_of w side).accepted → Advances w side (end_of w (other side)).handed
-advances k w side h l left =
-    let s : State = end_of w side in
-    let p : State = end_of w (other side) in
-    by_waiting k w side s p (nat_lt p.handed (length p.taken)) refl (record { here = refl; there = refl; holds = h; linked = l }) left
-
--- ---- all is acknowledged
-
--- some plain steps after which an end knows that its peer has taken as many items
-pub record Settles (w : World) (side : Side) (n : ℕ) : Type 0 where
-  pub steps : List Step
-  pub plain : All (IsPlain (length w.bag)) steps
-  pub few : length steps ≤ 3
-  pub all : n ≤ (end_of (all_stepped w steps) side).acknowledged
-
-asks_and_settles : Kept → (w : World) (side : Side) (s p : State) → Pair w side s p → length s.accepted ≤ p.handed → s.acknowledged < length s.accepted → Settles w side (length s.accepted)
-asks_and_settles k w side s p x all left =
-    let laws : EndLaws = k.laws in
-    let a : Asked w side s p = asked k w side s p x left in
-    let t : State = after_tick s in
-    let o : State = after_receive p a.bytes in
-    let w1 : World = ticks w side in
-    let w2 : World = stepped w1 (arrival (length w.bag)) in
-    let w3 : World = stepped w2 (arrival (length w1.bag)) in
-    let u : State = after_receive t (spp_packet_spelling (system_packet o reply_control)) in
-    let knows : Knows w3 side u o = told k w2 side t o (length w1.bag) a.pair a.reply in
-    let there : Stands o u = stands w3 (other side) o u (flip w3 side u o knows.pair) in
-    let handed : o.handed ≡ p.handed = (laws.stays.receive p a.bytes).handed in
-    let one : length w.bag ≤ length w1.bag = longer w w1 (all_later laws w (ticking side ∷ [])) in
-    let P : Step → Type 0 = IsPlain (length w.bag) in
-    let s3 : List Step = arrival (length w1.bag) ∷ [] in
-    let s2 : List Step = arrival (length w.bag) ∷ s3 in
+pub knows_flushed : Kept → (w : World) (side : Side) (s p : State) → Knows w side s p → Knows (flushes w side) side (after_flush s) p
+knows_flushed k w side s p x =
+    let l : IsAlike s (after_flush s) = alike k.laws s in
     record {
-      steps = ticking side ∷ s2;
-      plain = All-cons P (ticking side) s2 tt (All-cons P (arrival (length w.bag)) s3 (omega arith) (All-cons P (arrival (length w1.bag)) [] one (All-nil P)));
-      few = omega arith;
-      all = omega (arith, all, handed, there.fits.bounds.handed_taken, knows.acknowledged, ap (λ (y : State). y.acknowledged) knows.pair.here);
+      pair = flushed_here k w side s p x.pair;
+      ready = ap is_open l.ends ∙ x.ready;
+      acknowledged = omega (arith, x.acknowledged, l.acknowledged);
+      allowed = omega (arith, x.allowed, l.allowed);
     }
-
-settles_by : Kept → (w : World) (side : Side) (b : Bool) → nat_lt (end_of w side).acknowledged (length (end_of w side).accepted) ≡ b → Holds w → Linked w → length (end_of w side).accepted ≤ (end_of w (other side)).handed
-    → Settles w side (length (end_of w side).accepted)
-settles_by k w side true e h l all =
-    let s : State = end_of w side in
-    asks_and_settles k w side s (end_of w (other side)) (record { here = refl; there = refl; holds = h; linked = l }) all (ltb-true s.acknowledged (length s.accepted) e)
-settles_by k w side false e h l all = record {
-  steps = [];
-  plain = All-nil (IsPlain (length w.bag));
-  few = omega arith;
-  all = ltb-false (end_of w side).acknowledged (length (end_of w side).accepted) e;
-}
-
-pub settles : Kept → (w : World) (side : Side) → Holds w → Linked w → length (end_of w side).accepted ≤ (end_of w (other side)).handed → Settles w side (length (end_of w side).accepted)
-settles k w side = settles_by k w side (nat_lt (end_of w side).acknowledged (length (end_of w side).accepted)) refl
-
--- ---- without taking anything
-
--- in w5 the next item was taken
-stirs_goes : Kept → (w : World) (side : Side) (s p : State) → (a : Asked w side s p)
-    → (after_receive p a.bytes).handed ≡ length (after_receive p a.bytes).taken → length (after_receive p a.bytes).taken < length s.accepted → Stirs w side
-stirs_goes k w side s p a all left =
-    let laws : EndLaws = k.laws in
-    let t : State = after_tick s in
-    let o : State = after_receive p a.bytes in
-    let w1 : World = ticks w side in
-    let w2 : World = stepped w1 (arrival (length w.bag)) in
-    let w3 : World = stepped w2 (arrival (length w1.bag)) in
-    let u : State = after_receive t (spp_packet_spelling (system_packet o reply_control)) in
-    let accepted : length u.accepted ≡ length s.accepted = ap length (laws.stays.receive t (spp_packet_spelling (system_packet o reply_control))).accepted ∙ ap length (laws.stays.tick s).accepted in
-    let knows : Knows w3 side u o = told k w2 side t o (length w1.bag) a.pair a.reply in
-    let g : Goes w3 side u o = goes k w3 side u o knows all (omega (arith, left, accepted)) in
-    let e : State = after_receive o g.bytes in
-    let same : e.handed ≡ o.handed = (laws.stays.receive o g.bytes).handed in
-    let one : length w.bag ≤ length w1.bag = longer w w1 (all_later laws w (ticking side ∷ [])) in
-    let three : length w.bag ≤ length w3.bag = longer w w3 (all_later laws w (ticking side ∷ arrival (length w.bag) ∷ arrival (length w1.bag) ∷ [])) in
-    let P : Step → Type 0 = IsWire (length w.bag) in
-    let s5 : List Step = arrival (length w3.bag) ∷ [] in
-    let s4 : List Step = ticking side ∷ s5 in
-    let s3 : List Step = arrival (length w1.bag) ∷ s4 in
-    let s2 : List Step = arrival (length w.bag) ∷ s3 in
-    record {
-      more = ticking side ∷ s2;
-      wire = All-cons P (ticking side) s2 tt
-          (All-cons P (arrival (length w.bag)) s3 (omega arith)
-          (All-cons P (arrival (length w1.bag)) s4 one
-          (All-cons P (ticking side) s5 tt
-          (All-cons P (arrival (length w3.bag)) [] three (All-nil P)))));
-      comes = inl (omega (arith, ap (λ (y : State). y.handed) g.pair.there, ap (λ (y : State). length y.taken) g.pair.there, same, all, g.takes));
-    }
-
-stirs_told : Kept → (w : World) (side : Side) (s p : State) → (a : Asked w side s p) → length s.accepted ≤ length (after_receive p a.bytes).taken → Stirs w side
-stirs_told k w side s p a all =
-    let laws : EndLaws = k.laws in
-    let t : State = after_tick s in
-    let o : State = after_receive p a.bytes in
-    let w1 : World = ticks w side in
-    let w2 : World = stepped w1 (arrival (length w.bag)) in
-    let w3 : World = stepped w2 (arrival (length w1.bag)) in
-    let u : State = after_receive t (spp_packet_spelling (system_packet o reply_control)) in
-    let accepted : length u.accepted ≡ length s.accepted = ap length (laws.stays.receive t (spp_packet_spelling (system_packet o reply_control))).accepted ∙ ap length (laws.stays.tick s).accepted in
-    let knows : Knows w3 side u o = told k w2 side t o (length w1.bag) a.pair a.reply in
-    let one : length w.bag ≤ length w1.bag = longer w w1 (all_later laws w (ticking side ∷ [])) in
-    let P : Step → Type 0 = IsWire (length w.bag) in
-    let s3 : List Step = arrival (length w1.bag) ∷ [] in
-    let s2 : List Step = arrival (length w.bag) ∷ s3 in
-    record {
-      more = ticking side ∷ s2;
-      wire = All-cons P (ticking side) s2 tt (All-cons P (arrival (length w.bag)) s3 (omega arith) (All-cons P (arrival (length w1.bag)) [] one (All-nil P)));
-      comes = inr (omega (arith, ap (λ (y : State). length y.accepted) knows.pair.here, ap (λ (y : State). y.acknowledged) knows.pair.here, accepted, all, knows.acknowledged));
-    }
-
-stirs_asked : Kept → (w : World) (side : Side) (s p : State) → (a : Asked w side s p) (b c : Bool) → nat_lt (after_receive p a.bytes).handed (length (after_receive p a.bytes).taken) ≡ b
-    → nat_lt (length (after_receive p a.bytes).taken) (length s.accepted) ≡ c → Stirs w side
-stirs_asked k w side s p a true c h i =
-    let o : State = after_receive p a.bytes in
-    let P : Step → Type 0 = IsWire (length w.bag) in
-    record {
-      more = ticking side ∷ arrival (length w.bag) ∷ [];
-      wire = All-cons P (ticking side) (arrival (length w.bag) ∷ []) tt (All-cons P (arrival (length w.bag)) [] (omega arith) (All-nil P));
-      comes = inl (omega (arith, ap (λ (y : State). y.handed) a.pair.there, ap (λ (y : State). length y.taken) a.pair.there, ltb-true o.handed (length o.taken) h));
-    }
-stirs_asked k w side s p a false false h i = let o : State = after_receive p a.bytes in stirs_told k w side s p a (ltb-false (length o.taken) (length s.accepted) i)
-stirs_asked k w side s p a false true h i =
-    let o : State = after_receive p a.bytes in
-    let w1 : World = ticks w side in
-    let w2 : World = stepped w1 (arrival (length w.bag)) in
-    let there : Stands o (after_tick s) = stands w2 (other side) o (after_tick s) (flip w2 side (after_tick s) o a.pair) in
-    stirs_goes k w side s p a (omega (arith, ltb-false o.handed (length o.taken) h, there.fits.bounds.handed_taken)) (ltb-true (length o.taken) (length s.accepted) i)
-
-stirs_by : Kept → (w : World) (side : Side) (b : Bool) → nat_lt (end_of w side).acknowledged (length (end_of w side).accepted) ≡ b → Holds w → Linked w → Stirs w side
-stirs_by k w side true e h l =
-    let s : State = end_of w side in
-    let p : State = end_of w (other side) in
-    let a : Asked w side s p = asked k w side s p (record { here = refl; there = refl; holds = h; linked = l }) (ltb-true s.acknowledged (length s.accepted) e) in
-    stirs_asked k w side s p a (nat_lt (after_receive p a.bytes).handed (length (after_receive p a.bytes).taken)) (nat_lt (length (after_receive p a.bytes).taken) (length s.accepted)) refl refl
-stirs_by k w side false e h l = record {
-  more = [];
-  wire = All-nil (IsWire (length w.bag));
-  comes = inr (ltb-false (end_of w side).acknowledged (length (end_of w side).accepted) e);
-}
-
-pub stirs : Kept → (w : World) (side : Side) → Holds w → Linked w → Stirs w side
-stirs k w side = stirs_by k w side (nat_lt (end_of w side).acknowledged (length (end_of w side).accepted)) refl

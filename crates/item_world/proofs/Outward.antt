@@ -1,93 +1,23 @@
--- The same where each end flushes after its tick and after each packet that came.
-use Rattle.std.proofs.Common.{◌≡◌, ℕ, ◌<◌, List, length, Some, true, refl, sym, ◌∙◌, ap, subst, arith, lit<}
-use Rattle.std.specs.Prelude.{slice_get}
-use Rattle.xns_spp.specs.Ends.{is_open, is_ours_at}
+-- From every world, without a take, an item comes to wait at an end, or all is acknowledged.
+use Rattle.std.proofs.Common.{◌≡◌, inl, inr, ◌<◌, ◌≤◌, Bool, true, false, nat_lt, List, [], ◌∷◌, ◌++◌, length, refl, sym, ◌∙◌, ap, arith}
+use Rattle.std.specs.Prelude.{All}
+use Rattle.std.proofs.lemmas.Bool.{ltb-true, ltb-false}
+use Rattle.std.proofs.lemmas.List.Elements.{All-nil, All-cons, All-append}
 use Rattle.xns_spp.specs.Header.{reply_control}
-use Rattle.xns_spp.specs.Meant.{own_meant}
-use Rattle.xns_spp.specs.Packet.{SppPacketModel, spp_packet_spelling}
+use Rattle.xns_spp.specs.Packet.{spp_packet_spelling}
 use Rattle.xns_spp.specs.Receiving.{after_receive}
-use Rattle.xns_spp.specs.Sending.{system_packet, after_flush, flush_answer, after_tick}
+use Rattle.xns_spp.specs.Sending.{system_packet, after_flush, after_tick}
 use Rattle.xns_spp.specs.State.{State}
-use Rattle.item_world.proofs.Deliveries.{IsAlike, alike, lands_there, flushed_pair}
 use Rattle.item_world.proofs.Fronts.{front_get}
-use Rattle.item_world.proofs.Heard.{IsHeard, heard_acknowledged, heard_allowed, heard_open, its_own}
-use Rattle.item_world.proofs.Moves.{IsProperAs, system_proper_as}
-use Rattle.item_world.proofs.Onward.{Kept, Pair, flip, stands, links, IsNew, lands_now, arrived, replied, ticked, proper_heard, Asked, asked, Knows, Goes, goes}
-use Rattle.item_world.proofs.Sides.{same_end, same_other, other_other}
+use Rattle.item_world.proofs.Later.{all_later}
+use Rattle.item_world.proofs.Onward.{Kept, Pair, flip, stands, IsNew, arrived, replied, ticked, Asked, asked, Knows, Goes, goes, longer, alike, flushed_pair, flushed_here, new_out, lands_as, Told, told_out, knows_flushed}
 use Rattle.item_world.specs.EndLaws.{EndLaws}
-use Rattle.item_world.specs.Events.{arrival, flushing, stepped}
+use Rattle.item_world.specs.Events.{Step, arrival, flushing, ticking}
 use Rattle.item_world.specs.Invariant.{Stands, Holds}
-use Rattle.item_world.specs.Landing.{landing}
-use Rattle.item_world.specs.Progress.{Linked, ticked_out, came_first, answered_out, came_back, knows_out, came_next, StirsOut}
+use Rattle.item_world.specs.Progress.{IsWire, Stirs, Linked, ticked_out, came_first, answered_out, came_back, knows_out, came_next, StirsOut}
 use Rattle.item_world.specs.Side.{other}
-use Rattle.item_world.specs.World.{World, end_of, moment, emitted, flushes, ticks}
+use Rattle.item_world.specs.World.{World, end_of, ticks}
 use Rattle.item_world.specs.declared.side.Side.{Side}
-
-flushed_here : Kept → (w : World) (side : Side) (s p : State) → Pair w side s p → Pair (flushes w side) side (after_flush s) p
-flushed_here k w side s p x =
-    let t : State = end_of w side in
-    record {
-      here = same_end w side (after_flush t) (flush_answer t) ∙ ap after_flush x.here;
-      there = same_other w side (after_flush t) (flush_answer t) ∙ x.there;
-      holds = k.order.each w (flushing side) tt x.holds;
-      linked = k.links w (flushing side) tt x.holds x.linked;
-    }
-
--- a packet that was just sent is there still once its sender has flushed
-new_out : (w : World) (side : Side) (s p : State) (k : ℕ) (bytes : List ℕ) → IsNew w side s p k bytes → IsNew (flushes w side) side (after_flush s) p k bytes
-new_out w side s p k bytes i = record {
-  at = i.at;
-  is = front_get w.bag _ k (emitted side i.at bytes) i.is;
-  sender = i.sender ∙ sym (ap length (alike s).taken);
-  receiver = i.receiver;
-}
-
-lands_as : (w : World) (side : Side) (s p : State) (k : ℕ) (bytes : List ℕ) → Pair w side s p → IsNew w side s p k bytes → landing w k ≡ Some (other side, stepped w (arrival k))
-lands_as w side s p k bytes x i = lands_there w side s p k bytes x i ∙ ap (λ (v : World). Some (other side, v)) (sym (lands_now w side s p k bytes x i))
-
--- the reply comes, which was made before its sender flushed
-record Told (w : World) (side : Side) (t o : State) (k : ℕ) : Type 0 where
-  lands : landing w k ≡ Some (side, stepped w (arrival k))
-  knows : Knows (stepped w (arrival k)) side (after_receive t (spp_packet_spelling (system_packet o reply_control))) (after_flush o)
-
-told_out : Kept → (w : World) (side : Side) (t o : State) (k : ℕ) → Pair w side t (after_flush o) → Stands o t → slice_get w.bag k ≡ Some (emitted (other side) (moment o t) (spp_packet_spelling (system_packet o reply_control))) → Told w side t o k
-told_out kept w side t o k x before h =
-    let laws : EndLaws = kept.laws in
-    let p : State = after_flush o in
-    let l : IsAlike o p = alike o in
-    let q : SppPacketModel = system_packet o reply_control in
-    let bytes : List ℕ = spp_packet_spelling q in
-    let y : Pair w (other side) p t = flip w side t p x in
-    let to : Stands p t = stands w (other side) p t y in
-    let back : Stands t p = stands w side t p x in
-    let proper : IsProperAs (moment p t) p q (own_meant o o.sent) = system_proper_as laws o p t reply_control before (omega (arith, l.top)) l.taken (lit< tt) refl in
-    let ours : is_ours_at t.ends q ≡ true =
-    subst (λ (e : _). is_ours_at t.ends (system_packet (record o { ends = e }) reply_control) ≡ true) l.ends
-    (its_own p.ends t.ends (system_packet (record o { ends = p.ends }) reply_control) to.fits.ends back.fits.ends (links w (other side) p t y) (links w side t p x) (record { source = refl; source_id = refl; target = refl; target_id = refl })) in
-    let heard : IsHeard t bytes q (own_meant o o.sent) = proper_heard laws p t q (own_meant o o.sent) to back proper ours in
-    let new : IsNew w (other side) p t k bytes = record { at = moment o t; is = h; sender = sym (ap length l.taken); receiver = refl } in
-    let u : State = after_receive t bytes in
-    let v : World = stepped w (arrival k) in
-    let f : Pair v (other (other side)) u p = flip v (other side) p u (arrived kept w (other side) p t k bytes y new) in
-    record {
-      lands = subst (λ (e : Side). landing w k ≡ Some (e, v)) (other_other side) (lands_as w (other side) p t k bytes y new);
-      knows = record {
-        pair = subst (λ (e : Side). Pair v e u p) (other_other side) f;
-        ready = heard_open t bytes q (own_meant o o.sent) heard before.fits.ends.id_known;
-        acknowledged = omega (arith, heard_acknowledged t bytes q (own_meant o o.sent) heard, ap length l.taken);
-        allowed = omega (arith, heard_allowed t bytes q (own_meant o o.sent) heard, l.top);
-      };
-    }
-
-knows_flushed : Kept → (w : World) (side : Side) (s p : State) → Knows w side s p → Knows (flushes w side) side (after_flush s) p
-knows_flushed k w side s p x =
-    let l : IsAlike s (after_flush s) = alike s in
-    record {
-      pair = flushed_here k w side s p x.pair;
-      ready = ap is_open l.ends ∙ x.ready;
-      acknowledged = omega (arith, x.acknowledged, l.acknowledged);
-      allowed = omega (arith, x.allowed, l.allowed);
-    }
 
 pub stirs_out : Kept → (w : World) (side : Side) → Holds w → Linked w → (end_of w side).acknowledged < length (end_of w side).accepted → StirsOut w side
 stirs_out k w side holds linked left =
@@ -100,7 +30,7 @@ stirs_out k w side holds linked left =
     let t : State = after_flush t0 in
     let w1 : World = ticked_out w side in
     let y : Pair w1 side t p = flushed_here k (ticks w side) side t0 p (ticked k w side s p x) in
-    let new : IsNew w1 side t p (length w.bag) a.bytes = new_out (ticks w side) side t0 p (length w.bag) a.bytes a.new in
+    let new : IsNew w1 side t p (length w.bag) a.bytes = new_out laws (ticks w side) side t0 p (length w.bag) a.bytes a.new in
     let o : State = after_receive p a.bytes in
     let v2 : World = came_first w side in
     let z : Pair v2 side t o = arrived k w1 side t p (length w.bag) a.bytes y new in
@@ -115,23 +45,93 @@ stirs_out k w side holds linked left =
     let w3 : World = knows_out w side in
     let knows : Knows w3 side u e = knows_flushed k v3 side u0 e b.knows in
     let count : length u0.accepted ≡ length s.accepted =
-    ap length (laws.stays.receive t (spp_packet_spelling (system_packet o reply_control))).accepted ∙ (ap length (alike t0).accepted ∙ ap length (laws.stays.tick s).accepted) in
-    let taken : length (end_of v2 (other side)).taken ≡ length e.taken = ap (λ (r : State). length r.taken) z.there ∙ sym (ap length (alike o).taken) in
-    let handed : (end_of v2 (other side)).handed ≡ e.handed = ap (λ (r : State). r.handed) z.there ∙ sym (alike o).handed in
+    ap length (laws.stays.receive t (spp_packet_spelling (system_packet o reply_control))).accepted ∙ (ap length (alike laws t0).accepted ∙ ap length (laws.stays.tick s).accepted) in
+    let taken : length (end_of v2 (other side)).taken ≡ length e.taken = ap (λ (r : State). length r.taken) z.there ∙ sym (ap length (alike laws o).taken) in
+    let handed : (end_of v2 (other side)).handed ≡ e.handed = ap (λ (r : State). r.handed) z.there ∙ sym (alike laws o).handed in
     record {
       first = lands_as w1 side t p (length w.bag) a.bytes y new;
       second = b.lands;
       settled = λ all. omega (arith, all, taken, count, b.knows.acknowledged, ap (λ (r : State). length r.accepted) b.knows.pair.here, ap (λ (r : State). r.acknowledged) b.knows.pair.here);
       third = λ none less.
-          let g : Goes w3 side u e = goes k w3 side u e knows (omega (arith, none, taken, handed)) (omega (arith, less, taken, count, ap length (alike u0).accepted)) in
+          let g : Goes w3 side u e = goes k w3 side u e knows (omega (arith, none, taken, handed)) (omega (arith, less, taken, count, ap length (alike laws u0).accepted)) in
           let c0 : State = after_tick u in
           let c : State = after_flush c0 in
           let w4 : World = ticked_out w3 side in
           let d : Pair w4 side c e = flushed_here k (ticks w3 side) side c0 e (ticked k w3 side u e knows.pair) in
-          let next : IsNew w4 side c e (length w3.bag) g.bytes = new_out (ticks w3 side) side c0 e (length w3.bag) g.bytes g.new in
+          let next : IsNew w4 side c e (length w3.bag) g.bytes = new_out laws (ticks w3 side) side c0 e (length w3.bag) g.bytes g.new in
           let last : Pair (came_next w side) side c (after_receive e g.bytes) = arrived k w4 side c e (length w3.bag) g.bytes d next in
           let same : (after_receive e g.bytes).handed ≡ e.handed = (laws.stays.receive e g.bytes).handed in (
             lands_as w4 side c e (length w3.bag) g.bytes d next,
             omega (arith, g.takes, same, none, taken, handed, ap (λ (r : State). r.handed) last.there, ap (λ (r : State). length r.taken) last.there),
           );
     }
+
+-- ---- as small steps
+
+-- by whether an item waits once the first packet came, and whether one is still to come then
+stirs_when : EndLaws → (w : World) (side : Side) (b c : Bool) → StirsOut w side
+    → nat_lt (end_of (came_first w side) (other side)).handed (length (end_of (came_first w side) (other side)).taken) ≡ b
+    → nat_lt (length (end_of (came_first w side) (other side)).taken) (length (end_of w side).accepted) ≡ c
+    → Holds (came_first w side) → Stirs w side
+stirs_when laws w side true c out waits left holds =
+    let P : Step → Type 0 = IsWire (length w.bag) in
+    let p : State = end_of (came_first w side) (other side) in
+    record {
+      more = ticking side ∷ flushing side ∷ arrival (length w.bag) ∷ [];
+      wire = All-cons P (ticking side) (flushing side ∷ arrival (length w.bag) ∷ []) tt
+          (All-cons P (flushing side) (arrival (length w.bag) ∷ []) tt (All-cons P (arrival (length w.bag)) [] (omega arith) (All-nil P)));
+      comes = inl (ltb-true p.handed (length p.taken) waits);
+    }
+stirs_when laws w side false c out waits left holds =
+    let P : Step → Type 0 = IsWire (length w.bag) in
+    let p : State = end_of (came_first w side) (other side) in
+    let first : List Step = ticking side ∷ flushing side ∷ arrival (length w.bag) ∷ flushing (other side) ∷ [] in
+    let one : length w.bag ≤ length (ticked_out w side).bag = longer w (ticked_out w side) (all_later laws w (ticking side ∷ flushing side ∷ [])) in
+    let second : List Step = arrival (length (ticked_out w side).bag) ∷ [] in
+    let first_wire : All P first =
+    All-cons P (ticking side) (flushing side ∷ arrival (length w.bag) ∷ flushing (other side) ∷ []) tt
+    (All-cons P (flushing side) (arrival (length w.bag) ∷ flushing (other side) ∷ []) tt
+    (All-cons P (arrival (length w.bag)) (flushing (other side) ∷ []) (omega arith) (All-cons P (flushing (other side)) [] tt (All-nil P)))) in
+    let second_wire : All P second = All-cons P (arrival (length (ticked_out w side).bag)) [] one (All-nil P) in
+    elim c as (λ d. nat_lt (length p.taken) (length (end_of w side).accepted) ≡ d → Stirs w side) [
+      | false ↦ λ e. record {
+        more = first ++ second;
+        wire = All-append P first second first_wire second_wire;
+        comes = inr (out.settled (ltb-false (length p.taken) (length (end_of w side).accepted) e));
+      }
+      | true ↦ λ e.
+          let none : p.handed ≡ length p.taken =
+          omega (arith, ltb-false p.handed (length p.taken) waits, (holds.ends (other side)).fits.bounds.handed_taken) in
+          let k : World = knows_out w side in
+          let three : length w.bag ≤ length k.bag = longer w k (all_later laws w (first ++ second ++ flushing side ∷ [])) in
+          let third : List Step = flushing side ∷ ticking side ∷ flushing side ∷ arrival (length k.bag) ∷ [] in
+          record {
+            more = first ++ second ++ third;
+            wire = All-append P first (second ++ third) first_wire (All-append P second third second_wire
+                (All-cons P (flushing side) (ticking side ∷ flushing side ∷ arrival (length k.bag) ∷ []) tt
+                (All-cons P (ticking side) (flushing side ∷ arrival (length k.bag) ∷ []) tt
+                (All-cons P (flushing side) (arrival (length k.bag) ∷ []) tt (All-cons P (arrival (length k.bag)) [] three (All-nil P))))));
+            comes = inl (out.third none (ltb-true (length p.taken) (length (end_of w side).accepted) e)).1;
+          }
+    ] left
+
+stirs_by : Kept → (w : World) (side : Side) (b : Bool) → nat_lt (end_of w side).acknowledged (length (end_of w side).accepted) ≡ b
+    → Holds w → Linked w → Stirs w side
+stirs_by k w side true e holds linked =
+    let s : State = end_of w side in
+    let v : World = came_first w side in
+    let p : State = end_of v (other side) in
+    let before : Holds (ticks w side) = k.order.each w (ticking side) tt holds in
+    let out : Holds (ticked_out w side) = k.order.each (ticks w side) (flushing side) tt before in
+    stirs_when k.laws w side (nat_lt p.handed (length p.taken)) (nat_lt (length p.taken) (length s.accepted))
+    (stirs_out k w side holds linked (ltb-true s.acknowledged (length s.accepted) e)) refl refl
+    (k.order.each (ticked_out w side) (arrival (length w.bag)) tt out)
+stirs_by k w side false e holds linked = record {
+  more = [];
+  wire = All-nil (IsWire (length w.bag));
+  comes = inr (ltb-false (end_of w side).acknowledged (length (end_of w side).accepted) e);
+}
+
+-- some steps of the wire, without a take
+pub stirs : Kept → (w : World) (side : Side) → Holds w → Linked w → Stirs w side
+stirs k w side = stirs_by k w side (nat_lt (end_of w side).acknowledged (length (end_of w side).accepted)) refl

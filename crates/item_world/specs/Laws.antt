@@ -117,13 +117,14 @@ pub record NetworkLaws : Type 0 where
   pub moves : AMoveIsOfOneEnd
   pub reached : ALandingHasAnEnd
 
--- from every world that small steps lead to, whatever was lost, repeated or late before, a few plain steps lead to one in which all that
--- was accepted is handed up and acknowledged
+-- From every world that small steps lead to, whatever was lost, repeated or late before, a few plain steps lead to one in which all that
+-- was accepted is handed up and acknowledged. Without a take, some lead to where an item waits, or to where all is acknowledged.
 pub record NoWorldIsStuck : Type 0 where
   pub starts : (setup : Setup) → Linked (start setup)
   pub each : (w : World) (s : Step) → IsStep s → Holds w → Linked w → Linked (stepped w s)
   pub stirs : (w : World) (side : Side) → Holds w → Linked w → Stirs w side
-  pub stirs_out : (w : World) (side : Side) → Holds w → Linked w → (end_of w side).acknowledged < length (end_of w side).accepted → StirsOut w side
+  pub stirs_out : (w : World) (side : Side) → Holds w → Linked w
+      → (end_of w side).acknowledged < length (end_of w side).accepted → StirsOut w side
   pub world : (w : World) → Holds w → Linked w → Finishes w
   pub always : (setup : Setup) (steps : List Step) → IsSetup setup → IsGood setup → All IsStep steps
       → Finishes (all_stepped (start setup) steps)

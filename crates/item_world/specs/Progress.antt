@@ -3,23 +3,24 @@ use Rattle.std.specs.Prelude.{◌≡◌, ◌⊎◌, ◌≤◌, ◌<◌, ◌+◌,
 use Rattle.xns_spp.specs.Numbers.{most_items}
 use Rattle.xns_spp.specs.Sending.{is_full}
 use Rattle.xns_spp.specs.Packet.{SppPacketModel, spp_packet_of}
+use Rattle.xns_spp.specs.Peers.{IsLinked}
 use Rattle.xns_spp.specs.declared.ends.Ends.{Ends}
-use Rattle.xns_spp.specs.declared.role.Role.TheVariants.{Responder}
 use Rattle.item_world.specs.declared.emitted.Emitted.{Emitted}
 use Rattle.item_world.specs.declared.event.Event.{Event}
 use Rattle.item_world.specs.declared.event.Event.TheVariants.{Deliver, Tick, Take}
 use Rattle.item_world.specs.declared.side.Side.{Side}
 use Rattle.item_world.specs.declared.side.Side.TheVariants.{A, B}
-use Rattle.item_world.specs.Events.{Step, arrival, taking, ticking, stepped, all_stepped, run}
+use Rattle.item_world.specs.Events.{Step, arrival, taking, flushing, ticking, stepped, all_stepped, run}
 use Rattle.item_world.specs.Landing.{landing}
 use Rattle.item_world.specs.Side.{other}
 use Rattle.item_world.specs.World.{World, end_of, ticks, flushes, sent_at, handed_at}
 
--- an end ticks, hands an item up, or answers one of the packets that are sent from number n on: no item is sent, and nothing that was sent
--- before is needed
+-- an end ticks, flushes, hands an item up, or answers one of the packets that are sent from number n on: no item is accepted, and nothing
+-- that was sent before is needed
 abbrev pub IsPlain : ℕ → Step → Type 0
 IsPlain n (arrival k) = n ≤ k
 IsPlain n (taking side) = Unit {0}
+IsPlain n (flushing side) = Unit {0}
 IsPlain n (ticking side) = Unit {0}
 IsPlain n _ = ⊥
 
@@ -35,16 +36,17 @@ pub record IsDone (w v : World) : Type 0 where
 abbrev pub pending : World → Side → ℕ
 pending w side = length (sent_at w side) - (end_of w (other side)).handed
 
--- plain steps after which all is done, with nothing needed of what was sent before: six for each item that is pending, and six more
+-- plain steps after which all is done, with nothing needed of what was sent before: twelve for each item that is pending, and twelve more
 pub record Finishes (w : World) : Type 0 where
   pub more : List Step
   pub plain : All (IsPlain (length w.bag)) more
-  pub few : length more ≤ 6 * (pending w A + pending w B + 1)
+  pub few : length more ≤ 12 * (pending w A + pending w B + 1)
   pub done : IsDone w (all_stepped w more)
 
--- an end ticks, or answers one of the packets that are sent from number n on
+-- an end ticks, flushes, or answers one of the packets that are sent from number n on
 abbrev pub IsWire : ℕ → Step → Type 0
 IsWire n (arrival k) = n ≤ k
+IsWire n (flushing side) = Unit {0}
 IsWire n (ticking side) = Unit {0}
 IsWire n _ = ⊥
 
@@ -104,12 +106,6 @@ pub record StirsOut (w : World) (side : Side) : Type 0 where
       × ((end_of (came_next w side) (other side)).handed < length (end_of (came_next w side) (other side)).taken)
 
 -- ---- what is known of the ends' addresses at every moment
-
--- an end beside its peer: it knows the peer's address, and its identifier or none; one of both was made for the other
-pub record IsLinked (e f : Ends) : Type 0 where
-  pub peer : e.peer ≡ f.own
-  pub peer_id : (e.peer_id ≡ 0) ⊎ (e.peer_id ≡ f.id)
-  pub one : (e.role ≡ Responder) ⊎ (f.role ≡ Responder)
 
 -- the bytes, where they are a packet, are one from this end
 abbrev pub IsFrom : Ends → List ℕ → Type 0

@@ -3,6 +3,7 @@ ghost use Rattle.item_world.specs.declared.event.Event.TheVariants.{Deliver, Res
 ghost use Rattle.item_world.specs.Events.{delivers, happens, run, IsEvent};
 ghost use Rattle.xns_spp.specs.Growth.{Begins};
 ghost use Rattle.item_world.specs.Play.{IsPlaying, StepsBy, IsPlayed};
+ghost use Rattle.item_world.specs.Progress.{FinishesByEvents};
 ghost use Rattle.item_world.specs.Setup.{IsGood};
 ghost use Rattle.item_world.specs.Trace.{item_trace};
 ghost use Rattle.item_world.specs.World.{start, flushes};
@@ -10,7 +11,7 @@ ghost use Rattle.item_world.specs.World.{start, flushes};
 use crate::ends::{flush_end, land, tick_end};
 use crate::event::Event;
 use crate::item_trace::ItemTrace;
-use crate::laws::{end_laws_are_given, items_come_in_order};
+use crate::laws::{end_laws_are_given, items_come_in_order, no_world_is_stuck};
 use crate::network::Network;
 use crate::pair::Pair;
 use crate::participant::Participant;
@@ -159,15 +160,19 @@ fn played(alloc: Global, setup: &Setup, events: &[Event]) -> Result<Play, AllocE
 ///
 /// Over every list of deliveries, losses, repeats and reorderings, what either end hands up begins what the other sent.
 /// No packet is delivered once an end has taken more than 30,000 further items since it was sent.
-/// That anything arrives is not promised. An `Err` says that memory was refused, and gives no trace.
+/// That anything arrives is not promised, since the network may lose every packet. But whatever happened, some further ticks, deliveries
+/// of packets sent from then on, and takes hand up and acknowledge all that was accepted (`finishes`). An `Err` says that memory was
+/// refused, and gives no trace.
 pub fn play_items(alloc: Global, setup: &Setup, events: &[Event]) -> Result<ItemTrace, AllocError>
     requires { IsGood setup.now }
     ensures trace { IfOk result (λ t. t ≡ item_trace (run (start setup.now) events.now)) }
     ensures to_b { IfOk result (λ t. Begins t.b_handed t.a_sent) }
     ensures to_a { IfOk result (λ t. Begins t.a_handed t.b_sent) }
+    ensures finishes { OnOk result (FinishesByEvents (run (start setup.now) events.now)) }
 {
     setup.known();
     items_come_in_order();
+    no_world_is_stuck();
     let Play {
         ends: Pair { a, b },
         network,

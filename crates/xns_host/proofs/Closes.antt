@@ -18,7 +18,7 @@ use Rattle.xns_host.proofs.Leading.{goes_on}
 use Rattle.xns_host.proofs.Tellings.{if_err}
 
 -- whether what comes is read does not say why it is closed
-deaf_or_not : (c : Closing) (deaf : Bool) (s : State) (moved : Result (Unit {0}) FeedRefusal)
+pub deaf_or_not : (c : Closing) (deaf : Bool) (s : State) (moved : Result (Unit {0}) FeedRefusal)
     → why_after (record c { deaf = deaf }) (is_over (record c { deaf = deaf }) s) moved ≡ why_after c (is_over c s) moved
 deaf_or_not c deaf s (Ok u) = refl
 deaf_or_not c deaf s (Err e) = refl

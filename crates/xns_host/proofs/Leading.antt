@@ -386,7 +386,7 @@ server_all next gives feeds_one a n e f (Err x) still pumped = tt
 -- ---- up to where an item is refused
 
 -- want of memory leaves the side as it was
-short_at : {S : Type 0} (side : PumpSide S) (t : S) (o : Option Item) (e : FeedRefusal) (n : S) → Refuses side t o e n → e ≡ NoMemory → n ≡ t
+pub short_at : {S : Type 0} (side : PumpSide S) (t : S) (o : Option Item) (e : FeedRefusal) (n : S) → Refuses side t o e n → e ≡ NoMemory → n ≡ t
 short_at side t None e n r short = absurd r
 short_at side t (Some x) Busy n r short = absurd r
 short_at side t (Some x) NoMemory n r short = r.0

@@ -7,7 +7,8 @@ use Rattle.courier_sessions.specs.declared.feed_refusal.FeedRefusal.{FeedRefusal
 use Rattle.courier_sessions.specs.declared.unlisted.Unlisted.{Unlisted}
 use Rattle.xns_spp.specs.Held.{Held, StandsFor}
 use Rattle.xns_spp.specs.State.{State}
-use Rattle.xns_host.specs.Moving.{Pumps, Rejects, rejects, Rounds, once, again, Converses, calms, starves, refuses, refuses_on}
+use Rattle.courier_sessions.specs.Pumping as pumping
+use Rattle.xns_host.specs.Moving.{Led, Pumps, Rejects, rejects, Rounds, again, Converses, refuses_on}
 use Rattle.xns_host.specs.declared.side.Side.{Side}
 use Rattle.xns_host.specs.declared.side.Side.TheVariants.{Calls, Answers}
 
@@ -25,29 +26,24 @@ rejects_one a n r does listed none was = by_call a.call refl where
   by_call None c = let z = none c in absurd (cc)
   by_call (Some m) c = by_why m (why_unlisted a.programs m) c refl
 
--- the end has a history then
-pub pumps_end : (side : Side) (s : State) (r : Result (Unit {0}) FeedRefusal) (next : Side) (end : Held) → Pumps side s r next end
-    → (v : State) × StandsFor end v
-pumps_end (Calls t) s r (Calls u) end p = (p.last.1, p.stands)
-pumps_end (Calls t) s r (Answers b) end p = absurd p
-pumps_end (Answers a) s r (Calls u) end p = absurd p
-pumps_end (Answers a) s r (Answers b) end p = (p.last.1, p.stands)
+-- a pump led to a history of the end
+pub led : {S : Type 0} (kind : pumping.Side S) (first : S × State) (r : Result (Unit {0}) FeedRefusal) (next : S) (end : Held)
+    → pumping.Pumped kind first r next end → (v : State) × StandsFor end v × Led kind first r next v
+led kind first r next end p = (
+  p.last.1,
+  p.stands,
+  record { last = p.last.0; leads = p.leads; settled = p.settled; fits = p.stands.fits },
+)
 
-pub rounds_end : {side next : Side} {s : State} {end : Held} → Rounds side s next end → (v : State) × StandsFor end v
-rounds_end {side} {next} {s} {end} (once p) = pumps_end side s (Ok tt) next end p
-rounds_end (again {free = free} {next = next} {after = after} v r stands rejected p) = pumps_end free v (Ok tt) next after p
+-- it is some history of the end
+abbrev pub Reached : Held → (State → Type 0) → Type 0
+Reached end P = (v : State) × StandsFor end v × P v
 
-pub one_more : {side mid free next : Side} {s : State} {end after : Held} → Rounds side s mid end → Rejects mid free
-    → ((v : State) → StandsFor end v → Pumps free v (Ok tt) next after) → Rounds side s next after
-one_more r rejected p = let e = rounds_end r in again e.0 r e.1 rejected (p e.0 e.1)
+pub one_more : {side mid free next : Side} {s : State} {end after : Held} → Reached end (λ v. Rounds side s mid v) → Rejects mid free
+    → ((v : State) → StandsFor end v → Reached after (λ w. Pumps free v (Ok tt) next w)) → Reached after (λ w. Rounds side s next w)
+one_more r rejected p = let x = p r.0 r.1 in (x.0, x.1, again r.2 rejected x.2)
 
-pub refused_on : {side mid free next : Side} {s : State} {end after : Held} (e : FeedRefusal) → Rounds side s mid end → Rejects mid free
-    → ((v : State) → StandsFor end v → Pumps free v (Err e) next after) → Converses side s (Err e) next after
-refused_on e r rejected p = let x = rounds_end r in refuses_on e x.0 r x.1 rejected (p x.0 x.1)
-
-pub converses_end : {side next : Side} {s : State} {r : Result (Unit {0}) FeedRefusal} {end : Held} → Converses side s r next end
-    → (v : State) × StandsFor end v
-converses_end (calms r listed) = rounds_end r
-converses_end (starves r unlisted) = rounds_end r
-converses_end {side} {next} {s} {r} {end} (refuses e p) = pumps_end side s (Err e) next end p
-converses_end (refuses_on {free = free} {next = next} {after = after} e v r stands rejected p) = pumps_end free v (Err e) next after p
+pub refused_on : {side mid free next : Side} {s : State} {end after : Held} (e : FeedRefusal) → Reached end (λ v. Rounds side s mid v)
+    → Rejects mid free → ((v : State) → StandsFor end v → Reached after (λ w. Pumps free v (Err e) next w))
+    → Reached after (λ w. Converses side s (Err e) next w)
+refused_on e r rejected p = let x = p r.0 r.1 in (x.0, x.1, refuses_on e r.2 rejected x.2)

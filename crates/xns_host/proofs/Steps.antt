@@ -4,7 +4,7 @@ use Rattle.std.specs.Prelude.{◌&&◌, ◌||◌, nat_lt, if◌then◌else◌}
 use Rattle.courier_sessions.specs.Answering.{answer_message, answer_refusal}
 use Rattle.courier_sessions.specs.declared.answer.Answer.{Answer}
 use Rattle.courier_sessions.specs.declared.feed_refusal.FeedRefusal.{FeedRefusal}
-use Rattle.xns_agenda.specs.Waiting.{StepsAt, Waiting, act_at, after_act, after_by, after_step, after_word, lingering}
+use Rattle.xns_agenda.specs.Waiting.{HearsAt, Waiting, act_at, after_act, after_by, after_step, after_word, lingering}
 use Rattle.xns_agenda.specs.declared.act.Act.{Act}
 use Rattle.xns_agenda.specs.declared.act.Act.TheVariants.{Nothing, Again, Ask, GiveUp, Forget}
 use Rattle.xns_spp.specs.Held.{Held, StandsFor}
@@ -15,7 +15,7 @@ use Rattle.xns_spp.specs.declared.input.Input.{Input}
 use Rattle.xns_spp.specs.State.{State}
 use Rattle.xns_host.specs.Connecting.{goes_again, is_foreign, owed_after, owed_heard, wait_heard, why_after, why_given_up}
 use Rattle.xns_host.specs.Moving.{Scene, scene, IsAt, Settles, deafened}
-use Rattle.xns_host.specs.Step.{HandsBy, HasReplied, Promises, Step}
+use Rattle.xns_host.specs.Step.{HandsBy, HasReplied, May, Promises, Step, WaitsBy}
 use Rattle.xns_host.specs.Deeds.{Deed, Parts, acted, acted_by, gave, given_up, heard, Moved, GoesOnBy, closed_moved, done, is_starved, owed_by, owed_moved, shut, told_by, took, wait_by, wait_moved, wanted_by, with_answer}
 use Rattle.xns_host.specs.Reasons.{answer_fault_of}
 use Rattle.xns_host.specs.Refusing.{Answers, answer_fault, side_answer_fault}
@@ -85,9 +85,12 @@ pub step_by : (now : ℕ) (deed : Deed) (old new : Connection) (mid : Conversati
     → ((s : State) → scene mid s ≡ done deed (scene old.conversation s)) → ((s : State) → owed_by deed old.owed old.wait s ≡ old.owed)
     → ((s : State) → wait_by deed old.wait s now ≡ old.wait)
     → GoesOnBy now mid new.conversation old.owed new.owed old.closed new.closed old.wait new.wait
+    → May old.conversation deed → WaitsBy deed now old.wait new.wait
     → new.conversation.packets ≡ old.conversation.packets → new.told ≡ old.told → (old.closed ≢ None → new.closed ≡ old.closed) → Step now deed old new
-step_by now deed old new mid end did owes waits_same goes packets told stays = record {
+step_by now deed old new mid end did owes waits_same goes may steps packets told stays = record {
   moved = goes.moved;
+  may = may;
+  steps = steps;
   on = λ s stands.
       let first = goes.on s (subst (λ (e : Held). StandsFor e s) (sym end) stands) in
       subst (λ (x : Scene). Moved now x goes.moved new.conversation (owed_by deed old.owed old.wait s) new.owed old.closed new.closed (wait_by deed old.wait s now) new.wait) (did s)
@@ -106,7 +109,7 @@ pub promised : (now : ℕ) (deed : Deed) (old new : Connection) (mid : Conversat
     → (new.owed.moving ≡ false → drains new.conversation.side new.conversation.closing ≡ false → Calm mid new.conversation)
     → (new.owed.moving ≡ false → new.closed ≡ old.closed → ReadsAll mid new.conversation)
     → (new.owed.moving ≡ false → HasSaidEnd new.conversation) → HasReplied old new
-    → ClosesBy mid (λ h. h) new.conversation new.owed.moving old.closed new.closed → StepsAt now old.wait new.wait
+    → ClosesBy mid (λ h. h) new.conversation new.owed.moving old.closed new.closed → WaitsBy deed now old.wait new.wait
     → OwesRoom mid.endpoint new.conversation.endpoint new.owed.word → new.conversation.closing.wanted ≡ mid.closing.wanted
     → Promises now deed old new
 promised now deed old new mid did end same_drains wanted goes calm read said replied why steps room kept = record {
@@ -161,10 +164,13 @@ pub heard_by : (now : ℕ) (bytes : List ℕ) (old new : Connection) (mid : Conv
     → ((s : State) → StandsFor old.conversation.endpoint s → o ≡ owed_heard old.owed old.wait s bytes)
     → ((s : State) → StandsFor old.conversation.endpoint s → w ≡ wait_heard old.wait s bytes now)
     → GoesOnBy now mid new.conversation o new.owed old.closed new.closed w new.wait
+    → HearsAt now old.wait new.wait
     → new.conversation.packets ≡ old.conversation.packets → new.told ≡ old.told → (old.closed ≢ None → new.closed ≡ old.closed)
     → Step now (heard bytes) old new
-heard_by now bytes old new mid o w stands_then side closing owes waits_then goes packets told stays = record {
+heard_by now bytes old new mid o w stands_then side closing owes waits_then goes steps packets told stays = record {
   moved = goes.moved;
+  may = tt;
+  steps = steps;
   on = λ s stands.
       let v = after_receive s bytes in
       let first = goes.on v (stands_then s stands) in

@@ -54,7 +54,7 @@ pub knows_same : (e f : Closing) → f ≡ e → KnowsToo e f
 knows_same e f same items k = subst (λ (g : Closing). Knows g items) (sym same) k
 
 -- the items that were handed up are the same
-knows_still : (e f : Closing) (s v : State) → KnowsToo e f → take v.handed v.taken ≡ take s.handed s.taken → (fed : List Item)
+pub knows_still : (e f : Closing) (s v : State) → KnowsToo e f → take v.handed v.taken ≡ take s.handed s.taken → (fed : List Item)
     → Knows e (drop (length fed) (take s.handed s.taken)) → Knows f (drop (length fed) (take v.handed v.taken))
 knows_still e f s v too front fed k = subst (λ (xs : List Item). Knows f (drop (length fed) xs)) (sym front) (too (drop (length fed) (take s.handed s.taken)) k)
 
@@ -125,7 +125,7 @@ knows_more e items x k =
       heard = n.heard ∙ ap (λ (c : Bool). c || b) k.heard ∙ ap (λ (c : Bool). replies_end items || c) (or_false b) ∙ sym (list_any-append _ items (x ∷ []));
     }
 
-knows_taken : TheNextItemIsHandedUp → (s : State) (o : Option Item) (e f : Closing) → take_answer s ≡ o → NotesNext o e f → (fed : List Item) → Begins fed (take s.handed s.taken) → Knows e (drop (length fed) (take s.handed s.taken))
+pub knows_taken : TheNextItemIsHandedUp → (s : State) (o : Option Item) (e f : Closing) → take_answer s ≡ o → NotesNext o e f → (fed : List Item) → Begins fed (take s.handed s.taken) → Knows e (drop (length fed) (take s.handed s.taken))
     → Knows f (drop (length fed) (take (after_take s).handed (after_take s).taken))
 knows_taken next s None e f is notes fed begins k = subst (λ (v : State). Knows f (drop (length fed) (take v.handed v.taken))) (sym (next.none s is)) (knows_same e f notes (drop (length fed) (take s.handed s.taken)) k)
 knows_taken next s (Some x) e f is notes fed begins k =
@@ -211,7 +211,7 @@ reads_by side other e d still =
     let rest : Bool = e.end_sent || (e.reply_sent || e.deaf) in
     ap (λ (b : Bool). b || rest) still ∙ rest_free (is_stopped side) rest d
 
-unsaid : (a b : Bool) → put_if a end_stream ++ put_if b end_reply_stream ≡ [] → (a ≡ false) × (b ≡ false)
+pub unsaid : (a b : Bool) → put_if a end_stream ++ put_if b end_reply_stream ≡ [] → (a ≡ false) × (b ≡ false)
 unsaid true b z = absurd (cc)
 unsaid false true z = absurd (cc)
 unsaid false false z = (refl, refl)

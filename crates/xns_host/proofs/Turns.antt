@@ -15,7 +15,7 @@ use Rattle.courier_sessions.specs.declared.answer.Answer.{Answer}
 use Rattle.xns_host.proofs.Ends.{from_fits}
 use Rattle.xns_host.proofs.Noting.{place_other, place_set}
 use Rattle.xns_host.proofs.Registered.{still_registered}
-use Rattle.xns_host.proofs.Undone.{not_done_steps, still_not_done}
+use Rattle.xns_host.proofs.Undone.{not_done_after, waits_on, still_not_done}
 
 abbrev Places : Type 0
 Places = List (Option Guest)
@@ -47,7 +47,7 @@ fits_went now deed (Some f) (Some h) still w g is fits =
 undone_went : (now : ℕ) (deed : Deed) (old v : Option Guest) → Went now deed (Some old) (Some v) → IsNotDoneIn old → IsNotDoneIn v
 undone_went now deed None v w was = absurd w
 undone_went now deed (Some g) None w was = absurd w
-undone_went now deed (Some g) (Some h) w was = not_done_steps now g.connection h.connection w.step.told w.step.stays w.promises.steps was
+undone_went now deed (Some g) (Some h) w was = not_done_after g.connection h.connection w.step.told w.step.stays (λ at. waits_on now deed g.connection.wait h.connection.wait at w.step.steps) was
 
 -- ---- and where that was refused, it stayed
 

@@ -11,6 +11,9 @@ use Rattle.xns_agenda.specs.declared.due.Due.{Due}
 use Rattle.xns_agenda.specs.declared.due.Due.TheVariants.{Never, AgainAt, AskAt, ForgetAt}
 use Rattle.xns_host.specs.Connecting.{is_closed_due}
 use Rattle.xns_host.specs.Hosting.{HasNoneDone, IsApart, IsNotDone, IsNotDoneIn, is_done, is_lingering, may_go}
+use Rattle.xns_host.specs.Deeds as deeds
+use Rattle.xns_host.specs.Deeds.{Deed}
+use Rattle.xns_host.specs.Step.{WaitsBy}
 use Rattle.xns_host.specs.declared.connection.Connection.{Connection}
 use Rattle.xns_host.specs.declared.guest.Guest.{Guest}
 use Rattle.xns_host.specs.declared.why.Why.{Why}
@@ -56,13 +59,22 @@ hears_on : (now : ℕ) (w v : Waiting) → is_lingering w.due ≡ true → Hears
 hears_on now w v at (no_word steps) = lingers_on now w at steps
 hears_on now w v at (word more steps) = lingers_on now (after_word w more now) (linger_word w more now at) steps
 
+-- whatever was done
+pub waits_on : (now : ℕ) (deed : Deed) (w v : Waiting) → is_lingering w.due ≡ true → WaitsBy deed now w v → is_lingering v.due ≡ true
+waits_on now deeds.nothing w v at steps = lingers_on now w at steps
+waits_on now deeds.asked w v at steps = lingers_on now w at steps
+waits_on now (deeds.made call) w v at steps = lingers_on now w at steps
+waits_on now (deeds.gave kind words) w v at steps = lingers_on now w at steps
+waits_on now deeds.took w v at steps = lingers_on now w at steps
+waits_on now (deeds.heard bytes) w v at steps = hears_on now w v at steps
+
 -- ---- one connection
 
 still_closed : (a b : Option Why) → is_some a ≡ true → (a ≢ None → b ≡ a) → is_some b ≡ true
 still_closed None b is same = absurd (cc)
 still_closed (Some w) b is same = ap is_some (same (λ none. cc))
 
-not_done_after : (c d : Connection) → d.told ≡ c.told → (c.closed ≢ None → d.closed ≡ c.closed)
+pub not_done_after : (c d : Connection) → d.told ≡ c.told → (c.closed ≢ None → d.closed ≡ c.closed)
     → (is_lingering c.wait.due ≡ true → is_lingering d.wait.due ≡ true) → IsNotDone c → IsNotDone d
 not_done_after c d told closed lingers before = λ so_told.
     let was = before (sym told ∙ so_told) in

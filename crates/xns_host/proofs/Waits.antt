@@ -17,7 +17,7 @@ use Rattle.xns_host.specs.declared.conversation.Conversation.{Conversation}
 pub same_waiting : {e : Held} (s v : State) → StandsFor e s → StandsFor e v → waiting_count s ≡ waiting_count v
 same_waiting s v p q = ap (λ (x : Held). x.numbers.taken - x.numbers.handed) (sym p.holds ∙ q.holds)
 
-one_fewer : TheNextItemIsHandedUp → (s : State) (o : Option Item) → take_answer s ≡ o → waiting_count (after_take s) ≤ waiting_count s - 1
+pub one_fewer : TheNextItemIsHandedUp → (s : State) (o : Option Item) → take_answer s ≡ o → waiting_count (after_take s) ≤ waiting_count s - 1
 one_fewer next s None is =
     let none : nat_lt 0 (waiting_count s) ≡ false = next.waits s ∙ ap is_some is in
     let few = ltb-false 0 (waiting_count s) none in

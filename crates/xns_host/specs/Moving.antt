@@ -2,14 +2,15 @@
 use Rattle.std.specs.Prelude.{◌≡◌, ℕ, zero, suc, Bool, true, false, not, ◌&&◌, ◌||◌, ◌==◌, Option, Some, None, Result, Ok, Err, if◌then◌else◌, is_ok}
 use Rattle.courier_messages.specs.declared.message.Message.{Message}
 use Rattle.courier_sessions.specs.Answering.{Answering, has_items, why_unlisted, after_reject}
-use Rattle.courier_sessions.specs.Pumping.{caller_side, server_side, Pumped}
+use Rattle.courier_sessions.specs.Pumping as pumping
+use Rattle.courier_sessions.specs.Pumping.{caller_side, server_side}
 use Rattle.courier_sessions.specs.Talk.{Talk}
 use Rattle.courier_sessions.specs.declared.feed_refusal.FeedRefusal.{FeedRefusal}
 use Rattle.courier_sessions.specs.declared.feed_refusal.FeedRefusal.TheVariants.{Stopped, Busy, TooLong, Attention, Fault, NoMemory}
 use Rattle.courier_sessions.specs.declared.unlisted.Unlisted.{Unlisted}
-use Rattle.xns_spp.specs.Held.{Held, StandsFor}
+use Rattle.xns_spp.specs.Held.{StandsFor}
 use Rattle.xns_spp.specs.Sending.{after_send, after_take, send_answer, take_answer, waiting_count}
-use Rattle.xns_spp.specs.State.{State}
+use Rattle.xns_spp.specs.State.{State, IsState}
 use Rattle.xns_spp.specs.declared.item.Item.{Item}
 use Rattle.xns_host.specs.Closing.{closing_item, drains, end_stream, end_reply_stream, noted}
 use Rattle.xns_host.specs.Story.{IsListed, IsUnlisted, has_call, has_message, is_stopped, out_of}
@@ -36,12 +37,20 @@ pub record IsAt (t : Conversation) (x : Scene) : Type 0 where
 
 -- ---- items between a side and its end
 
+-- steps were taken up to the last side and this history of the end, where none applies, or where the next item that waits is refused
+pub record Led {S : Type 0} (kind : pumping.Side S) (first : S × State) (result : Result (Unit {0}) FeedRefusal) (next : S) (end : State)
+    : Type 0 where
+  pub last : S
+  pub leads : pumping.Leads kind first (last, end)
+  pub settled : pumping.Settles kind (last, end) result next
+  pub fits : IsState end
+
 -- items moved until this came of it
-abbrev pub Pumps : Side → State → Result (Unit {0}) FeedRefusal → Side → Held → Type 0
-Pumps (Calls t) s result (Calls u) end = Pumped caller_side (t, s) result u end
-Pumps (Calls t) s result (Answers b) end = ⊥
-Pumps (Answers a) s result (Calls u) end = ⊥
-Pumps (Answers a) s result (Answers b) end = Pumped server_side (a, s) result b end
+abbrev pub Pumps : Side → State → Result (Unit {0}) FeedRefusal → Side → State → Type 0
+Pumps (Calls t) s result (Calls u) v = Led caller_side (t, s) result u v
+Pumps (Calls t) s result (Answers b) v = ⊥
+Pumps (Answers a) s result (Calls u) v = ⊥
+Pumps (Answers a) s result (Answers b) v = Led server_side (a, s) result b v
 
 -- the call that waits and is not listed was rejected
 pub data Rejects : Side → Side → Type 0 where
@@ -49,18 +58,17 @@ pub data Rejects : Side → Side → Type 0 where
       → Rejects (Answers a) (Answers (after_reject a m u))
 
 -- items moved until none could, as often as a call was rejected, and once before
-pub data Rounds (side : Side) (s : State) : Side → Held → Type 0 where
-  once : {next : Side} {end : Held} → Pumps side s (Ok tt) next end → Rounds side s next end
-  again : {mid free next : Side} {end after : Held} (v : State) → Rounds side s mid end → StandsFor end v → Rejects mid free
-      → Pumps free v (Ok tt) next after → Rounds side s next after
+pub data Rounds (side : Side) (s : State) : Side → State → Type 0 where
+  once : {next : Side} {v : State} → Pumps side s (Ok tt) next v → Rounds side s next v
+  again : {mid free next : Side} {v w : State} → Rounds side s mid v → Rejects mid free → Pumps free v (Ok tt) next w → Rounds side s next w
 
 -- the same up to where nothing moves and no call is to be rejected, or where the side refuses an item, or memory is refused
-pub data Converses (side : Side) (s : State) : Result (Unit {0}) FeedRefusal → Side → Held → Type 0 where
-  calms : {next : Side} {end : Held} → Rounds side s next end → (is_stopped next ≡ false → IsListed next) → Converses side s (Ok tt) next end
-  starves : {next : Side} {end : Held} → Rounds side s next end → IsUnlisted next → Converses side s (Err NoMemory) next end
-  refuses : {next : Side} {end : Held} (e : FeedRefusal) → Pumps side s (Err e) next end → Converses side s (Err e) next end
-  refuses_on : {mid free next : Side} {end after : Held} (e : FeedRefusal) (v : State) → Rounds side s mid end → StandsFor end v
-      → Rejects mid free → Pumps free v (Err e) next after → Converses side s (Err e) next after
+pub data Converses (side : Side) (s : State) : Result (Unit {0}) FeedRefusal → Side → State → Type 0 where
+  calms : {next : Side} {v : State} → Rounds side s next v → (is_stopped next ≡ false → IsListed next) → Converses side s (Ok tt) next v
+  starves : {next : Side} {v : State} → Rounds side s next v → IsUnlisted next → Converses side s (Err NoMemory) next v
+  refuses : {next : Side} {v : State} (e : FeedRefusal) → Pumps side s (Err e) next v → Converses side s (Err e) next v
+  refuses_on : {mid free next : Side} {v w : State} (e : FeedRefusal) → Rounds side s mid v → Rejects mid free → Pumps free v (Err e) next w
+      → Converses side s (Err e) next w
 
 -- ---- the closing exchange
 
@@ -123,8 +131,8 @@ settled_by (Err (Fault f)) x = closed_up (deafened x)
 -- items moved from this scene until this came of it: none, where what comes is looked at for the closing exchange alone
 pub data Moves (x : Scene) : Result (Unit {0}) FeedRefusal → Scene → Type 0 where
   drains_only : drains x.side x.closing ≡ true → Moves x (Ok tt) x
-  converses : {result : Result (Unit {0}) FeedRefusal} {next : Side} {end : Held} (v : State) → drains x.side x.closing ≡ false
-      → Converses x.side x.state result next end → StandsFor end v → Moves x result (record x { side = next; state = v })
+  converses : {result : Result (Unit {0}) FeedRefusal} {next : Side} {v : State} → drains x.side x.closing ≡ false
+      → Converses x.side x.state result next v → Moves x result (record x { side = next; state = v })
 
 -- all that can move from this scene has moved: `moved` says whether the side refused an item, or memory was refused
 pub record Settles (x : Scene) (moved : Result (Unit {0}) FeedRefusal) (to : Scene) : Type 0 where

@@ -1,16 +1,17 @@
 -- One step of a connection: something is done, and then what can move moves. It determines every part of the new connection.
 use Rattle.std.specs.Prelude.{◌≡◌, ◌≢◌, ℕ, List, Bool, true, false, not, ◌&&◌, Option, None, Result, IfOk, OnErr}
 use Rattle.courier_sessions.specs.declared.feed_refusal.FeedRefusal.{FeedRefusal}
-use Rattle.xns_agenda.specs.Waiting.{StepsAt}
+use Rattle.xns_agenda.specs.Waiting.{HearsAt, StepsAt, Waiting}
 use Rattle.xns_spp.specs.Held.{StandsFor}
 use Rattle.xns_spp.specs.State.{State}
 use Rattle.xns_host.specs.Closed.{ClosesBy}
 use Rattle.xns_host.specs.Closing.{drains}
-use Rattle.xns_host.specs.Deeds.{Deed, Moved, Parts, done, nothing, side_taken, took, owed_by, told_by, wait_by, wait_moved, wanted_by}
+use Rattle.xns_host.specs.Deeds.{Deed, Moved, Parts, done, nothing, asked, made, gave, side_taken, took, heard, owed_by, told_by, wait_by, wait_moved, wanted_by}
 use Rattle.std.specs.declared.alloc.AllocError.{AllocError}
 use Rattle.xns_host.specs.Giving.{Giving, GivesAs, IsGiving, IsShort, giving, next_of}
 use Rattle.xns_host.specs.Living.{GoesFrom}
 use Rattle.xns_host.specs.Moving.{is_calm, scene}
+use Rattle.xns_host.specs.Reasons.{answer_fault_of, call_fault_of}
 use Rattle.xns_host.specs.Story.{Story, waiting_message}
 use Rattle.xns_host.specs.Telling.{CalmFrom, HasSaidEnd, HasSaidReply, OwesRoom, ReadsAll}
 use Rattle.xns_host.specs.declared.connection.Connection.{Connection}
@@ -18,12 +19,32 @@ use Rattle.xns_host.specs.declared.conversation.Conversation.{Conversation}
 
 -- ---- a step
 
+-- the program may do it: it may make the call, or give the answer
+abbrev pub May : Conversation → Deed → Type 0
+May t nothing = Unit {0}
+May t asked = Unit {0}
+May t (made call) = call_fault_of t call ≡ None
+May t (gave kind words) = answer_fault_of t kind words ≡ None
+May t took = Unit {0}
+May t (heard bytes) = Unit {0}
+
+-- the waits make steps of this moment; where bytes come, a word of the peer may come first
+abbrev pub WaitsBy : Deed → (now : ℕ) → (old new : Waiting) → Type 0
+WaitsBy nothing now w v = StepsAt now w v
+WaitsBy asked now w v = StepsAt now w v
+WaitsBy (made call) now w v = StepsAt now w v
+WaitsBy (gave kind words) now w v = StepsAt now w v
+WaitsBy took now w v = StepsAt now w v
+WaitsBy (heard bytes) now w v = HearsAt now w v
+
 -- at this time this was done, and then what could move moved
 pub record Step (now : ℕ) (deed : Deed) (old new : Connection) : Type 0 where
   pub moved : Result (Unit {0}) FeedRefusal
   pub on : (s : State) → StandsFor old.conversation.endpoint s
       → Moved now (done deed (scene old.conversation s)) moved new.conversation (owed_by deed old.owed old.wait s) new.owed
       old.closed new.closed (wait_by deed old.wait s now) new.wait
+  pub may : May old.conversation deed
+  pub steps : WaitsBy deed now old.wait new.wait
   pub packets : new.conversation.packets ≡ old.conversation.packets
   pub told : new.told ≡ old.told
   pub stays : old.closed ≢ None → new.closed ≡ old.closed
@@ -92,5 +113,10 @@ pub record Promises (now : ℕ) (deed : Deed) (old new : Connection) : Type 0 wh
   pub said : new.owed.moving ≡ false → HasSaidEnd new.conversation
   pub replied : HasReplied old new
   pub closes : ClosesFrom old new (told_by deed old.conversation.side)
-  pub steps : StepsAt now old.wait new.wait
+  pub steps : WaitsBy deed now old.wait new.wait
   pub room : OwesRoom old.conversation.endpoint new.conversation.endpoint new.owed.word
+
+-- a connection whose end has a history keeps its promises at each step
+abbrev pub AStepKeepsItsPromises : Type 0
+AStepKeepsItsPromises = (now : ℕ) (deed : Deed) (old new : Connection) (s : State) → StandsFor old.conversation.endpoint s
+    → Step now deed old new → Promises now deed old new

@@ -13,6 +13,7 @@ ghost use Rattle.xns_host.specs.Agreeing.{handed_up, HasCalled, HasServed, ArePe
 ghost use Rattle.xns_host.specs.Closing.{drains};
 ghost use Rattle.xns_host.specs.Identifiers.{IsOrder, Ids, Turn, Given, HadTurn, most_id};
 ghost use Rattle.xns_host.specs.Living.{Deeds, no_deeds, Lives, IsLived, ProgramsAgree};
+ghost use Rattle.xns_host.specs.Step.{AStepKeepsItsPromises};
 ghost use Rattle.xns_host.specs.Story.{Story, GoesOn, new_story};
 ghost use Rattle.xns_host.specs.Telling.{Tells};
 ghost use Rattle.xns_host.specs.declared.conversation.Conversation.{Conversation};
@@ -83,6 +84,19 @@ pub fn two_programs_agree()
     courier_messages::laws::one_item_more();
     courier_messages::laws::a_conversation_only_grows();
     courier_sessions::laws::sessions_agree();
+}
+
+/// What a connection had done goes on by each step, as the program or the peer had it do: no item can move then, and nothing is to be said
+/// or read of closing, unless memory was refused or the step closed it.
+pub fn a_step_keeps_its_promises()
+    ensures { AStepKeepsItsPromises }
+{
+    xns_spp::laws::the_next_item_is_handed_up();
+    xns_spp::laws::items_are_accepted_or_change_nothing();
+    xns_spp::laws::an_end_only_grows();
+    xns_spp::laws::other_steps_accept_and_hand_up_nothing();
+    courier_sessions::laws::a_session_is_its_conversation();
+    courier_sessions::laws::a_server_session_is_its_conversation();
 }
 
 /// Neither of two connections that are peers refuses an item of the other's: the next one that waits is of the closing exchange, or the

@@ -160,7 +160,7 @@ impl Side {
         ensures moves { Moves self.old endpoint.old self.new endpoint.new }
         ensures all { OnOk result (MovesAll self.old endpoint.old self.new endpoint.new) }
         ensures refused { IfErr result (λ e. MovesUntil self.old endpoint.old e self.new endpoint.new) }
-        ensures pumps { (s : State) → StandsFor endpoint.old s → Pumps self.old s result self.new endpoint.new }
+        ensures pumps { (s : State) → StandsFor endpoint.old s → (v : State) × StandsFor endpoint.new v × Pumps self.old s result self.new v }
         // A call comes only with an item: where as many wait as before, none came.
         ensures calls { has_message self.old ≡ false → OnOk result ((s v : State) → StandsFor endpoint.old s → StandsFor endpoint.new v
             → waiting_count s ≤ waiting_count v → IsListed self.new) }
@@ -198,7 +198,8 @@ impl Side {
         ensures moves { Moves self.old endpoint.old self.new endpoint.new }
         ensures calms { OnOk result (Calms self.old endpoint.old self.new endpoint.new) }
         ensures refused { IfErr result (λ e. MovesUntil self.old endpoint.old e self.new endpoint.new) }
-        ensures converses { (s : State) → StandsFor endpoint.old s → Converses self.old s result self.new endpoint.new }
+        ensures converses { (s : State) → StandsFor endpoint.old s → (v : State) × StandsFor endpoint.new v
+            × Converses self.old s result self.new v }
     {
         self.pump(alloc, endpoint)?;
         let mut waiting = endpoint.waiting();

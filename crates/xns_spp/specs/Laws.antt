@@ -4,7 +4,7 @@ use Rattle.std.specs.Prelude.{length, map, nat_lt, take, true, false, slice_get,
 use Rattle.xns_idp.specs.Packet.{PacketModel, AreBytes, IsAddress, IsPacketAtFront}
 use Rattle.xns_idp.specs.Reading.{made_even}
 use Rattle.xns_idp.specs.declared.address.Address.{Address}
-use Rattle.xns_spp.specs.Ends.{IsEnds, is_open, is_for_responder, most_pending}
+use Rattle.xns_spp.specs.Ends.{IsEnds, is_open, is_ours_at, is_for_responder, most_pending}
 use Rattle.xns_spp.specs.Growth.{IsFresh, Grows, Stays, HearsNothing, HasCome, Takes, Acknowledges, IsOwnPacket}
 use Rattle.xns_spp.specs.Header.{IsHeader, SpellsHeader, header_spelling, header_of, system_bit, reply_control, has_bit, is_system}
 use Rattle.xns_spp.specs.Header.{brings_item, wants_reply}
@@ -12,6 +12,7 @@ use Rattle.xns_spp.specs.Item.{IsItem, IsShortItem, item_in}
 use Rattle.xns_spp.specs.Meant.{Meant, own_meant, IsReduced, as_meant}
 use Rattle.xns_spp.specs.Nearest.{field_round, half_round, nearest, IsNearest}
 use Rattle.xns_spp.specs.Packet.{SppPacketModel, IsSppPacket, IsSppPacketAtFront, spelled, spp_packet_spelling, spp_packet_of}
+use Rattle.xns_spp.specs.Peers.{IsLinked, IsNamed, IsHeard, Counts, Asks, Learns}
 use Rattle.xns_spp.specs.Receiving.{numbers_in, receive_answer, after_receive, arrival_fault, reply_packet, is_ours, IsOursAtFront}
 use Rattle.xns_spp.specs.Sending.{data_packet, system_packet, flush_packets, flush_answer, tick_packets, tick_answer, is_full, send_answer}
 use Rattle.xns_spp.specs.Sending.{take_answer, waiting_count, after_send, after_take, after_flush, after_tick}
@@ -19,6 +20,7 @@ use Rattle.xns_spp.specs.State.{State, IsState, window_top, send_limit, initiato
 use Rattle.xns_spp.specs.Telling.{system_control, told_packet, told_answer, resend_packet, resend_answer, after_resend, room_to_send}
 use Rattle.xns_spp.specs.declared.dropped.Dropped.{Dropped}
 use Rattle.xns_spp.specs.declared.dropped.Dropped.TheVariants.{NotIdp}
+use Rattle.xns_spp.specs.declared.ends.Ends.{Ends}
 use Rattle.xns_spp.specs.declared.header.Header.{Header}
 use Rattle.xns_spp.specs.declared.item.Item.{Item}
 use Rattle.xns_spp.specs.declared.role.Role.TheVariants.{Responder}
@@ -171,3 +173,27 @@ pub record TheFirstItemGoesOutAgain : Type 0 where
       → resend_packet s ≡ Some (data_packet s s.acknowledged x)
   pub sent : (s : State) → is_open s.ends ≡ true → s.acknowledged < send_limit s → (after_resend s).sent ≡ max s.sent (s.acknowledged + 1)
   pub same : (s : State) → s.acknowledged < s.sent → after_resend s ≡ s
+
+-- what an end sends is from it to its peer, which takes such a packet for the connection's
+pub record PacketsOfThePeerAreOurs : Type 0 where
+  pub system : (s : State) (control : ℕ) → IsNamed s.ends (system_packet s control)
+  pub item : (s : State) (i : ℕ) (x : Item) → IsNamed s.ends (data_packet s i x)
+  pub own : (s t : State) (p : SppPacketModel) → IsOwnPacket s t p → IsNamed s.ends p
+  pub ours : (e f : Ends) (p : SppPacketModel) → IsEnds e → IsEnds f → IsLinked e f → IsLinked f e → IsNamed e p → is_ours_at f p ≡ true
+
+abbrev pub APacketThatIsHeardCounts : Type 0
+APacketThatIsHeardCounts = (s : State) (b : List ℕ) (p : SppPacketModel) (m : Meant) → IsHeard s b p m → Counts s b p m
+
+-- a tick asks, and where the first item that is not acknowledged may go out, all items go out that may
+pub record ATickAsksUntilAllIsAcknowledged : Type 0 where
+  pub asks : (s : State) → s.acknowledged < length s.accepted → Asks s
+  pub sent : (s : State) → is_open s.ends ≡ true → s.acknowledged < send_limit s → (after_tick s).sent ≡ send_limit s
+
+-- no other part of the end changes
+pub record WhatGoesOutChangesWhatWasSentAlone : Type 0 where
+  pub flush : (s : State) → after_flush s ≡ record s { sent = (after_flush s).sent }
+  pub tick : (s : State) → after_tick s ≡ record s { sent = (after_tick s).sent }
+  pub resend : (s : State) → after_resend s ≡ record s { sent = (after_resend s).sent }
+
+abbrev pub AnEndLearnsWhereAPacketComesFrom : Type 0
+AnEndLearnsWhereAPacketComesFrom = (s : State) (b : List ℕ) → ((after_receive s b).ends ≡ s.ends) ⊎ Learns s.ends b (after_receive s b).ends

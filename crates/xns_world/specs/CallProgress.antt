@@ -10,13 +10,15 @@ use Rattle.item_world.specs.declared.event.Event.{Event}
 use Rattle.item_world.specs.Setup.{IsSetup, IsGood}
 use Rattle.item_world.specs.declared.setup.Setup.{Setup}
 use Rattle.xns_world.specs.CallOrder.{CallsHold}
-use Rattle.xns_world.specs.CallWorld.{Parties, CallWorld, CallStep, arrival, ticking, acting, call_start, call_stepped, all_call_stepped, call_happens, run_calls, carried_at, seen_at, outcomes_read}
+use Rattle.xns_world.specs.CallWorld.{Parties, CallWorld, CallStep, arrival, ticking, acting, flushing, call_start, call_stepped}
+use Rattle.xns_world.specs.CallWorld.{all_call_stepped, call_happens, run_calls, carried_at, seen_at, outcomes_read}
 
--- an end ticks, a side takes a step of its own, or an end answers one of the packets that are sent from number n on
+-- an end ticks or flushes, a side takes a step of its own, or an end answers one of the packets that are sent from number n on
 abbrev pub IsPlainCall : ℕ → CallStep → Type 0
 IsPlainCall n (arrival k) = n ≤ k
 IsPlainCall n (ticking side) = Unit {0}
 IsPlainCall n (acting side) = Unit {0}
+IsPlainCall n (flushing side) = Unit {0}
 IsPlainCall n _ = ⊥
 
 -- each of the calls was made and carried out, and its outcome seen
@@ -51,8 +53,10 @@ pub record CompletesByEvents {S : Type 0} (p : Parties S) (w : CallWorld) : Type
 -- from every state that a play can be in, whatever was lost, repeated or late before, some plain steps carry out all calls, and list their
 -- outcomes
 pub record NoPlayIsStuck {S : Type 0} (serving : Serving S) (IsServiceState : S → Type 0) : Type 0 where
-  pub starts : (p : Parties S) (setup : Setup) → AreParties serving IsServiceState p → IsSetup setup → IsGood setup → GoesOn p (call_start setup)
-  pub each : (p : Parties S) (w : CallWorld) (step : CallStep) → AreParties serving IsServiceState p → GoesOn p w → GoesOn p (call_stepped p w step)
+  pub starts : (p : Parties S) (setup : Setup) → AreParties serving IsServiceState p → IsSetup setup → IsGood setup
+      → GoesOn p (call_start setup)
+  pub each : (p : Parties S) (w : CallWorld) (step : CallStep) → AreParties serving IsServiceState p → GoesOn p w
+      → GoesOn p (call_stepped p w step)
   pub world : (p : Parties S) (w : CallWorld) → AreParties serving IsServiceState p → HasRoom p → GoesOn p w → Completes p w
   pub always : (p : Parties S) (setup : Setup) (steps : List CallStep) → AreParties serving IsServiceState p → IsSetup setup → IsGood setup
       → HasRoom p → Completes p (all_call_stepped p (call_start setup) steps)

@@ -1,17 +1,19 @@
-ghost use Rattle.std.specs.Prelude.{◌≡◌, map, All, OnOk, IfOk, fold};
+ghost use Rattle.std.specs.Prelude.{◌≡◌, ◌≤◌, length, map, All, OnOk, IfOk, fold};
 ghost use Rattle.courier_calls.specs.Table.{table_model, IsCheckedTable};
-ghost use Rattle.courier_calls.specs.Calls.{call_model, CallFits};
+ghost use Rattle.courier_calls.specs.Calls.{call_model, raw_call, seen_model, outcomes, CallFits};
 ghost use Rattle.item_world.specs.declared.side.Side.{Side};
 ghost use Rattle.item_world.specs.declared.side.Side.TheVariants.{A, B};
 ghost use Rattle.item_world.specs.declared.event.Event.TheVariants.{Deliver, Rest, Tick, Foreign, Send, Take};
 ghost use Rattle.xns_world.specs.CallPlay.{IsCallPlaying, IsReady, CallStepsBy, IsCallTrace, IsOnceInOrder, parties};
+ghost use Rattle.xns_world.specs.CallProgress.{HasRoom, CompletesByEvents};
 ghost use Rattle.xns_world.specs.CallWorld.{Parties, CallWorld, call_start, call_happens, run_calls, delivers, settles};
 ghost use Rattle.item_world.specs.Setup.{IsGood};
+ghost use Rattle.xns_spp.specs.Growth.{Begins};
 
 use crate::call_pair::CallPair;
 use crate::call_trace::CallTrace;
 use crate::calling::CallingEnd;
-use crate::laws::calls::laws_are_given;
+use crate::laws::calls::{laws_are_given, no_play_is_stuck};
 use crate::serving::ServingEnd;
 use courier_calls::{Call, Service, Table, known_calls};
 use item_world::{Event, Network, Setup, Side};
@@ -152,7 +154,9 @@ impl<'a, S: Service> CallPlay<'a, S> {
 ///
 /// Over every list of deliveries, losses, repeats and reorderings each call is carried out at most once and in order, and the k-th outcome
 /// that the caller sees is the server's to its k-th call. No packet is delivered once an end has taken more than 30,000 further items
-/// since it was sent. That any call is answered is not promised. An `Err` says that memory was refused, and gives no trace.
+/// since it was sent. That any call is answered is not promised, since the network may lose every packet. But whatever happened, some
+/// further ticks and deliveries of packets sent from then on finish all calls, where a connection carries all that they take (`finishes`).
+/// An `Err` says that memory was refused, and gives no trace.
 pub fn play_calls<S: Service>(
     alloc: Global,
     setup: &Setup,
@@ -169,10 +173,15 @@ pub fn play_calls<S: Service>(
     ensures trace { IfOk result (λ t. IsCallTrace (parties S.serving service calls.now) t
         (run_calls (parties S.serving service calls.now) setup.now events.now)) }
     ensures once { IfOk result (λ t. IsOnceInOrder S.serving service calls.now t) }
+    ensures seen { IfOk result (λ t. Begins (map seen_model t.seen.items) (outcomes S.serving service (map raw_call calls.now))) }
+    ensures fewer { IfOk result (λ t. length t.seen.items ≤ length t.carried.items) }
+    ensures finishes { HasRoom (parties S.serving service calls.now) → CompletesByEvents (parties S.serving service calls.now)
+        (run_calls (parties S.serving service calls.now) setup.now events.now) }
 {
     setup.known();
     known_calls(table, calls);
     laws_are_given::<S>();
+    no_play_is_stuck::<S>();
     let play = CallPlay::new(alloc, setup, table, service)?;
     play.played(alloc, calls, events)
 }

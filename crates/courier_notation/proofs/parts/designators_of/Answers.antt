@@ -1,12 +1,12 @@
 use Rattle.std.proofs.lemmas.Result.{err_from_is_err_and}
 use Rattle.courier_notation.specs.Reading.{designator_at, listed, most_parts}
-use Rattle.courier_notation.proofs.Listing.{ends, goes_on, is_done, is_full}
+use Rattle.courier_notation.proofs.Listing.{ends, goes_on, is_done, is_full, stops_fails}
 use Rattle.courier_notation.proofs.parts.designators_of.Goals as goal
 
 pub returns-in_err-designator : goal.returns-in_err-designator
 returns-in_err-designator c =
     let p = err_from_is_err_and c.from_residual.result c.from_residual.ensures.1 in
-    rw (p.1, p.2) (ends c.in_err-designator.field-0.0 designator_at c.loop.designators.items most_parts c.loop.counter c.loop.rest.now (listed designator_at most_parts c.args.tokens.now) c.loop-test.true c.in_err-designator.ensures c.loop.invariant)
+    rw (p.1, p.2) (ends c.in_err-designator.field-0.0 designator_at c.loop.designators.items most_parts c.loop.counter c.loop.rest.now (listed designator_at most_parts c.args.tokens.now) c.loop-test.true (stops_fails c.in_err-designator.field-0.0 (designator_at c.loop.rest.now) c.in_err-designator.ensures) c.loop.invariant)
 
 pub returns-in-None : goal.returns-in-None
 returns-in-None c =

@@ -1,12 +1,12 @@
 use Rattle.std.proofs.lemmas.Result.{err_from_is_err_and}
 use Rattle.courier_notation.specs.Reading.{listed, member_at, most_parts}
-use Rattle.courier_notation.proofs.Listing.{ends, goes_on, is_done, is_full}
+use Rattle.courier_notation.proofs.Listing.{ends, goes_on, is_done, is_full, stops_fails}
 use Rattle.courier_notation.proofs.parts.members_of.Goals as goal
 
 pub returns-in_err-member : goal.returns-in_err-member
 returns-in_err-member c =
     let p = err_from_is_err_and c.from_residual.result c.from_residual.ensures.1 in
-    rw (p.1, p.2) (ends c.in_err-member.field-0.0 member_at c.loop.members.items most_parts c.loop.counter c.loop.rest.now (listed member_at most_parts c.args.tokens.now) c.loop-test.true c.in_err-member.ensures c.loop.invariant)
+    rw (p.1, p.2) (ends c.in_err-member.field-0.0 member_at c.loop.members.items most_parts c.loop.counter c.loop.rest.now (listed member_at most_parts c.args.tokens.now) c.loop-test.true (stops_fails c.in_err-member.field-0.0 (member_at c.loop.rest.now) c.in_err-member.ensures) c.loop.invariant)
 
 pub returns-in-None : goal.returns-in-None
 returns-in-None c =

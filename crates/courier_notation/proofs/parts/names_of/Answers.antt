@@ -1,12 +1,12 @@
 use Rattle.std.proofs.lemmas.Result.{err_from_is_err_and}
 use Rattle.courier_notation.specs.Reading.{listed, most_parts, name_at}
-use Rattle.courier_notation.proofs.Listing.{ends, goes_on, is_done, is_full}
+use Rattle.courier_notation.proofs.Listing.{ends, goes_on, is_done, is_full, stops_fails}
 use Rattle.courier_notation.proofs.parts.names_of.Goals as goal
 
 pub returns-in_err-name : goal.returns-in_err-name
 returns-in_err-name c =
     let p = err_from_is_err_and c.from_residual.result c.from_residual.ensures.1 in
-    rw (p.1, p.2) (ends c.in_err-name.field-0.0 name_at c.loop.names.items most_parts c.loop.counter c.loop.rest.now (listed name_at most_parts c.args.tokens.now) c.loop-test.true c.in_err-name.ensures c.loop.invariant)
+    rw (p.1, p.2) (ends c.in_err-name.field-0.0 name_at c.loop.names.items most_parts c.loop.counter c.loop.rest.now (listed name_at most_parts c.args.tokens.now) c.loop-test.true (stops_fails c.in_err-name.field-0.0 (name_at c.loop.rest.now) c.in_err-name.ensures) c.loop.invariant)
 
 pub returns-in-None : goal.returns-in-None
 returns-in-None c =

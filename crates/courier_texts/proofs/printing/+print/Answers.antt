@@ -1,36 +1,60 @@
-use Rattle.std.proofs.Common.{◌++◌, [], ap, sym, ◌∙◌, arith}
-use Rattle.std.proofs.lemmas.List.{append-nil}
+use Rattle.std.proofs.Common.{◌++◌, [], codes, drop, ap, sym, ◌∙◌, arith, ◌+◌}
+use Rattle.std.proofs.lemmas.Result.{err_from_is_err_and}
 use Rattle.courier_types.specs.Value.{value_model, value_models}
 use Rattle.courier_texts.specs.Named.{named_model, component_models}
-use Rattle.courier_texts.specs.Printing.{elements_text, components_text, value_text}
-use Rattle.courier_texts.proofs.Printed.{item_here, more_elements, no_more_elements, more_components, no_more_values, no_more_parts, at_variant, past_variant, no_variant, named_record, named_choice, value_fields, value_chosen}
+use Rattle.courier_texts.specs.Printing.{components_text, value_text}
+use Rattle.courier_texts.proofs.Appends.{done, goes_on, left_is, nothing, stops}
+use Rattle.courier_texts.proofs.Printed.{item_here, components_here, front_first, no_value_text, no_part_text, at_variant, past_variant, no_variant, named_record, named_choice, value_fields, value_chosen}
 use Rattle.courier_texts.proofs.printing.+print.Goals as goal
-
-pub print_elements-loop-value-preserved : goal.print_elements-loop-value-preserved
-print_elements-loop-value-preserved t c =
-    let l = c.loop-value in
-    let values = c.args.values.now in
-    let v = c.value-item.result in
-    let one = value_text (named_model c.args.element.now) in
-    let here = item_here values l.value-index v (omega arith) c.value-item.is in
-    more_elements one l.out.items c.extend_from_slice.new.self.items c.print_value.new.out.items l.front.now values l.value-index v (c.args.out.now.items ++ elements_text [] one (value_models values)) here c.in_ok-extend_from_slice.ensures.items c.in_ok-print_value.ensures l.invariant
-
-pub print_elements-returns : goal.print_elements-returns
-print_elements-returns t c =
-    let l = c.loop-value in
-    let values = c.args.values.now in
-    let one = value_text (named_model c.args.element.now) in
-    no_more_elements one l.out.items l.front.now values l.value-index (c.args.out.now.items ++ elements_text [] one (value_models values)) c.loop-value-test.false l.invariant
 
 pub print_components-returns-then-i-values : goal.print_components-returns-then-i-values
 print_components-returns-then-i-values t c =
     let l = c.loop-i in
-    no_more_values l.out.items l.front.now c.args.components.now c.args.values.now l.i (c.args.out.now.items ++ components_text [] (component_models c.args.components.now) (value_models c.args.values.now)) (omega arith) l.invariant
+    let parts = c.args.components.now in
+    let values = c.args.values.now in
+    let left = components_text l.front.now (component_models (drop l.i parts)) (value_models (drop l.i values)) in
+    let whole = components_text [] (component_models parts) (value_models values) in
+    done c.args.out.now l.out whole (left_is c.args.out.now l.out left [] whole l.invariant (no_value_text l.front.now parts values l.i (omega arith)))
 
 pub print_components-returns : goal.print_components-returns
 print_components-returns t c =
     let l = c.loop-i in
-    no_more_parts l.out.items l.front.now c.args.components.now c.args.values.now l.i (c.args.out.now.items ++ components_text [] (component_models c.args.components.now) (value_models c.args.values.now)) c.loop-i-test.false l.invariant
+    let parts = c.args.components.now in
+    let values = c.args.values.now in
+    let left = components_text l.front.now (component_models (drop l.i parts)) (value_models (drop l.i values)) in
+    let whole = components_text [] (component_models parts) (value_models values) in
+    done c.args.out.now l.out whole (left_is c.args.out.now l.out left [] whole l.invariant (no_part_text l.front.now parts values l.i c.loop-i-test.false))
+
+pub print_components-returns-in_err-append : goal.print_components-returns-in_err-append
+print_components-returns-in_err-append t c =
+    let l = c.loop-i in
+    let parts = c.args.components.now in
+    let values = c.args.values.now in
+    let part = c.index-components-i.result in
+    let here = item_here parts l.i part (omega arith) c.index-components-i.is in
+    let left = components_text l.front.now (component_models (drop l.i parts)) (value_models (drop l.i values)) in
+    let whole = components_text [] (component_models parts) (value_models values) in
+    let first = front_first l.front.now parts values l.i part here (omega arith) in
+    let p = err_from_is_err_and c.from_residual.result c.from_residual.ensures.1 in
+    rw (p.1, p.2) (stops c.in_err-append.field-0.0 c.args.out.now l.out l.front.now first.0 whole (left_is c.args.out.now l.out left (l.front.now ++ first.0) whole l.invariant first.1) c.in_err-append.ensures)
+
+pub print_components-returns-in_err-print_component : goal.print_components-returns-in_err-print_component
+print_components-returns-in_err-print_component t c =
+    let l = c.loop-i in
+    let parts = c.args.components.now in
+    let values = c.args.values.now in
+    let part = c.index-components-i.result in
+    let v = c.index-values-i.result in
+    let here = item_here parts l.i part (omega arith) c.index-components-i.is in
+    let there = item_here values l.i v (omega arith) c.index-values-i.is in
+    let left = components_text l.front.now (component_models (drop l.i parts)) (value_models (drop l.i values)) in
+    let text = part.0.items ++ codes ": " ++ value_text (named_model part.1) (value_model v) in
+    let more = components_text (codes ", ") (component_models (drop (l.i + 1) parts)) (value_models (drop (l.i + 1) values)) in
+    let whole = components_text [] (component_models parts) (value_models values) in
+    let s = goes_on c.args.out.now l.out c.append.new.out l.front.now (text ++ more) whole (left_is c.args.out.now l.out left (l.front.now ++ (text ++ more)) whole l.invariant (components_here l.front.now parts values l.i part v here there)) c.in_ok-append.ensures in
+    let put = rw c.deref.ensures.value at c.in_err-print_component.ensures in
+    let p = err_from_is_err_and c.from_residual-in_err-print_component.result c.from_residual-in_err-print_component.ensures.1 in
+    rw (p.1, p.2) (stops c.in_err-print_component.field-0.0 c.args.out.now c.append.new.out text more whole s put)
 
 pub print_components-loop-i-preserved : goal.print_components-loop-i-preserved
 print_components-loop-i-preserved t c =
@@ -41,8 +65,13 @@ print_components-loop-i-preserved t c =
     let v = c.index-values-i.result in
     let here = item_here parts l.i part (omega arith) c.index-components-i.is in
     let there = item_here values l.i v (omega arith) c.index-values-i.is in
+    let left = components_text l.front.now (component_models (drop l.i parts)) (value_models (drop l.i values)) in
+    let text = part.0.items ++ codes ": " ++ value_text (named_model part.1) (value_model v) in
+    let more = components_text (codes ", ") (component_models (drop (l.i + 1) parts)) (value_models (drop (l.i + 1) values)) in
+    let whole = components_text [] (component_models parts) (value_models values) in
+    let s = goes_on c.args.out.now l.out c.append.new.out l.front.now (text ++ more) whole (left_is c.args.out.now l.out left (l.front.now ++ (text ++ more)) whole l.invariant (components_here l.front.now parts values l.i part v here there)) c.in_ok-append.ensures in
     let put = rw c.deref.ensures.value at c.in_ok-print_component.ensures in
-    more_components l.out.items c.extend_from_slice.new.self.items c.print_component.new.out.items l.front.now parts values l.i part v (c.args.out.now.items ++ components_text [] (component_models parts) (value_models values)) here there c.in_ok-extend_from_slice.ensures.items put l.invariant
+    goes_on c.args.out.now c.append.new.out c.print_component.new.out text more whole s put
 
 pub print_chosen-returns-then-variant-designator : goal.print_chosen-returns-then-variant-designator
 print_chosen-returns-then-variant-designator t c =
@@ -65,7 +94,7 @@ pub print_chosen-returns : goal.print_chosen-returns
 print_chosen-returns t c =
     let l = c.loop-variant in
     let none = sym l.invariant.here ∙ no_variant c.args.variants.now l.variant-index c.args.designator (value_model c.args.value.now) c.loop-variant-test.false in
-    rw (none, append-nil) (ap (λ v. v.items) l.invariant.same)
+    rw none (nothing c.args.out.now l.out l.invariant.same c.requires)
 
 pub print_value-returns-in-Record-Fields : goal.print_value-returns-in-Record-Fields
 unfolding value_text

@@ -1,5 +1,5 @@
 use Rattle.std.proofs.Common.{◌≡◌, [], ap, sym, ◌∙◌, rules, arith}
-use Rattle.std.proofs.lemmas.List.{append-nil}
+use Rattle.courier_texts.proofs.Appends.{nothing}
 use Rattle.courier_texts.specs.Named.{members_seen}
 use Rattle.courier_texts.specs.Printing.{member_text}
 use Rattle.courier_texts.proofs.Printed.{item_here, at_member, past_member, drop_past}
@@ -27,4 +27,4 @@ returns c =
     let l = c.loop-member in
     let members = c.args.members.now in
     let none : member_text (members_seen members) c.args.word ≡ [] = sym l.invariant.here ∙ ap (λ ms. member_text (members_seen ms) c.args.word) (drop_past members l.member-index c.loop-member-test.false) in
-    rw (none, append-nil) (ap (λ v. v.items) l.invariant.same)
+    rw none (nothing c.args.out.now l.out l.invariant.same c.requires)

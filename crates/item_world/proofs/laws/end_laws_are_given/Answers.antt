@@ -18,4 +18,10 @@ returns c = record {
   comes_in = c.items_are_taken_from_the_next_number_on.ensures;
   acknowledges = c.packets_acknowledge_what_they_say.ensures;
   foreign = c.foreign_bytes_change_nothing.ensures;
+  first_again = c.the_first_item_goes_out_again.ensures;
+  peers = c.packets_of_the_peer_are_ours.ensures;
+  counts = c.a_packet_that_is_heard_counts.ensures;
+  asks = c.a_tick_asks_until_all_is_acknowledged.ensures;
+  alone = c.what_goes_out_changes_what_was_sent_alone.ensures;
+  learns = c.an_end_learns_where_a_packet_comes_from.ensures;
 }

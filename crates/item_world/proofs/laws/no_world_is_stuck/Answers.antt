@@ -1,7 +1,6 @@
-use Rattle.item_world.proofs.Onward.{Kept, stirs}
-use Rattle.item_world.proofs.Finishing.{finishes, always_finishes}
-use Rattle.item_world.proofs.FinishingBy.{always_finishes_by}
-use Rattle.item_world.proofs.Outward.{stirs_out}
+use Rattle.item_world.proofs.Onward.{Kept}
+use Rattle.item_world.proofs.Finishing.{finishes, always_finishes, always_finishes_by}
+use Rattle.item_world.proofs.Outward.{stirs, stirs_out}
 use Rattle.item_world.proofs.Linking.{keeps_links, starts_linked}
 use Rattle.item_world.proofs.laws.no_world_is_stuck.Goals as goal
 

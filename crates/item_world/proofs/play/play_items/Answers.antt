@@ -13,3 +13,7 @@ returns-clause-to_b c = begins_played c.items_come_in_order.ensures c.in_ok-a.fi
 
 pub returns-clause-to_a : goal.returns-clause-to_a
 returns-clause-to_a c = begins_played c.items_come_in_order.ensures c.in_ok-a.field-0 c.args.setup.now c.args.events.now A c.known.ensures c.requires c.in_ok-a.ensures
+
+pub returns-clause-finishes : goal.returns-clause-finishes
+returns-clause-finishes c =
+    c.no_world_is_stuck.ensures.by_events c.args.setup.now c.args.events.now c.known.ensures c.requires c.in_ok-a.ensures.fits

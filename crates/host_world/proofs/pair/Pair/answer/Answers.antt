@@ -9,7 +9,7 @@ returns-clause-steps c =
 pub returns-clause-waits : goal.returns-clause-waits
 returns-clause-waits c =
     one_waits c.args.self.now c.at.result.now c.answer.new.self c.args.side c.args.now c.at.ensures.value
-    (waits_on c.args.now (gave c.args.kind c.args.words.now) c.at.result.now c.answer.new.self c.answer.result c.answer.ensures.promises c.answer.ensures.unchanged)
+    (waits_on c.args.now (gave c.args.kind c.args.words.now) c.at.result.now c.answer.new.self c.answer.result (λ steps. steps) c.answer.ensures.step c.answer.ensures.unchanged)
 
 pub returns-clause-unchanged : goal.returns-clause-unchanged
 returns-clause-unchanged c = pair_unchanged c.args.self.now c.at.result.now c.answer.new.self c.args.side c.answer.result c.at.ensures.value c.answer.ensures.unchanged

@@ -10,7 +10,7 @@ returns-clause-steps c =
 pub returns-clause-waits : goal.returns-clause-waits
 returns-clause-waits c =
     one_waits c.args.self.now c.at.result.now c.call.new.self c.args.side c.args.now c.at.ensures.value
-    (waits_on c.args.now (made (words_call c.args.program c.args.version c.args.procedure c.args.words.now)) c.at.result.now c.call.new.self c.call.result c.call.ensures.promises c.call.ensures.unchanged)
+    (waits_on c.args.now (made (words_call c.args.program c.args.version c.args.procedure c.args.words.now)) c.at.result.now c.call.new.self c.call.result (λ steps. steps) c.call.ensures.step c.call.ensures.unchanged)
 
 pub returns-clause-unchanged : goal.returns-clause-unchanged
 returns-clause-unchanged c = pair_unchanged c.args.self.now c.at.result.now c.call.new.self c.args.side c.call.result c.at.ensures.value c.call.ensures.unchanged

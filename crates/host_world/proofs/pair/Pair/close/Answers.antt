@@ -5,4 +5,4 @@ pub returns-clause-steps : goal.returns-clause-steps
 returns-clause-steps c = pair_closes c.args.self.now c.at.result.now c.close.new.self c.args.side c.args.now c.at.ensures.value c.close.ensures.step c.close.ensures.promises
 
 pub returns-clause-waits : goal.returns-clause-waits
-returns-clause-waits c = one_waits c.args.self.now c.at.result.now c.close.new.self c.args.side c.args.now c.at.ensures.value c.close.ensures.promises.steps
+returns-clause-waits c = one_waits c.args.self.now c.at.result.now c.close.new.self c.args.side c.args.now c.at.ensures.value c.close.ensures.step.steps

@@ -19,7 +19,7 @@ pub returns-clause-step : goal.returns-clause-step
 returns-clause-step c =
     let k = c.in_ok-answer.ensures in
     step_by c.args.now (gave c.args.kind c.args.words.now) c.args.self.now _ c.answer.new.self k.endpoint
-    (λ s. ap (λ (t : Conversation). scene t s) (k.is refl)) (λ s. refl) (λ s. refl) c.settled.ensures.moved (c.settled.ensures.packets ∙ k.packets) refl c.settled.ensures.closed
+    (λ s. ap (λ (t : Conversation). scene t s) (k.is refl)) (λ s. refl) (λ s. refl) c.settled.ensures.moved k.answer c.settled.ensures.steps (c.settled.ensures.packets ∙ k.packets) refl c.settled.ensures.closed
 
 pub returns-clause-promises : goal.returns-clause-promises
 returns-clause-promises c =

@@ -13,7 +13,7 @@ settled-requires-clause-deaf c = λ some. drains_still _ _ c.close.ensures.goes 
 pub returns-clause-step : goal.returns-clause-step
 returns-clause-step c =
     step_by c.args.now asked c.args.self.now _ c.close.new.self (ap (λ (t : Conversation). t.endpoint) c.close.ensures.rest)
-    (λ s. ap (λ (t : Conversation). scene t s) c.close.ensures.rest) (λ s. refl) (λ s. refl) c.settled.ensures.moved
+    (λ s. ap (λ (t : Conversation). scene t s) c.close.ensures.rest) (λ s. refl) (λ s. refl) c.settled.ensures.moved tt c.settled.ensures.steps
     (c.settled.ensures.packets ∙ c.close.ensures.packets) refl c.settled.ensures.closed
 
 pub returns-clause-promises : goal.returns-clause-promises

@@ -5,5 +5,5 @@ use Rattle.xns_host.proofs.connection.Connection.go_on.Goals as goal
 
 pub returns-clause-step : goal.returns-clause-step
 returns-clause-step c =
-    step_by c.args.now nothing c.args.self.now _ c.args.self.now.conversation refl (λ s. refl) (λ s. refl) (λ s. refl) c.settled.ensures.moved c.settled.ensures.packets refl
+    step_by c.args.now nothing c.args.self.now _ c.args.self.now.conversation refl (λ s. refl) (λ s. refl) (λ s. refl) c.settled.ensures.moved tt c.settled.ensures.steps c.settled.ensures.packets refl
     c.settled.ensures.closed

@@ -73,4 +73,4 @@ returns-clause-step c = λ b read.
     (λ yes. (n.foreign yes).1) n.word n.again n.beside.0 n.beside.1 n.fresh)
     (λ s stands. wait_is_heard c.args.self.now.wait c.note.new.wait s b c.in_ok-input.input c.is_progress-more.result c.args.now
     (k.answer s b stands read) (more_is s stands) (λ yes. (n.foreign yes).0) n.wait)
-    c.settled.ensures.moved (c.settled.ensures.packets ∙ k.packets) refl c.settled.ensures.closed
+    c.settled.ensures.moved (hears_at _ _ _ _ _ _ (λ yes. (n.foreign yes).0) n.wait c.settled.ensures.steps) (c.settled.ensures.packets ∙ k.packets) refl c.settled.ensures.closed

@@ -59,5 +59,5 @@ returns-clause-step c =
           ] in
           hands_on c.args.now c.args.self.now _ _ busy
           (step_by c.args.now took c.args.self.now _ c.take_message.new.self k.endpoint (λ s. ap (λ (t : Conversation). scene t s) k.is) (λ s. refl) (λ s. refl)
-          c.settled.ensures.moved (c.settled.ensures.packets ∙ k.packets) refl c.settled.ensures.closed);
+          c.settled.ensures.moved tt c.settled.ensures.steps (c.settled.ensures.packets ∙ k.packets) refl c.settled.ensures.closed);
     }

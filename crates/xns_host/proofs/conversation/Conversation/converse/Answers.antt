@@ -3,7 +3,6 @@ use Rattle.xns_host.specs.Closing.{drains}
 use Rattle.xns_host.proofs.Leading.{goes_not}
 use Rattle.xns_host.proofs.Tellings.{conversed, calmed, converse_reads, converses_until, if_err, when_ok}
 use Rattle.xns_host.specs.Moving.{drains_only, converses, scene}
-use Rattle.xns_host.proofs.Rounds.{converses_end}
 use Rattle.xns_host.proofs.Scenes.{at_first}
 use Rattle.xns_host.proofs.conversation.Conversation.converse.Goals as goal
 
@@ -31,9 +30,8 @@ returns-then-drains-clause-moves c = λ s stands. (scene c.args.self.now s, at_f
 
 pub returns-clause-moves : goal.returns-clause-moves
 returns-clause-moves c = λ s stands.
-    let led = c.converse.ensures.converses s stands in
-    let end = converses_end led in (
-      record { side = c.converse.new.self; closing = c.args.self.now.closing; state = end.0 },
-      record { stands = end.1; side = refl; closing = refl },
-      converses end.0 (sym c.drains.ensures ∙ c.if-drains.false) led end.1,
+    let led = c.converse.ensures.converses s stands in (
+      record { side = c.converse.new.self; closing = c.args.self.now.closing; state = led.0 },
+      record { stands = led.1; side = refl; closing = refl },
+      converses (sym c.drains.ensures ∙ c.if-drains.false) led.2,
     )

@@ -5,15 +5,15 @@ use Rattle.courier_sessions.specs.declared.feed_refusal.FeedRefusal.TheVariants.
 use Rattle.xns_spp.specs.State.{State}
 use Rattle.xns_spp.specs.Held.{StandsFor}
 use Rattle.std.proofs.Common.{true, false}
-use Rattle.xns_host.specs.Moving.{Pumps, once, Converses, calms, starves, refuses}
+use Rattle.xns_host.specs.Moving.{once, Converses, calms, starves, refuses}
 use Rattle.xns_host.specs.Story.{MovesUntil, is_stopped}
-use Rattle.xns_host.proofs.Rounds.{one_more, refused_on, rounds_end}
+use Rattle.xns_host.proofs.Rounds.{Reached, one_more, refused_on}
 use Rattle.xns_host.proofs.Coming.{quiet}
 use Rattle.xns_host.proofs.Leading.{moves_on, all_moves, moves_all, calms_at, calms_never, until_then, unrejects}
 use Rattle.xns_host.proofs.side.Side.converse.Goals as goal
 
 pub loop-alloc-init : goal.loop-alloc-init
-loop-alloc-init c = record { rounds = λ s stands. once (c.in_ok-pump.ensures.pumps s stands); moves = c.in_ok-pump.ensures.all; waits = c.waiting-waiting.ensures }
+loop-alloc-init c = record { rounds = λ s stands. let x = c.in_ok-pump.ensures.pumps s stands in (x.0, x.1, once x.2); moves = c.in_ok-pump.ensures.all; waits = c.waiting-waiting.ensures }
 
 pub returns-then-is_stopped-clause-moves : goal.returns-then-is_stopped-clause-moves
 returns-then-is_stopped-clause-moves c = all_moves c.loop-alloc.invariant.moves
@@ -61,41 +61,46 @@ returns-then-left-waiting-clause-calms c =
 pub returns-in_err-pump-clause-converses : goal.returns-in_err-pump-clause-converses
 returns-in_err-pump-clause-converses c = λ s stands.
     let is : c.from_residual.result ≡ Err c.in_err-pump.field-0.0 = search rules in
-    subst (λ (r : Result (Unit {0}) FeedRefusal). Converses c.args.self.now s r c.pump.new.self c.pump.new.endpoint) (sym is)
-    (refuses c.in_err-pump.field-0.0 (c.in_err-pump.ensures.pumps s stands))
+    let x = c.in_err-pump.ensures.pumps s stands in
+    subst (λ (r : Result (Unit {0}) FeedRefusal). Reached c.pump.new.endpoint (λ v. Converses c.args.self.now s r c.pump.new.self v)) (sym is)
+    (x.0, x.1, refuses c.in_err-pump.field-0.0 x.2)
 
 pub returns-then-is_stopped-clause-converses : goal.returns-then-is_stopped-clause-converses
 returns-then-is_stopped-clause-converses c = λ s stands.
-    calms (c.loop-alloc.invariant.rounds s stands) (λ going. absurd (cc))
+    let x = c.loop-alloc.invariant.rounds s stands in
+    (x.0, x.1, calms x.2 (λ going. absurd (cc)))
 
 pub returns-in_err-reject_unlisted-clause-converses : goal.returns-in_err-reject_unlisted-clause-converses
 returns-in_err-reject_unlisted-clause-converses c = λ s stands.
     let is : c.from_residual-in_err-reject_unlisted.result ≡ Err NoMemory = search rules in
     let same = c.in_err-reject_unlisted.ensures.unchanged in
-    subst (λ (r : Result (Unit {0}) FeedRefusal). Converses c.args.self.now s r c.reject_unlisted.new.self c.loop-alloc.endpoint) (sym is)
-    (subst (λ (n : Side). Converses c.args.self.now s (Err NoMemory) n c.loop-alloc.endpoint) (sym same)
-    (starves (c.loop-alloc.invariant.rounds s stands) c.in_err-reject_unlisted.ensures.memory))
+    let x = c.loop-alloc.invariant.rounds s stands in
+    subst (λ (r : Result (Unit {0}) FeedRefusal). Reached c.loop-alloc.endpoint (λ v. Converses c.args.self.now s r c.reject_unlisted.new.self v)) (sym is)
+    (subst (λ (n : Side). Reached c.loop-alloc.endpoint (λ v. Converses c.args.self.now s (Err NoMemory) n v)) (sym same)
+    (x.0, x.1, starves x.2 c.in_err-reject_unlisted.ensures.memory))
 
 pub returns-then-not-branch-clause-converses : goal.returns-then-not-branch-clause-converses
 returns-then-not-branch-clause-converses c = λ s stands.
     let k = c.in_ok-reject_unlisted.ensures.listed (ap (λ (b : Bool). Ok b) c.if-not-branch.true) in
-    subst (λ (n : Side). Converses c.args.self.now s (Ok tt) n c.loop-alloc.endpoint) (sym k.0)
-    (calms (c.loop-alloc.invariant.rounds s stands) (λ going. k.1))
+    let x = c.loop-alloc.invariant.rounds s stands in
+    subst (λ (n : Side). Reached c.loop-alloc.endpoint (λ v. Converses c.args.self.now s (Ok tt) n v)) (sym k.0)
+    (x.0, x.1, calms x.2 (λ going. k.1))
 
 pub returns-in_err-pump-2-clause-converses : goal.returns-in_err-pump-2-clause-converses
 returns-in_err-pump-2-clause-converses c = λ s stands.
     let is : c.from_residual-in_err-pump-2.result ≡ Err c.in_err-pump-2.field-0.0 = search rules in
-    subst (λ (r : Result (Unit {0}) FeedRefusal). Converses c.args.self.now s r c.pump-in-loop-alloc.new.self c.pump-in-loop-alloc.new.endpoint) (sym is)
+    subst (λ (r : Result (Unit {0}) FeedRefusal). Reached c.pump-in-loop-alloc.new.endpoint (λ v. Converses c.args.self.now s r c.pump-in-loop-alloc.new.self v)) (sym is)
     (refused_on c.in_err-pump-2.field-0.0 (c.loop-alloc.invariant.rounds s stands) (c.in_ok-reject_unlisted.ensures.rejects (ap (λ (b : Bool). Ok b) c.if-not-branch.false)) c.in_err-pump-2.ensures.pumps)
 
 pub returns-then-left-waiting-clause-converses : goal.returns-then-left-waiting-clause-converses
 returns-then-left-waiting-clause-converses c = λ s stands.
     let rejected = c.in_ok-reject_unlisted.ensures.rejects (ap (λ (b : Bool). Ok b) c.if-not-branch.false) in
-    let rounds = c.loop-alloc.invariant.rounds s stands in
-    let x = rounds_end rounds in
-    let all = one_more rounds rejected c.in_ok-pump-2.ensures.pumps in
-    let y = rounds_end all in
+    let x = c.loop-alloc.invariant.rounds s stands in
+    let y = one_more x rejected c.in_ok-pump-2.ensures.pumps in
     let is = c.loop-alloc.invariant.waits x.0 x.1 in
     let was = c.waiting-left.ensures y.0 y.1 in
-    let over = c.if-left-waiting.true in
-    calms all (λ going. c.in_ok-pump-2.ensures.calls (c.in_ok-reject_unlisted.ensures.gone (ap (λ (b : Bool). Ok b) c.if-not-branch.false)) x.0 y.0 x.1 y.1 (omega (arith, is, was, over)))
+    let over = c.if-left-waiting.true in (
+      y.0,
+      y.1,
+      calms y.2 (λ going. c.in_ok-pump-2.ensures.calls (c.in_ok-reject_unlisted.ensures.gone (ap (λ (b : Bool). Ok b) c.if-not-branch.false)) x.0 y.0 x.1 y.1 (omega (arith, is, was, over))),
+    )

@@ -7,7 +7,7 @@ use Rattle.xns_host.specs.Story.{MovesAll}
 use Rattle.xns_host.proofs.side.Side.converse.Given as goal
 
 abbrev pub invariant-loop-alloc : goal.invariant-loop-alloc
-invariant-loop-alloc l = record { rounds : (s : State) → StandsFor l.fn.endpoint s → Rounds l.fn.self s l.self l.endpoint; moves : MovesAll l.fn.self l.fn.endpoint l.self l.endpoint; waits : (s : State) → StandsFor l.endpoint s → l.waiting ≡ waiting_count s }
+invariant-loop-alloc l = record { rounds : (s : State) → StandsFor l.fn.endpoint s → (v : State) × StandsFor l.endpoint v × Rounds l.fn.self s l.self v; moves : MovesAll l.fn.self l.fn.endpoint l.self l.endpoint; waits : (s : State) → StandsFor l.endpoint s → l.waiting ≡ waiting_count s }
 
 abbrev pub decreases-loop-alloc : goal.decreases-loop-alloc
 decreases-loop-alloc l = l.waiting

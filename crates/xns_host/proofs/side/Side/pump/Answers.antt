@@ -5,6 +5,11 @@ use Rattle.xns_host.specs.declared.side.Side.{Side}
 use Rattle.xns_host.specs.declared.side.Side.TheVariants.{Calls, Answers}
 use Rattle.xns_host.proofs.Coming.{no_call_comes}
 use Rattle.xns_host.proofs.Leading.{caller_pumped, server_pumped, caller_all, server_all, caller_refuses, server_refuses}
+use Rattle.courier_sessions.specs.Pumping.{caller_side, server_side}
+use Rattle.xns_spp.specs.Held.{StandsFor}
+use Rattle.xns_spp.specs.State.{State}
+use Rattle.xns_host.specs.Moving.{Pumps}
+use Rattle.xns_host.proofs.Rounds.{led}
 use Rattle.xns_host.proofs.side.Side.pump.Goals as goal
 
 pub returns-in-Calls-clause-moves : goal.returns-in-Calls-clause-moves
@@ -45,3 +50,14 @@ pub returns-in-Answers-clause-refused : goal.returns-in-Answers-clause-refused
 returns-in-Answers-clause-refused c = subst (λ (x : Side). IfErr c.pump-in-Answers.result (λ (e : FeedRefusal). MovesUntil x c.args.endpoint.now e (Answers c.pump-in-Answers.new.side) c.pump-in-Answers.new.endpoint)) (sym c.in-Answers.is)
     (server_refuses c.the_next_item_is_handed_up.ensures c.a_server_session_is_its_conversation.ensures.give c.a_server_session_is_its_conversation.ensures.feed c.in-Answers.server c.pump-in-Answers.new.side c.args.endpoint.now c.pump-in-Answers.new.endpoint c.pump-in-Answers.result
     (ap is_stopped (sym c.in-Answers.is) ∙ c.requires) c.pump-in-Answers.ensures)
+
+pub returns-in-Calls-clause-pumps : goal.returns-in-Calls-clause-pumps
+returns-in-Calls-clause-pumps c = λ s stands.
+    subst (λ (x : Side). (v : State) × StandsFor c.pump.new.endpoint v × Pumps x s c.pump.result (Calls c.pump.new.side) v) (sym c.in-Calls.is)
+    (led caller_side (c.in-Calls.caller, s) c.pump.result c.pump.new.side c.pump.new.endpoint (c.pump.ensures s stands))
+
+pub returns-in-Answers-clause-pumps : goal.returns-in-Answers-clause-pumps
+returns-in-Answers-clause-pumps c = λ s stands.
+    subst (λ (x : Side). (v : State) × StandsFor c.pump-in-Answers.new.endpoint v × Pumps x s c.pump-in-Answers.result (Answers c.pump-in-Answers.new.side) v)
+    (sym c.in-Answers.is)
+    (led server_side (c.in-Answers.server, s) c.pump-in-Answers.result c.pump-in-Answers.new.side c.pump-in-Answers.new.endpoint (c.pump-in-Answers.ensures s stands))

@@ -1,0 +1,102 @@
+-- Values without parts: equal texts are of equal values, and what stands behind the texts is equal too.
+use Rattle.std.proofs.Common.{◌≡◌, ℕ, ◌+◌, ◌*◌, ◌^◌, ◌<◌, Bool, true, false, List, [], ◌∷◌, ◌++◌, codes, refl, sym, ap, ◌∙◌, append_assoc, arith, Fits as NatFits, pos, negsuc}
+use Rattle.std.specs.Prelude.{ℤ, FitsSigned}
+use Rattle.std.specs.Int.{w16, w32, cast_signed}
+use Rattle.std.specs.Int.Signed.{mag}
+use Rattle.std.specs.List.{flat_map}
+use Rattle.std.proofs.Math.Facts.{sfits_to_z}
+use Rattle.std.proofs.lemmas.List.{append_cancel_left}
+use Rattle.courier_types.specs.Value.{ValueModel}
+use Rattle.courier_types.specs.Spelling.{SpellsValue, SpellsBytes}
+use Rattle.courier_texts.specs.Named.{NamedModel, shape_of}
+use Rattle.courier_texts.specs.Printing.{boolean_text, quoted, quoted_byte, value_text}
+use Rattle.courier_texts.proofs.Apart.{IsApart, heads, numbers, integers}
+use Rattle.courier_texts.proofs.Quoted.{AreSmall, strings}
+
+-- the values of the type are told apart by their texts, whatever follows that is apart
+abbrev pub Tells : NamedModel → Type 0
+Tells type = (v w : ValueModel) (a b x y : List ℕ) → SpellsValue (shape_of type) v a → SpellsValue (shape_of type) w b → IsApart x → IsApart y
+    → value_text type v ++ x ≡ value_text type w ++ y → (v ≡ w) × (x ≡ y)
+
+-- the texts of two values that are known
+pub known : (type : NamedModel) (v w v' w' : ValueModel) (x y : List ℕ) → v ≡ v' → w ≡ w' → value_text type v ++ x ≡ value_text type w ++ y → value_text type v' ++ x ≡ value_text type w' ++ y
+known type v w v' w' x y p q e = sym (ap (λ (u : ValueModel). value_text type u ++ x) p) ∙ e ∙ ap (λ (u : ValueModel). value_text type u ++ y) q
+
+-- ---- values without parts
+
+small16 : (z : ℤ) → FitsSigned w16 z → mag z < 2 ^ 63
+small16 (pos n) h = omega arith
+small16 (negsuc n) h = omega arith
+
+small32 : (z : ℤ) → FitsSigned w32 z → mag z < 2 ^ 63
+small32 (pos n) h = omega arith
+small32 (negsuc n) h = omega arith
+
+pub word_small : (n : ℕ) → n < 2 ^ 16 → mag (cast_signed w16 n) < 2 ^ 63
+word_small n h = let k : NatFits w16 n = omega arith in small16 (cast_signed w16 n) (sfits_to_z {w = w16} {n = n} k)
+
+pub long_small : (n : ℕ) → n < 2 ^ 32 → mag (cast_signed w32 n) < 2 ^ 63
+long_small n h = let k : NatFits w32 n = omega arith in small32 (cast_signed w32 n) (sfits_to_z {w = w32} {n = n} k)
+
+booleans : (b c : Bool) (x y : List ℕ) → boolean_text b ++ x ≡ boolean_text c ++ y → (b ≡ c) × (x ≡ y)
+booleans true true x y e = (refl, append_cancel_left (codes "TRUE") x y e)
+booleans false false x y e = (refl, append_cancel_left (codes "FALSE") x y e)
+booleans true false x y e = absurd (omega (arith, (heads 84 70 (82 ∷ 85 ∷ 69 ∷ x) (65 ∷ 76 ∷ 83 ∷ 69 ∷ y) e).0))
+booleans false true x y e = absurd (omega (arith, (heads 70 84 (65 ∷ 76 ∷ 83 ∷ 69 ∷ x) (82 ∷ 85 ∷ 69 ∷ y) e).0))
+
+pub tells_boolean : Tells NamedModel.boolean
+unfolding value_text
+tells_boolean v w a b x y s t ax ay e =
+    let p = booleans s.0 t.0 x y (known NamedModel.boolean v w _ _ x y s.1 t.1 e) in
+    (s.1 ∙ ap ValueModel.boolean p.0 ∙ sym t.1, p.1)
+
+pub tells_cardinal : Tells NamedModel.cardinal
+unfolding value_text
+tells_cardinal v w a b x y s t ax ay e =
+    let p = numbers s.0 t.0 x y (let h : s.0 < 2 ^ 16 = s.1 in omega arith) (let h : t.0 < 2 ^ 16 = t.1 in omega arith) ax ay (known NamedModel.cardinal v w _ _ x y s.2 t.2 e) in
+    (s.2 ∙ ap ValueModel.cardinal p.0 ∙ sym t.2, p.1)
+
+pub tells_unspecified : Tells NamedModel.unspecified
+unfolding value_text
+tells_unspecified v w a b x y s t ax ay e =
+    let p = numbers s.0 t.0 x y (let h : s.0 < 2 ^ 16 = s.1 in omega arith) (let h : t.0 < 2 ^ 16 = t.1 in omega arith) ax ay (known NamedModel.unspecified v w _ _ x y s.2 t.2 e) in
+    (s.2 ∙ ap ValueModel.unspecified p.0 ∙ sym t.2, p.1)
+
+pub long_bound : (high low : ℕ) → high < 2 ^ 16 → low < 2 ^ 16 → high * 2 ^ 16 + low < 2 ^ 32
+long_bound high low h l = omega arith
+
+pub tells_long_cardinal : Tells NamedModel.long_cardinal
+unfolding value_text
+tells_long_cardinal v w a b x y s t ax ay e =
+    let n = s.0 * 2 ^ 16 + s.1 in
+    let m = t.0 * 2 ^ 16 + t.1 in
+    let p = numbers n m x y (let h : n < 2 ^ 32 = long_bound s.0 s.1 s.2 s.3 in omega arith) (let h : m < 2 ^ 32 = long_bound t.0 t.1 t.2 t.3 in omega arith) ax ay (known NamedModel.long_cardinal v w _ _ x y s.4 t.4 e) in
+    (s.4 ∙ ap ValueModel.long_cardinal p.0 ∙ sym t.4, p.1)
+
+pub tells_integer : Tells NamedModel.integer
+unfolding value_text
+tells_integer v w a b x y s t ax ay e =
+    let p = integers (cast_signed w16 s.0) (cast_signed w16 t.0) x y (word_small s.0 s.1) (word_small t.0 t.1) ax ay (known NamedModel.integer v w _ _ x y s.2 t.2 e) in
+    (s.2 ∙ ap ValueModel.integer p.0 ∙ sym t.2, p.1)
+
+pub tells_long_integer : Tells NamedModel.long_integer
+unfolding value_text
+tells_long_integer v w a b x y s t ax ay e =
+    let n = s.0 * 2 ^ 16 + s.1 in
+    let m = t.0 * 2 ^ 16 + t.1 in
+    let p = integers (cast_signed w32 n) (cast_signed w32 m) x y (long_small n (long_bound s.0 s.1 s.2 s.3)) (long_small m (long_bound t.0 t.1 t.2 t.3)) ax ay (known NamedModel.long_integer v w _ _ x y s.4 t.4 e) in
+    (s.4 ∙ ap ValueModel.long_integer p.0 ∙ sym t.4, p.1)
+
+small_bytes : (bytes words : List ℕ) → SpellsBytes bytes words → AreSmall bytes
+small_bytes [] words s = tt
+small_bytes (b ∷ []) words s = (s.1, tt)
+small_bytes (b ∷ c ∷ bytes) words s = (s.1, (s.2, small_bytes bytes s.0 s.4))
+
+pub tells_text : Tells NamedModel.text
+unfolding value_text
+tells_text v w a b x y s t ax ay e =
+    let both : quoted s.0 ++ x ≡ quoted t.0 ++ y = known NamedModel.text v w _ _ x y s.3 t.3 e in
+    let inside = (heads 34 34 ((flat_map quoted_byte s.0 ++ 34 ∷ []) ++ x) ((flat_map quoted_byte t.0 ++ 34 ∷ []) ++ y) both).1 in
+    let p = strings s.0 t.0 x y (small_bytes s.0 s.1 s.5) (small_bytes t.0 t.1 t.5)
+    (sym (append_assoc (flat_map quoted_byte s.0) (34 ∷ []) x) ∙ inside ∙ append_assoc (flat_map quoted_byte t.0) (34 ∷ []) y) in
+    (s.3 ∙ ap ValueModel.text p.0 ∙ sym t.3, p.1)

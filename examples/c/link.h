@@ -1,0 +1,93 @@
+/* What carries packets in the examples, a clock, and what else they share. A link is a file that poll waits for, and three functions; udp.h, ethernet.h,
+ * nethub.h and by_pcap.h make one each. A packet's `via` says where it comes from or goes to: what it is, each link says. */
+#ifndef LINK_H
+#define LINK_H
+
+#include "xns.h"
+#include <poll.h>
+#include <stdint.h>
+#include <stdio.h>
+#include <stdlib.h>
+#include <string.h>
+#include <time.h>
+
+enum { LINK_MOST_WAIT = 1000, LINK_LEAST_SOCKET = 3001, LINK_SOCKETS = 60000 };
+
+/* Is given a packet that came. */
+typedef void link_taker(void *given, uint32_t via, const uint8_t *bytes, size_t length);
+
+struct link {
+    int file;
+    void (*receive)(struct link *link, link_taker *take, void *given); /* gives what is there to the taker, but not more at once than a few */
+    void (*put)(struct link *link, uint32_t via, const uint8_t *packet, size_t length); /* takes a packet that is to go out */
+    void (*flush)(struct link *link);                                  /* sends what was put; what can't be sent is as what is lost */
+    uint8_t station[6];                                                /* its own host */
+    uint32_t via;                                                      /* for packets to its peers, where it is one for all */
+    uint16_t socket;                                                   /* a socket of its host that hardly another program has */
+};
+
+static inline uint64_t milliseconds(void) {
+    struct timespec now;
+    clock_gettime(CLOCK_MONOTONIC, &now);
+    return (uint64_t)now.tv_sec * 1000 + (uint64_t)now.tv_nsec / 1000000;
+}
+
+/* Random bytes, that a stranger can't guess: the secret of a host is 32 of them. */
+static inline void random_bytes(void *bytes, size_t length) {
+    FILE *source = fopen("/dev/urandom", "rb");
+    if (source == NULL || fread(bytes, length, 1, source) != 1) {
+        fputs("there are no random bytes\n", stderr);
+        exit(1);
+    }
+    fclose(source);
+}
+
+/* A socket at random: nobody hands them out. */
+static inline uint16_t random_socket(void) {
+    uint16_t number;
+    random_bytes(&number, sizeof number);
+    return (uint16_t)(LINK_LEAST_SOCKET + number % LINK_SOCKETS);
+}
+
+/* Ends the program where a call was not done. */
+static inline void check(enum xns_result told) {
+    if (told == XNS_OK) return;
+    fprintf(stderr, "%s\n", xns_result_text(told));
+    exit(1);
+}
+
+/* Waits for a packet, but not beyond this time, and a second at most: so a signal that comes just before is seen. */
+static inline void link_wait(struct link *link, uint64_t until) {
+    const uint64_t now = milliseconds();
+    const uint64_t wait = until <= now ? 0 : until - now;
+    struct pollfd one = { link->file, POLLIN, 0 };
+    (void)poll(&one, 1, wait < LINK_MOST_WAIT ? (int)wait : LINK_MOST_WAIT);
+}
+
+/* A host, and the time. */
+struct link_host {
+    struct xns_host *host;
+    uint64_t now;
+};
+
+static inline void link_give(void *given, uint32_t via, const uint8_t *bytes, size_t length) {
+    const struct link_host *to = given;
+    xns_host_receive(to->host, to->now, via, bytes, length);
+}
+
+/* Gives the host the packets that are there. */
+static inline void link_receive_packets(struct link *link, struct xns_host *host, uint64_t now) {
+    struct link_host to = { host, now };
+    link->receive(link, link_give, &to);
+}
+
+/* Sends the packets that the host has made. */
+static inline void link_send_packets(struct link *link, struct xns_host *host, uint64_t now) {
+    uint8_t packet[XNS_LONGEST_PACKET];
+    uint32_t via;
+    size_t length;
+    while (xns_host_next_packet(host, now, packet, sizeof packet, &length, &via) == XNS_OK) link->put(link, via, packet, length);
+    link->flush(link);
+}
+
+#endif

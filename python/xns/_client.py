@@ -1,0 +1,231 @@
+"""A client, by a loop of its own."""
+import contextlib
+from typing import Any, Iterable, Iterator, Optional
+
+from ._errors import BY_RESULT, TEXTS, BusyError, ClosedError, ClosingError, NoConnectionError, NotServedError, SilentError
+from ._library import unsigned, words_of
+from ._links import Carrier, not_blocking
+from ._objects import Host
+from ._station import Station, milliseconds
+from ._told import Address, Answer, Closed, Event, Why
+
+
+class TooLate(Exception):
+    """The time that was given is over."""
+
+
+def until_of(seconds: Optional[float]) -> Optional[int]:
+    """The time so many seconds from now. None: it never comes."""
+    if seconds is None:
+        return None
+    if isinstance(seconds, bool) or not isinstance(seconds, (int, float)):
+        raise TypeError(f"timeout is no number of seconds: it is of type {type(seconds).__name__}")
+    return milliseconds() + round(1000 * seconds)
+
+
+class Conversation:
+    """The connection of a client, and nothing that waits."""
+
+    def __init__(self, station: Station, place: Any, own: Address, peer: Address) -> None:
+        self.station, self._place, self._own, self._peer = station, place, own, peer
+        self.open()
+
+    def open(self) -> None:
+        """Opens a connection: the next one, where there was another."""
+        self.closed: Optional[Closed] = None
+        self.station.heard = None
+        self._acted = milliseconds()
+        self._number = self.station.connect(self._place, self._own, self._peer)
+
+    @property
+    def is_answered(self) -> bool:
+        """Whether the server has answered the opening."""
+        return self.station.heard is not None
+
+    @property
+    def rested(self) -> int:
+        """How many milliseconds nothing was done here: a server that asked meanwhile was not answered."""
+        return milliseconds() - self._acted
+
+    def fetch(self) -> Optional[Event]:
+        """The next event; what is to go out is sent, with what acknowledges it. None where there is none. That the connection is closed is the last event,
+        and stays."""
+        self._acted = milliseconds()
+        if self.closed is None:
+            found = next((event for event in self.station.host.events() if event.number == self._number), None)
+            if isinstance(found, Closed):
+                self.closed = found
+            self.station.send()
+            if found is not None:
+                return found
+            if not self.station.host.connections:  # that it is closed was told to a call that Ctrl-C ended
+                self.closed = Closed(self._number, Why.SILENT, None)
+        return self.closed
+
+    def put_out(self, program: int, version: int, procedure: int, words: Iterable[int]) -> bool:
+        """Puts out a call; false where the answer to the call before is to be fetched first. Why a closed connection takes none, its event says."""
+        if self.closed is None:
+            try:
+                self.station.host.call(milliseconds(), self._number, program, version, procedure, words)
+            except BusyError:
+                return False
+            except (ClosingError, NoConnectionError):
+                pass
+        return True
+
+    def close(self) -> None:
+        """Begins to close."""
+        if self.closed is None:
+            with contextlib.suppress(NoConnectionError):
+                self.station.host.close(milliseconds(), self._number)
+
+    def leave(self) -> None:
+        """Closes, and hears no more of it."""
+        self.close()
+        self.station.send()
+        if self.closed is None:
+            self.closed = Closed(self._number, Why.ASKED, None)
+
+    def check(self) -> None:
+        """Raises why the connection is closed, where no side asked for it."""
+        closed = self.closed
+        if closed is None:
+            return
+        if closed.why == Why.SILENT:
+            raise SilentError("the server does not answer")
+        if closed.why == Why.NOT_SERVED:
+            raise NotServedError("there is no server")
+        if closed.why == Why.REFUSED and closed.fault is not None:
+            raise BY_RESULT[closed.fault](TEXTS[closed.fault])
+
+    def answer(self, event: Event) -> Answer:
+        """The event, which is an answer. Raises why there is none."""
+        if isinstance(event, Answer):
+            return event
+        self.check()
+        raise ClosedError("the connection is closed")
+
+
+class Client:
+    """Calls, each of which waits for its answer. Between calls it says nothing, unless `wait` is called: a server that asks for a word meanwhile gives it up
+    after a while, with the settings of this module after 50 seconds."""
+
+    def __init__(
+        self,
+        carrier: Carrier,
+        place: Any,
+        own: Address,
+        peer: Address,
+        timeout: Optional[float] = None,
+        reopens: Optional[float] = None,
+        **settings: Optional[int],
+    ) -> None:
+        """Opens a connection from `own`, a socket that no other client of its host has, to `peer`, whose packets go to this place, by a host with these
+        settings, which are those of `Host`. Nothing is waited for.
+
+        `timeout`: seconds that a call, `connect` or `close` may take where it names no others; None is any time, as long as the server says that it is
+        there. `reopens`: a call opens a new connection first where the old one is closed, or so many seconds have passed since the last call or `wait`;
+        None is never. No call is made twice."""
+        until_of(timeout)
+        until_of(reopens)
+        self._timeout, self._reopens = timeout, reopens
+        self._host = Host(own, **settings)
+        self._station = Station(carrier, self._host)
+        self._conversation = Conversation(self._station, place, own, peer)
+        with not_blocking(carrier):
+            self._station.send()
+
+    def connect(self, timeout: Optional[float] = None) -> None:
+        """Waits until the server has answered the opening of the connection. Errors as for a call."""
+        with self._in_time(timeout, "the server did not open the connection") as until:
+            while not self._conversation.is_answered and self._conversation.closed is None:
+                self._turn(until)
+        if self._conversation.closed is not None:
+            self._conversation.answer(self._conversation.closed)
+
+    def call(self, program: int, version: int, procedure: int, words: Iterable[int] = (), timeout: Optional[float] = None) -> Answer:
+        """What a call is answered: a return, an abort or a reject.
+
+        `SilentError`, a TimeoutError, where the server is silent, or so many seconds have passed: the connection is closed then, and it is not known whether
+        the call was carried out. `NotServedError`, a ConnectionRefusedError, where an Error packet says that there is no server. `ClosedError`, a
+        ConnectionResetError, where the connection is closed. What the server says against the protocol is raised by its name. The answer to a call that
+        Ctrl-C ended is waited for before the next call, and let go."""
+        numbers, (given, _) = (unsigned(program, 32, "program"), unsigned(version, 16, "version"), unsigned(procedure, 16, "procedure")), words_of(words)
+        listed = memoryview(given).cast("H")
+        with self._in_time(timeout, "the call was not answered") as until:
+            self._open_again()
+            while not self._conversation.put_out(*numbers, listed.tolist()):
+                self._next(until)
+            return self._conversation.answer(self._next(until))
+
+    def wait(self, seconds: float) -> None:
+        """Says for so many seconds that it is there, where the server asks: a client that waits so is not given up."""
+        until = until_of(seconds)
+        with not_blocking(self._station.carrier):
+            while milliseconds() < until:
+                self._conversation.fetch()
+                self._station.wait(until)
+                self._station.take_in()
+            self._conversation.fetch()
+
+    def close(self, timeout: Optional[float] = None) -> None:
+        """Closes the connection, and waits until the server has closed it too. Errors as for a call; that it is closed is none."""
+        with self._in_time(timeout, "the server did not close the connection") as until:
+            self._conversation.close()
+            while not isinstance(self._next(until), Closed):
+                pass
+        self._conversation.check()
+
+    def __enter__(self) -> "Client":
+        return self
+
+    def __exit__(self, error: Optional[type], *_) -> None:
+        """Closes the connection, and waits for it where no error ends the `with`. The memory of its host is given back."""
+        try:
+            if error is None:
+                self.close()
+            else:
+                with not_blocking(self._station.carrier):
+                    self._conversation.leave()
+        finally:
+            self._host.free()
+
+    def _open_again(self) -> None:
+        """Opens a new connection, where it is time for it."""
+        if self._reopens is None:
+            return
+        rested = self._conversation.rested
+        self._station.take_in()
+        self._conversation.fetch()
+        if self._conversation.closed is not None or rested >= 1000 * self._reopens:
+            self._conversation.leave()
+            self._conversation.open()
+
+    @contextlib.contextmanager
+    def _in_time(self, timeout: Optional[float], text: str) -> Iterator[Optional[int]]:
+        """Until when is waited. Where that is too late, the connection is closed, and `SilentError` raised with this text."""
+        seconds = self._timeout if timeout is None else timeout
+        until = until_of(seconds)
+        with not_blocking(self._station.carrier):
+            try:
+                yield until
+            except TooLate:
+                self._conversation.leave()
+                raise SilentError(f"{text} in {seconds:g} seconds") from None
+
+    def _next(self, until: Optional[int]) -> Event:
+        """The next event of the connection."""
+        while True:
+            event = self._turn(until)
+            if event is not None:
+                return event
+
+    def _turn(self, until: Optional[int]) -> Optional[Event]:
+        """The next event, where there is one; else it waits, and takes in what came."""
+        event = self._conversation.fetch()
+        if event is None:
+            if until is not None and milliseconds() >= until:
+                raise TooLate
+            self._station.wait(until)
+            self._station.take_in()
+        return event

@@ -1,0 +1,191 @@
+"""What carries packets: the protocol of a carrier, frames on Ethernet, and the hubs of emulators."""
+import contextlib
+import secrets
+import select
+import socket
+import time
+from typing import Any, Iterator, Optional, Protocol, Tuple
+
+FRAME_TYPE = 0x0600  # the type of an Ethernet frame that has an internet packet in it
+BROADCAST = b"\xff" * 6  # the host that is all hosts, and the station that is all stations
+_HEAD = 14  # bytes of a frame before the packet
+_LEAST = 46  # bytes of data that a frame has at least
+_TO_OTHERS, _SENT = 3, 4  # kinds of frames, as the kernel tells them
+_LENGTH = 2  # bytes of length before each frame in a hub's stream
+
+
+class Carrier(Protocol):
+    """What `serve` and `Client` want of what carries their packets. A `socket.socket` for datagrams is one; another is a class with these four methods.
+
+    A place is where a packet comes from or goes to: what `recvfrom` gives is given back to `sendto`. It can be a key of a dict."""
+
+    def fileno(self) -> int:
+        """The file that can be read once a packet is there. Below 0 while there is none: it is then asked for again within a second."""
+
+    def setblocking(self, flag: bool) -> None:
+        """Is called with False before the first packet."""
+
+    def recvfrom(self, size: int) -> Tuple[bytes, Any]:
+        """The next packet that is there, and its place. `BlockingIOError`, or another `OSError`, where there is none: a network that is down ends nothing."""
+
+    def sendto(self, packet: bytes, place: Any) -> Any:
+        """Sends a packet to a place. An `OSError` is as a packet that is lost."""
+
+
+@contextlib.contextmanager
+def not_blocking(carrier: Carrier) -> Iterator[None]:
+    """The carrier does not block meanwhile. A socket's own timeout is then again what it was."""
+    timeout = carrier.gettimeout() if isinstance(carrier, socket.socket) else None
+    carrier.setblocking(False)
+    try:
+        yield
+    finally:
+        if isinstance(carrier, socket.socket) and carrier.fileno() >= 0:
+            carrier.settimeout(timeout)
+
+
+class _Link:
+    """A carrier that is closed by `close`, or at the end of a `with`. `station`: the six bytes of its own station."""
+
+    station: bytes
+
+    def close(self) -> None:
+        raise NotImplementedError
+
+    def __enter__(self):
+        return self
+
+    def __exit__(self, *_) -> None:
+        self.close()
+
+
+class Ethernet(_Link):
+    """Packets in frames of type 0600 at an interface, as XNS ran on Ethernet. A place is the station that a packet comes from or goes to."""
+
+    def __init__(self, interface: str) -> None:
+        if not isinstance(interface, str):
+            raise TypeError(f"interface is no name: it is of type {type(interface).__name__}")
+        self._interface = interface
+        self._socket = socket.socket(socket.AF_PACKET, socket.SOCK_DGRAM, socket.htons(FRAME_TYPE))
+        try:
+            self._socket.bind((interface, FRAME_TYPE))
+        except OSError:
+            self._socket.close()
+            raise
+        self.station = self._socket.getsockname()[4]
+        self.fileno, self.setblocking, self.close = self._socket.fileno, self._socket.setblocking, self._socket.close
+
+    def recvfrom(self, size: int) -> Tuple[bytes, bytes]:
+        """The next packet to this station or to all, and the station that it comes from. Frames to others, which come where the interface is promiscuous,
+        and those that this machine sends are passed over."""
+        while True:
+            packet, (_, _, kind, _, station) = self._socket.recvfrom(size)
+            if kind not in (_TO_OTHERS, _SENT) and packet:
+                return packet, station
+
+    def sendto(self, packet: bytes, station: bytes) -> int:
+        """Sends a packet, padded to the shortest frame."""
+        return self._socket.sendto(packet.ljust(_LEAST, b"\0"), (self._interface, FRAME_TYPE, 0, 0, station))
+
+
+class NetHub(_Link):
+    """Packets by way of a hub of emulators: a stream of TCP with Ethernet frames in it, each behind two bytes of its length. A place is the station that a
+    packet comes from or goes to. A hub that is gone is a network that is down: a second later the link is made again."""
+
+    AGAIN = 1.0  # seconds from one attempt to reach the hub to the next
+    REACHED = 5.0  # seconds in which the hub answers, or is gone
+
+    def __init__(self, host: str, port: int, station: Optional[bytes] = None) -> None:
+        """`OSError` where the hub is not there. Without a station it is one of no maker's, at random."""
+        self.station = bytes([2]) + secrets.token_bytes(5) if station is None else station
+        if not isinstance(self.station, bytes) or len(self.station) != 6:
+            raise ValueError("station has six bytes")
+        self._place, self._stream, self._came, self._tried = (host, port), None, b"", time.monotonic()
+        self._open()
+
+    def _open(self) -> None:
+        self._tried, self._came = time.monotonic(), b""
+        self._stream = socket.create_connection(self._place, self.REACHED)
+        self._stream.setsockopt(socket.IPPROTO_TCP, socket.TCP_NODELAY, 1)
+        self._stream.setblocking(False)
+
+    def _reached(self) -> socket.socket:
+        """The stream. `OSError` while the hub is gone."""
+        if self._stream is None:
+            if time.monotonic() < self._tried + self.AGAIN:
+                raise BlockingIOError
+            self._open()
+        return self._stream
+
+    def _lose(self) -> None:
+        if self._stream is not None:
+            self._stream.close()
+        self._stream, self._tried = None, time.monotonic()
+
+    def close(self) -> None:
+        """Leaves the hub, for good."""
+        self._lose()
+        self._tried = float("inf")
+
+    def fileno(self) -> int:
+        return -1 if self._stream is None else self._stream.fileno()
+
+    def setblocking(self, flag: bool) -> None:
+        """It never blocks."""
+
+    def recvfrom(self, _: int) -> Tuple[bytes, bytes]:
+        """The next packet to this station or to all, and the station that it comes from."""
+        while True:
+            frame = self._frame()
+            target, source, kind = frame[:6], frame[6:12], int.from_bytes(frame[12:_HEAD], "big")
+            if target in (self.station, BROADCAST) and source != self.station and kind == FRAME_TYPE and len(frame) > _HEAD:
+                return frame[_HEAD:], source
+
+    def _frame(self) -> bytes:
+        """The next whole frame. No more of the stream is read: what the link kept would be seen by no poll."""
+        while True:
+            wanted = _LENGTH if len(self._came) < _LENGTH else _LENGTH + int.from_bytes(self._came[:_LENGTH], "big")
+            if len(self._came) >= _LENGTH and len(self._came) == wanted:
+                frame, self._came = self._came[_LENGTH:], b""
+                return frame
+            self._came += self._some(wanted - len(self._came))
+
+    def _some(self, size: int) -> bytes:
+        stream = self._reached()
+        try:
+            more = stream.recv(size)
+        except BlockingIOError:
+            raise
+        except OSError:
+            more = b""
+        if not more:
+            self._lose()
+            raise BlockingIOError
+        return more
+
+    def sendto(self, packet: bytes, station: bytes) -> int:
+        """Sends a packet, padded to the shortest frame. A hub that takes no more for a second is gone."""
+        frame = (station + self.station + FRAME_TYPE.to_bytes(2, "big") + packet).ljust(_HEAD + _LEAST, b"\0")
+        rest, stream = len(frame).to_bytes(_LENGTH, "big") + frame, self._reached()
+        try:
+            while rest:
+                try:
+                    rest = rest[stream.send(rest) :]
+                except BlockingIOError:
+                    if not select.select([], [stream], [], self.AGAIN)[1]:
+                        raise ConnectionError("the hub takes nothing") from None
+        except (ConnectionError, socket.timeout):
+            self._lose()
+            raise
+        return len(packet)
+
+
+def ethernet(interface: str) -> Ethernet:
+    """What carries packets on this interface, as `eth0`. `PermissionError` without the right CAP_NET_RAW; another `OSError` where there is no such interface,
+    or it is down."""
+    return Ethernet(interface)
+
+
+def nethub(host: str, port: int, station: Optional[bytes] = None) -> NetHub:
+    """What carries packets by way of the hub of emulators that listens there. `OSError` where it does not. Each station of a hub is another one."""
+    return NetHub(host, port, station)

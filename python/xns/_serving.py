@@ -1,0 +1,139 @@
+"""A server, by a loop of its own."""
+import contextlib
+import logging
+import os
+import socket
+import threading
+from typing import Any, Callable, Iterable, Optional, Tuple
+
+from ._errors import ArgumentsError, ClosingError, NoCallError, NoConnectionError, XnsError
+from ._links import Carrier, not_blocking
+from ._objects import Host
+from ._station import Other, Station, milliseconds
+from ._told import Address, Call, Closed, Reject, Reply, rejects
+
+LOG = logging.getLogger("xns")
+UNSPECIFIED = 65535  # the reason of a reject that says no more than that the call failed
+CLOSING = 2000  # milliseconds that the connections of a server have to close in
+_LOOKED_AT = 250  # milliseconds after which an event that stops a server is looked at again
+
+Service = Callable[[Call], Reply]
+Programs = Iterable[Tuple[int, int, int]]
+
+
+def failed(call: Call, error: Exception) -> Reply:
+    """What a call is answered whose answering raised this."""
+    if isinstance(error, ArgumentsError):
+        return rejects(Reject.INVALID_ARGUMENTS)
+    LOG.error("a call of program %d, version %d, procedure %d failed", call.program, call.version, call.procedure, exc_info=error)
+    return rejects(UNSPECIFIED)
+
+
+def give(host: Host, call: Call, reply: Reply) -> None:
+    """Answers a call, unless its connection has closed. A reply that can't be given is a failure of the call."""
+    for one in (reply, rejects(UNSPECIFIED)):
+        try:
+            host.answer(milliseconds(), call.number, one)
+            return
+        except (ClosingError, NoConnectionError, NoCallError):
+            return
+        except Exception as error:
+            failed(call, error)
+    with contextlib.suppress(XnsError):  # there is no memory, not even for a reject
+        host.close(milliseconds(), call.number)
+
+
+class Server:
+    """Serves clients by a host with these settings: `run` does, until `stop` is called. See `serve`."""
+
+    def __init__(self, carrier: Carrier, own: Address, programs: Programs, answer: Service, other: Other = None, **settings: Optional[int]) -> None:
+        if not callable(answer):
+            raise TypeError("answer is no function")
+        self._carrier, self._own, self._programs, self._service, self._other, self._settings = carrier, own, list(programs), answer, other, settings
+        self._is_stopped, self._gone = False, set()
+        self._bell, self._ringer = socket.socketpair()  # wakes what waits
+        for one in (self._bell, self._ringer):
+            one.setblocking(False)
+
+    def stop(self) -> None:
+        """Ends `run`: it closes the connections, and returns. Can be called by a signal's handler, by another thread, and while a call is answered."""
+        self._is_stopped = True
+        with contextlib.suppress(OSError):
+            self._ringer.send(b"\0")
+
+    def run(self, stop: Optional[threading.Event] = None) -> None:
+        """Serves until `stop` is called, or the event is set, or an exception ends it that is no `Exception`, as KeyboardInterrupt. Then the connections
+        are closed, for which their peers have two seconds. Runs once."""
+        try:
+            with Host(self._own, **self._settings) as host, not_blocking(self._carrier):
+                host.serve(self._own.socket, self._programs)
+                station = Station(self._carrier, host, self._heard)
+                try:
+                    while not (self._is_stopped or stop is not None and stop.is_set()):
+                        station.wait(also=self._bell.fileno(), **({} if stop is None else {"most": _LOOKED_AT}))
+                        self._turn(station)
+                finally:
+                    self._close(station)
+        finally:
+            self._bell.close()
+            self._ringer.close()
+
+    def _turn(self, station: Station) -> None:
+        station.take_in()
+        for event in station.host.events():
+            if isinstance(event, Call):
+                self._gone.discard(event.number)
+                give(station.host, event, self._reply(event))
+            elif isinstance(event, Closed):
+                self._gone.add(event.number)
+        station.send()
+
+    def _reply(self, call: Call) -> Reply:
+        try:
+            return self._service(call)
+        except Exception as error:
+            return failed(call, error)
+
+    def _heard(self, packet: bytes, place: Any) -> None:
+        """Gives a packet that is not the host's to the program."""
+        if self._other is not None:
+            try:
+                self._other(packet, place)
+            except Exception as error:
+                LOG.error("a packet that is not the host's was not taken", exc_info=error)
+
+    def _close(self, station: Station) -> None:
+        host, until = station.host, milliseconds() + CLOSING
+        there = set(host.numbers()) - self._gone
+        for number in there:
+            host.close(station.now, number)
+        station.send()
+        while there and milliseconds() < until:
+            station.wait(until)
+            station.take_in()
+            for event in host.events():
+                if isinstance(event, Call):
+                    give(host, event, rejects(UNSPECIFIED))
+                elif isinstance(event, Closed):
+                    there.discard(event.number)
+            station.send()
+
+
+def serve(
+    carrier: Carrier,
+    own: Address,
+    programs: Programs,
+    answer: Service,
+    other: Other = None,
+    stop: Optional[threading.Event] = None,
+    **settings: Optional[int],
+) -> None:
+    """Serves clients by a host with these settings, which are those of `Host`, over a socket for datagrams, or another carrier.
+
+    `answer` is given each call of `programs`, each of which is (program, low, high), or of any where there are none. It gives what the call is answered by
+    `returns`, `aborts` or `rejects`. A call whose answering raises an error is rejected: with `Reject.INVALID_ARGUMENTS` where the error is one of a
+    `Reader`, else with `UNSPECIFIED`, and the log of the name `xns` has the error. `other` is given each packet that is not the host's, as one of a packet
+    exchange, with the place that it comes from.
+
+    It returns once the event `stop` is set; a `Server` can be stopped by a call. The connections are closed then, also where Ctrl-C ends it."""
+    Server(carrier, own, programs, answer, other, **settings).run(stop)

@@ -1,0 +1,128 @@
+"""A host and what carries its packets, as `serve` and `Client` and those of asyncio have it."""
+import contextlib
+import errno
+import select
+import socket
+import time
+from typing import Any, Callable, Dict, Hashable, Optional, Tuple
+
+from ._errors import NoConnectionError
+from ._links import Carrier
+from ._objects import Host
+from ._told import Address, PacketType
+
+_LONGEST_DATAGRAM = 2048
+_MOST_AT_ONCE = 64  # packets that are taken in before some go out
+_MOST_WAIT = 3_600_000  # milliseconds that are waited at a time: poll takes no number from 2^31 on
+_AGAIN = 1000  # milliseconds after which a carrier without a file is looked at again
+_KIND, _SOURCE = 5, slice(18, 30)  # where the type and the source stand in a packet
+
+Other = Optional[Callable[[bytes, Any], None]]
+
+
+def milliseconds() -> int:
+    """The time by which hosts go here."""
+    return time.monotonic_ns() // 1_000_000
+
+
+def _spelled(address: Address) -> bytes:
+    """An address as it stands in a packet."""
+    return address.network.to_bytes(4, "big") + address.host + address.socket.to_bytes(2, "big")
+
+
+class Places:
+    """The places of packets, each with a number by the place and by the source that the packet names. Of too many those go whose source is the peer of no
+    connection; the newest stay."""
+
+    MOST = 65536
+
+    def __init__(self, host: Host) -> None:
+        self._host, self._next, self._most = host, 0, self.MOST
+        self._numbers: Dict[Tuple[Hashable, bytes], int] = {}
+        self._places: Dict[int, Tuple[Hashable, bytes]] = {}  # from the oldest on
+
+    def number(self, place: Hashable, source: bytes) -> int:
+        """The number of a packet with this source, from or to this place."""
+        key = place, source
+        number = self._numbers.get(key)
+        if number is None:
+            if len(self._places) >= self._most:
+                self._forget()
+            while self._next in self._places:
+                self._next = (self._next + 1) % 2**32
+            number = self._next
+            self._next = (self._next + 1) % 2**32
+        else:
+            del self._places[number]
+        self._numbers[key], self._places[number] = number, key
+        return number
+
+    def _forget(self) -> None:
+        peers = set()
+        for number in self._host.numbers():
+            with contextlib.suppress(NoConnectionError):
+                peers.add(_spelled(self._host.peer(number)))
+        for number, key in list(self._places.items())[:-_MOST_AT_ONCE]:
+            if key[1] not in peers:
+                del self._places[number], self._numbers[key]
+        self._most = max(self.MOST, 2 * len(self._places))
+
+    def __getitem__(self, number: int) -> Any:
+        return self._places[number][0]
+
+
+class Station:
+    """Carries the packets of a host. A packet that is not the host's is given to `other`, with the place that it comes from."""
+
+    def __init__(self, carrier: Carrier, host: Host, other: Other = None) -> None:
+        self.carrier, self.host, self._other, self._places = carrier, host, other, Places(host)
+        self.heard: Optional[int] = None  # when the last packet of a connection came
+        self.now = milliseconds()  # of this turn: what comes while a call is carried out is read before anything is due for want of it
+
+    def connect(self, place: Any, own: Address, peer: Address) -> int:
+        """Opens a connection to the peer, whose packets go to this place; its number."""
+        return self.host.connect(milliseconds(), self._places.number(place, _spelled(peer)), own.socket, peer)
+
+    def send(self) -> None:
+        """Sends what is to go out. What can't be sent is as what is lost."""
+        for via, packet in self.host.packets(self.now):
+            with contextlib.suppress(OSError):
+                self.carrier.sendto(packet, self._places[via])
+
+    def take_in(self) -> None:
+        """Takes in the packets that are there, but not more at once than a few."""
+        self.now = milliseconds()
+        for _ in range(_MOST_AT_ONCE):
+            try:
+                packet, place = self.carrier.recvfrom(_LONGEST_DATAGRAM)
+            except ConnectionError:  # a datagram before did not arrive
+                continue
+            except OSError:  # nothing is there, or the network is down
+                return
+            if self.host.receive(self.now, self._places.number(place, packet[_SOURCE]), packet):
+                if packet[_KIND] == PacketType.SEQUENCED:
+                    self.heard = self.now
+            elif self._other is not None:
+                self._other(packet, place)
+
+    def rest(self, until: Optional[int] = None) -> Optional[int]:
+        """How many milliseconds there are until the host wants to be asked, or until this time. None: nothing is to be done until something comes."""
+        wakes = [time for time in (self.host.wake(), until) if time is not None]
+        return max(0, min(wakes) - milliseconds()) if wakes else None
+
+    def wait(self, until: Optional[int] = None, also: Optional[int] = None, most: int = _MOST_WAIT) -> None:
+        """Waits until a packet comes, the host wants to be asked, this time is there, so many milliseconds have passed, or `also`, a file, can be read."""
+        rest, file, waiting = self.rest(until), file_of(self.carrier), select.poll()
+        for one in (file, also):
+            if one is not None:
+                waiting.register(one, select.POLLIN)
+        waiting.poll(min(most if file is not None else min(most, _AGAIN), _MOST_WAIT if rest is None else rest))
+        self.now = milliseconds()
+
+
+def file_of(carrier: Carrier) -> Optional[int]:
+    """The file of a carrier. None while it has none. A socket that is closed is an error."""
+    file = carrier.fileno()
+    if file < 0 and isinstance(carrier, socket.socket):
+        raise OSError(errno.EBADF, "the socket is closed")
+    return None if file < 0 else file

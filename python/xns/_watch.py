@@ -1,0 +1,73 @@
+"""Shows the packets of an interface as they come, by `xns calls`."""
+import os
+import select
+import shutil
+import signal
+import socket
+import subprocess
+import sys
+from typing import BinaryIO, Optional
+
+from ._links import FRAME_TYPE
+
+_ALL = 3  # the kernel's number for frames of each type; only so it shows those that this machine sends
+_SOL_PACKET, _ADD_MEMBERSHIP, _PROMISCUOUS = 263, 1, 1
+_FORCE_ROOM = 33  # SO_RCVBUFFORCE
+_ROOM = 1 << 22  # bytes that the kernel keeps meanwhile
+_SIZE = 2048
+_LOOKED_AT = 0.2  # seconds after which it is looked whether a signal came
+
+
+def program() -> Optional[str]:
+    """The program `xns`: the one that was installed with this module, else the one in the search path."""
+    prefix, below, _ = os.path.dirname(os.path.abspath(__file__)).rpartition("/share/xns/python/xns")
+    beside = prefix + "/bin/xns"
+    return beside if below and os.access(beside, os.X_OK) else shutil.which("xns")
+
+
+def _opened(interface: str) -> socket.socket:
+    frames = socket.socket(socket.AF_PACKET, socket.SOCK_DGRAM, 0)  # nothing comes before it is bound
+    try:
+        try:
+            frames.setsockopt(socket.SOL_SOCKET, _FORCE_ROOM, _ROOM)
+        except PermissionError:  # it takes CAP_NET_ADMIN; else the system has a limit
+            frames.setsockopt(socket.SOL_SOCKET, socket.SO_RCVBUF, _ROOM)
+        number = socket.if_nametoindex(interface)
+        frames.setsockopt(_SOL_PACKET, _ADD_MEMBERSHIP, number.to_bytes(4, sys.byteorder) + _PROMISCUOUS.to_bytes(2, sys.byteorder) + bytes(10))
+        frames.bind((interface, _ALL))
+        frames.setblocking(False)
+    except OSError:
+        frames.close()
+        raise
+    return frames
+
+
+def _copy(frames: socket.socket, lines: BinaryIO, count: Optional[int]) -> None:
+    """Writes each packet as a line of hex, up to so many, until SIGINT or SIGTERM comes: what came before that is written still."""
+    stops = []
+    for one in (signal.SIGINT, signal.SIGTERM):
+        signal.signal(one, lambda *_: stops.append(True))
+    while (count is None or count > 0) and (select.select([frames], [], [], _LOOKED_AT)[0] or not stops):
+        try:
+            packet, (_, kind, *_) = frames.recvfrom(_SIZE)
+        except OSError:  # nothing is there, or the interface is down for a while
+            continue
+        if kind == FRAME_TYPE and packet:
+            lines.write(packet.hex().encode() + b"\n")
+            lines.flush()
+            count = None if count is None else count - 1
+
+
+def watch(interface: str, command: Optional[str], count: Optional[int]) -> int:
+    """Gives the packets of an interface to `xns calls` or `xns dump`, or without a command prints them in hex, until Ctrl-C ends it or so many have come."""
+    with _opened(interface) as frames:
+        if command is None:
+            _copy(frames, sys.stdout.buffer, count)
+            return 0
+        found = program()
+        if found is None:
+            raise FileNotFoundError("there is no program xns beside this one or in the search path")
+        with subprocess.Popen([found, command], stdin=subprocess.PIPE, start_new_session=True) as reader:  # Ctrl-C is for us: it ends with its input
+            _copy(frames, reader.stdin, count)
+            reader.stdin.close()
+        return 0

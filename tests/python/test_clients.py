@@ -1,0 +1,386 @@
+"""What users expect of `Client`, `Server`, carriers and those of asyncio, over UDP and hubs on this machine, in one process."""
+import asyncio
+import collections
+import contextlib
+import os
+import pydoc
+import select
+import signal
+import socket
+import subprocess
+import sys
+import threading
+import time
+import unittest
+
+import xns
+from relay import LOCAL, Hub, bound
+
+SERVER, CLIENT = xns.Address(1, bytes.fromhex("0000aa000102"), 5), xns.Address(1, bytes.fromhex("0000aa000304"), 1024)
+QUICK = {"first_wait": 50, "longest_wait": 200, "tries": 3}
+
+
+def answers(call):
+    """Procedure 1 returns its words, 2 does so half a second later."""
+    if call.procedure == 2:
+        time.sleep(0.5)
+    return xns.returns(call.words)
+
+
+@contextlib.contextmanager
+def serving(carrier, answer=answers, **settings):
+    """A server in another thread."""
+    server = xns.Server(carrier, SERVER, [(7, 1, 1)], answer, **{**QUICK, **settings})
+    thread = threading.Thread(target=server.run, daemon=True)
+    thread.start()
+    try:
+        yield server
+    finally:
+        server.stop()
+        thread.join(10)
+    if thread.is_alive():
+        raise AssertionError("the server goes on")
+
+
+class Counting:
+    """A carrier of four methods, over a socket, that counts what it sends. While it is down nothing comes through, and each call is an error."""
+
+    def __init__(self, udp):
+        self._udp, self.sent, self.is_down = udp, 0, False
+        self.fileno, self.setblocking = udp.fileno, udp.setblocking
+
+    def recvfrom(self, size):
+        packet = self._udp.recvfrom(size)
+        if self.is_down:
+            raise OSError(100, "the network is down")
+        return packet
+
+    def sendto(self, packet, place):
+        self.sent += 1
+        if self.is_down:
+            raise OSError(100, "the network is down")
+        self._udp.sendto(packet, place)
+
+
+class Memory:
+    """A carrier without a file, whose packets are lists."""
+
+    def __init__(self):
+        self.comes, self.goes = collections.deque(), []
+
+    def fileno(self):
+        return -1
+
+    def setblocking(self, flag):
+        pass
+
+    def recvfrom(self, size):
+        if not self.comes:
+            raise BlockingIOError
+        return self.comes.popleft()
+
+    def sendto(self, packet, place):
+        self.goes.append((packet, place))
+
+
+class OverUdp(unittest.TestCase):
+    def setUp(self):
+        self.there, self.here = bound(), bound()
+        self.addCleanup(self.there.close)
+        self.addCleanup(self.here.close)
+
+    def client(self, carrier=None, **settings):
+        return xns.Client(carrier or self.here, self.there.getsockname(), CLIENT, SERVER, **{**QUICK, **settings})
+
+    def test_with(self):
+        with serving(self.there), self.client() as client:
+            client.connect(5)
+            self.assertEqual(client.call(7, 1, 1, [3]).words, [3])
+        with self.assertRaises(xns.ClosedError):
+            client.call(7, 1, 1)
+
+    def test_an_error_in_a_with_is_told(self):
+        begun = time.monotonic()
+        with self.assertRaises(KeyError), self.client():
+            raise KeyError
+        self.assertLess(time.monotonic() - begun, 1)
+
+    def test_times(self):
+        for what in ("connect", "call", "close"):
+            client, begun = self.client(), time.monotonic()
+            given = {"timeout": 0.2, **({"program": 7, "version": 1, "procedure": 1} if what == "call" else {})}
+            with self.assertRaises(TimeoutError) as told:
+                getattr(client, what)(**given)
+            self.assertIsInstance(told.exception, xns.XnsError)
+            self.assertTrue(0.19 < time.monotonic() - begun < 0.5)
+            with self.assertRaises(xns.ClosedError):
+                client.call(7, 1, 1)
+            client.close()
+        with self.assertRaises(TypeError):
+            self.client(timeout="5")
+
+    def test_a_time_for_each(self):
+        with serving(self.there), self.client(timeout=0.1) as client:
+            with self.assertRaises(TimeoutError):
+                client.call(7, 1, 2)
+
+    def test_a_time_of_years(self):
+        with serving(self.there), self.client(first_wait=2**32 - 1, longest_wait=2**32 - 1, idle=2**32 - 2) as client:
+            self.assertEqual(client.call(7, 1, 1, [3]).words, [3])
+
+    def test_a_socket_keeps_its_own_time(self):
+        for timeout in (None, 3.5, 0.0):
+            self.there.settimeout(timeout)
+            self.here.settimeout(timeout)
+            with serving(self.there), self.client() as client:
+                self.assertEqual(self.here.gettimeout(), timeout)
+                client.call(7, 1, 1)
+                client.wait(0.01)
+            self.assertEqual((self.here.gettimeout(), self.there.gettimeout()), (timeout, timeout))
+
+    def test_the_last_answer_is_acknowledged(self):
+        """A server sends nothing again to a client that rests."""
+        carrier = Counting(self.there)
+        with serving(carrier, idle=None), self.client() as client:
+            client.call(7, 1, 1, [3])
+            time.sleep(0.1)
+            sent = carrier.sent
+            time.sleep(0.4)
+            self.assertEqual(carrier.sent, sent)
+
+    def test_a_client_that_rests_waits_or_opens_again(self):
+        with serving(self.there, idle=100):
+            with self.client(reopens=0.3) as rests:
+                rests.call(7, 1, 1)
+                time.sleep(1.5)  # the server has given it up
+                self.assertEqual(rests.call(7, 1, 1, [4]).words, [4])
+            resting = self.client()
+            resting.call(7, 1, 1)
+            time.sleep(1.5)
+            with self.assertRaises(xns.XnsError):
+                resting.call(7, 1, 1, [5])
+            with self.client() as waits:
+                waits.call(7, 1, 1)
+                waits.wait(1.5)
+                self.assertEqual(waits.call(7, 1, 1, [6]).words, [6])
+
+    @unittest.skipUnless(threading.current_thread() is threading.main_thread(), "signals go to another thread")
+    def test_ctrl_c_in_a_call(self):
+        before = signal.signal(signal.SIGALRM, signal.default_int_handler)
+        try:
+            with serving(self.there), self.client() as client:
+                for number in range(5):
+                    with self.assertRaises(KeyboardInterrupt):
+                        signal.setitimer(signal.ITIMER_REAL, 0.1)
+                        client.call(7, 1, 2, [number])
+                    self.assertEqual(client.call(7, 1, 1, [100 + number]).words, [100 + number])
+        finally:
+            signal.signal(signal.SIGALRM, before)
+
+    def test_a_network_that_is_down_ends_nothing(self):
+        theirs, ours = Counting(self.there), Counting(self.here)
+        with serving(theirs), self.client(ours, tries=30) as client:
+            client.call(7, 1, 1)
+            for one in (theirs, ours):
+                one.is_down = True
+                threading.Timer(0.3, setattr, (one, "is_down", False)).start()
+                self.assertEqual(client.call(7, 1, 1, [5]).words, [5])
+
+    def test_a_socket_that_is_closed_ends_the_server(self):
+        self.there.close()
+        with self.assertRaises(OSError):
+            xns.serve(self.there, SERVER, [], answers)
+
+    def test_many_clients_at_once(self):
+        with serving(self.there, connections=20):
+            told = []
+
+            def calls(number):
+                with bound() as udp, xns.Client(udp, self.there.getsockname(), CLIENT._replace(socket=2000 + number), SERVER) as client:
+                    told.append(client.call(7, 1, 1, [number]).words)
+
+            threads = [threading.Thread(target=calls, args=(number,)) for number in range(20)]
+            for one in threads:
+                one.start()
+            for one in threads:
+                one.join()
+            self.assertEqual(sorted(told), [[number] for number in range(20)])
+
+    def test_asyncio(self):
+        total = 0
+
+        async def slow(call):
+            nonlocal total
+            await asyncio.sleep(0.2)
+            if call.procedure == 3:
+                xns.Reader(call.words).cardinal()
+            total += call.words[0]
+            return xns.returns([total])
+
+        async def calls(number, procedure=1):
+            with bound() as udp:
+                own = CLIENT._replace(socket=2000 + number)
+                async with xns.AsyncClient(udp, self.there.getsockname(), own, SERVER, timeout=5, **QUICK) as client:
+                    if number == 4:
+                        with self.assertRaises(TimeoutError):
+                            await client.call(7, 1, procedure, [0], timeout=0.05)
+                        return 0
+                    if number == 5:
+                        return (await client.call(7, 1, 3)).code
+                    first = asyncio.ensure_future(client.call(7, 1, procedure, [0]))
+                    await asyncio.sleep(0.05)
+                    first.cancel()
+                    return (await client.call(7, 1, procedure, [number])).words[0]
+
+        async def main():
+            stop = asyncio.Event()
+            server = asyncio.ensure_future(xns.serve_async(self.there, SERVER, [(7, 1, 1)], slow, stop=stop, **QUICK))
+            begun = time.monotonic()
+            told = await asyncio.gather(*map(calls, range(1, 6)))
+            self.assertLess(time.monotonic() - begun, 3)  # one does not wait for the other
+            self.assertEqual((told[3:], max(told[:3])), ([0, xns.Reject.INVALID_ARGUMENTS], 6))
+            stop.set()
+            await asyncio.wait_for(server, 5)
+
+        asyncio.run(main())
+
+    def test_asyncio_and_the_other_loop(self):
+        async def main():
+            with bound() as udp:
+                async with xns.AsyncClient(udp, self.there.getsockname(), CLIENT, SERVER, idle=50, **QUICK) as client:
+                    await client.call(7, 1, 1, [1])
+                    await asyncio.sleep(1)  # it says that it is there
+                    return (await client.call(7, 1, 1, [9])).words
+
+        with serving(self.there, idle=100):
+            self.assertEqual(asyncio.run(main()), [9])
+
+
+class HubTest(unittest.TestCase):
+    def setUp(self):
+        self.hub = Hub()
+        self.hub.start()
+        self.addCleanup(self.hub.stop)
+
+    def link(self, station):
+        link = xns.nethub(LOCAL, self.hub.port, station)
+        self.addCleanup(link.close)
+        return link
+
+    def test_calls_echo_and_a_hub_that_is_gone_for_a_while(self):
+        theirs, ours = self.link(SERVER.host), self.link(CLIENT.host)
+        for one in (theirs, ours):
+            one.AGAIN = 0.1
+        with serving(theirs, tries=30), xns.Client(ours, SERVER.host, CLIENT, SERVER, **{**QUICK, "tries": 30}) as client:
+            words = list(range(5000))
+            self.assertEqual(client.call(7, 1, 1, words).words, words)
+            self.hub.drop()
+            self.assertEqual(client.call(7, 1, 1, [4]).words, [4])
+        self.assertGreater(self.hub.frames, 40)
+        self.assertEqual(self.hub.shortest, 60)
+
+    def test_no_hub(self):
+        with bound() as nobody, self.assertRaises(OSError):
+            xns.nethub(LOCAL, nobody.getsockname()[1])
+        with self.assertRaises(ValueError):
+            xns.nethub(LOCAL, self.hub.port, b"short")
+
+    def test_frames_in_pieces_and_of_others(self):
+        link = self.link(CLIENT.host)
+        stream = self.hub.first()
+        packet = xns.echo_request(SERVER, CLIENT._replace(socket=2), b"Hi")
+        mine = (CLIENT.host + SERVER.host + b"\x06\x00" + packet).ljust(60, b"\0")
+        others = SERVER.host + mine[6:]
+        ip = mine[:12] + b"\x08\x00" + mine[14:]
+        sent = b"".join(len(frame).to_bytes(2, "big") + frame for frame in (others, ip, b"", mine))
+        came = []
+        for at in range(0, len(sent), 7):
+            stream.sendall(sent[at : at + 7])
+            select.select([link], [], [], 1)
+            with contextlib.suppress(BlockingIOError):
+                came.append(link.recvfrom(2048))
+        for _ in range(50):
+            with contextlib.suppress(BlockingIOError):
+                came.append(link.recvfrom(2048))
+        self.assertEqual(came, [(mine[14:], SERVER.host)])
+
+
+class PlacesTest(unittest.TestCase):
+    def test_the_place_of_a_connection_is_kept_and_others_go(self):
+        carrier, own = Memory(), CLIENT
+        with xns.Host(own) as host:
+            station = xns._station.Station(carrier, host)
+            station._places.MOST = station._places._most = 200
+            station.connect("far", own, SERVER)
+            for number in range(5000):
+                source = xns.Address(1, number.to_bytes(6, "big"), 2000)
+                carrier.comes.append((xns.echo_request(source, own._replace(socket=2), b"Hi"), f"place {number}"))
+                station.take_in()
+                station.send()
+            self.assertEqual(len([place for _, place in carrier.goes if place.startswith("place")]), 5000)
+            self.assertEqual(carrier.goes[-1][1], "place 4999")
+            self.assertLess(len(station._places._places), 300)
+            station.now += 60_000
+            station.send()
+            self.assertEqual(carrier.goes[-1][1], "far")  # the opening once more
+
+
+class TypesTest(unittest.TestCase):
+    def test_names_of_arguments(self):
+        host = xns.Host(CLIENT)
+        for name, call in (
+            ("number", lambda: host.peer("1")),
+            ("now", lambda: host.close(1.5, 1)),
+            ("packet", lambda: host.receive(0, 0, "text")),
+            ("own", lambda: xns.Host("here")),
+            ("the host of own", lambda: xns.Host(xns.Address(1, "text", 5))),
+            ("the network of peer", lambda: host.connect(0, 0, 5, SERVER._replace(network=None))),
+            ("programs", lambda: host.serve(5, [7])),
+            ("low", lambda: host.serve(5, [(7, "1", 1)])),
+            ("idle", lambda: xns.Host(CLIENT, idle="never")),
+            ("waits", lambda: xns.Host(CLIENT, waits=1)),
+            ("reply", lambda: host.answer(0, 0, None)),
+            ("words", lambda: host.call(0, 0, 7, 1, 1, b"12")),
+            ("words", lambda: host.call(0, 0, 7, 1, 1, bytearray(2))),
+            ("words", lambda: host.call(0, 0, 7, 1, 1, "12")),
+            ("words", lambda: host.call(0, 0, 7, 1, 1, ["1"])),
+            ("words", lambda: host.call(0, 0, 7, 1, 1, 5)),
+            ("words", lambda: xns.Reader(b"12")),
+            ("value", lambda: xns.Writer().cardinal("5")),
+            ("text", lambda: xns.Writer().text("Hello")),
+            ("data", lambda: xns.decode("text")),
+            ("answer", lambda: xns.Server(None, CLIENT, [], "answer")),
+        ):
+            with self.subTest(name), self.assertRaisesRegex(TypeError, name):
+                call()
+        with self.assertRaisesRegex(ValueError, "procedure"):
+            host.call(0, 0, 7, 1, 65536)
+        self.assertEqual(xns.Writer().text(bytearray(b"Hi")).words, [2, 0x4869])
+
+    def test_errors(self):
+        for name in xns.__all__:
+            one = getattr(xns, name)
+            if isinstance(one, type) and issubclass(one, Exception):
+                self.assertTrue(name.endswith("Error") and issubclass(one, xns.XnsError), name)
+                self.assertEqual(one.__module__, "xns")
+        self.assertTrue(issubclass(xns.NotServedError, ConnectionRefusedError) and issubclass(xns.ClosedError, ConnectionResetError))
+        self.assertTrue(issubclass(xns.TruncatedError, xns.ArgumentsError) and issubclass(xns.NoCallError, LookupError))
+
+    def test_help(self):
+        told = pydoc.plain(pydoc.render_doc(xns))
+        self.assertLess(told.index("xns.serve("), told.index("CLASSES"))
+        self.assertLess(told.index("xns.Client("), told.index("CLASSES"))
+        self.assertNotIn("_Raw", told)
+        self.assertEqual(xns.__all__[:2], ["serve", "Client"])
+
+    def test_a_library_that_is_missing_or_another(self):
+        for library, wanted in (("/nowhere/libxns.so", "XNS_LIBRARY names it"), ("libc.so.6", "another version")):
+            words = [sys.executable, "-c", "import xns"]
+            ended = subprocess.run(words, env={**os.environ, "XNS_LIBRARY": library}, stderr=subprocess.PIPE, text=True)
+            self.assertEqual(ended.returncode, 1)
+            self.assertIn("LibraryError", ended.stderr.splitlines()[-1])
+            self.assertIn(wanted, ended.stderr.splitlines()[-1])
+
+
+if __name__ == "__main__":
+    unittest.main()

@@ -1,0 +1,153 @@
+"""The command `xns-net` over UDP, as a process: what it prints, its statuses, and how it ends. Ethernet is tried by tests/network.sh, hubs by test_tally.py."""
+import os
+import pathlib
+import re
+import signal
+import subprocess
+import sys
+import tempfile
+import time
+import unittest
+
+import xns
+from relay import bound
+from xns._reached import read_address, read_host
+
+NET = [str(pathlib.Path(__file__).resolve().parents[2] / "python" / "xns-net")]
+SERVER = "0000aa000102"
+SERVICE = """import xns
+class Doubles:
+    programs = [(9, 1, 2)]
+    def __call__(self, call):
+        return xns.aborts(4, [1, 2]) if call.procedure else xns.returns(call.words * 2)
+def anything(call):
+    return xns.returns([call.program, call.version, call.procedure])
+"""
+
+
+def run(*words, **more):
+    ended = subprocess.run([*NET, *words], stdout=subprocess.PIPE, stderr=subprocess.PIPE, text=True, timeout=60, **more)
+    return ended.returncode, ended.stdout, ended.stderr
+
+
+class Serving:
+    """`xns-net serve` at a free port."""
+
+    def __init__(self, *words, **more):
+        with bound() as free:
+            self.port = str(free.getsockname()[1])
+        self.process = subprocess.Popen([*NET, "serve", *words, "--udp", self.port], stdout=subprocess.PIPE, stderr=subprocess.PIPE, text=True, **more)
+
+    def __enter__(self):
+        self.said = self.process.stdout.readline()
+        return self
+
+    def __exit__(self, *_):
+        self.end(signal.SIGTERM)
+
+    def end(self, signal_number):
+        self.process.send_signal(signal_number)
+        self.told = self.process.communicate(timeout=30)
+        self.status = self.process.returncode
+
+
+class NetTest(unittest.TestCase):
+    def test_a_tally(self):
+        with Serving() as serving:
+            self.assertEqual(serving.said, f"serving at 00000001.{SERVER}.0005\n")
+            for words, wanted in (
+                (("7", "1", "1", "0005"), (0, "return 0000 0005\n", "")),
+                (("7", "1", "1", "FFFF"), (0, "return 0001 0004\n", "")),
+                (("7", "1", "1"), (3, "reject 3 -\n", "")),
+                (("7", "1", "3"), (3, "reject 2 -\n", "")),
+                (("7", "2", "1"), (3, "reject 1 0001 0001\n", "")),
+                (("7", "1", "2"), (0, "return -\n", "")),
+            ):
+                self.assertEqual(run("call", f"1.{SERVER}.5", *words, "--udp", serving.port), wanted)
+        self.assertEqual((serving.status, serving.told), (0, ("", "")))
+
+    def test_services_by_name(self):
+        with tempfile.TemporaryDirectory() as folder:
+            (pathlib.Path(folder) / "named.py").write_text(SERVICE, encoding="utf-8")
+            with Serving("named:Doubles", cwd=folder) as serving:
+                self.assertEqual(run("call", SERVER, "9", "2", "0", "0001", "--udp", serving.port), (0, "return 0001 0001\n", ""))
+                self.assertEqual(run("call", SERVER, "9", "2", "1", "--udp", serving.port), (3, "abort 4 0001 0002\n", ""))
+                self.assertEqual(run("call", SERVER, "7", "2", "1", "--udp", serving.port), (3, "reject 0 -\n", ""))
+            with Serving("named:anything", "--socket", "6", cwd=folder) as serving:
+                self.assertEqual(run("call", f"1.{SERVER}.6", "70", "2", "1", "--udp", serving.port), (0, "return 0046 0002 0001\n", ""))
+            for name, told in (("named:other", "has no attribute"), ("nowhere:other", "No module named"), ("named", "no MODULE:NAME")):
+                status, _, err = run("serve", name, "--udp", "4000", cwd=folder)
+                self.assertEqual(status, 2)
+                self.assertIn(told, err)
+                self.assertEqual(len(err.splitlines()), 1)
+
+    def test_ping(self):
+        with Serving() as serving:
+            status, out, err = run("ping", SERVER, "--udp", serving.port, "-c", "3", "--interval", "0.1", "-s", "100")
+            self.assertEqual((status, err), (0, ""))
+            place = f"00000001.{SERVER}.0002"
+            times = r"[0-9]+\.[0-9]{3}"
+            replies = "".join(rf"100 bytes from {place}: seq={k} time={times} ms\n" for k in (1, 2, 3))
+            end = rf"--- {place}\n3 sent, 3 answered, 0% lost\ntime min/mean/max = {times}/{times}/{times} ms\n"
+            self.assertRegex(out, rf"\A{re.escape(f'ping {place}: 100 bytes')}\n{replies}{end}\Z")
+            pinging = subprocess.Popen([*NET, "ping", SERVER, "--udp", serving.port, "--interval", "0.1"], stdout=subprocess.PIPE, stderr=subprocess.PIPE, text=True)
+            for _ in range(4):
+                pinging.stdout.readline()
+            pinging.send_signal(signal.SIGINT)
+            out, err = pinging.communicate(timeout=30)
+            self.assertEqual((pinging.returncode, err), (0, ""))
+            self.assertRegex(out, "(?m)^[0-9]+ sent, [0-9]+ answered, [0-9]+% lost$")
+        status, out, err = run("ping", SERVER, "--udp", serving.port, "-c", "2", "--interval", "0.1", "--wait", "0.1")
+        self.assertEqual((status, out.splitlines()[-1], err), (1, "2 sent, 0 answered, 100% lost", ""))
+
+    def test_ends(self):
+        for number in (signal.SIGINT, signal.SIGTERM):
+            with bound() as udp:
+                serving = Serving()
+                with serving:
+                    own, peer = xns.Address(1, bytes(6), 3000), xns.Address(1, bytes.fromhex(SERVER), 5)
+                    with xns.Client(udp, ("127.0.0.1", int(serving.port)), own, peer, timeout=5) as client:
+                        client.call(7, 1, 1, [1])
+                        serving.process.send_signal(number)
+                        client.wait(0.5)
+                        with self.assertRaises(xns.ClosedError):
+                            client.call(7, 1, 1, [1])
+                self.assertEqual((serving.status, serving.told), (0, ("", "")))
+        with bound() as nobody:
+            calling = subprocess.Popen([*NET, "call", SERVER, "7", "1", "1", "--udp", str(nobody.getsockname()[1])], stdout=subprocess.PIPE, stderr=subprocess.PIPE, text=True)
+            nobody.recv(2048)
+            calling.send_signal(signal.SIGINT)
+            self.assertEqual((calling.communicate(timeout=30), calling.returncode), (("", ""), 130))
+            status, out, err = run("call", SERVER, "7", "1", "1", "--timeout", "0.3", "--udp", str(nobody.getsockname()[1]))
+            self.assertEqual((status, out, err), (1, "", "xns-net: the call was not answered in 0.3 seconds\n"))
+
+    def test_words(self):
+        for words in ((), ("pong",), ("ping",), ("ping", SERVER), ("ping", SERVER, "--udp", "0"), ("ping", SERVER, "--udp", "1", "-i", "lo"),
+                      ("ping", "12", "--udp", "9"), ("ping", SERVER, "--udp", "9", "-s", "11"), ("ping", SERVER, "--udp", "9", "-s", "545"),
+                      ("call", SERVER, "7", "1", "--udp", "9"), ("call", SERVER, "7", "1", "1", "5", "--udp", "9"), ("call", SERVER, "-1", "1", "1", "--udp", "9"),
+                      ("call", SERVER, "7", "65536", "1", "--udp", "9"), ("call", f"{SERVER}.5", "7", "1", "1", "--udp", "9"), ("watch",)):
+            status, out, err = run(*words)
+            self.assertEqual((status, out), (2, ""), words)
+            self.assertIn("xns-net", err)
+        for words in (("--help",), ("ping", "--help"), ("call", "--help"), ("serve", "--help"), ("watch", "--help")):
+            status, out, err = run(*words)
+            self.assertEqual((status, err), (0, ""))
+            self.assertIn("statuses: 0 done", out)
+        self.assertEqual(run("--version"), (0, f"xns-net {xns.version()}\n", ""))
+        status, _, err = run("watch", "-i", "none0")
+        self.assertEqual((status, len(err.splitlines())), (1, 1))
+
+    def test_addresses(self):
+        host = bytes.fromhex(SERVER)
+        for text, wanted in ((SERVER, (3, host, 2)), ("00:00:AA:00:01:02", (3, host, 2)), (f"1.{SERVER}", (1, host, 2)), (f"ffffffff.{SERVER}.fFfF", (2**32 - 1, host, 65535)),
+                             ("all", (3, b"\xff" * 6, 2)), ("0.all.5", (0, b"\xff" * 6, 5))):
+            self.assertEqual(read_address(text, 3, 2), xns.Address(*wanted))
+        for text in ("", ".", "1", "1.2", f"{SERVER}.5", f"1.{SERVER}.", f"1.{SERVER}.10000", f"100000000.{SERVER}", f"1.{SERVER}.5.6", "0000aa00010g"):
+            with self.assertRaises(ValueError):
+                read_address(text, 3, 2)
+        with self.assertRaises(ValueError):
+            read_host("00:00aa000102")
+
+
+if __name__ == "__main__":
+    unittest.main()
