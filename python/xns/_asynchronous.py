@@ -9,7 +9,7 @@ from ._errors import SilentError
 from ._library import unsigned, words_of
 from ._links import Carrier, not_blocking
 from ._objects import Host
-from ._serving import CLOSING, UNSPECIFIED, Programs, failed, give
+from ._serving import CLOSING, UNSPECIFIED, Programs, failed, give, guarded
 from ._station import Other, Station, file_of
 from ._told import Address, Answer, Call, Closed, Event, Reply, rejects
 
@@ -26,9 +26,12 @@ class _Pump:
         self._station, self._turned, self._loop = station, turned, asyncio.get_running_loop()
         self._file: Optional[int] = None
         self._timer: Optional[asyncio.TimerHandle] = None
+        self._is_stopped = False
 
     def turn(self) -> None:
         """What is to be done after each call of the host: events, packets, and when to come again."""
+        if self._is_stopped:
+            return
         self._turned()
         self._station.send()
         self._watch(file_of(self._station.carrier))
@@ -39,6 +42,7 @@ class _Pump:
         self._timer = self._loop.call_later(seconds if self._file is not None else min(seconds, _AGAIN), self._come)
 
     def stop(self) -> None:
+        self._is_stopped = True
         self._watch(None)
         if self._timer is not None:
             self._timer.cancel()
@@ -156,7 +160,7 @@ async def serve_async(
     tasks, stopped = set(), asyncio.Event() if stop is None else stop
     with Host(own, **settings) as host, not_blocking(carrier):
         host.serve(own.socket, list(programs))
-        station, gone = Station(carrier, host, other), asyncio.Event()
+        station, gone = Station(carrier, host, guarded(other)), asyncio.Event()
         there, closed = None, set()  # the connections that are to be closed, and those that are
 
         async def carry_out(call: Call) -> None:

@@ -43,6 +43,18 @@ def give(host: Host, call: Call, reply: Reply) -> None:
         host.close(milliseconds(), call.number)
 
 
+def guarded(other: Other) -> Other:
+    """What is given each packet that is not the host's: what it raises ends nothing."""
+
+    def heard(packet: bytes, place: Any) -> None:
+        try:
+            other(packet, place)
+        except Exception as error:
+            LOG.error("a packet that is not the host's was not taken", exc_info=error)
+
+    return None if other is None else heard
+
+
 class Server:
     """Serves clients by a host with these settings: `run` does, until `stop` is called. See `serve`."""
 
@@ -67,7 +79,7 @@ class Server:
         try:
             with Host(self._own, **self._settings) as host, not_blocking(self._carrier):
                 host.serve(self._own.socket, self._programs)
-                station = Station(self._carrier, host, self._heard)
+                station = Station(self._carrier, host, guarded(self._other))
                 try:
                     while not (self._is_stopped or stop is not None and stop.is_set()):
                         station.wait(also=self._bell.fileno(), **({} if stop is None else {"most": _LOOKED_AT}))
@@ -93,14 +105,6 @@ class Server:
             return self._service(call)
         except Exception as error:
             return failed(call, error)
-
-    def _heard(self, packet: bytes, place: Any) -> None:
-        """Gives a packet that is not the host's to the program."""
-        if self._other is not None:
-            try:
-                self._other(packet, place)
-            except Exception as error:
-                LOG.error("a packet that is not the host's was not taken", exc_info=error)
 
     def _close(self, station: Station) -> None:
         host, until = station.host, milliseconds() + CLOSING

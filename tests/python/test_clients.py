@@ -177,6 +177,31 @@ class OverUdp(unittest.TestCase):
         finally:
             signal.signal(signal.SIGALRM, before)
 
+    @unittest.skipUnless(threading.current_thread() is threading.main_thread(), "signals go to another thread")
+    def test_ctrl_c_ends_a_server_that_closes_its_connections(self):
+        told = []
+
+        def calls():
+            with bound() as udp, xns.Client(udp, self.there.getsockname(), CLIENT, SERVER, **QUICK) as client:
+                client.call(7, 1, 1)
+                client.wait(1)
+                try:
+                    client.call(7, 1, 1)
+                except xns.XnsError as error:
+                    told.append(error)
+
+        thread = threading.Thread(target=calls)
+        before = signal.signal(signal.SIGALRM, signal.default_int_handler)
+        try:
+            thread.start()
+            with self.assertRaises(KeyboardInterrupt):
+                signal.setitimer(signal.ITIMER_REAL, 0.5)
+                xns.serve(self.there, SERVER, [], answers)
+        finally:
+            signal.signal(signal.SIGALRM, before)
+            thread.join()
+        self.assertIsInstance(told[0], xns.ClosedError)
+
     def test_a_network_that_is_down_ends_nothing(self):
         theirs, ours = Counting(self.there), Counting(self.here)
         with serving(theirs), self.client(ours, tries=30) as client:
