@@ -35,8 +35,10 @@ docs/C.md says more on each call, and when a program makes it.
 An object is used by the thread that made it alone; `Server.stop` can be called by any. It gives its
 memory back when it is freed, by `free` or at the end of a `with`, or when Python lets it go in that
 thread; the memory of one that is let go in another thread stays taken."""
+import importlib
+from typing import Any, List
+
 from . import _errors
-from ._asynchronous import AsyncClient, serve_async
 from ._client import Client
 from ._errors import ArgumentsError, ClosedError, LibraryError, NoCallError, NotServedError, SilentError, XnsError
 from ._library import version
@@ -66,7 +68,27 @@ __all__ = [
     "exchange_request", "exchange_accept", "exchange_reply", "header_read", "header_write", "message_read", "message_write", "new_identifier", "opening",
     "version", "LONGEST_PACKET", "LONGEST_ITEM", "MOST_WINDOW", "MOST_CALL_WORDS", "MOST_MESSAGE_WORDS",
 ]
-for _name in __all__:  # help and tracebacks name what the program imports
-    if hasattr(globals()[_name], "__module__") and getattr(globals()[_name], "__module__", "").startswith("xns."):
-        globals()[_name].__module__ = __name__
+_LATE = ("serve_async", "AsyncClient")  # asyncio takes as long to load as all else: who does not use it does not wait for it
+
+
+def _named(one: Any) -> Any:
+    """A class or function of the package, with the name that programs import it by."""
+    if getattr(one, "__module__", "").startswith(f"{__name__}."):
+        one.__module__ = __name__
+    return one
+
+
+def __getattr__(name: str) -> Any:
+    if name not in _LATE:
+        raise AttributeError(f"module {__name__!r} has no attribute {name!r}")
+    globals()[name] = found = _named(getattr(importlib.import_module("._asynchronous", __name__), name))
+    return found
+
+
+def __dir__() -> List[str]:
+    return sorted({*globals(), *_LATE})
+
+
+for _name in set(__all__) - set(_LATE):
+    _named(globals()[_name])
 del _name

@@ -181,8 +181,8 @@ class NetHub(_Link):
 
 
 def ethernet(interface: str) -> Ethernet:
-    """What carries packets on this interface, as `eth0`. `PermissionError` without the right CAP_NET_RAW; another `OSError` where there is no such interface,
-    or it is down."""
+    """What carries packets on this interface, as `eth0`. `PermissionError` without the right CAP_NET_RAW; another `OSError` where there is no such interface.
+    One that is down is as a network that loses all, until it is up."""
     return Ethernet(interface)
 
 

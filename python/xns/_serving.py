@@ -29,18 +29,18 @@ def failed(call: Call, error: Exception) -> Reply:
     return rejects(UNSPECIFIED)
 
 
-def give(host: Host, call: Call, reply: Reply) -> None:
+def give(host: Host, now: int, call: Call, reply: Reply) -> None:
     """Answers a call, unless its connection has closed. A reply that can't be given is a failure of the call."""
     for one in (reply, rejects(UNSPECIFIED)):
         try:
-            host.answer(milliseconds(), call.number, one)
+            host.answer(now, call.number, one)
             return
         except (ClosingError, NoConnectionError, NoCallError):
             return
         except Exception as error:
             failed(call, error)
     with contextlib.suppress(XnsError):  # there is no memory, not even for a reject
-        host.close(milliseconds(), call.number)
+        host.close(now, call.number)
 
 
 def guarded(other: Other) -> Other:
@@ -95,7 +95,7 @@ class Server:
         for event in station.host.events():
             if isinstance(event, Call):
                 self._gone.discard(event.number)
-                give(station.host, event, self._reply(event))
+                give(station.host, station.now, event, self._reply(event))
             elif isinstance(event, Closed):
                 self._gone.add(event.number)
         station.send()
@@ -117,7 +117,7 @@ class Server:
             station.take_in()
             for event in host.events():
                 if isinstance(event, Call):
-                    give(host, event, rejects(UNSPECIFIED))
+                    give(host, station.now, event, rejects(UNSPECIFIED))
                 elif isinstance(event, Closed):
                     there.discard(event.number)
             station.send()

@@ -3,7 +3,9 @@ import asyncio
 import collections
 import contextlib
 import os
+import pathlib
 import pydoc
+import re
 import select
 import signal
 import socket
@@ -210,6 +212,15 @@ class OverUdp(unittest.TestCase):
                 one.is_down = True
                 threading.Timer(0.3, setattr, (one, "is_down", False)).start()
                 self.assertEqual(client.call(7, 1, 1, [5]).words, [5])
+
+    def test_the_carrier_of_the_page(self):
+        page = (pathlib.Path(__file__).resolve().parents[2] / "docs" / "NETWORKS.md").read_text(encoding="utf-8")
+        defined = {}
+        exec(re.search(r"```python\n(.*?)```", page, re.S).group(1), defined)
+        losing = defined["Losing"](self.here)
+        with serving(self.there, tries=30), self.client(losing, tries=30) as client:
+            for number in range(30):
+                self.assertEqual(client.call(7, 1, 1, [number]).words, [number])
 
     def test_a_socket_that_is_closed_ends_the_server(self):
         self.there.close()
