@@ -1,13 +1,13 @@
 -- What is fetched of a host is given, or stays.
-use Rattle.std.proofs.Common.{◌≡◌, ◌≢◌, ◌<◌, ◌≤◌, ℕ, List, [], ◌∷◌, length, max, slice_get, Option, Result, Ok, Err, false, IfOk, IfSome, Some, None, inl, inr, refl, sym, ap, ◌∙◌, subst, arith}
+use Rattle.std.proofs.Common.{◌≡◌, ◌≢◌, ◌<◌, ◌≤◌, ℕ, List, [], ◌∷◌, length, max, slice_get, Option, Result, Ok, Err, OnErr, ◌⊎◌, false, IfOk, IfSome, Some, None, inl, inr, refl, sym, ap, ◌∙◌, subst, arith}
 use Rattle.std.proofs.lemmas.Bool.{cases_lt}
 use Rattle.xns_host.specs.Deeds.{Deed}
 use Rattle.xns_host.specs.Hosting.{IsNextEvent, IsNextPacket, has_guest}
 use Rattle.xns_host.specs.Refusing.{Answers}
-use Rattle.xns_host.specs.Turn.{Turn}
+use Rattle.xns_host.specs.Turn.{GivesOut, TellsNext, Turn}
 use Rattle.xns_host.specs.declared.conversation.Conversation.{Conversation}
-use Rattle.xns_host.specs.declared.host_fault.HostFault.TheVariants.{NoConnection}
-use Rattle.xns_c.specs.Faults.{host_told}
+use Rattle.xns_host.specs.declared.host_fault.HostFault.TheVariants.{NoConnection, NoMemory, NoRoom}
+use Rattle.xns_c.specs.Faults.{host_fault_number, host_told}
 use Rattle.xns_host.specs.declared.host_fault.HostFault.{HostFault}
 use Rattle.xns_host.specs.declared.guest.Guest.{Guest}
 use Rattle.xns_host.specs.declared.event.Event.{Event}
@@ -15,8 +15,8 @@ use Rattle.xns_host.specs.declared.host.Host.{Host}
 use Rattle.xns_host.specs.declared.outgoing.Outgoing.{Outgoing}
 use Rattle.xns_c.specs.Events.{EventIsGiven}
 use Rattle.xns_c.specs.Given.{IsPut}
-use Rattle.xns_c.specs.Hosts.{FetchesEvent, FetchesPacket, GivesPacket, IsNextOut, Turns, left_of}
-use Rattle.xns_c.specs.Results.{ok, nothing, short_buffer}
+use Rattle.xns_c.specs.Hosts.{FetchesEvent, FetchesPacket, GivesPacket, IsNextOut, Turns, answer_of, left_of}
+use Rattle.xns_c.specs.Results.{ok, nothing, no_memory, no_slot, short_buffer}
 use Rattle.xns_c.specs.declared.event.XnsEvent.{XnsEvent}
 use Rattle.xns_c.specs.declared.kept_host.KeptHost.{KeptHost}
 
@@ -24,11 +24,14 @@ use Rattle.xns_c.specs.declared.kept_host.KeptHost.{KeptHost}
 pub event_fetched : (k n m : KeptHost) (e : Event) (before after : XnsEvent) (old new : List ℕ) (had count number : ℕ)
     → n.event ≡ Some e → ((x : Event) → k.event ≡ Some x → n ≡ k)
     → ((x : Event) → k.event ≡ None → n.event ≡ Some x → IsNextEvent k.host.clock.latest k.host.guests.items n.host.guests.items x)
+    → (k.event ≡ None → TellsNext n.event k.host n.host)
     → n.packet ≡ k.packet → EventIsGiven e after old new count number → m.host ≡ n.host → m.event ≡ left_of (Some e) number → m.packet ≡ n.packet → FetchesEvent k m before after old new had count number
-event_fetched k n m e before after old new had count number there kept told packet given host left same = record {
+event_fetched k n m e before after old new had count number there kept told tells packet given host left same = record {
   found = Some e;
   told = λ x no is. subst (λ (h : Host). IsNextEvent k.host.clock.latest k.host.guests.items h.guests.items x) (sym host) (told x no (there ∙ is));
   none = λ no is. absurd cc;
+  tells = λ no.
+      subst (λ (h : Host). TellsNext (Some e) k.host h) (sym host) (subst (λ (x : Option Event). TellsNext x k.host n.host) there (tells no));
   kept = λ x is. (sym there ∙ (ap (λ (y : KeptHost). y.event) (kept x is) ∙ is), host ∙ ap (λ (y : KeptHost). y.host) (kept x is));
   given = given;
   left = left;
@@ -39,6 +42,14 @@ event_fetched k n m e before after old new had count number there kept told pack
 is_told : (p : Outgoing) (old new : List ℕ) (had written way via number : ℕ)
     → GivesPacket (Some p) old new had written way via number → number ≡ nothing → ⊥
 is_told p old new had written way via number given is = elim (cases_lt (length old) (length p.packet)) [
+  | inl less ↦ absurd (omega (arith, is, (given.1 less).0))
+  | inr fits ↦ absurd (omega (arith, is, (given.0 fits).0))
+]
+
+-- nor that memory was refused
+is_put : (p : Outgoing) (old new : List ℕ) (had written way via number : ℕ)
+    → GivesPacket (Some p) old new had written way via number → number ≡ no_memory → ⊥
+is_put p old new had written way via number given is = elim (cases_lt (length old) (length p.packet)) [
   | inl less ↦ absurd (omega (arith, is, (given.1 less).0))
   | inr fits ↦ absurd (omega (arith, is, (given.0 fits).0))
 ]
@@ -61,11 +72,18 @@ gave_out k n r p stray given is = by k.host.strays.waiting refl where
       inl (os, some ∙ ap (λ (x : Outgoing). x ∷ os) same)
 
 -- the same of a packet
-pub packet_fetched : (k n m : KeptHost) (p : Outgoing) (old new : List ℕ) (had written way via number : ℕ)
-    → n.packet ≡ Some p → ((x : Outgoing) → k.packet ≡ Some x → n ≡ k) → ((x : Outgoing) → k.packet ≡ None → n.packet ≡ Some x → IsNextOut k n x) → n.event ≡ k.event → GivesPacket (Some p) old new had written way via number
-    → m.host ≡ n.host → m.packet ≡ left_of (Some p) number → m.event ≡ n.event → FetchesPacket k m old new had written way via number
-packet_fetched k n m p old new had written way via number there kept told event given host left same = record {
+pub packet_fetched : (k n m : KeptHost) (now : ℕ) (p : Outgoing) (done : Result (Unit {0}) HostFault) (old new : List ℕ) (had written way via number : ℕ)
+    → n.packet ≡ Some p → ((x : Outgoing) → k.packet ≡ Some x → n ≡ k) → ((x : Outgoing) → k.packet ≡ None → n.packet ≡ Some x → IsNextOut k n x) → (k.packet ≡ None → GivesOut now (answer_of done n.packet) k.host n.host) → done ≡ Ok tt
+    → n.event ≡ k.event → GivesPacket (Some p) old new had written way via number
+    → m.host ≡ n.host → m.packet ≡ left_of (Some p) number → m.event ≡ n.event → FetchesPacket k m now old new had written way via number
+packet_fetched k n m now p done old new had written way via number there kept told gives fine event given host left same = record {
   found = Some p;
+  done = done;
+  gives = λ no.
+      subst (λ (h : Host). GivesOut now (answer_of done (Some p)) k.host h) (sym host)
+      (subst (λ (x : Option Outgoing). GivesOut now (answer_of done x) k.host n.host) there (gives no));
+  starved = λ is. absurd (is_put p old new had written way via number given is);
+  fetched = λ z. fine;
   told = λ x no is. out_of_same k n m x host (told x no (there ∙ is));
   rested = λ is. absurd (is_told p old new had written way via number given is);
   kept = λ x is. (sym there ∙ (ap (λ (y : KeptHost). y.packet) (kept x is) ∙ is), host ∙ ap (λ (y : KeptHost). y.host) (kept x is));
@@ -107,3 +125,16 @@ turned k n host now number deed fault answer result same packet told turn none r
   refused = refused;
   packet = packet;
 }
+
+pub unused : ok ≡ no_slot → ⊥
+unused e = omega (arith, e)
+
+-- where it is told that there is no room, there is none
+pub no_room_by : (r : Result ℕ HostFault) (fault : HostFault) (P : Type 0) → r ≡ Err fault → OnErr r ((r ≡ Err NoRoom) ⊎ (r ≡ Err NoMemory)) → (r ≡ Err NoRoom → P)
+    → host_fault_number fault ≡ no_slot → P
+no_room_by (Ok n) fault P is why room full = absurd (cc)
+no_room_by (Err e) fault P is (inl none) room full = room none
+no_room_by (Err e) fault P is (inr short) room full =
+    let other : fault ≡ NoMemory = cc in
+    let number : no_memory ≡ no_slot = sym (ap host_fault_number other) ∙ full in
+    absurd (omega (arith, number))

@@ -1,15 +1,18 @@
 -- What becomes of a host that C holds.
-use Rattle.std.specs.Prelude.{◌≡◌, ◌≢◌, ◌⊎◌, ◌<◌, ◌≤◌, ℕ, false, ◌==◌, if◌then◌else◌, List, [], ◌∷◌, ◌++◌, length, max, Option, Some, None, Result, Ok, Err, slice_get}
+use Rattle.std.specs.Prelude.{◌≡◌, ◌≢◌, ◌⊎◌, ◌<◌, ◌≤◌, ℕ, Bool, true, false, ◌==◌, if◌then◌else◌, List, [], ◌∷◌, ◌++◌, length, max, Option, Some, None, Result, Ok, Err, slice_get}
 use Rattle.courier_messages.specs.RawCalls.{RawCall}
 use Rattle.courier_sessions.specs.declared.answer.Answer.{Answer}
+use Rattle.courier_sessions.specs.declared.program.Program.{Program}
 use Rattle.xns_idp.specs.declared.address.Address.{Address}
 use Rattle.xns_spp.specs.Packet.{SppPacketModel, spp_packet_of}
 use Rattle.xns_host.specs.Hosting as hosting
 use Rattle.xns_host.specs.Hosting.{HasHeard, IsNextPacket, IsOpened, IsPacketOf, confirms}
 use Rattle.xns_host.specs.Deeds.{Deed, asked, gave, made}
 use Rattle.xns_host.specs.Refusing.{Answers}
-use Rattle.xns_host.specs.Turn.{Turn}
-use Rattle.xns_host.specs.Hosting.{IsApart, IsConnected, IsNextEvent, ChangesOne, HasNoEvent, HasNoPacket, HasNoRoom, Wants}
+use Rattle.xns_host.specs.Ours.{IsOpener, IsOurs}
+use Rattle.xns_host.specs.Standing.{IsNewHost}
+use Rattle.xns_host.specs.Turn.{ConnectsTo, GivesOut, ServesAt, ServesNot, TakesIn, TellsNext, Turn}
+use Rattle.xns_host.specs.Hosting.{IsAllInUse, IsApart, IsConnected, IsNextEvent, ChangesOne, HasNoEvent, HasNoPacket, HasNoRoom, Wants}
 use Rattle.xns_host.specs.Hosting.{has_guest, address_in}
 use Rattle.xns_host.specs.Reasons.{call_fault_of, answer_fault_of}
 use Rattle.xns_host.specs.declared.conversation.Conversation.{Conversation}
@@ -18,8 +21,9 @@ use Rattle.xns_host.specs.declared.guest.Guest.{Guest}
 use Rattle.xns_host.specs.declared.host_fault.HostFault.{HostFault}
 use Rattle.xns_host.specs.declared.host_fault.HostFault.TheVariants.{NoConnection}
 use Rattle.xns_host.specs.declared.outgoing.Outgoing.{Outgoing}
+use Rattle.xns_host.specs.declared.settings.Settings.{Settings}
 use Rattle.xns_c.specs.Events.{EventIsGiven, event_number}
-use Rattle.xns_c.specs.Faults.{host_told}
+use Rattle.xns_c.specs.Faults.{host_fault_number, host_told}
 use Rattle.xns_c.specs.Given.{IsPut}
 use Rattle.xns_c.specs.Results.{ok, nothing, no_memory, short_buffer, bad_argument, no_host, no_connection, no_slot}
 use Rattle.xns_c.specs.Settings.{never}
@@ -36,10 +40,11 @@ Does (Some k) (Some n) result P = P k n
 abbrev pub guest_at : KeptHost → ℕ → Option (Option Guest)
 guest_at k number = slice_get k.host.guests.items number
 
--- there is a host with room for so many connections, of which nothing is kept
-abbrev pub IsNew : Option KeptHost → ℕ → Type 0
-IsNew None most = ⊥
-IsNew (Some k) most = (length k.host.guests.items ≡ most) × (k.event ≡ None) × (k.packet ≡ None)
+-- there is a new host at this address, with these settings and this secret, of which nothing is kept
+abbrev pub IsNew : Option KeptHost → Address → Settings → List ℕ → Type 0
+IsNew None own settings secret = ⊥
+IsNew (Some k) own settings secret = IsNewHost own.network own.host settings secret k.host
+    × (length k.host.guests.items ≡ settings.connections) × (k.event ≡ None) × (k.packet ≡ None)
 
 -- ---- calls that name a connection
 
@@ -83,10 +88,19 @@ pub record StaysKept (k n : KeptHost) : Type 0 where
   pub event : n.event ≡ k.event
   pub packet : n.packet ≡ k.packet
 
-pub record Serves (k n : KeptHost) : Type 0 where
+-- the host serves these programs at this socket, or says why not
+pub record Serves (k n : KeptHost) (socket : ℕ) (programs : List Program) (result : ℕ) : Type 0 where
+  pub answer : Result (Unit {0}) HostFault
+  pub told : result ≡ host_told answer
+  pub serves : ServesAt socket programs answer k.host n.host
   pub guests : n.host.guests ≡ k.host.guests
-  pub agenda : n.host.agenda ≡ k.host.agenda
+  pub refused : ServesNot k.host socket answer
   pub kept : StaysKept k n
+
+-- what the host says of whether a packet was for it
+abbrev pub whether : Bool → ℕ
+whether true = ok
+whether false = nothing
 
 -- a packet that is not for the host changes no connection, and one that is changes one at most; what became of the connections by these
 -- bytes, and one that they are for has heard them
@@ -98,6 +112,11 @@ pub record Receives (k n : KeptHost) (now way : ℕ) (bytes : List ℕ) (result 
       → guest_at k i ≡ Some (Some g) → guest_at n i ≡ Some place → (result ≡ ok) × HasHeard bytes (confirms p) g place
   pub one : ChangesOne k.host.guests.items n.host.guests.items
   pub unchanged : result ≡ nothing → (i : ℕ) → guest_at n i ≡ guest_at k i
+  pub ours : Bool
+  pub told : result ≡ whether ours
+  pub takes : TakesIn now way bytes ours k.host n.host
+  pub is_ours : ours ≡ true → IsOurs k.host bytes
+  pub opener : (p : SppPacketModel) → spp_packet_of bytes ≡ Ok p → IsOpener k.host p → ours ≡ true
   pub kept : StaysKept k n
 
 -- something of the host wants to be asked at this time
@@ -111,13 +130,24 @@ pub record Wakes (k : KeptHost) (time : ℕ) : Type 0 where
   pub least : (t : ℕ) → WantsAt k t → time ≤ t
   pub wanted : k.event ≡ None → k.packet ≡ None → (time ≡ never) ⊎ WantsAt k time
 
+-- a number was found, or this is why not
+abbrev pub number_told : Result ℕ HostFault → ℕ
+number_told (Ok number) = ok
+number_told (Err fault) = host_fault_number fault
+
 -- a new connection has this number, and all others are as they were; or none is made, and none is changed
 pub record Connects (k n : KeptHost) (now socket : ℕ) (to : Address) (way number result : ℕ) : Type 0 where
   pub connected : result ≡ ok → IsConnected n.host.guests.items number k.host.settings k.host.register.identifiers
       (address_in k.host.network k.host.host socket) to way (max k.host.clock.latest now)
   pub apart : result ≡ ok → IsApart k.host.guests.items n.host.guests.items number
   pub full : HasNoRoom k.host.guests.items → result ≡ no_slot
+  pub used : IsAllInUse k.host.register.identifiers → result ≡ no_slot
+  pub room : result ≡ no_slot → HasNoRoom k.host.guests.items ⊎ IsAllInUse k.host.register.identifiers
   pub fault : result ≢ ok → (result ≡ no_slot) ⊎ (result ≡ no_memory)
+  pub answer : Result ℕ HostFault
+  pub told : result ≡ number_told answer
+  pub found : (i : ℕ) → answer ≡ Ok i → number ≡ i
+  pub connects : ConnectsTo now way socket to answer k.host n.host
   pub unchanged : result ≢ ok → (i : ℕ) → guest_at n i ≡ guest_at k i
   pub kept : StaysKept k n
 
@@ -138,6 +168,7 @@ pub record FetchesEvent (k n : KeptHost) (before after : XnsEvent) (old new : Li
   pub kept : (e : Event) → k.event ≡ Some e → (found ≡ Some e) × (n.host ≡ k.host)
   pub told : (e : Event) → k.event ≡ None → found ≡ Some e → IsNextEvent k.host.clock.latest k.host.guests.items n.host.guests.items e
   pub none : k.event ≡ None → found ≡ None → HasNoEvent k.host.guests.items
+  pub tells : k.event ≡ None → TellsNext found k.host n.host
   pub given : GivesEvent found before after old new had count result
   pub left : n.event ≡ left_of found result
   pub packet : n.packet ≡ k.packet
@@ -154,10 +185,19 @@ GivesPacket (Some p) old new had written way via result =
 abbrev pub IsNextOut : (k n : KeptHost) → Outgoing → Type 0
 IsNextOut k n p = ((others : List Outgoing) × (k.host.strays.waiting ≡ p ∷ others)) ⊎ IsNextPacket k.host.guests.items n.host.guests.items p
 
+-- what a host answered of which this packet was fetched, if any, or that had no memory
+abbrev pub answer_of : Result (Unit {0}) HostFault → Option Outgoing → Result (Option Outgoing) HostFault
+answer_of (Ok u) found = Ok found
+answer_of (Err fault) found = Err fault
+
 -- a packet that is kept is the next one; where none is kept it is one that the host gives, and where there is none, no connection has one
 -- that may be to go out
-pub record FetchesPacket (k n : KeptHost) (old new : List ℕ) (had written way via result : ℕ) : Type 0 where
+pub record FetchesPacket (k n : KeptHost) (now : ℕ) (old new : List ℕ) (had written way via result : ℕ) : Type 0 where
   pub found : Option Outgoing
+  pub done : Result (Unit {0}) HostFault
+  pub gives : k.packet ≡ None → GivesOut now (answer_of done found) k.host n.host
+  pub starved : result ≡ no_memory → done ≢ Ok tt
+  pub fetched : result ≢ no_memory → done ≡ Ok tt
   pub kept : (p : Outgoing) → k.packet ≡ Some p → (found ≡ Some p) × (n.host ≡ k.host)
   pub told : (p : Outgoing) → k.packet ≡ None → found ≡ Some p → IsNextOut k n p
   pub rested : result ≡ nothing → HasNoPacket n.host.guests.items

@@ -1,17 +1,19 @@
 //! A host, which C holds by its handle: many Courier conversations behind one address.
 
-ghost use Rattle.std.specs.Prelude.{◌≡◌, ◌≢◌, false, length, IfOk, Some, None, Err};
+ghost use Rattle.std.specs.Prelude.{◌≡◌, ◌≢◌, false, count_by, length, IfOk, OnErr, Some, None, Err};
+ghost use Rattle.std.specs.Option.{is_some};
 ghost use Rattle.courier_messages.specs.RawCalls.{words_call};
 ghost use Rattle.xns_host.specs.Hosting.{has_guest};
 ghost use Rattle.xns_host.specs.Settings.{wrong_setting};
+ghost use Rattle.xns_host.specs.Standing.{IsNewHost};
 ghost use Rattle.xns_host.specs.declared.guest.Guest.{Guest};
-ghost use Rattle.xns_host.specs.declared.host_fault.HostFault.TheVariants.{OutOfRange};
+ghost use Rattle.xns_host.specs.declared.host_fault.HostFault.TheVariants.{NoMemory, OutOfRange};
 ghost use Rattle.xns_host.specs.declared.setting.Setting.{Setting};
 ghost use Rattle.xns_c.specs.Handle.{kept_of};
 ghost use Rattle.xns_c.specs.Heads.{answer_in};
 ghost use Rattle.xns_c.specs.Hosts.{Does, Calls, AnswersCall, Closes, Connects, Serves, Receives, Wakes, FetchesEvent, FetchesPacket};
 ghost use Rattle.xns_c.specs.Hosts.{IsNew, guest_at};
-ghost use Rattle.xns_c.specs.Results.{ok, no_host, no_connection, bad_argument};
+ghost use Rattle.xns_c.specs.Results.{ok, no_host, no_connection, no_memory, bad_argument};
 ghost use Rattle.xns_c.specs.Settings.{settings_in, never};
 ghost use Rattle.xns_c.specs.Structs.{address_in};
 ghost use Rattle.xns_c.specs.declared.kept_host.KeptHost.{KeptHost};
@@ -29,7 +31,8 @@ use xns_host::{HostFault, Settings};
 
 /// The host in a box. Where memory is refused it is freed.
 fn boxed(alloc: Global, host: KeptHost) -> Result<Box<KeptHost>, HostFault>
-    ensures { IfOk result (λ b. b.value ≡ host) }
+    ensures is { IfOk result (λ b. b.value ≡ host) }
+    ensures fault { OnErr result (result ≡ Err NoMemory) }
 {
     match Box::new(alloc, host) {
         Ok(host) => Ok(host),
@@ -44,9 +47,11 @@ fn make_host(
     settings: Settings,
     secret: &[u8; 32],
 ) -> Result<Box<KeptHost>, HostFault>
+    ensures made { IfOk result (λ b. IsNewHost own.now.network own.now.host settings secret.now b.value.host) }
     ensures room { IfOk result (λ b. length b.value.host.guests.items ≡ settings.connections) }
     ensures empty { IfOk result (λ b. (b.value.event ≡ None) × (b.value.packet ≡ None)) }
     ensures settings { (s : Setting) → wrong_setting settings ≡ Some s → result ≡ Err (OutOfRange s) }
+    ensures fault { OnErr result (wrong_setting settings ≡ None → result ≡ Err NoMemory) }
 {
     let host = KeptHost::new(alloc, own, settings, secret)?;
     boxed(alloc, host)
@@ -64,8 +69,9 @@ pub extern "C" fn xns_host_new(
     settings: &XnsSettings,
     secret: &[u8; 32],
 ) -> u32
-    ensures made { result ≡ ok → IsNew (kept_of handle.new) (settings_in settings.now).connections }
+    ensures made { result ≡ ok → IsNew (kept_of handle.new) (address_in own.now) (settings_in settings.now) secret.now }
     ensures settings { (s : Setting) → wrong_setting (settings_in settings.now) ≡ Some s → result ≡ bad_argument }
+    ensures fault { result ≢ ok → wrong_setting (settings_in settings.now) ≡ None → result ≡ no_memory }
     ensures none { result ≢ ok → kept_of handle.new ≡ None }
 {
     let _ = handle.take(alloc);
@@ -97,7 +103,7 @@ pub extern "C" fn xns_host_serve(
     socket: u16,
     programs: &[Program],
 ) -> u32
-    ensures serves { Does (kept_of handle.old) (kept_of handle.new) result (λ k n. Serves k n) }
+    ensures serves { Does (kept_of handle.old) (kept_of handle.new) result (λ k n. Serves k n socket programs.now result) }
 {
     let Some(mut kept) = handle.take(alloc) else {
         return NO_HOST;
@@ -263,7 +269,7 @@ pub extern "C" fn xns_host_next_packet(
     via: &mut u32,
 ) -> u32
     ensures fetches { Does (kept_of handle.old) (kept_of handle.new) result
-        (λ k n. FetchesPacket k n buffer.old buffer.new written.old written.new via.old via.new result) }
+        (λ k n. FetchesPacket k n now buffer.old buffer.new written.old written.new via.old via.new result) }
     ensures none { kept_of handle.old ≡ None → (buffer.new ≡ buffer.old) × (written.new ≡ written.old) × (via.new ≡ via.old) }
 {
     let Some(mut kept) = handle.take(alloc) else {
@@ -287,6 +293,7 @@ pub extern "C" fn xns_host_wake(alloc: Global, handle: &mut XnsHost) -> u64
 /// How many connections there are. 0 where there is no host.
 #[unsafe(no_mangle)]
 pub extern "C" fn xns_host_connections(alloc: Global, handle: &mut XnsHost) -> usize
+    ensures count { (k : KeptHost) → kept_of handle.old ≡ Some k → result ≡ count_by is_some k.host.guests.items }
     ensures none { kept_of handle.old ≡ None → result ≡ 0 }
     ensures same { kept_of handle.new ≡ kept_of handle.old }
 {

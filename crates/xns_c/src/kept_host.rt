@@ -4,13 +4,15 @@ ghost use Rattle.std.specs.Prelude.{◌≡◌, ◌≢◌, IfOk, OnErr, Some, Non
 ghost use Rattle.courier_messages.specs.RawCalls.{words_call};
 ghost use Rattle.xns_host.specs.Hosting.{HasNoEvent, HasNoPacket, IsNextEvent};
 ghost use Rattle.xns_host.specs.Settings.{wrong_setting};
+ghost use Rattle.xns_host.specs.Standing.{IsNewHost};
+ghost use Rattle.xns_host.specs.Turn.{GivesOut, TellsNext};
 ghost use Rattle.xns_host.specs.declared.event.Event.{Event};
-ghost use Rattle.xns_host.specs.declared.host_fault.HostFault.TheVariants.{OutOfRange};
+ghost use Rattle.xns_host.specs.declared.host_fault.HostFault.TheVariants.{NoMemory, OutOfRange};
 ghost use Rattle.xns_host.specs.declared.outgoing.Outgoing.{Outgoing};
 ghost use Rattle.xns_host.specs.declared.setting.Setting.{Setting};
 ghost use Rattle.xns_c.specs.Heads.{answer_in};
 ghost use Rattle.xns_c.specs.Hosts.{Calls, AnswersCall, Closes, Connects, Serves, Receives, Wakes, FetchesEvent, FetchesPacket};
-ghost use Rattle.xns_c.specs.Hosts.{IsNextOut, kept_after};
+ghost use Rattle.xns_c.specs.Hosts.{IsNextOut, answer_of, kept_after};
 ghost use Rattle.xns_c.specs.Results.{ok};
 ghost use Rattle.xns_c.specs.Structs.{address_in};
 
@@ -46,9 +48,11 @@ impl KeptHost {
         settings: Settings,
         secret: &[u8; 32],
     ) -> Result<KeptHost, HostFault>
+        ensures made { IfOk result (λ k. IsNewHost own.now.network own.now.host settings secret.now k.host) }
         ensures room { IfOk result (λ k. length k.host.guests.items ≡ settings.connections) }
         ensures empty { IfOk result (λ k. (k.event ≡ None) × (k.packet ≡ None)) }
         ensures settings { (s : Setting) → wrong_setting settings ≡ Some s → result ≡ Err (OutOfRange s) }
+        ensures fault { OnErr result (wrong_setting settings ≡ None → result ≡ Err NoMemory) }
     {
         let host = Host::new(alloc, own.network, own.host, settings, *secret)?;
         Ok(KeptHost {
@@ -60,7 +64,7 @@ impl KeptHost {
 
     /// Answers connections to this socket from now on, for these programs.
     pub fn serve(&mut self, socket: u16, programs: &[Program]) -> u32
-        ensures { Serves self.old self.new }
+        ensures { Serves self.old self.new socket programs.now result }
     {
         host_told(self.host.serve(socket, programs))
     }
@@ -157,6 +161,7 @@ impl KeptHost {
         ensures told { (e : Event) → self.old.event ≡ None → self.new.event ≡ Some e
             → IsNextEvent self.old.host.clock.latest self.old.host.guests.items self.new.host.guests.items e }
         ensures none { self.old.event ≡ None → self.new.event ≡ None → HasNoEvent self.old.host.guests.items }
+        ensures tells { self.old.event ≡ None → TellsNext self.new.event self.old.host self.new.host }
         ensures packet { self.new.packet ≡ self.old.packet }
     {
         if self.event.is_none() {
@@ -186,6 +191,7 @@ impl KeptHost {
         ensures none { OnErr result (self.new.packet ≡ None) }
         ensures told { (p : Outgoing) → self.old.packet ≡ None → self.new.packet ≡ Some p → IsNextOut self.old self.new p }
         ensures rested { result ≡ Ok tt → self.new.packet ≡ None → HasNoPacket self.new.host.guests.items }
+        ensures gives { self.old.packet ≡ None → GivesOut now (answer_of result self.new.packet) self.old.host self.new.host }
     {
         if self.packet.is_none() {
             self.packet = self.host.next_packet(now)?;
@@ -201,7 +207,7 @@ impl KeptHost {
         written: &mut usize,
         via: &mut u32,
     ) -> u32
-        ensures { FetchesPacket self.old self.new buffer.old buffer.new written.old written.new via.old via.new result }
+        ensures { FetchesPacket self.old self.new now buffer.old buffer.new written.old written.new via.old via.new result }
     {
         if self.fetch_packet(now).is_err() {
             return NO_MEMORY;

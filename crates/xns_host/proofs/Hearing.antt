@@ -22,7 +22,7 @@ use Rattle.xns_spp.specs.declared.dropped.Dropped.{Dropped}
 use Rattle.xns_spp.specs.declared.dropped.Dropped.TheVariants.{NotSpp}
 use Rattle.xns_host.specs.Step.{ClosesFrom, HasReplied}
 use Rattle.xns_host.specs.Hosting.{EachHears, HasHeard, HearsIn, IsPacketOf, IsThere, Receives, address_in, nothing, heard, goes, listens, loses}
-use Rattle.xns_host.specs.Ours.{named_in}
+use Rattle.xns_host.specs.Registered.{named_in}
 use Rattle.xns_host.specs.Register.{number_by, peer_at}
 use Rattle.xns_host.specs.Knowing.{all_known_of, known_of, news_of}
 use Rattle.xns_host.specs.Registered.{IsRegistered}

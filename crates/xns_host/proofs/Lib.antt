@@ -2,6 +2,7 @@ mod Again
 mod Apart
 mod Closes
 mod Coming
+mod Comings
 mod Doing
 mod Done
 mod Dues
@@ -23,6 +24,7 @@ mod Once
 mod Ordered
 mod Owing
 mod Peers
+mod Placed
 mod Readable
 mod Registered
 mod Rejecting

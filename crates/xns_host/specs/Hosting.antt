@@ -22,6 +22,7 @@ use Rattle.courier_messages.specs.declared.message.Message.{Message}
 use Rattle.xns_host.specs.Living.{GoesFrom}
 use Rattle.xns_host.specs.Quotes.{is_opened_by, quoted_opening}
 use Rattle.xns_host.specs.Knowing.{all_known_of, known_of, news_of}
+use Rattle.xns_host.specs.Register.{peer_at}
 use Rattle.xns_host.specs.Services.{programs_at}
 use Rattle.xns_host.specs.Step.{ClosesFrom, HasReplied, StaysAsked, parts_of}
 use Rattle.xns_host.specs.Settings.{IsBegun}
@@ -40,6 +41,7 @@ use Rattle.xns_agenda.specs.declared.facts.TheConstants.Facts.{NONE}
 use Rattle.xns_host.specs.declared.guest.Guest.{Guest}
 use Rattle.xns_host.specs.declared.opening_quote.OpeningQuote.{OpeningQuote}
 use Rattle.xns_host.specs.declared.outgoing.Outgoing.{Outgoing}
+use Rattle.xns_host.specs.declared.owed.Owed.{Owed}
 use Rattle.xns_host.specs.declared.settings.Settings.{Settings}
 use Rattle.xns_host.specs.declared.why.Why.TheVariants.{NotServed}
 
@@ -324,6 +326,10 @@ pub record HasNoRoom (guests : List (Option Guest)) : Type 0 where
 abbrev pub address_in : ℕ → List ℕ → ℕ → Address
 address_in network host socket = record { network = network; host = host; socket = socket }
 
+-- no word is owed, no asking, and no moving that memory was refused for
+abbrev pub OwesNothing : Owed → Type 0
+OwesNothing o = (o.word ≡ false) × (o.asks ≡ false) × (o.moving ≡ false)
+
 -- with this number there is a connection of ours to the peer, which was made at this time and has done nothing yet: it has the identifier
 -- that came next of these, and its packets go out by this way; it owes its opening packet, and the program was told nothing of it
 pub record IsConnected (guests : List (Option Guest)) (number : ℕ) (settings : Settings) (ids : Ids) (own to : Address) (way now : ℕ)
@@ -336,6 +342,8 @@ pub record IsConnected (guests : List (Option Guest)) (number : ℕ) (settings :
   pub unclosed : guest.connection.closed ≡ None
   pub owes : guest.connection.owed.again ≡ true
   pub fresh : guest.connection.owed.fresh ≡ true
+  pub owes_no_more : OwesNothing guest.connection.owed
+  pub silent : guest.connection.conversation.packets.items ≡ []
   pub untold : guest.connection.told ≡ false
   pub via : guest.via ≡ way
   pub peer : guest.peer ≡ to
@@ -417,10 +425,14 @@ pub record IsAnswering (settings : Settings) (ids : Ids) (own opener : Address) 
       (new_story (Some programs) (responder_state own guest.id opener id settings.window settings.backlog))
   pub begun : IsBegun settings now guest.connection.wait
   pub unclosed : guest.connection.closed ≡ None
+  pub unsaid : guest.connection.owed.again ≡ false
   pub fresh : guest.connection.owed.fresh ≡ true
+  pub owes_no_more : OwesNothing guest.connection.owed
+  pub silent : guest.connection.conversation.packets.items ≡ []
   pub untold : guest.connection.told ≡ false
   pub via : guest.via ≡ way
   pub peer : guest.peer ≡ opener
+  pub known_by : guest.opener ≡ Some (peer_at opener id own.socket)
   pub confirmed : guest.confirmed ≡ false
   pub heard_of : guest.heard_of ≡ false
 

@@ -2,6 +2,7 @@ pub mod Acting
 pub mod Agreeing
 pub mod Closed
 pub mod Closing
+pub mod Coming
 pub mod Connecting
 pub mod Deeds
 pub mod Events
@@ -12,6 +13,7 @@ pub mod Knowing
 pub mod Living
 pub mod Moving
 pub mod Ours
+pub mod Places
 pub mod Quotes
 pub mod Reasons
 pub mod Refusing

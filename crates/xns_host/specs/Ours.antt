@@ -10,13 +10,13 @@ use Rattle.xns_spp.specs.Packet.{SppPacketModel, opener_of, spp_packet_of}
 use Rattle.xns_spp.specs.State.{State}
 use Rattle.xns_host.specs.Hosting.{IsThere, address_in}
 use Rattle.xns_host.specs.Quotes.{is_opened_by, quoted_opening}
-use Rattle.xns_host.specs.Register.{number_by, owner_in, peer_at}
+use Rattle.xns_host.specs.Register.{owner_in}
+use Rattle.xns_host.specs.Registered.{named_in}
 use Rattle.xns_host.specs.Services.{programs_at}
 use Rattle.xns_host.specs.Strays.{echo_socket}
 use Rattle.xns_host.specs.declared.guest.Guest.{Guest}
 use Rattle.xns_host.specs.declared.host.Host.{Host}
 use Rattle.xns_host.specs.declared.opening_quote.OpeningQuote.{OpeningQuote}
-use Rattle.xns_host.specs.declared.register.Register.{Register}
 
 -- the packet is one of this connection
 abbrev pub IsOf : SppPacketModel → Guest → Type 0
@@ -25,10 +25,6 @@ IsOf p g = (s : State) → StandsFor g.connection.conversation.endpoint s → is
 -- the quoted packet was to open this connection of ours, which is not open yet
 abbrev pub IsToOpen : OpeningQuote → Guest → Type 0
 IsToOpen q g = (s : State) → StandsFor g.connection.conversation.endpoint s → is_opened_by g s q ≡ true
-
--- the number of the connection that a packet names
-abbrev pub named_in : Register → SppPacketModel → Option ℕ
-named_in register p = number_by register.identifiers register.peers p.header.target_id (peer_at p.source p.header.source_id p.target.socket)
 
 -- a packet to this host names a connection of it, and is one of that
 pub record Names (h : Host) (p : SppPacketModel) : Type 0 where

@@ -4,12 +4,17 @@ use Rattle.std.specs.BTreeMap.{get}
 use Rattle.xns_spp.specs.declared.ends.Ends.{Ends}
 use Rattle.xns_spp.specs.declared.role.Role.TheVariants.{Responder}
 use Rattle.xns_host.specs.Hosting.{IsThere}
-use Rattle.xns_host.specs.Register.{owner_in, peer_at, peer_cmp}
+use Rattle.xns_spp.specs.Packet.{SppPacketModel}
+use Rattle.xns_host.specs.Register.{number_by, owner_in, peer_at, peer_cmp}
 use Rattle.xns_host.specs.Story.{Story}
 use Rattle.xns_host.specs.Telling.{Tells}
 use Rattle.xns_host.specs.declared.guest.Guest.{Guest}
 use Rattle.xns_host.specs.declared.peer.Peer.{Peer}
 use Rattle.xns_host.specs.declared.register.Register.{Register}
+
+-- the number of the connection that a packet names
+abbrev pub named_in : Register → SppPacketModel → Option ℕ
+named_in register p = number_by register.identifiers register.peers p.header.target_id (peer_at p.source p.header.source_id p.target.socket)
 
 -- who opened a connection, as the end knows it that answers
 abbrev pub opener_at : Ends → Peer

@@ -1,12 +1,23 @@
 -- One step of a host: what was done at the connection with a number, and all that it leaves as it was.
-use Rattle.std.specs.Prelude.{◌≡◌, ℕ, List, max, Option, Some, None, Result, Ok, OnOk, OnErr, slice_get}
+use Rattle.std.specs.Prelude.{◌≡◌, ◌⊎◌, ℕ, Bool, List, [], ◌∷◌, max, Option, Some, None, Result, Ok, Err, IfOk, OnOk, OnErr, slice_get}
+use Rattle.std.specs.BTreeMap.{btree_map_len}
+use Rattle.courier_sessions.specs.declared.program.Program.{Program}
+use Rattle.xns_idp.specs.declared.address.Address.{Address}
 use Rattle.xns_agenda.specs.Agenda.{noted}
+use Rattle.xns_host.specs.Coming.{Comes, Whole}
 use Rattle.xns_host.specs.Deeds.{Deed}
-use Rattle.xns_host.specs.Hosting.{IsApart, facts_in}
+use Rattle.xns_host.specs.Hosting.{IsApart, IsConnected, IsPlace, address_in, facts_in}
+use Rattle.xns_host.specs.Identifiers.{StaysInOrder, TurnsOver}
+use Rattle.xns_host.specs.Places.{ActsAll, NextEvent, NextPacket, Places, places_with, taken_by, vacated}
+use Rattle.xns_host.specs.Services.{Serves, most_services, programs_at}
+use Rattle.xns_host.specs.Standing.{StaysSetUpAt}
 use Rattle.xns_host.specs.Went.{Went}
+use Rattle.xns_host.specs.declared.event.Event.{Event}
 use Rattle.xns_host.specs.declared.guest.Guest.{Guest}
 use Rattle.xns_host.specs.declared.host.Host.{Host}
 use Rattle.xns_host.specs.declared.host_fault.HostFault.{HostFault}
+use Rattle.xns_host.specs.declared.host_fault.HostFault.TheVariants.{NoMemory, TooManyServices}
+use Rattle.xns_host.specs.declared.outgoing.Outgoing.{Outgoing}
 
 -- ---- what is beside the connections
 
@@ -31,3 +42,76 @@ pub record Turn (now number : ℕ) (deed : Deed) (result : Result (Unit {0}) Hos
   pub unchanged : OnErr result ((k : ℕ) → slice_get new.guests.items k ≡ slice_get old.guests.items k)
   pub unnoted : OnErr result (new.agenda ≡ old.agenda)
   pub frame : Frame now old new
+
+-- ---- a packet that goes out
+
+abbrev pub places_of : Host → Places
+places_of h = places_with h.guests.items h.agenda
+
+-- all that is due at this time was done; then the packet is the first of the stray replies, and where there is none, the next of a connection
+pub record GivesOut (now : ℕ) (result : Result (Option Outgoing) HostFault) (old new : Host) : Type 0 where
+  pub mid : Places
+  pub acts : ActsAll (max old.clock.latest now) (places_of old) mid
+  pub stray : (o : Outgoing) (os : List Outgoing) → old.strays.waiting ≡ o ∷ os → (result ≡ Ok (Some o)) × (places_of new ≡ mid)
+      × (new.strays ≡ record old.strays { waiting = os })
+  pub next : old.strays.waiting ≡ [] → NextPacket (max old.clock.latest now) mid result (places_of new) × (new.strays ≡ old.strays)
+  pub order : StaysInOrder old.register.identifiers new.register.identifiers
+  pub set_up : StaysSetUpAt now old new
+
+-- ---- a packet that came
+
+abbrev pub whole_of : Host → Whole
+whole_of h = record {
+  network = h.network;
+  host = h.host;
+  settings = h.settings;
+  services = h.services;
+  register = h.register;
+  strays = h.strays;
+  places = places_of h;
+}
+
+-- this time was told, and then this came of the bytes
+pub record TakesIn (now way : ℕ) (bytes : List ℕ) (result : Bool) (old new : Host) : Type 0 where
+  pub clock : new.clock.latest ≡ max old.clock.latest now
+  pub comes : Comes (max old.clock.latest now) way bytes (whole_of old) result (whole_of new)
+
+-- ---- what the program is told
+
+-- the next event was told, and nothing else changed
+pub record TellsNext (result : Option Event) (old new : Host) : Type 0 where
+  pub next : NextEvent old.clock.latest (places_of old) result (places_of new)
+  pub order : StaysInOrder old.register.identifiers new.register.identifiers
+  pub rest : whole_of new ≡ record (whole_of old) { register = new.register; places = places_of new }
+  pub clock : new.clock ≡ old.clock
+
+-- ---- a socket that is served
+
+-- from now on these programs are served at this socket, or nothing is served that was not; nothing else changed
+pub record ServesAt (socket : ℕ) (programs : List Program) (result : Result (Unit {0}) HostFault) (old new : Host) : Type 0 where
+  pub served : OnOk result (Serves old.services.programs new.services.programs socket programs)
+  pub unserved : OnErr result (new.services.programs.entries ≡ old.services.programs.entries)
+  pub rest : whole_of new ≡ record (whole_of old) { services = new.services }
+  pub clock : new.clock ≡ old.clock
+
+-- it is refused where so many other sockets are served, or where memory is
+pub record ServesNot (old : Host) (socket : ℕ) (result : Result (Unit {0}) HostFault) : Type 0 where
+  pub full : result ≡ Err TooManyServices → (programs_at old.services.programs socket ≡ None) × (btree_map_len old.services.programs ≡ most_services)
+  pub room : programs_at old.services.programs socket ≡ None → btree_map_len old.services.programs ≡ most_services → result ≡ Err TooManyServices
+  pub fault : OnErr result ((result ≡ Err TooManyServices) ⊎ (result ≡ Err NoMemory))
+
+-- ---- a connection of ours
+
+-- a new connection of ours to the peer has this number, in a place that was free or whose connection gives way; or none was made, and nothing
+-- changed
+pub record ConnectsTo (now way socket : ℕ) (peer : Address) (result : Result ℕ HostFault) (old new : Host) : Type 0 where
+  pub connected : IfOk result (λ n. IsConnected new.guests.items n old.settings old.register.identifiers
+      (address_in old.network old.host socket) peer way (max old.clock.latest now))
+  pub place : IfOk result (IsPlace old.guests.items)
+  pub places : IfOk result (λ n. (g : Guest) → slice_get new.guests.items n ≡ Some (Some g)
+      → places_of new ≡ taken_by (vacated (places_of old) n) n g)
+  pub turned : IfOk result (λ n. (id : ℕ) × TurnsOver old.register.identifiers new.register.identifiers id)
+  pub unchanged : OnErr result (places_of new ≡ places_of old)
+  pub order : OnErr result (StaysInOrder old.register.identifiers new.register.identifiers)
+  pub rest : whole_of new ≡ record (whole_of old) { register = new.register; places = places_of new }
+  pub clock : new.clock.latest ≡ max old.clock.latest now

@@ -1,8 +1,26 @@
--- One step of a connection in its place at a host.
-use Rattle.std.specs.Prelude.{◌≡◌, ℕ, Option, Some, None}
-use Rattle.xns_host.specs.Deeds.{Deed}
-use Rattle.xns_host.specs.Step.{Promises, Step}
+-- What one call does to a connection in its place at a host: all of it.
+use Rattle.std.specs.Prelude.{◌≡◌, ◌≢◌, ◌||◌, ℕ, List, Bool, true, false, Option, Some, None, Result, Ok, Err}
+use Rattle.std.specs.Option.{is_some}
+use Rattle.std.specs.declared.alloc.AllocError.{AllocError}
+use Rattle.xns_spp.specs.Held.{StandsFor}
+use Rattle.xns_spp.specs.Receiving.{StoresBytes}
+use Rattle.xns_spp.specs.State.{State}
+use Rattle.xns_host.specs.Deeds.{Deed, acted, heard, unserved}
+use Rattle.xns_host.specs.Step.{GivesNext, Hands, Promises, Step, parts_of}
+use Rattle.xns_host.specs.Story.{waiting_message}
 use Rattle.xns_host.specs.declared.guest.Guest.{Guest}
+use Rattle.xns_host.specs.declared.host_fault.HostFault.{HostFault}
+use Rattle.xns_host.specs.declared.host_fault.HostFault.TheVariants.{NoMemory}
+use Rattle.xns_host.specs.declared.outgoing.Outgoing.{Outgoing}
+
+-- the one in a place became the one that is in it now in this way; there is none where there was none
+abbrev pub InPlace : (Guest → Guest → Type 0) → (old new : Option Guest) → Type 0
+InPlace P None None = Unit {0}
+InPlace P None (Some h) = ⊥
+InPlace P (Some g) None = ⊥
+InPlace P (Some g) (Some h) = P g h
+
+-- ---- what the program does
 
 -- the connection made this step, and nothing else of it changed
 pub record GuestStep (now : ℕ) (deed : Deed) (g h : Guest) : Type 0 where
@@ -17,3 +35,59 @@ Went now deed (Some None) new = ⊥
 Went now deed (Some (Some g)) None = ⊥
 Went now deed (Some (Some g)) (Some None) = ⊥
 Went now deed (Some (Some g)) (Some (Some h)) = GuestStep now deed g h
+
+-- ---- what comes
+
+-- these bytes came, and the connection is confirmed where they confirm it
+pub record GuestHeard (now : ℕ) (bytes : List ℕ) (confirming : Bool) (g h : Guest) : Type 0 where
+  pub same : h ≡ record g { connection = h.connection; confirmed = confirming || g.confirmed }
+  pub step : Step now (heard bytes) g.connection h.connection
+
+-- so it was; or they bring bytes of an item that memory was refused for, and are as if lost
+pub data GuestHears (now : ℕ) (bytes : List ℕ) (confirming : Bool) (g : Guest) : Guest → Type 0 where
+  hears : {h : Guest} → GuestHeard now bytes confirming g h → GuestHears now bytes confirming g h
+  lost : ((s : State) → StandsFor g.connection.conversation.endpoint s → StoresBytes s bytes) → GuestHears now bytes confirming g g
+
+-- nobody hears the packet that was to open the connection
+pub record GuestUnserved (now : ℕ) (g h : Guest) : Type 0 where
+  pub same : h ≡ record g { connection = h.connection }
+  pub parts : (s : State) → StandsFor g.connection.conversation.endpoint s → parts_of h.connection ≡ unserved (parts_of g.connection) s now
+
+-- ---- what the program is told
+
+-- the message that waits was handed, and the program was told of a call of the connection from then on; where none waits, the program was
+-- told why the connection is closed
+pub record GuestTells (now : ℕ) (g h : Guest) : Type 0 where
+  pub same : h ≡ record g { connection = h.connection; heard_of = is_some (waiting_message g.connection.conversation.side) || g.heard_of }
+  pub handed : waiting_message g.connection.conversation.side ≢ None → Hands now g.connection h.connection
+  pub closed : waiting_message g.connection.conversation.side ≡ None → h.connection ≡ record g.connection { told = true }
+
+-- ---- what is due, and what goes out
+
+-- what was due at this time was done
+pub record GuestActs (now : ℕ) (g h : Guest) : Type 0 where
+  pub same : h ≡ record g { connection = h.connection }
+  pub parts : parts_of h.connection ≡ acted (parts_of g.connection) now
+
+-- there is no packet; where one may be there still, memory was refused
+abbrev pub none_by : (packet_left : Bool) → Result (Option Outgoing) HostFault
+none_by true = Err NoMemory
+none_by false = Ok None
+
+-- a packet goes out by the way of its connection
+abbrev pub given_by : (way : ℕ) → (packet_left : Bool) → Result (Option (List ℕ)) AllocError → Result (Option Outgoing) HostFault
+given_by way left (Ok (Some p)) = Ok (Some (record { via = way; packet = p }))
+given_by way left (Ok None) = none_by left
+given_by way left (Err e) = Err NoMemory
+
+-- where memory was refused, the host says so
+abbrev pub as_fault : Result (Option Outgoing) AllocError → Result (Option Outgoing) HostFault
+as_fault (Ok p) = Ok p
+as_fault (Err e) = Err NoMemory
+
+-- the connection was asked for its next packet
+pub record GuestGives (now : ℕ) (result : Result (Option Outgoing) HostFault) (g h : Guest) : Type 0 where
+  pub answer : Result (Option (List ℕ)) AllocError
+  pub same : h ≡ record g { connection = h.connection }
+  pub gave : GivesNext now answer g.connection h.connection
+  pub is : result ≡ given_by g.via h.connection.owed.fresh answer

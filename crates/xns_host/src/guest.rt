@@ -12,7 +12,7 @@ ghost use Rattle.xns_host.specs.Deeds.{asked, gave, made};
 ghost use Rattle.xns_host.specs.Quotes.{is_opened_by};
 ghost use Rattle.xns_host.specs.Reasons.{call_fault_of, answer_fault_of};
 ghost use Rattle.xns_host.specs.Refusing.{Answers};
-ghost use Rattle.xns_host.specs.Went.{GuestStep};
+ghost use Rattle.xns_host.specs.Went.{GuestHeard, GuestStep, GuestUnserved};
 ghost use Rattle.xns_host.specs.Step.{ClosesFrom, HasReplied};
 ghost use Rattle.xns_host.specs.Knowing.{known_of, news_of};
 ghost use Rattle.xns_host.specs.Telling.{Goes, Hears};
@@ -69,6 +69,7 @@ impl Guest {
         ensures known { known_of self.new ≡ known_of self.old }
         ensures news { OnOk result (news_of self.new ≡ (confirms || self.old.confirmed, self.old.heard_of)) }
         ensures not_done { IsNotDone self.old.connection → IsNotDone self.new.connection }
+        ensures heard { OnOk result ((b : List ℕ) → spp_packet_of b ≡ Ok packet.now → GuestHeard now b confirms self.old self.new) }
     {
         self.connection.receive(alloc, now, packet)?;
         if confirms {
@@ -127,6 +128,7 @@ impl Guest {
         ensures known { known_of self.new ≡ known_of self.old }
         ensures news { news_of self.new ≡ news_of self.old }
         ensures not_done { IsNotDone self.old.connection → IsNotDone self.new.connection }
+        ensures unserved { GuestUnserved now self.old self.new }
     {
         self.connection.not_served(now);
     }

@@ -18,6 +18,9 @@ ghost use Rattle.xns_host.specs.Hosting.{ChangesOne, EachGoes, EachHears, EachKe
 ghost use Rattle.xns_host.specs.Hosting.{IsAllInUse, IsAllNoted, IsAnswering, IsApart, IsAsked, IsConnected, IsFirstWant, IsPacketOf};
 ghost use Rattle.xns_host.specs.Hosting.{IsNextEvent, IsNextPacket, IsNotServed, IsOpened, IsPlace, IsRefusedBy, IsThere, Receives};
 ghost use Rattle.xns_host.specs.Hosting.{TellsIn, WentOn, address_in, confirms, has_guest};
+ghost use Rattle.xns_host.specs.Coming.{Refuses};
+ghost use Rattle.xns_host.specs.Places.{Acts, ActsAt, AsksEvent, AsksPacket, IsUnmoved, NextEvent, Turns, places_with, taken_by, vacated};
+ghost use Rattle.xns_host.specs.Went.{GuestHears, GuestUnserved};
 ghost use Rattle.xns_host.specs.Quotes.{is_opened_by};
 ghost use Rattle.xns_host.specs.Register.{number_by, peer_at, peer_cmp};
 ghost use Rattle.xns_host.specs.Registered.{IsAllRegistered};
@@ -95,7 +98,8 @@ pub struct Host {
 impl Host {
     ghost use Rattle.xns_host.specs.Ours.{IsOf, IsOpener, IsOurs, IsToOpen, QuotesOurs};
     ghost use Rattle.xns_host.specs.Standing.{IsNewHost, IsSameHost, StaysSetUp, StaysSetUpAt};
-    ghost use Rattle.xns_host.specs.Turn.{Turn};
+    ghost use Rattle.xns_host.specs.Coming.{Comes, Opens};
+    ghost use Rattle.xns_host.specs.Turn.{ConnectsTo, GivesOut, ServesAt, ServesNot, TakesIn, TellsNext, Turn, whole_of};
 
     /// A host at this address, without services and connections. The identifiers of its connections come in an order that the secret
     /// gives.
@@ -162,19 +166,9 @@ impl Host {
     /// An `Err`, which leaves all as it was, is [`HostFault::TooManyServices`] where 16 other sockets are served, or
     /// [`HostFault::NoMemory`].
     pub fn serve(&mut self, socket: u16, programs: &[Program]) -> Result<(), HostFault>
-        ensures served { OnOk result (Serves self.old.services.programs self.new.services.programs socket programs.now) }
-        ensures full { result ≡ Err TooManyServices → (programs_at self.old.services.programs socket ≡ None)
-            × (btree_map_len self.old.services.programs ≡ most_services) }
-        ensures room { programs_at self.old.services.programs socket ≡ None → btree_map_len self.old.services.programs ≡ most_services
-            → result ≡ Err TooManyServices }
-        ensures fault { OnErr result ((result ≡ Err TooManyServices) ⊎ (result ≡ Err NoMemory)) }
-        ensures unchanged { OnErr result (self.new.services.programs.entries ≡ self.old.services.programs.entries) }
+        ensures serves { ServesAt socket programs.now result self.old self.new }
+        ensures refused { ServesNot self.old socket result }
         ensures guests { self.new.guests ≡ self.old.guests }
-        ensures agenda { self.new.agenda ≡ self.old.agenda }
-        ensures same { IsSameHost self.old self.new }
-        ensures clock { self.new.clock ≡ self.old.clock }
-        ensures strays { self.new.strays ≡ self.old.strays }
-        ensures order { StaysInOrder self.old.register.identifiers self.new.register.identifiers }
     {
         self.services.serve(self.alloc, socket, programs)
     }
@@ -204,6 +198,7 @@ impl Host {
         ensures turned { IfOk result (λ n. (id : ℕ) × TurnsOver self.old.register.identifiers self.new.register.identifiers id) }
         ensures strays { self.new.strays ≡ self.old.strays }
         ensures set_up { StaysSetUpAt now self.old self.new }
+        ensures connects { ConnectsTo now via socket peer result self.old self.new }
     {
         let now = self.clock.tell(now);
         let Some(number) = self.agenda.place() else {
@@ -344,6 +339,7 @@ impl Host {
         ensures strays { ((p : PacketModel) (taken : ℕ) → packet_of bytes.now ≡ Ok (p, taken)
             → IsAnswered (address_in self.old.network self.old.host echo_socket) p → ⊥) → self.new.strays ≡ self.old.strays }
         ensures set_up { StaysSetUpAt now self.old self.new }
+        ensures takes { TakesIn now via bytes.now result self.old self.new }
     {
         let now = self.clock.tell(now);
         let Ok((packet, _)) = decode(bytes) else {
@@ -367,7 +363,7 @@ impl Host {
         ensures strays { (IsAnswered (address_in self.old.network self.old.host echo_socket) (packet_model packet.now) → ⊥) → self.new.strays ≡ self.old.strays }
         ensures guests { self.new.guests ≡ self.old.guests }
         ensures agenda { self.new.agenda ≡ self.old.agenda }
-        ensures order { StaysInOrder self.old.register.identifiers self.new.register.identifiers }
+        ensures register { self.new.register ≡ self.old.register }
         ensures set_up { StaysSetUp self.old self.new }
     {
         let own = self.address(ECHO_SOCKET);
@@ -390,9 +386,13 @@ impl Host {
         ensures known { EachSame all_known_of self.old.guests.items self.new.guests.items }
         ensures one { ChangesOne self.old.guests.items self.new.guests.items }
         ensures unchanged { result ≡ false → (k : ℕ) → slice_get self.new.guests.items k ≡ slice_get self.old.guests.items k }
-        ensures order { StaysInOrder self.old.register.identifiers self.new.register.identifiers }
+        ensures register { self.new.register ≡ self.old.register }
         ensures strays { self.new.strays ≡ self.old.strays }
         ensures set_up { StaysSetUp self.old self.new }
+        ensures turn { result ≡ true → Refuses now (packet_model packet.now) self.old.register.identifiers
+            (places_with self.old.guests.items self.old.agenda) (places_with self.new.guests.items self.new.agenda) }
+        ensures here { result ≡ true → packet.now.target.host ≡ self.old.host }
+        ensures rest { result ≡ false → IsUnmoved (places_with self.old.guests.items self.old.agenda) (places_with self.new.guests.items self.new.agenda) }
     {
         if packet.target.host != self.host {
             return false;
@@ -418,9 +418,12 @@ impl Host {
         ensures known { EachSame all_known_of self.old.guests.items self.new.guests.items }
         ensures apart { IsApart self.old.guests.items self.new.guests.items number }
         ensures unchanged { result ≡ false → (k : ℕ) → slice_get self.new.guests.items k ≡ slice_get self.old.guests.items k }
-        ensures order { StaysInOrder self.old.register.identifiers self.new.register.identifiers }
+        ensures register { self.new.register ≡ self.old.register }
         ensures strays { self.new.strays ≡ self.old.strays }
         ensures set_up { StaysSetUp self.old self.new }
+        ensures turn { result ≡ true → Turns (GuestUnserved now) number (places_with self.old.guests.items self.old.agenda)
+            (places_with self.new.guests.items self.new.agenda) }
+        ensures rest { result ≡ false → IsUnmoved (places_with self.old.guests.items self.old.agenda) (places_with self.new.guests.items self.new.agenda) }
     {
         if number >= self.guests.len() {
             return false;
@@ -450,6 +453,8 @@ impl Host {
         ensures order { GivesOneAtMost self.old.register.identifiers self.new.register.identifiers }
         ensures strays { self.new.strays ≡ self.old.strays }
         ensures set_up { StaysSetUp self.old self.new }
+        ensures comes { (b : List ℕ) (taken : ℕ) → packet_of b ≡ Ok (packet_model carrier.now, taken)
+            → Comes now via b (whole_of self.old) result (whole_of self.new) }
     {
         let Ok(packet) = carried_packet(carrier) else {
             return false;
@@ -481,9 +486,14 @@ impl Host {
         ensures ours { result ≡ true → IsThere (IsOf packet.now) (slice_get self.old.guests.items number) }
         ensures apart { IsApart self.old.guests.items self.new.guests.items number }
         ensures unchanged { result ≡ false → (k : ℕ) → slice_get self.new.guests.items k ≡ slice_get self.old.guests.items k }
-        ensures order { StaysInOrder self.old.register.identifiers self.new.register.identifiers }
+        ensures register { self.new.register ≡ self.old.register }
         ensures strays { self.new.strays ≡ self.old.strays }
         ensures set_up { StaysSetUp self.old self.new }
+        ensures turn { result ≡ true → (b : List ℕ) → spp_packet_of b ≡ Ok packet.now → Turns (GuestHears now b confirms) number
+            (places_with self.old.guests.items self.old.agenda) (places_with self.new.guests.items self.new.agenda) }
+        ensures rest { result ≡ false → IsUnmoved (places_with self.old.guests.items self.old.agenda) (places_with self.new.guests.items self.new.agenda) }
+        ensures foreign { result ≡ false → (g : Guest) (s : State) → slice_get self.old.guests.items number ≡ Some (Some g)
+            → StandsFor g.connection.conversation.endpoint s → is_ours_at s.ends packet.now ≡ false }
     {
         if number >= self.guests.len() {
             return false;
@@ -513,6 +523,10 @@ impl Host {
         ensures order { GivesOneAtMost self.old.register.identifiers self.new.register.identifiers }
         ensures strays { self.new.strays ≡ self.old.strays }
         ensures set_up { StaysSetUp self.old self.new }
+        ensures opens { (b : List ℕ) → spp_packet_of b ≡ Ok packet.now → result ≡ true
+            → Opens now via b packet.now (whole_of self.old) self.new.register (places_with self.new.guests.items self.new.agenda) }
+        ensures rest { result ≡ false → (self.new.register ≡ self.old.register)
+            × IsUnmoved (places_with self.old.guests.items self.old.agenda) (places_with self.new.guests.items self.new.agenda) }
     {
         let Some((peer, peer_id)) = packet.opener() else {
             return false;
@@ -552,6 +566,9 @@ impl Host {
         ensures turned { IfSome result (λ n. (id : ℕ) × TurnsOver self.old.register.identifiers self.new.register.identifiers id) }
         ensures strays { self.new.strays ≡ self.old.strays }
         ensures set_up { StaysSetUp self.old self.new }
+        ensures place_taken { IfSome result (λ n. (g : Guest) → slice_get self.new.guests.items n ≡ Some (Some g)
+            → places_with self.new.guests.items self.new.agenda ≡ taken_by (vacated (places_with self.old.guests.items self.old.agenda) n) n g) }
+        ensures none { result ≡ None → places_with self.new.guests.items self.new.agenda ≡ places_with self.old.guests.items self.old.agenda }
     {
         if peer_id == 0 {
             return None;
@@ -611,6 +628,8 @@ impl Host {
         ensures order { StaysInOrder self.old.register.identifiers self.new.register.identifiers }
         ensures strays { self.new.strays ≡ self.old.strays }
         ensures set_up { StaysSetUp self.old self.new }
+        ensures asks { AsksEvent self.old.clock.latest number (places_with self.old.guests.items self.old.agenda) result
+            (places_with self.new.guests.items self.new.agenda) }
     {
         let now = self.clock.latest();
         let event = event_in(&mut self.guests[number], self.alloc, now, number);
@@ -637,6 +656,7 @@ impl Host {
         ensures order { StaysInOrder self.old.register.identifiers self.new.register.identifiers }
         ensures strays { self.new.strays ≡ self.old.strays }
         ensures set_up { StaysSetUp self.old self.new }
+        ensures tells { TellsNext result self.old self.new }
     {
         while let Some(number) = self.agenda.first_event() {
             if let Some(event) = self.event(number) {
@@ -658,6 +678,8 @@ impl Host {
         ensures apart { IsApart self.old.guests.items self.new.guests.items number }
         ensures order { StaysInOrder self.old.register.identifiers self.new.register.identifiers }
         ensures set_up { StaysSetUp self.old self.new }
+        ensures turn { (g : Guest) → slice_get self.old.guests.items number ≡ Some (Some g)
+            → ActsAt now number (places_with self.old.guests.items self.old.agenda) (places_with self.new.guests.items self.new.agenda) }
     {
         if number >= self.guests.len() {
             return;
@@ -682,6 +704,7 @@ impl Host {
         ensures acts { now < last_time → EachActs now self.old.guests.items self.new.guests.items }
         ensures order { StaysInOrder self.old.register.identifiers self.new.register.identifiers }
         ensures set_up { StaysSetUp self.old self.new }
+        ensures one_by_one { Acts now (places_with self.old.guests.items self.old.agenda) (places_with self.new.guests.items self.new.agenda) }
     {
         for _ in 0..self.guests.len() {
             let Some(number) = self.agenda.first_due(now) else {
@@ -706,6 +729,9 @@ impl Host {
         ensures known { EachSame all_known_of self.old.guests.items self.new.guests.items }
         ensures order { StaysInOrder self.old.register.identifiers self.new.register.identifiers }
         ensures set_up { StaysSetUp self.old self.new }
+        ensures asks { (g : Guest) → slice_get self.old.guests.items number ≡ Some (Some g)
+            → AsksPacket now number result (places_with self.old.guests.items self.old.agenda) (places_with self.new.guests.items self.new.agenda) }
+        ensures register { self.new.register ≡ self.old.register }
     {
         let made = packet_in(&mut self.guests[number], self.alloc, now);
         self.agenda.pass_packet(number);
@@ -735,6 +761,7 @@ impl Host {
             → DoesDue time self.old.guests.items self.new.guests.items }
         ensures order { StaysInOrder self.old.register.identifiers self.new.register.identifiers }
         ensures set_up { StaysSetUpAt now self.old self.new }
+        ensures gives { GivesOut now result self.old self.new }
     {
         let now = self.clock.tell(now);
         self.act_all(now);

@@ -21,10 +21,12 @@ ghost use Rattle.xns_host.specs.Telling.{Goes, Keeps};
 ghost use Rattle.courier_sessions.specs.Answering.{answer_message};
 ghost use Rattle.xns_host.specs.Reasons.{call_fault_of, answer_fault_of};
 ghost use Rattle.xns_host.specs.Refusing.{Answers};
-ghost use Rattle.xns_agenda.specs.Agenda.{noted};
+ghost use Rattle.xns_agenda.specs.Agenda.{noted, released};
 ghost use Rattle.xns_agenda.specs.Turns.{with_turn};
 ghost use Rattle.xns_host.specs.Hosting.{HasActedIn, StepsIn};
 ghost use Rattle.xns_agenda.specs.Waiting.{last_time};
+ghost use Rattle.xns_host.specs.Places.{places_with, taken_by, vacated, vacated_if};
+ghost use Rattle.xns_host.specs.Went.{GuestActs, GuestGives, GuestHears, GuestTells, GuestUnserved, InPlace, as_fault};
 ghost use Rattle.xns_host.specs.declared.guest.Guest.{Guest};
 ghost use Rattle.xns_host.specs.declared.outgoing.Outgoing.{Outgoing};
 ghost use Rattle.xns_host.specs.declared.host_fault.HostFault.TheVariants.{NoConnection};
@@ -103,6 +105,7 @@ pub fn vacate(guests: &mut Vec<Option<Guest>>, agenda: &mut Agenda, number: usiz
     ensures sized { length agenda.new.dues ≡ length agenda.old.dues }
     ensures taken { slice_get guests.old.items number ≡ Some result }
     ensures gone { guests.new.items ≡ slice_set guests.old.items number None }
+    ensures agenda { agenda.new ≡ released agenda.old number }
 {
     agenda.release(number);
     guests[number].take()
@@ -117,6 +120,7 @@ pub fn fill(guests: &mut Vec<Option<Guest>>, agenda: &mut Agenda, number: usize,
     ensures noted { IsAllNoted agenda.new guests.new.items }
     ensures sized { length agenda.new.dues ≡ length agenda.old.dues }
     ensures there { guests.new.items ≡ slice_set guests.old.items number (Some guest) }
+    ensures agenda { agenda.new ≡ noted (record agenda.old { free = with_turn agenda.old.free number false }) number (facts_in (Some guest)) }
 {
     let mut filling = Some(guest);
     std::mem::swap(&mut guests[number], &mut filling);
@@ -139,6 +143,7 @@ pub fn forget_in(
     ensures gone { guests.new.items ≡ slice_set guests.old.items number None }
     ensures left { HasLeft register.old register.new (slice_get guests.old.items number) }
     ensures order { StaysInOrder register.old.identifiers register.new.identifiers }
+    ensures agenda { agenda.new ≡ released agenda.old number }
 {
     let Some(guest) = vacate(guests, agenda, number) else {
         return;
@@ -170,6 +175,7 @@ pub fn settle_in(
     ensures left { done ≡ true → HasLeft register.old register.new (slice_get guests.old.items number) }
     ensures kept { done ≡ false → (guests.new.items ≡ guests.old.items) × (register.new ≡ register.old) }
     ensures order { StaysInOrder register.old.identifiers register.new.identifiers }
+    ensures places { places_with guests.new.items agenda.new ≡ vacated_if done (places_with guests.old.items agenda.old) number }
 {
     if done {
         forget_in(register, guests, agenda, number);
@@ -195,6 +201,7 @@ pub fn put_in(
     ensures there { slice_get guests.new.items number ≡ Some (Some guest) }
     ensures registered { IsAllRegistered register.new guests.new.items }
     ensures order { StaysInOrder register.old.identifiers register.new.identifiers }
+    ensures places { places_with guests.new.items agenda.new ≡ taken_by (vacated (places_with guests.old.items agenda.old) number) number guest }
 {
     forget_in(register, guests, agenda, number);
     fill(guests, agenda, number, guest);
@@ -210,6 +217,7 @@ pub fn act_in(slot: &mut Option<Guest>, now: u64) -> bool
     ensures fits { (g : Guest) → slot.old ≡ Some g → FitsEnd g → FitsEndIn slot.new }
     ensures not_done { is_done slot.new ≡ false → IsNotDoneIn slot.old → IsNotDoneIn slot.new }
     ensures acts { now < last_time → (g : Guest) → slot.old ≡ Some g → HasActedIn now g.connection slot.new }
+    ensures turn { InPlace (GuestActs now) slot.old slot.new }
 {
     let Some(guest) = slot else {
         return false;
@@ -230,6 +238,7 @@ pub fn not_served_in(slot: &mut Option<Guest>, now: u64, quote: &OpeningQuote) -
     ensures news { news_in slot.new ≡ news_in slot.old }
     ensures fits { (g : Guest) → slot.old ≡ Some g → FitsEnd g → FitsEndIn slot.new }
     ensures not_done { IsNotDoneIn slot.old → IsNotDoneIn slot.new }
+    ensures turn { result ≡ true → InPlace (GuestUnserved now) slot.old slot.new }
 {
     let Some(guest) = slot else {
         return false;
@@ -259,6 +268,9 @@ pub fn hear_in(
     ensures known { known_in slot.new ≡ known_in slot.old }
     ensures fits { (g : Guest) → slot.old ≡ Some g → FitsEnd g → FitsEndIn slot.new }
     ensures not_done { IsNotDoneIn slot.old → IsNotDoneIn slot.new }
+    ensures turn { result ≡ true → (b : List ℕ) → spp_packet_of b ≡ Ok packet.now → InPlace (GuestHears now b confirms) slot.old slot.new }
+    ensures foreign { result ≡ false → (g : Guest) (s : State) → slot.old ≡ Some g → StandsFor g.connection.conversation.endpoint s
+        → is_ours_at s.ends packet.now ≡ false }
 {
     let Some(guest) = slot else {
         return false;
@@ -281,6 +293,7 @@ pub fn event_in(slot: &mut Option<Guest>, alloc: Global, now: u64, number: usize
     ensures known { known_in slot.new ≡ known_in slot.old }
     ensures fits { (g : Guest) → slot.old ≡ Some g → FitsEnd g → FitsEndIn slot.new }
     ensures not_done { is_done slot.new ≡ false → IsNotDoneIn slot.old → IsNotDoneIn slot.new }
+    ensures turn { result ≢ None → InPlace (GuestTells now) slot.old slot.new }
 {
     let Some(guest) = slot else {
         return None;
@@ -319,6 +332,7 @@ pub fn packet_in(
     ensures fits { (g : Guest) → slot.old ≡ Some g → FitsEnd g → FitsEndIn slot.new }
     ensures not_done { IsNotDoneIn slot.old → IsNotDoneIn slot.new }
     ensures steps { (g : Guest) → slot.old ≡ Some g → StepsIn now g.connection (Some slot.new) }
+    ensures turn { InPlace (GuestGives now (as_fault result)) slot.old slot.new }
 {
     let Some(guest) = slot else {
         return Ok(None);

@@ -1,9 +1,12 @@
 use Rattle.xns_host.proofs.Going.{keeps_by, keeps_moved}
-use Rattle.std.proofs.Common.{refl}
+use Rattle.std.proofs.Common.{refl, rules}
 use Rattle.xns_host.proofs.Ends.{goes_fits}
 use Rattle.std.proofs.Common.{subst}
 use Rattle.xns_host.specs.Hosting.{IsNotDoneIn}
 use Rattle.xns_host.proofs.Undone.{not_done_act}
+use Rattle.xns_host.specs.Went.{GuestActs}
+use Rattle.xns_host.specs.declared.guest.Guest.{Guest}
+use Rattle.xns_host.proofs.Placed.{placed, nobody_in}
 use Rattle.xns_host.proofs.slots.act_in.Goals as goal
 
 pub returns-clause-keeps : goal.returns-clause-keeps
@@ -20,3 +23,10 @@ pub returns-clause-not_done : goal.returns-clause-not_done
 returns-clause-not_done c = λ left was.
     not_done_act c.args.now c.in-Some.guest.connection c.act.new.self c.act.result c.act.ensures.act c.act.ensures.told (λ not. (c.act.ensures.same not).1)
     c.act.ensures.wait left (subst IsNotDoneIn c.in-Some.is was)
+
+pub returns-in_default-clause-turn : goal.returns-in_default-clause-turn
+returns-in_default-clause-turn c = nobody_in (λ (g h : Guest). GuestActs c.args.now g h) c.args.slot.now (search rules)
+
+pub returns-clause-turn : goal.returns-clause-turn
+returns-clause-turn c =
+    placed (λ (g h : Guest). GuestActs c.args.now g h) c.args.slot.now c.in-Some.guest _ c.in-Some.is (record { same = refl; parts = c.act.ensures.step })

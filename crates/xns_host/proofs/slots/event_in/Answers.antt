@@ -10,6 +10,8 @@ use Rattle.xns_host.proofs.Ends.{from_fits, handed_still}
 use Rattle.std.proofs.Common.{subst}
 use Rattle.xns_host.specs.Hosting.{IsNotDoneIn}
 use Rattle.xns_host.proofs.Undone.{not_done_steps, not_done_told}
+use Rattle.xns_host.specs.Went.{GuestTells}
+use Rattle.xns_host.proofs.Placed.{placed, told_message, told_why}
 use Rattle.xns_host.proofs.slots.event_in.Goals as goal
 
 pub returns-in_err-why-clause-none : goal.returns-in_err-why-clause-none
@@ -62,3 +64,20 @@ returns-in_err-why-clause-not_done c = λ left was.
     not_done_told c.take_message.new.self c.take_why.new.self c.take_why.ensures.rest c.take_why.ensures.told left
     (not_done_steps _ c.in-Some.guest.connection c.take_message.new.self c.take_message.ensures.told c.take_message.ensures.closed
     c.take_message.ensures.steps (subst IsNotDoneIn c.in-Some.is was))
+
+pub returns-in-Some-take_message-clause-turn : goal.returns-in-Some-take_message-clause-turn
+returns-in-Some-take_message-clause-turn c = λ some.
+    placed (λ (g h : Guest). GuestTells c.args.now g h) c.args.slot.now c.in-Some.guest _ c.in-Some.is
+    (told_message c.args.now c.in-Some.guest c.take_message.new.self c.in-Some-take_message.message
+    (sym c.take_message.ensures.message ∙ c.in-Some-take_message.is) c.take_message.ensures.step)
+
+pub returns-clause-turn : goal.returns-clause-turn
+returns-clause-turn c = λ some.
+    let none : c.take_message.result ≡ None = search rules in
+    let message : c.take_message.new.self ≡ c.in-Some.guest.connection = search rules in
+    let now : c.take_why.new.self ≡ record c.take_message.new.self { told = true }
+    = told_now c.take_message.new.self c.take_why.new.self c.in_ok-why.why c.take_why.ensures.rest c.take_why.ensures.told
+    (sym c.in_ok-why.was ∙ c.take_why.ensures.why) in
+    placed (λ (g h : Guest). GuestTells c.args.now g h) c.args.slot.now c.in-Some.guest _ c.in-Some.is
+    (told_why c.args.now c.in-Some.guest c.take_why.new.self (sym c.take_message.ensures.message ∙ none)
+    (now ∙ ap (λ (t : Connection). record t { told = true }) message))

@@ -7,6 +7,8 @@ use Rattle.xns_host.proofs.Going.{by_guest, goes_by, not_open}
 use Rattle.xns_host.proofs.Leading.{goes_not}
 use Rattle.xns_host.proofs.Ends.{goes_fits}
 use Rattle.xns_host.specs.Hosting.{IsNotDoneIn}
+use Rattle.xns_host.specs.Went.{GuestUnserved}
+use Rattle.xns_host.proofs.Placed.{placed}
 use Rattle.xns_host.proofs.slots.not_served_in.Goals as goal
 
 pub returns-then-not-is_opened_by-clause-goes : goal.returns-then-not-is_opened_by-clause-goes
@@ -61,3 +63,7 @@ returns-in_default-clause-not_done c = λ was. was
 
 pub returns-then-not-is_opened_by-clause-not_done : goal.returns-then-not-is_opened_by-clause-not_done
 returns-then-not-is_opened_by-clause-not_done c = λ was. subst IsNotDoneIn c.in-Some.is was
+
+pub returns-clause-turn : goal.returns-clause-turn
+returns-clause-turn c = λ yes.
+    placed (λ (g h : Guest). GuestUnserved c.args.now g h) c.args.slot.now c.in-Some.guest _ c.in-Some.is c.not_served.ensures.unserved

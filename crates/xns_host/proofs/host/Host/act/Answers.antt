@@ -7,6 +7,10 @@ use Rattle.xns_host.proofs.Noting.{kept_but, same_place}
 use Rattle.xns_host.specs.Knowing.{all_known_of}
 use Rattle.xns_host.proofs.Known.{all_known_set, known_same, same_settled, same_then}
 use Rattle.xns_host.proofs.Undone.{settled_not_done}
+use Rattle.std.proofs.Common.{◌∙◌, sym}
+use Rattle.xns_agenda.specs.Agenda.{noted}
+use Rattle.xns_host.specs.Hosting.{facts_in}
+use Rattle.xns_host.proofs.Placed.{acts_at, no_place}
 use Rattle.xns_host.proofs.host.Host.act.Goals as goal
 
 pub note-requires-clause-others : goal.note-requires-clause-others
@@ -75,3 +79,18 @@ invariant_of-self-2-clause-not_done c =
     settled_not_done c.args.self.now.guests.items c.as_slice.result.now c.settle_in.new.guests.items c.args.number c.index_mut.result.now
     c.act_in-done.new.slot c.act_in-done.result c.args.self.now.not_done c.act_in-done.ensures.not_done (search rules) less items
     c.act_in-done.ensures.done (search rules) (search rules) (search rules)
+
+pub returns-then-number-len-clause-turn : goal.returns-then-number-len-clause-turn
+returns-then-number-len-clause-turn c = λ g at. absurd (no_place c.args.self.now.guests.items c.args.number (Some g) at (omega arith))
+
+pub returns-clause-turn : goal.returns-clause-turn
+returns-clause-turn c = λ g at.
+    let less : c.args.number < length c.args.self.now.guests.items = omega arith in
+    let items : c.as_slice.result.now ≡ slice_set c.args.self.now.guests.items c.args.number c.act_in-done.new.slot = search rules in
+    let here : slice_get c.as_slice.result.now c.args.number ≡ Some c.act_in-done.new.slot
+    = set_there c.args.self.now.guests.items c.as_slice.result.now c.args.number c.act_in-done.new.slot less items in
+    let noting : c.note.new.agenda ≡ noted c.args.self.now.agenda c.args.number (facts_in c.act_in-done.new.slot)
+    = c.note.ensures.is c.act_in-done.new.slot here in
+    acts_at c.args.now c.args.number c.args.self.now.guests.items _ c.settle_in.new.guests.items c.args.self.now.agenda c.note.new.agenda
+    c.settle_in.new.agenda c.index_mut.result.now c.act_in-done.new.slot g c.act_in-done.result less (search rules) at c.act_in-done.ensures.turn refl
+    noting c.act_in-done.ensures.done c.settle_in.ensures.places

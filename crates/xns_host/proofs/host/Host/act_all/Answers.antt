@@ -4,6 +4,9 @@ use Rattle.xns_host.proofs.Done.{at_first, done_early, done_last, one_more}
 use Rattle.xns_host.proofs.Going.{all_then, each_kept, each_stays, each_then, keeping}
 use Rattle.xns_host.specs.Knowing.{all_known_of}
 use Rattle.xns_host.proofs.Known.{known_same, same_then}
+use Rattle.std.proofs.Common.{◌<◌, length}
+use Rattle.xns_host.specs.Places.{another, nobody}
+use Rattle.xns_host.proofs.Placed.{who_is_due}
 use Rattle.xns_host.proofs.host.Host.act_all.Goals as goal
 
 pub loop-init : goal.loop-init
@@ -15,6 +18,7 @@ loop-init c = (
   search rules,
   known_same c.args.self.now.guests.items c.args.self.now.guests.items refl,
   refl,
+  nobody,
 )
 
 pub loop-preserved : goal.loop-preserved
@@ -27,6 +31,9 @@ loop-preserved c = (
   search rules,
   same_then all_known_of c.args.self.now.guests.items c.loop.self.guests.items c.act.new.self.guests.items c.loop.invariant.5 c.act.ensures.known,
   c.act.ensures.order ∙ c.loop.invariant.6,
+  let less : c.in-Some.number < length c.loop.self.guests.items = omega (arith, c.in-Some.ensures.within, c.loop.self.sized) in
+      let who = who_is_due c.loop.self.agenda c.loop.self.guests.items c.args.now c.in-Some.number c.loop.self.noted less c.in-Some.ensures.some in
+      another c.in-Some.number c.loop.invariant.7 c.in-Some.ensures.some (c.act.ensures.turn who.0 who.1),
 )
 
 pub returns-in_default-clause-acts : goal.returns-in_default-clause-acts

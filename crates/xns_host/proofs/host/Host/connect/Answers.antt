@@ -9,6 +9,7 @@ use Rattle.xns_host.specs.Telling.{Tells}
 use Rattle.xns_host.proofs.Waking.{all_in_use, gets_place, no_room, not_both}
 use Rattle.xns_host.proofs.Registered.{all_joined, joined, opened_by_none, turned_over}
 use Rattle.xns_host.proofs.Undone.{came_not_done, not_done_new}
+use Rattle.xns_host.proofs.Placed.{taken_as}
 use Rattle.xns_host.proofs.host.Host.connect.Goals as goal
 
 pub put_in-requires-clause-registered : goal.put_in-requires-clause-registered
@@ -61,6 +62,8 @@ returns-clause-connected c = record {
   unclosed = c.in-Ok.ensures.open.0;
   owes = c.in-Ok.ensures.open.1;
   fresh = c.in-Ok.ensures.fresh.1;
+  owes_no_more = c.in-Ok.ensures.owes;
+  silent = c.in-Ok.ensures.packets;
   untold = c.in-Ok.ensures.fresh.0;
   via = refl;
   peer = refl;
@@ -90,3 +93,44 @@ pub returns-clause-turned : goal.returns-clause-turned
 returns-clause-turned c =
     turned_over c.args.self.now.register.identifiers c.take.new.self.identifiers c.put_in.new.register.identifiers _ c.in-Some-next.id c.take.result
     c.in-Some-next.ensures.next c.take.ensures.given c.take.ensures.some c.put_in.ensures.order
+
+pub returns-clause-connects : goal.returns-clause-connects
+returns-clause-connects c = record {
+  connected = record {
+    guest = record {
+      connection = c.in-Ok.connection;
+      via = c.args.via;
+      id = c.in-Some-next.id;
+      peer = c.args.peer;
+      opener = None;
+      confirmed = false;
+      heard_of = false;
+    };
+    there = c.put_in.ensures.there;
+    next = c.in-Some-next.ensures.next;
+    tells = subst (λ (own : Address). Tells c.in-Ok.connection.conversation
+        (new_story None (initiator_state own c.in-Some-next.id c.args.peer c.args.self.now.settings.window c.args.self.now.settings.backlog)))
+        c.address-own.ensures c.in-Ok.ensures.tells;
+    begun = subst (λ (t : ℕ). IsBegun c.args.self.now.settings t c.in-Ok.connection.wait) c.tell-now.ensures.result c.in-Ok.ensures.begun;
+    unclosed = c.in-Ok.ensures.open.0;
+    owes = c.in-Ok.ensures.open.1;
+    fresh = c.in-Ok.ensures.fresh.1;
+    owes_no_more = c.in-Ok.ensures.owes;
+    silent = c.in-Ok.ensures.packets;
+    untold = c.in-Ok.ensures.fresh.0;
+    via = refl;
+    peer = refl;
+    opener = refl;
+    confirmed = refl;
+    heard_of = refl;
+  };
+  place = gets_place c.args.self.now.agenda c.args.self.now.guests.items c.args.self.now.noted c.place.ensures.room c.args.self.now.sized
+      (c.place.ensures.some c.in-Some.number c.in-Some.is);
+  places = λ g there. taken_as c.put_in.new.guests.items c.in-Some.number _ g _ _ c.put_in.ensures.there there c.put_in.ensures.places;
+  turned = turned_over c.args.self.now.register.identifiers c.take.new.self.identifiers c.put_in.new.register.identifiers _ c.in-Some-next.id c.take.result
+      c.in-Some-next.ensures.next c.take.ensures.given c.take.ensures.some c.put_in.ensures.order;
+  unchanged = tt;
+  order = tt;
+  rest = refl;
+  clock = search rules;
+}

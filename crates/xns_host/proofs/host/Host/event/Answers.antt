@@ -13,6 +13,11 @@ use Rattle.xns_host.specs.Knowing.{known_of}
 use Rattle.xns_host.proofs.Known.{known_set, news_settled, same_settled, same_then}
 use Rattle.xns_host.specs.Hosting.{IsNotDoneIn}
 use Rattle.xns_host.proofs.Undone.{settled_not_done, still_not_done}
+use Rattle.std.proofs.Common.{false}
+use Rattle.xns_agenda.specs.Agenda.{noted}
+use Rattle.xns_host.specs.Hosting.{facts_in}
+use Rattle.xns_host.specs.Places.{AsksEvent, places_with}
+use Rattle.xns_host.proofs.Placed.{asked_quiet, asked_tells}
 use Rattle.xns_host.proofs.host.Host.event.Goals as goal
 
 pub invariant_of-self : goal.invariant_of-self
@@ -93,3 +98,22 @@ invariant_of-self-2-clause-not_done c =
     settled_not_done c.args.self.now.guests.items c.as_slice.result.now c.settle_in.new.guests.items c.args.number c.index_mut.result.now
     c.event_in-event.new.slot c.is_done_in-done.result c.args.self.now.not_done c.event_in-event.ensures.not_done (search rules) c.requires items
     (search rules) (search rules) (search rules) (search rules)
+
+pub returns-in_err-event-clause-asks : goal.returns-in_err-event-clause-asks
+returns-in_err-event-clause-asks c =
+    asked_quiet c.args.self.now.clock.latest c.args.number c.args.self.now.guests.items c.args.self.now.agenda c.pass_event.new.self c.index_mut.result.now
+    c.event_in-event.new.slot c.from_residual.result (search rules) c.requires (search rules) (search rules) (search rules) c.pass_event.ensures.passed
+
+pub returns-clause-asks : goal.returns-clause-asks
+returns-clause-asks c =
+    let items : c.as_slice.result.now ≡ slice_set c.args.self.now.guests.items c.args.number c.event_in-event.new.slot = search rules in
+    let here : slice_get c.as_slice.result.now c.args.number ≡ Some c.event_in-event.new.slot
+    = set_there c.args.self.now.guests.items c.as_slice.result.now c.args.number c.event_in-event.new.slot c.requires items in
+    let noting : c.note.new.agenda ≡ noted c.pass_event.new.self c.args.number (facts_in c.event_in-event.new.slot)
+    = c.note.ensures.is c.event_in-event.new.slot here in
+    subst (λ (t : ℕ). AsksEvent t c.args.number (places_with c.args.self.now.guests.items c.args.self.now.agenda) (Some c.in_ok-event.event)
+    (places_with c.settle_in.new.guests.items c.settle_in.new.agenda)) c.latest-now.ensures
+    (asked_tells c.latest-now.result c.args.number c.args.self.now.guests.items _ c.settle_in.new.guests.items c.args.self.now.agenda c.pass_event.new.self
+    c.note.new.agenda c.settle_in.new.agenda c.index_mut.result.now c.event_in-event.new.slot c.in_ok-event.event c.is_done_in-done.result c.requires
+    (search rules) (sym c.event_in-event.ensures.event ∙ c.in_ok-event.was) (c.event_in-event.ensures.turn (search rules)) c.pass_event.ensures.passed
+    refl noting (search rules) c.settle_in.ensures.places)

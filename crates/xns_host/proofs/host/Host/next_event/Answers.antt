@@ -5,6 +5,12 @@ use Rattle.xns_agenda.specs.declared.clock.Clock.{Clock}
 use Rattle.xns_host.proofs.Fetching.{next_told, no_event}
 use Rattle.xns_host.specs.Knowing.{known_of}
 use Rattle.xns_host.proofs.Known.{same_all, same_then}
+use Rattle.std.proofs.Common.{ap, ℕ, Option, None, Some}
+use Rattle.xns_host.specs.Places.{AsksEvent, another, nothing, places_with, told}
+use Rattle.xns_host.specs.declared.event.Event.{Event}
+use Rattle.xns_host.proofs.Placed.{asked_as, vain_at_first}
+use Rattle.std.proofs.Common.{refl}
+use Rattle.xns_host.proofs.Comings.{whole_by}
 use Rattle.xns_host.proofs.host.Host.next_event.Goals as goal
 
 pub returns-in-Some-event-clause-told : goal.returns-in-Some-event-clause-told
@@ -28,3 +34,37 @@ returns-in-Some-event-clause-known c =
 
 pub returns-clause-known : goal.returns-clause-known
 returns-clause-known c = same_all known_of c.args.self.now.guests.items c.loop-number.self.guests.items c.loop-number.invariant.0
+
+pub loop-number-init : goal.loop-number-init
+loop-number-init c = (search rules, search rules, search rules, search rules, vain_at_first _ _ _ _ _ (search rules) (search rules))
+
+pub loop-number-preserved : goal.loop-number-preserved
+loop-number-preserved c = (
+  search rules,
+  search rules,
+  search rules,
+  search rules,
+  another c.in-Some.number c.loop-number.invariant.4 c.in-Some.ensures.some
+      (asked_as c.in-Some.number _ _ c.event.result None c.loop-number.self.clock c.args.self.now.clock c.loop-number.invariant.1.2 (search rules)
+      c.event.ensures.asks),
+)
+
+pub returns-in-Some-event-clause-tells : goal.returns-in-Some-event-clause-tells
+returns-in-Some-event-clause-tells c = record {
+  next = told c.in-Some.number c.loop-number.invariant.4 c.in-Some.ensures.some
+      (asked_as c.in-Some.number _ _ c.event.result (Some c.in-Some-event.event) c.loop-number.self.clock c.args.self.now.clock c.loop-number.invariant.1.2
+      c.in-Some-event.is c.event.ensures.asks);
+  order = search rules;
+  rest = whole_by c.args.self.now c.event.new.self _ _ _ (search rules) refl (search rules) refl;
+  clock = search rules;
+}
+
+pub returns-clause-tells : goal.returns-clause-tells
+returns-clause-tells c =
+    let none : HasNoTurn c.loop-number.self.agenda.events = search rules in
+    record {
+      next = nothing c.loop-number.invariant.4 none;
+      order = c.loop-number.invariant.2;
+      rest = whole_by c.args.self.now c.loop-number.self _ _ _ c.loop-number.invariant.1 refl c.loop-number.invariant.3 refl;
+      clock = c.loop-number.invariant.1.2;
+    }

@@ -8,6 +8,12 @@ use Rattle.xns_host.proofs.Fetching.{no_packet, packet_less}
 use Rattle.xns_host.proofs.Going.{all_then, each_then, given_then, keeping}
 use Rattle.xns_host.specs.Knowing.{all_known_of}
 use Rattle.xns_host.proofs.Known.{same_then}
+use Rattle.std.proofs.Common.{◌<◌, ap, sym, length, arith}
+use Rattle.xns_host.specs.Places.{another, gives, nobody, nothing, places_with, starves}
+use Rattle.std.proofs.Common.{Err}
+use Rattle.xns_host.specs.Strays.{StrayQueue}
+use Rattle.xns_host.specs.declared.host_fault.HostFault.TheVariants.{NoMemory}
+use Rattle.xns_host.proofs.Placed.{acts_all_at, next_as, next_at, no_stray, packet_as, some_stray, stray_out, who_packs}
 use Rattle.xns_host.proofs.host.Host.next_packet.Goals as goal
 
 pub returns-in-Some-clause-due : goal.returns-in-Some-clause-due
@@ -40,6 +46,13 @@ loop-number-init c = (
   search rules,
   c.act_all.ensures.known,
   c.act_all.ensures.order,
+  no_stray c.args.self.now.strays c.take.new.self c.take.result (search rules) (ap (λ (q : StrayQueue). q.waiting) (sym c.act_all.ensures.strays) ∙ c.take.ensures.waiting)
+      (c.take.ensures.most ∙ ap (λ (q : StrayQueue). q.most) c.act_all.ensures.strays),
+  record {
+    mid = places_with c.act_all.new.self.guests.items c.act_all.new.self.agenda;
+    acts = record { one_by_one = c.act_all.ensures.one_by_one; all = c.act_all.ensures.acts };
+    none = nobody;
+  },
 )
 
 pub returns-in_err-packet-clause-stray : goal.returns-in_err-packet-clause-stray
@@ -106,6 +119,17 @@ loop-number-preserved c =
       same_then all_known_of c.args.self.now.guests.items c.loop-number.self.guests.items c.packet.new.self.guests.items c.loop-number.invariant.5
           c.packet.ensures.known,
       c.packet.ensures.order ∙ c.loop-number.invariant.6,
+      c.packet.ensures.strays ∙ c.loop-number.invariant.7,
+      (let less : c.in-Some-first_packet.number < length c.loop-number.self.guests.items = omega (arith, c.in-Some-first_packet.ensures.within, c.loop-number.self.sized) in
+          let who = who_packs c.loop-number.self.agenda c.loop-number.self.guests.items c.in-Some-first_packet.number c.loop-number.self.noted less
+          c.in-Some-first_packet.ensures.some.has in
+          let gone = c.loop-number.invariant.8 in
+          record {
+            mid = gone.mid;
+            acts = gone.acts;
+            none = another c.in-Some-first_packet.number gone.none c.in-Some-first_packet.ensures.some
+                (packet_as _ c.in-Some-first_packet.number _ _ c.packet.result (Ok None) none (c.packet.ensures.asks who.0 who.1));
+          }),
     )
 
 pub returns-in_err-packet-clause-known : goal.returns-in_err-packet-clause-known
@@ -117,3 +141,72 @@ pub returns-in-Some-2-clause-known : goal.returns-in-Some-2-clause-known
 returns-in-Some-2-clause-known c =
     same_then all_known_of c.args.self.now.guests.items c.loop-number.self.guests.items c.packet.new.self.guests.items c.loop-number.invariant.5
     c.packet.ensures.known
+
+pub returns-in-Some-clause-gives : goal.returns-in-Some-clause-gives
+returns-in-Some-clause-gives c =
+    let waiting = ap (λ (q : StrayQueue). q.waiting) (sym c.act_all.ensures.strays) ∙ c.take.ensures.waiting in
+    record {
+      mid = places_with c.act_all.new.self.guests.items c.act_all.new.self.agenda;
+      acts = acts_all_at c.tell-now.result _ _ _ c.tell-now.ensures.result (record { one_by_one = c.act_all.ensures.one_by_one; all = c.act_all.ensures.acts });
+      stray = λ o os is.
+          let out = stray_out c.args.self.now.strays c.take.new.self c.take.result c.in-Some.stray o os c.in-Some.is waiting
+          (c.take.ensures.most ∙ ap (λ (q : StrayQueue). q.most) c.act_all.ensures.strays) is in
+          (ap (λ (x : Outgoing). Ok (Some x)) out.0, refl, out.1);
+      next = λ none. absurd (some_stray c.args.self.now.strays c.take.new.self c.take.result c.in-Some.stray c.in-Some.is waiting none);
+      order = c.act_all.ensures.order;
+      set_up = search rules;
+    }
+
+pub returns-in_err-packet-clause-gives : goal.returns-in_err-packet-clause-gives
+returns-in_err-packet-clause-gives c =
+    let made : c.packet.result ≡ Err NoMemory = search rules in
+    let result : c.from_residual.result ≡ Err NoMemory = search rules in
+    let less : c.in-Some-first_packet.number < length c.loop-number.self.guests.items = omega (arith, c.in-Some-first_packet.ensures.within, c.loop-number.self.sized) in
+    let who = who_packs c.loop-number.self.agenda c.loop-number.self.guests.items c.in-Some-first_packet.number c.loop-number.self.noted less
+    c.in-Some-first_packet.ensures.some.has in
+    let gone = c.loop-number.invariant.8 in
+    record {
+      mid = gone.mid;
+      acts = acts_all_at c.tell-now.result _ _ _ c.tell-now.ensures.result gone.acts;
+      stray = λ o os is. let none : c.args.self.now.strays.waiting ≡ [] = c.loop-number.invariant.0 in absurd (cc);
+      next = λ none. (
+        next_at c.tell-now.result _ _ _ _ c.tell-now.ensures.result (next_as _ _ _ (Err NoMemory) c.from_residual.result (sym result)
+            (starves c.in-Some-first_packet.number gone.none c.in-Some-first_packet.ensures.some
+            (packet_as _ c.in-Some-first_packet.number _ _ c.packet.result (Err NoMemory) made (c.packet.ensures.asks who.0 who.1)))),
+        c.packet.ensures.strays ∙ c.loop-number.invariant.7,
+      );
+      order = c.packet.ensures.order ∙ c.loop-number.invariant.6;
+      set_up = search rules;
+    }
+
+pub returns-in-Some-2-clause-gives : goal.returns-in-Some-2-clause-gives
+returns-in-Some-2-clause-gives c =
+    let less : c.in-Some-first_packet.number < length c.loop-number.self.guests.items = omega (arith, c.in-Some-first_packet.ensures.within, c.loop-number.self.sized) in
+    let who = who_packs c.loop-number.self.agenda c.loop-number.self.guests.items c.in-Some-first_packet.number c.loop-number.self.noted less
+    c.in-Some-first_packet.ensures.some.has in
+    let gone = c.loop-number.invariant.8 in
+    record {
+      mid = gone.mid;
+      acts = acts_all_at c.tell-now.result _ _ _ c.tell-now.ensures.result gone.acts;
+      stray = λ o os is. let none : c.args.self.now.strays.waiting ≡ [] = c.loop-number.invariant.0 in absurd (cc);
+      next = λ none. (
+        next_at c.tell-now.result _ _ _ _ c.tell-now.ensures.result (gives c.in-Some-first_packet.number gone.none c.in-Some-first_packet.ensures.some
+            (packet_as _ c.in-Some-first_packet.number _ _ c.packet.result _ (c.in_ok-packet.was ∙ ap Ok c.in-Some-2.is) (c.packet.ensures.asks who.0 who.1))),
+        c.packet.ensures.strays ∙ c.loop-number.invariant.7,
+      );
+      order = c.packet.ensures.order ∙ c.loop-number.invariant.6;
+      set_up = search rules;
+    }
+
+pub returns-clause-gives : goal.returns-clause-gives
+returns-clause-gives c =
+    let none_left : HasNoTurn c.loop-number.self.agenda.packets = search rules in
+    let gone = c.loop-number.invariant.8 in
+    record {
+      mid = gone.mid;
+      acts = acts_all_at c.tell-now.result _ _ _ c.tell-now.ensures.result gone.acts;
+      stray = λ o os is. let none : c.args.self.now.strays.waiting ≡ [] = c.loop-number.invariant.0 in absurd (cc);
+      next = λ none. (next_at c.tell-now.result _ _ _ _ c.tell-now.ensures.result (nothing gone.none none_left), c.loop-number.invariant.7);
+      order = c.loop-number.invariant.6;
+      set_up = search rules;
+    }

@@ -8,6 +8,14 @@ use Rattle.xns_host.proofs.Going.{each_set}
 use Rattle.xns_host.proofs.Hearing.{put_there, there_in}
 use Rattle.xns_host.proofs.Noting.{kept_but, same_place}
 use Rattle.xns_host.proofs.Known.{all_known_set, known_same}
+use Rattle.std.proofs.Common.{◌≡◌, slice_get}
+use Rattle.xns_agenda.specs.Agenda.{noted}
+use Rattle.xns_host.specs.Hosting.{facts_in}
+use Rattle.xns_host.specs.Ours.{IsToOpen}
+use Rattle.xns_host.specs.Places.{same}
+use Rattle.xns_host.specs.Went.{GuestUnserved}
+use Rattle.xns_host.proofs.Apart.{set_there}
+use Rattle.xns_host.proofs.Placed.{turns_at, unmoved_at}
 use Rattle.xns_host.proofs.host.Host.not_served.Goals as goal
 
 pub note-requires-clause-others : goal.note-requires-clause-others
@@ -57,3 +65,26 @@ returns-clause-known c =
     all_known_set c.args.self.now.guests.items (slice_set c.args.self.now.guests.items c.args.number c.not_served_in-closed.new.slot) c.args.number
     c.index_mut.result.now c.not_served_in-closed.new.slot (omega arith) (search rules) refl c.not_served_in-closed.ensures.known
     c.not_served_in-closed.ensures.news
+
+pub returns-then-number-len-clause-rest : goal.returns-then-number-len-clause-rest
+returns-then-number-len-clause-rest c = λ no. same
+
+pub returns-clause-turn : goal.returns-clause-turn
+returns-clause-turn c = λ yes.
+    let less : c.args.number < length c.args.self.now.guests.items = omega arith in
+    let items : c.as_slice.result.now ≡ slice_set c.args.self.now.guests.items c.args.number c.not_served_in-closed.new.slot = search rules in
+    let here : slice_get c.as_slice.result.now c.args.number ≡ Some c.not_served_in-closed.new.slot
+    = set_there c.args.self.now.guests.items c.as_slice.result.now c.args.number c.not_served_in-closed.new.slot less items in
+    turns_at (λ (g h : Guest). GuestUnserved c.args.now g h) (IsToOpen c.args.quote.now) c.args.number c.args.self.now.guests.items _
+    c.args.self.now.agenda c.note.new.agenda c.index_mut.result.now c.not_served_in-closed.new.slot less (search rules)
+    (c.not_served_in-closed.ensures.ours yes) (c.not_served_in-closed.ensures.turn yes) refl (c.note.ensures.is c.not_served_in-closed.new.slot here)
+
+pub returns-clause-rest : goal.returns-clause-rest
+returns-clause-rest c = λ no.
+    let less : c.args.number < length c.args.self.now.guests.items = omega arith in
+    let items : c.as_slice.result.now ≡ slice_set c.args.self.now.guests.items c.args.number c.not_served_in-closed.new.slot = search rules in
+    let here : slice_get c.as_slice.result.now c.args.number ≡ Some c.not_served_in-closed.new.slot
+    = set_there c.args.self.now.guests.items c.as_slice.result.now c.args.number c.not_served_in-closed.new.slot less items in
+    unmoved_at c.args.number c.args.self.now.guests.items _ c.args.self.now.agenda c.note.new.agenda c.index_mut.result.now
+    c.not_served_in-closed.new.slot less (search rules) (c.not_served_in-closed.ensures.unchanged no) refl
+    (c.note.ensures.is c.not_served_in-closed.new.slot here)

@@ -10,6 +10,7 @@ use Rattle.xns_host.proofs.Waking.{gets_place}
 use Rattle.xns_host.proofs.Registered.{all_joined, joined_opened, opened_by, turned_over, unentered}
 use Rattle.xns_host.proofs.Undone.{came_not_done, not_done_new}
 use Rattle.xns_host.specs.Identifiers.{Ids, IsNext, TurnsOver}
+use Rattle.xns_host.proofs.Placed.{taken_as}
 use Rattle.xns_host.proofs.host.Host.open.Goals as goal
 
 pub invariant_of-self : goal.invariant_of-self
@@ -75,10 +76,14 @@ returns-clause-opened c = record {
         c.address-own.ensures c.in-Ok.ensures.tells;
     begun = c.in-Ok.ensures.begun;
     unclosed = c.in-Ok.ensures.open.0;
+    unsaid = c.in-Ok.ensures.open.1;
     fresh = c.in-Ok.ensures.fresh.1;
+    owes_no_more = c.in-Ok.ensures.owes;
+    silent = c.in-Ok.ensures.packets;
     untold = c.in-Ok.ensures.fresh.0;
     via = refl;
     peer = refl;
+    known_by = ap Some c.requires.opener;
     confirmed = refl;
     heard_of = refl;
   };
@@ -94,3 +99,7 @@ returns-clause-turned c =
     subst (λ (a : Ids). (i : ℕ) × TurnsOver a c.put_in.new.register.identifiers i) c.enter.ensures.identifiers
     (turned_over c.enter.new.self.identifiers c.take.new.self.identifiers c.put_in.new.register.identifiers _ c.in_ok-id.id c.take.result
     (subst (λ (a : Ids). IsNext a c.in_ok-id.id) (sym c.enter.ensures.identifiers) c.in_ok-id.ensures.next) c.take.ensures.given c.take.ensures.some c.put_in.ensures.order)
+
+pub returns-clause-place_taken : goal.returns-clause-place_taken
+returns-clause-place_taken c = λ g there.
+    taken_as c.put_in.new.guests.items c.in_ok-number.number _ g _ _ c.put_in.ensures.there there c.put_in.ensures.places

@@ -8,6 +8,14 @@ use Rattle.xns_host.proofs.Done.{each_step}
 use Rattle.xns_host.proofs.Going.{all_set, each_set, given_there, keeping}
 use Rattle.xns_host.proofs.Noting.{kept_but, rested_but}
 use Rattle.xns_host.proofs.Known.{all_known_set}
+use Rattle.std.proofs.Common.{subst, Option, Result, Err}
+use Rattle.xns_agenda.specs.Agenda.{noted}
+use Rattle.xns_host.specs.Places.{AsksPacket, places_with}
+use Rattle.xns_host.specs.Went.{as_fault}
+use Rattle.xns_host.specs.declared.host_fault.HostFault.{HostFault}
+use Rattle.xns_host.specs.declared.outgoing.Outgoing.{Outgoing}
+use Rattle.std.specs.declared.alloc.AllocError.{AllocError}
+use Rattle.xns_host.proofs.Placed.{asks_packet}
 use Rattle.xns_host.proofs.host.Host.packet.Goals as goal
 
 pub note-requires-clause-others : goal.note-requires-clause-others
@@ -72,3 +80,31 @@ pub returns-in-Err-clause-known : goal.returns-in-Err-clause-known
 returns-in-Err-clause-known c =
     all_known_set c.args.self.now.guests.items (slice_set c.args.self.now.guests.items c.args.number c.packet_in-made.new.slot) c.args.number
     c.index_mut.result.now c.packet_in-made.new.slot c.requires (search rules) refl c.packet_in-made.ensures.known c.packet_in-made.ensures.news
+
+pub returns-in-Ok-clause-asks : goal.returns-in-Ok-clause-asks
+returns-in-Ok-clause-asks c = λ g at.
+    let items : c.as_slice.result.now ≡ slice_set c.args.self.now.guests.items c.args.number c.packet_in-made.new.slot = search rules in
+    let here : slice_get c.as_slice.result.now c.args.number ≡ Some c.packet_in-made.new.slot
+    = set_there c.args.self.now.guests.items c.as_slice.result.now c.args.number c.packet_in-made.new.slot c.requires items in
+    let noting : c.note.new.agenda ≡ noted c.pass_packet.new.self c.args.number (facts_in c.packet_in-made.new.slot)
+    = c.note.ensures.is c.packet_in-made.new.slot here in
+    subst (λ (r : Result (Option Outgoing) AllocError). AsksPacket c.args.now c.args.number (as_fault r)
+    (places_with c.args.self.now.guests.items c.args.self.now.agenda)
+    (places_with (slice_set c.args.self.now.guests.items c.args.number c.packet_in-made.new.slot) c.note.new.agenda)) c.in-Ok.is
+    (asks_packet c.args.now c.args.number c.args.self.now.guests.items _ c.args.self.now.agenda c.pass_packet.new.self c.note.new.agenda
+    c.index_mut.result.now c.packet_in-made.new.slot g (as_fault c.packet_in-made.result) c.requires (search rules) at c.packet_in-made.ensures.turn
+    c.pass_packet.ensures.passed refl noting)
+
+pub returns-in-Err-clause-asks : goal.returns-in-Err-clause-asks
+returns-in-Err-clause-asks c = λ g at.
+    let items : c.as_slice.result.now ≡ slice_set c.args.self.now.guests.items c.args.number c.packet_in-made.new.slot = search rules in
+    let here : slice_get c.as_slice.result.now c.args.number ≡ Some c.packet_in-made.new.slot
+    = set_there c.args.self.now.guests.items c.as_slice.result.now c.args.number c.packet_in-made.new.slot c.requires items in
+    let noting : c.note.new.agenda ≡ noted c.pass_packet.new.self c.args.number (facts_in c.packet_in-made.new.slot)
+    = c.note.ensures.is c.packet_in-made.new.slot here in
+    subst (λ (r : Result (Option Outgoing) AllocError). AsksPacket c.args.now c.args.number (as_fault r)
+    (places_with c.args.self.now.guests.items c.args.self.now.agenda)
+    (places_with (slice_set c.args.self.now.guests.items c.args.number c.packet_in-made.new.slot) c.note.new.agenda)) c.in-Err.is
+    (asks_packet c.args.now c.args.number c.args.self.now.guests.items _ c.args.self.now.agenda c.pass_packet.new.self c.note.new.agenda
+    c.index_mut.result.now c.packet_in-made.new.slot g (as_fault c.packet_in-made.result) c.requires (search rules) at c.packet_in-made.ensures.turn
+    c.pass_packet.ensures.passed refl noting)

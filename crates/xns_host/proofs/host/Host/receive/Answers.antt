@@ -3,6 +3,15 @@ use Rattle.xns_idp.specs.Packet.{PacketModel, packet_model}
 use Rattle.xns_host.specs.Hosting.{EachSteps, IsNotServed, IsOpened, IsRefusedBy, Receives, goes}
 use Rattle.xns_host.specs.Ours.{asks, names, opens, quotes}
 use Rattle.xns_host.proofs.Hearing.{nothing_came, not_read, one_packet, sequenced_kind}
+use Rattle.std.proofs.Common.{◌∙◌, Option}
+use Rattle.std.specs.Global.{Global}
+use Rattle.std.specs.declared.vec.Vec.{Vec}
+use Rattle.xns_agenda.specs.Agenda.{Plan}
+use Rattle.xns_host.specs.declared.guest.Guest.{Guest}
+use Rattle.xns_host.specs.Coming.{Comes, foreign}
+use Rattle.xns_host.specs.Places.{places_with, same}
+use Rattle.xns_host.specs.Turn.{places_of, whole_of}
+use Rattle.xns_host.proofs.Comings.{comes_at, comes_echo, comes_refused, whole_at}
 use Rattle.xns_host.proofs.host.Host.receive.Goals as goal
 
 pub returns-in_default-clause-became : goal.returns-in_default-clause-became
@@ -115,3 +124,44 @@ returns-in_default-clause-opener c = λ p is by.
 
 pub returns-in-2-clause-strays : goal.returns-in-2-clause-strays
 returns-in-2-clause-strays c = λ never. c.echo.ensures.strays (λ asked. never (packet_model c.in-Ok.packet) c.in-Ok.field-0-1 (sym c.in-Ok.ensures.exact) asked)
+
+pub returns-in_default-clause-takes : goal.returns-in_default-clause-takes
+returns-in_default-clause-takes c = record { clock = search rules; comes = foreign same }
+
+pub returns-in_default-kind-clause-takes : goal.returns-in_default-kind-clause-takes
+returns-in_default-kind-clause-takes c = record { clock = search rules; comes = foreign same }
+
+pub returns-in-2-clause-takes : goal.returns-in-2-clause-takes
+returns-in-2-clause-takes c =
+    let places : places_of c.echo.new.self ≡ places_of c.args.self.now
+    = ap (λ (v : Vec (Option Guest) Global). places_with v.items c.echo.new.self.agenda) c.echo.ensures.guests
+    ∙ ap (λ (a : Plan). places_with c.args.self.now.guests.items a) c.echo.ensures.agenda in
+    let whole = whole_at c.args.self.now c.echo.new.self c.args.self.now.register c.echo.new.self.strays (places_of c.args.self.now) c.echo.ensures.set_up.0
+    c.echo.ensures.set_up.1 c.echo.ensures.register refl places in
+    let comes = comes_echo c.tell-now.result c.args.via c.args.bytes.now (whole_of c.args.self.now) (whole_of c.echo.new.self) c.echo.result
+    (packet_model c.in-Ok.packet) c.in-Ok.field-0-1 (sym c.in-Ok.ensures.exact) c.echo.ensures.ours c.echo.ensures.answered c.echo.ensures.strays whole in
+    record {
+      clock = search rules;
+      comes = comes_at c.tell-now.result _ c.args.via c.args.bytes.now (whole_of c.args.self.now) (whole_of c.echo.new.self) c.echo.result
+          c.tell-now.ensures.result comes;
+    }
+
+pub returns-in-3-clause-takes : goal.returns-in-3-clause-takes
+returns-in-3-clause-takes c =
+    let whole = whole_at c.args.self.now c.refused.new.self c.args.self.now.register c.args.self.now.strays (places_of c.refused.new.self)
+    c.refused.ensures.set_up.0 c.refused.ensures.set_up.1 c.refused.ensures.register c.refused.ensures.strays refl in
+    let comes = comes_refused c.tell-now.result c.args.via c.args.bytes.now (whole_of c.args.self.now) (whole_of c.refused.new.self) c.refused.result
+    (packet_model c.in-Ok.packet) c.in-Ok.field-0-1 (sym c.in-Ok.ensures.exact) (search rules) c.refused.ensures.here c.refused.ensures.turn
+    c.refused.ensures.rest whole in
+    record {
+      clock = search rules;
+      comes = comes_at c.tell-now.result _ c.args.via c.args.bytes.now (whole_of c.args.self.now) (whole_of c.refused.new.self) c.refused.result
+          c.tell-now.ensures.result comes;
+    }
+
+pub returns-in-5-clause-takes : goal.returns-in-5-clause-takes
+returns-in-5-clause-takes c = record {
+  clock = search rules;
+  comes = comes_at c.tell-now.result _ c.args.via c.args.bytes.now (whole_of c.args.self.now) (whole_of c.sequenced.new.self) c.sequenced.result
+      c.tell-now.ensures.result (c.sequenced.ensures.comes c.args.bytes.now c.in-Ok.field-0-1 (sym c.in-Ok.ensures.exact));
+}

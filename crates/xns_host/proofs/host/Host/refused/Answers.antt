@@ -7,6 +7,9 @@ use Rattle.xns_host.specs.declared.opening_quote.OpeningQuote.{OpeningQuote}
 use Rattle.xns_host.proofs.Done.{each_still}
 use Rattle.xns_host.proofs.Ends.{end_id}
 use Rattle.xns_host.proofs.Known.{known_same}
+use Rattle.xns_host.specs.Places.{Turns, places_with, same}
+use Rattle.xns_host.specs.Went.{GuestUnserved}
+use Rattle.xns_host.specs.declared.guest.Guest.{Guest}
 use Rattle.xns_host.proofs.host.Host.refused.Goals as goal
 
 pub returns-clause-closed : goal.returns-clause-closed
@@ -62,3 +65,22 @@ returns-in_default-clause-known c = known_same c.args.self.now.guests.items c.ar
 
 pub returns-in_default-owner-clause-known : goal.returns-in_default-owner-clause-known
 returns-in_default-owner-clause-known c = known_same c.args.self.now.guests.items c.args.self.now.guests.items refl
+
+pub returns-clause-turn : goal.returns-clause-turn
+returns-clause-turn c = λ yes. record {
+  quote = c.in-Some.quote;
+  quoted = sym c.quoted_opening.ensures ∙ c.in-Some.is;
+  number = c.in-Some-owner.number;
+  owner = sym c.owner.ensures ∙ c.in-Some-owner.is;
+  turn = subst (λ (m : ℕ). Turns (λ (g h : Guest). GuestUnserved c.args.now g h) m (places_with c.args.self.now.guests.items c.args.self.now.agenda)
+      (places_with c.not_served.new.self.guests.items c.not_served.new.self.agenda)) c.from.ensures (c.not_served.ensures.turn yes);
+}
+
+pub returns-then-ne-clause-rest : goal.returns-then-ne-clause-rest
+returns-then-ne-clause-rest c = λ no. same
+
+pub returns-in_default-clause-rest : goal.returns-in_default-clause-rest
+returns-in_default-clause-rest c = λ no. same
+
+pub returns-in_default-owner-clause-rest : goal.returns-in_default-owner-clause-rest
+returns-in_default-owner-clause-rest c = λ no. same

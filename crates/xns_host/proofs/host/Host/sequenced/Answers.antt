@@ -4,8 +4,15 @@ use Rattle.xns_idp.specs.Packet.{packet_model}
 use Rattle.xns_spp.specs.Ends.{is_ours_at}
 use Rattle.xns_spp.specs.Packet.{SppPacketModel}
 use Rattle.xns_host.specs.Hosting.{EachHears, HasHeard, IsThere, confirms, hears}
-use Rattle.xns_host.specs.Ours.{IsOf, IsOpener, named_in, names, opens}
+use Rattle.xns_host.specs.Ours.{IsOf, IsOpener, names, opens}
+use Rattle.xns_host.specs.Registered.{named_in}
 use Rattle.xns_host.proofs.Hearing.{finds, found_is_named, nothing_came, one_spelled, spelled, the_packet}
+use Rattle.std.proofs.Common.{Bool}
+use Rattle.xns_host.specs.Coming.{foreign}
+use Rattle.xns_host.specs.Places.{Turns, places_with, same}
+use Rattle.xns_host.specs.Went.{GuestHears}
+use Rattle.xns_host.specs.declared.guest.Guest.{Guest}
+use Rattle.xns_host.proofs.Comings.{comes_heard, comes_opened, whole_by}
 use Rattle.xns_host.proofs.host.Host.sequenced.Goals as goal
 
 pub returns-in_default-clause-became : goal.returns-in_default-clause-became
@@ -108,3 +115,30 @@ returns-in-None-clause-opener c = λ b taken p read is opens.
     = one_spelled b (packet_model c.args.carrier.now) taken p c.in-Ok.packet c.carried_packet.result read is c.carried_packet.ensures.value c.in-Ok.is in
     let by = subst (λ (q : SppPacketModel). IsOpener c.args.self.now q) same opens in
     c.opening.ensures.answer by.opener by.served
+
+pub returns-in_default-clause-comes : goal.returns-in_default-clause-comes
+returns-in_default-clause-comes c = λ b taken read. foreign same
+
+pub returns-then-ne-clause-comes : goal.returns-then-ne-clause-comes
+returns-then-ne-clause-comes c = λ b taken read. foreign same
+
+pub returns-in-Some-clause-comes : goal.returns-in-Some-clause-comes
+returns-in-Some-clause-comes c = λ b taken read.
+    let is = spelled b (packet_model c.args.carrier.now) taken c.in-Ok.packet read c.carried_packet.ensures.value c.in-Ok.is in
+    let id : c.packet.inside.header.target_id ≡ c.in-Ok.packet.header.target_id = search rules in
+    let named = found_is_named c.args.self.now.register c.in-Ok.packet c.at-peer.result c.find.result (search rules) (search rules) ∙ c.in-Some.is in
+    comes_heard c.args.now c.args.via b _ _ c.hear.result c.in-Ok.packet c.in-Some.number is (search rules) named
+    (λ yes. subst (λ (n : ℕ). Turns (λ (g h : Guest). GuestHears c.args.now b (confirms c.in-Ok.packet) g h) n
+    (places_with c.args.self.now.guests.items c.args.self.now.agenda) (places_with c.hear.new.self.guests.items c.hear.new.self.agenda)) c.from.ensures
+    (subst (λ (m : ℕ). Turns (λ (g h : Guest). GuestHears c.args.now b (not (m == 0)) g h) c.from.result
+    (places_with c.args.self.now.guests.items c.args.self.now.agenda) (places_with c.hear.new.self.guests.items c.hear.new.self.agenda)) id
+    (c.hear.ensures.turn yes b is)))
+    c.hear.ensures.rest
+    (whole_by c.args.self.now c.hear.new.self _ _ _ c.hear.ensures.set_up c.hear.ensures.register c.hear.ensures.strays refl)
+
+pub returns-in-None-clause-comes : goal.returns-in-None-clause-comes
+returns-in-None-clause-comes c = λ b taken read.
+    let is = spelled b (packet_model c.args.carrier.now) taken c.in-Ok.packet read c.carried_packet.ensures.value c.in-Ok.is in
+    let named = found_is_named c.args.self.now.register c.in-Ok.packet c.at-peer.result c.find.result (search rules) (search rules) ∙ c.in-None.is in
+    comes_opened c.args.now c.args.via b _ _ c.opening.result c.in-Ok.packet is (search rules) named (c.opening.ensures.opens b is) c.opening.ensures.rest
+    (whole_by c.args.self.now c.opening.new.self _ _ _ c.opening.ensures.set_up refl c.opening.ensures.strays refl)
