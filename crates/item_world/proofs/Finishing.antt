@@ -7,7 +7,7 @@ use Rattle.std.specs.Option.{option_to_list}
 use Rattle.std.proofs.Math.Nat.{le_refl}
 use Rattle.std.proofs.lemmas.Bool.{ltb-true, ltb-false, ne_eqb}
 use Rattle.std.proofs.lemmas.List.{length-take}
-use Rattle.std.proofs.lemmas.List.Elements.{All-nil, All-append, All-weaker, All-head, All-tail, All-cons}
+use Rattle.std.proofs.lemmas.List.Elements.{All-nil, All-append, All-weaker, All-head, All-tail}
 use Rattle.std.proofs.lemmas.List.Sums.{fold-append}
 use Rattle.xns_spp.specs.Growth.{Begins}
 use Rattle.xns_spp.specs.Receiving.{receive_answer, after_receive}
@@ -18,11 +18,11 @@ use Rattle.item_world.proofs.Later.{run_later}
 use Rattle.item_world.proofs.Onward.{Kept, longer}
 use Rattle.item_world.proofs.Sides.{each_end, same_marked, has_landed}
 use Rattle.item_world.specs.EndLaws.{EndLaws}
-use Rattle.item_world.specs.Events.{Step, IsStep, arrival, taking, flushing, ticking, stepped, all_stepped, IsEvent, steps_of, happens, run, arrival_steps}
+use Rattle.item_world.specs.Events.{Step, IsStep, stepped, all_stepped, IsEvent, steps_of, happens, run}
 use Rattle.item_world.specs.Going.{Later}
 use Rattle.item_world.specs.Invariant.{Holds}
 use Rattle.item_world.specs.Landing.{answered, landing}
-use Rattle.item_world.specs.Progress.{IsPlain, IsDone, pending, Finishes, Linked, IsFurther, FinishesByEvents}
+use Rattle.item_world.specs.Progress.{IsDone, pending, Linked, IsFurther, FinishesByEvents}
 use Rattle.item_world.specs.Side.{other}
 use Rattle.item_world.specs.World.{World, start, end_of, moved, marked, sent_at, handed_at, flushes}
 use Rattle.item_world.specs.declared.emitted.Emitted.{Emitted}
@@ -332,76 +332,3 @@ pub always_finishes_by : Kept → (setup : Setup) (events : List Event) → Hold
 always_finishes_by k setup events h l fits =
     let b : Both (run (start setup) events) = events_after k (start setup) events fits (record { holds = h; linked = l }) in
     finishes_by k (run (start setup) events) b.holds b.linked
-
--- ---- as small steps
-
--- the small steps of events, each in the world that those before lead to
-steps_along : World → List Event → List Step
-steps_along w [] = []
-steps_along w (e ∷ es) = steps_of w e ++ steps_along (happens w e) es
-
-along_run : (w : World) (es : List Event) → all_stepped w (steps_along w es) ≡ run w es
-unfolding steps_along
-along_run w [] = refl
-along_run w (e ∷ es) = fold-append stepped w (steps_of w e) (steps_along (happens w e) es) ∙ along_run (happens w e) es
-
--- an event is of two small steps at most
-record IsPair (n : ℕ) (ss : List Step) : Type 0 where
-  plain : All (IsPlain n) ss
-  few : length ss ≤ 2
-
-one_plain : (n : ℕ) (s : Step) → IsPlain n s → IsPair n (s ∷ [])
-one_plain n s h = record { plain = All-cons (IsPlain n) s [] h (All-nil (IsPlain n)); few = omega arith }
-
-delivery_plain : (n k : ℕ) (o : Option (Side × World)) → n ≤ k → IsPair n (arrival_steps k o)
-delivery_plain n k None h = record { plain = All-nil (IsPlain n); few = omega arith }
-delivery_plain n k (Some l) h = record {
-  plain = All-cons (IsPlain n) (arrival k) (flushing l.0 ∷ []) h (All-cons (IsPlain n) (flushing l.0) [] tt (All-nil (IsPlain n)));
-  few = omega arith;
-}
-
-event_plain : (n : ℕ) (w : World) (e : Event) → IsFurther n e → IsPair n (steps_of w e)
-event_plain n w (Deliver k) h = delivery_plain n k (landing w k) h
-event_plain n w Rest h = absurd h
-event_plain n w (Tick side) h = one_plain n (ticking side) tt
-event_plain n w (Foreign side bytes) h = absurd h
-event_plain n w (Send side x) h = absurd h
-event_plain n w (Take side) h = one_plain n (taking side) tt
-
-record AreFew (n : ℕ) (ss : List Step) (most : ℕ) : Type 0 where
-  plain : All (IsPlain n) ss
-  few : length ss ≤ 2 * most
-
-along_plain : (n : ℕ) (w : World) (es : List Event) → All (IsFurther n) es → AreFew n (steps_along w es) (length es)
-unfolding steps_along
-along_plain n w [] h = record { plain = All-nil (IsPlain n); few = omega arith }
-along_plain n w (e ∷ es) h =
-    let first = event_plain n w e (All-head (IsFurther n) e es h) in
-    let more = along_plain n (happens w e) es (All-tail (IsFurther n) e es h) in
-    record {
-      plain = All-append (IsPlain n) (steps_of w e) (steps_along (happens w e) es) first.plain more.plain;
-      few = omega (arith, length-append (steps_of w e) (steps_along (happens w e) es), first.few, more.few);
-    }
-
-twelve_each : (c d n : ℕ) → c ≤ 2 * d → d ≤ 6 * n → c ≤ 12 * n
-twelve_each c d n h i = omega arith
-
-by_events_finishes : (w : World) → FinishesByEvents w → Finishes w
-by_events_finishes w f =
-    let steps = along_plain (length w.bag) w f.more f.further in
-    record {
-      more = steps_along w f.more;
-      plain = steps.plain;
-      few = twelve_each (length (steps_along w f.more)) (length f.more) (pending w A + pending w B + 1) steps.few f.few;
-      done = subst (IsDone w) (sym (along_run w f.more)) f.done;
-    }
-
-pub finishes : Kept → (w : World) → Holds w → Linked w → Finishes w
-finishes k w h l = by_events_finishes w (finishes_by k w h l)
-
-pub always_finishes : Kept → (setup : Setup) (steps : List Step) → Holds (start setup) → Linked (start setup)
-    → All IsStep steps
-    → Finishes (all_stepped (start setup) steps)
-always_finishes k setup steps h l fits =
-    let b : Both (all_stepped (start setup) steps) = both_after k (start setup) steps fits (record { holds = h; linked = l }) in
-    finishes k (all_stepped (start setup) steps) b.holds b.linked
