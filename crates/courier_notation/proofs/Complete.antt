@@ -77,7 +77,7 @@ listed_read spell Good one complete (suc most) x (y ∷ ys) rest few good apart 
     ap (λ (t : List Token). listed one (suc most) t) regrouped
     ∙ more_read one most (spell x ++ tokens.Comma ∷ others) x others (y ∷ ys) rest (complete x (tokens.Comma ∷ others) good.0 refl) (listed_read spell Good one complete most y ys rest (omega arith) good.1 apart comma)
 
-some_read : {A : Type 0} (spell : A → List Token) (Good : A → Type 0) (one : Reader A) → IsComplete spell Good one → (xs : List A) (rest : List Token) → AreParts xs → AllByRecursion Good xs → is_apart rest ≡ true → behind_comma rest ≡ None
+pub some_read : {A : Type 0} (spell : A → List Token) (Good : A → Type 0) (one : Reader A) → IsComplete spell Good one → (xs : List A) (rest : List Token) → AreParts xs → AllByRecursion Good xs → is_apart rest ≡ true → behind_comma rest ≡ None
     → listed one most_parts (parts_spelling spell xs ++ rest) ≡ got xs rest
 some_read spell Good one complete [] rest parts good apart comma = absurd (omega arith)
 some_read spell Good one complete (x ∷ xs) rest parts good apart comma = listed_read spell Good one complete most_parts x xs rest parts.1 good apart comma

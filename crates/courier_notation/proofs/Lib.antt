@@ -7,3 +7,6 @@ pub mod Fronts
 pub mod Skipping
 pub mod Lexings
 pub mod Declaring
+pub mod ConstantRead
+pub mod ProgramSound
+pub mod ProgramComplete

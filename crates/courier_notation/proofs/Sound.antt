@@ -120,10 +120,10 @@ field_count_is [] = refl
 field_count_is (f ∷ fs) = ap suc (field_count_is fs)
 
 -- components that were read
-record AreFieldsRead (depth : ℕ) (ts : List Token) (fs : List (List ℕ × TypeModel)) (rest : List Token) : Type 0 where
-  takes : Takes ts (fields_spelling (fields_from fs) ++ tokens.CloseBracket ∷ []) rest
-  few : field_count (fields_from fs) ≤ most_parts
-  good : AreFields depth (fields_from fs)
+pub record AreFieldsRead (depth : ℕ) (ts : List Token) (fs : List (List ℕ × TypeModel)) (rest : List Token) : Type 0 where
+  pub takes : Takes ts (fields_spelling (fields_from fs) ++ tokens.CloseBracket ∷ []) rest
+  pub few : field_count (fields_from fs) ≤ most_parts
+  pub good : AreFields depth (fields_from fs)
 
 -- components, of which there are some
 abbrev fields_inside : ℕ → List Token → Result (List (List ℕ × TypeModel) × List Token) Fault
@@ -142,7 +142,7 @@ some_fields_take depth sound ts fs rest e =
     subst (λ (p : List (List ℕ × TypeModel) × List Token). AreFieldsRead depth ts p.0 p.1) (ok_is (a.0.0, b.0) (fs, rest) b.2)
     (record { takes = whole; few = omega (arith, l.few, field_count_is a.0.0); good = fields_good depth a.0.0 l.good })
 
-fields_behind_take : (depth : ℕ) → IsTypeSound depth → (ts : List Token) (fs : List (List ℕ × TypeModel)) (rest : List Token) → fields_behind (type_at depth) ts ≡ Ok (fs, rest) → AreFieldsRead depth ts fs rest
+pub fields_behind_take : (depth : ℕ) → IsTypeSound depth → (ts : List Token) (fs : List (List ℕ × TypeModel)) (rest : List Token) → fields_behind (type_at depth) ts ≡ Ok (fs, rest) → AreFieldsRead depth ts fs rest
 unfolding fields_behind
 fields_behind_take depth sound [] fs rest e = some_fields_take depth sound [] fs rest e
 fields_behind_take depth sound (tokens.CloseBracket ∷ ts) fs rest e =

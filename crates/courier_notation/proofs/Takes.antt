@@ -141,7 +141,7 @@ pub more_is : {A : Type 0} (spell : A → List Token) (xs : List A) → 1 ≤ le
 more_is spell [] h = absurd (omega arith)
 more_is spell (x ∷ xs) h = refl
 
-others_ok : {A : Type 0} (others : Reader (List A)) (ts : List Token) (o : Option (List Token)) (xs : List A) (rest : List Token) → others_at others ts o ≡ Ok (xs, rest)
+pub others_ok : {A : Type 0} (others : Reader (List A)) (ts : List Token) (o : Option (List Token)) (xs : List A) (rest : List Token) → others_at others ts o ≡ Ok (xs, rest)
     → ((next : List Token) × (o ≡ Some next) × (others next ≡ Ok (xs, rest))) ⊎ ((o ≡ None) × (xs ≡ []) × (ts ≡ rest))
 others_ok others ts (Some next) xs rest e = inl (next, refl, e)
 others_ok {A} others ts None xs rest e =

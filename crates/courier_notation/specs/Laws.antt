@@ -1,8 +1,11 @@
--- Laws of the grammar of types.
-use Rattle.std.specs.Prelude.{◌≡◌, ℕ, List, ◌++◌, Ok, true}
+-- What the definitions imply: the statements of the laws, each under the name of its law.
+use Rattle.std.specs.Prelude.{◌≡◌, ◌↔◌, ℕ, List, ◌++◌, Ok, true}
 use Rattle.courier_notation.specs.declared.token.Token.{Token}
 use Rattle.courier_notation.specs.Written.{TypeModel}
 use Rattle.courier_notation.specs.Reading.{type_at}
+use Rattle.courier_notation.specs.ProgramModels.{ProgramModel}
+use Rattle.courier_notation.specs.Programs.{program_of}
+use Rattle.courier_notation.specs.ProgramSpelling.{SpellsProgram}
 use Rattle.courier_notation.specs.Spelling.{type_spelling, IsType, is_apart}
 
 -- what is read is written so
@@ -14,3 +17,7 @@ ReadTypeIsWritten = (depth : ℕ) (ts : List Token) (type : TypeModel) (rest : L
 abbrev pub WrittenTypeIsRead : Type 0
 WrittenTypeIsRead = (depth : ℕ) (type : TypeModel) (rest : List Token) → IsType depth type → is_apart rest ≡ true
     → type_at depth (type_spelling type ++ rest) ≡ Ok (type, rest)
+
+-- what is read of tokens as a program is what they spell
+abbrev pub ProgramIsReadAsItIsSpelled : Type 0
+ProgramIsReadAsItIsSpelled = (ts : List Token) (p : ProgramModel) → (program_of ts ≡ Ok p) ↔ SpellsProgram p ts

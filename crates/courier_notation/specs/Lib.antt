@@ -5,3 +5,4 @@ pub mod Laws
 pub mod Lexing
 pub mod ProgramModels
 pub mod Programs
+pub mod ProgramSpelling

@@ -1,5 +1,5 @@
 //! Laws of the notation, as functions that do nothing.
-ghost use Rattle.courier_notation.specs.Laws.{ReadTypeIsWritten, WrittenTypeIsRead};
+ghost use Rattle.courier_notation.specs.Laws.{ProgramIsReadAsItIsSpelled, ReadTypeIsWritten, WrittenTypeIsRead};
 
 /// A type that is read is written so, token by token.
 pub fn read_type_is_written()
@@ -9,4 +9,9 @@ pub fn read_type_is_written()
 /// A type that is written so is read, whatever follows it.
 pub fn written_type_is_read()
     ensures { WrittenTypeIsRead }
+{}
+
+/// Tokens are read as a program exactly where they spell it, and so as no other program.
+pub fn program_is_read_as_it_is_spelled()
+    ensures { ProgramIsReadAsItIsSpelled }
 {}

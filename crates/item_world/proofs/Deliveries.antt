@@ -25,18 +25,18 @@ use Rattle.item_world.specs.declared.side.Side.{Side}
 
 -- ---- a packet is delivered that was just sent
 
-delivers_now : (w : World) (side : Side) (s p : State) (k : ℕ) (bytes : List ℕ) → Pair w side s p → IsNew w side s p k bytes → delivers w k ≡ flushes (stepped w (arrival k)) (other side)
+pub delivers_now : (w : World) (side : Side) (s p : State) (k : ℕ) (bytes : List ℕ) → Pair w side s p → IsNew w side s p k bytes → delivers w k ≡ flushes (stepped w (arrival k)) (other side)
 delivers_now w side s p k bytes x i =
     delivers_lands w k ∙ (ap (flushed w) (lands_there w side s p k bytes x i) ∙ ap (λ (v : World). flushes v (other side)) (sym (lands_now w side s p k bytes x i)))
 
 -- from a world in which the packet came
-delivered : Kept → (w : World) (side : Side) (s p : State) (k : ℕ) (bytes : List ℕ) → Pair w side s p → IsNew w side s p k bytes → Pair (delivers w k) side s (after_flush (after_receive p bytes))
+pub delivered : Kept → (w : World) (side : Side) (s p : State) (k : ℕ) (bytes : List ℕ) → Pair w side s p → IsNew w side s p k bytes → Pair (delivers w k) side s (after_flush (after_receive p bytes))
 delivered kept w side s p k bytes x i =
     let v : World = stepped w (arrival k) in
     subst (λ (u : World). Pair u side s (after_flush (after_receive p bytes))) (sym (delivers_now w side s p k bytes x i))
     (flushed_pair kept v side s (after_receive p bytes) (arrived kept w side s p k bytes x i))
 
-still_there : (w v : World) (side : Side) (k : ℕ) (x : Emitted) → v ≡ flushes w side → slice_get w.bag k ≡ Some x → slice_get v.bag k ≡ Some x
+pub still_there : (w v : World) (side : Side) (k : ℕ) (x : Emitted) → v ≡ flushes w side → slice_get w.bag k ≡ Some x → slice_get v.bag k ≡ Some x
 still_there w v side k x e h = ap (λ (u : World). slice_get u.bag k) e ∙ front_get w.bag _ k x h
 
 -- ---- an end asks, and is told

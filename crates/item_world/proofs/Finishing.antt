@@ -125,7 +125,7 @@ both_after k w (s ∷ ss) fits b =
     let step = All-head IsStep s ss fits in
     both_after k (stepped w s) ss (All-tail IsStep s ss fits) (record { holds = k.order.each w s step b.holds; linked = k.links w s step b.holds b.linked })
 
-events_after : Kept → (w : World) (es : List Event) → All IsEvent es → Both w → Both (run w es)
+pub events_after : Kept → (w : World) (es : List Event) → All IsEvent es → Both w → Both (run w es)
 events_after k w [] fits b = b
 events_after k w (e ∷ es) fits b =
     events_after k (happens w e) es (All-tail IsEvent e es fits) (both_after k w (steps_of w e) (steps_fit w e (All-head IsEvent e es fits)) b)

@@ -13,3 +13,7 @@ pub mod Finishing
 pub mod Deliveries
 pub mod Outward
 pub mod Linking
+pub mod Rests
+pub mod Ways
+pub mod Rounds
+pub mod Scheduled

@@ -33,15 +33,15 @@ use Rattle.item_world.specs.declared.side.Side.TheVariants.{A, B}
 -- ---- an end's own names stay
 
 -- the same address, identifier and role; the peer's may be learned
-record SameNames (e f : Ends) : Type 0 where
-  own : f.own ≡ e.own
-  id : f.id ≡ e.id
-  role : f.role ≡ e.role
+pub record SameNames (e f : Ends) : Type 0 where
+  pub own : f.own ≡ e.own
+  pub id : f.id ≡ e.id
+  pub role : f.role ≡ e.role
 
 from_on : (e f : Ends) (b : List ℕ) → SameNames e f → IsFrom e b → IsFrom f b
 from_on e f b n h p is = let was = h p is in (was.0 ∙ sym n.own, was.1 ∙ sym n.id)
 
-peer_on : (e f d : Ends) → SameNames e f → IsLinked d e → IsLinked d f
+pub peer_on : (e f d : Ends) → SameNames e f → IsLinked d e → IsLinked d f
 peer_on e f d n l = record {
   peer = l.peer ∙ sym n.own;
   peer_id = elim (l.peer_id) as (λ o. (d.peer_id ≡ 0) ⊎ (d.peer_id ≡ f.id)) [ inl none ↦ inl none | inr same ↦ inr (same ∙ sym n.id) ];

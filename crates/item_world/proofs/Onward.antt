@@ -76,7 +76,7 @@ ticked k w side s p x = record {
   linked = k.links w (ticking side) tt x.holds x.linked;
 }
 
-ticked_packet : Kept → (w : World) (side : Side) (s p : State) (q : SppPacketModel) → Pair w side s p → slice_get (tick_packets s) 0 ≡ Some q
+pub ticked_packet : Kept → (w : World) (side : Side) (s p : State) (q : SppPacketModel) → Pair w side s p → slice_get (tick_packets s) 0 ≡ Some q
     → slice_get (ticks w side).bag (length w.bag) ≡ Some (emitted side (moment (after_tick s) p) (spp_packet_spelling q))
 ticked_packet k w side s p q x h =
     let b : List ℕ = spp_packet_spelling q in
@@ -93,17 +93,22 @@ is_alive at m n a b =
     let d : n - at.receiver ≡ 0 = omega arith in
     ap (λ (i : ℕ). nat_lt lifetime i || nat_lt lifetime (n - at.receiver)) c ∙ ap (λ (i : ℕ). nat_lt lifetime 0 || nat_lt lifetime i) d
 
--- packet k was sent from this side when both ends had taken what they have now
+-- packet k was sent from this side and never delivered, and it lives
 pub record IsNew (w : World) (side : Side) (s p : State) (k : ℕ) (bytes : List ℕ) : Type 0 where
   pub at : Moment
   pub is : slice_get w.bag k ≡ Some (emitted side at bytes)
-  pub sender : at.sender ≡ length s.taken
-  pub receiver : at.receiver ≡ length p.taken
+  pub alive : is_past at (length s.taken) (length p.taken) ≡ false
+
+living : (w : World) (side : Side) (s p : State) (at : Moment) → Pair w side s p → is_past at (length s.taken) (length p.taken) ≡ false
+    → is_past at (length (end_of w side).taken) (length (end_of w (other side)).taken) ≡ false
+living w side s p at x alive =
+    ap (λ (t : State). is_past at (length t.taken) (length (end_of w (other side)).taken)) x.here
+    ∙ (ap (λ (t : State). is_past at (length s.taken) (length t.taken)) x.there ∙ alive)
 
 pub lands_now : (w : World) (side : Side) (s p : State) (k : ℕ) (bytes : List ℕ) → Pair w side s p → (i : IsNew w side s p k bytes) → stepped w (arrival k) ≡ answered w k (emitted side i.at bytes)
 lands_now w side s p k bytes x i =
     let y : Emitted = emitted side i.at bytes in
-    let alive = is_alive i.at (length (end_of w side).taken) (length (end_of w (other side)).taken) (i.sender ∙ sym (ap (λ (t : State). length t.taken) x.here)) (i.receiver ∙ sym (ap (λ (t : State). length t.taken) x.there)) in
+    let alive = living w side s p i.at x i.alive in
     ap (λ (o : Option Emitted). reached w (landed w k o)) i.is
     ∙ ap (λ (b : Bool). reached w (if b then None else Some (other side, answered w k y))) alive
 
@@ -190,7 +195,7 @@ asked k w side s p x left =
     let heard = proper_heard laws t p q proper.meant now back (as_proper (moment t p) t q proper) ours in
     let bytes : List ℕ = spp_packet_spelling q in
     let reply = (laws.counts p bytes q proper.meant heard).reply a.asks in
-    let new : IsNew v side t p (length w.bag) bytes = record { at = moment t p; is = ticked_packet k w side s p q x a.first; sender = refl; receiver = refl } in
+    let new : IsNew v side t p (length w.bag) bytes = record { at = moment t p; is = ticked_packet k w side s p q x a.first; alive = is_alive (moment t p) (length t.taken) (length p.taken) refl refl } in
     record {
       bytes = bytes;
       new = new;
@@ -239,7 +244,7 @@ goes k w side s p knows none left =
     laws.peers.ours s.ends p.ends q before.fits.ends here.fits.ends (links w side s p x) (links w (other side) p s (flip w side s p x)) (laws.peers.item s n item) in
     let bytes : List ℕ = spp_packet_spelling q in
     let heard : IsHeard p bytes q (own_meant s n) = proper_heard laws t p q (own_meant s n) now back proper ours in
-    let new : IsNew v side t p (length w.bag) bytes = record { at = moment t p; is = ticked_packet k w side s p q x first; sender = refl; receiver = refl } in
+    let new : IsNew v side t p (length w.bag) bytes = record { at = moment t p; is = ticked_packet k w side s p q x first; alive = is_alive (moment t p) (length t.taken) (length p.taken) refl refl } in
     record {
       bytes = bytes;
       new = new;
@@ -289,8 +294,8 @@ alike laws s =
 pub lands_there : (w : World) (side : Side) (s p : State) (k : ℕ) (bytes : List ℕ) → Pair w side s p → (i : IsNew w side s p k bytes) → landing w k ≡ Some (other side, answered w k (emitted side i.at bytes))
 lands_there w side s p k bytes x i =
     let y : Emitted = emitted side i.at bytes in
-    ap (landed w k) i.is ∙ ap (λ (b : Bool). if b then None else Some (other side, answered w k y)) (is_alive i.at (length (end_of w side).taken) (length (end_of w (other side)).taken)
-    (i.sender ∙ sym (ap (λ (t : State). length t.taken) x.here)) (i.receiver ∙ sym (ap (λ (t : State). length t.taken) x.there)))
+    ap (landed w k) i.is
+    ∙ ap (λ (b : Bool). if b then None else Some (other side, answered w k y)) (living w side s p i.at x i.alive)
 
 pub flushed_pair : Kept → (w : World) (side : Side) (s p : State) → Pair w side s p → Pair (flushes w (other side)) side s (after_flush p)
 flushed_pair k w side s p x =
@@ -317,8 +322,7 @@ pub new_out : EndLaws → (w : World) (side : Side) (s p : State) (k : ℕ) (byt
 new_out laws w side s p k bytes i = record {
   at = i.at;
   is = front_get w.bag _ k (emitted side i.at bytes) i.is;
-  sender = i.sender ∙ sym (ap length (alike laws s).taken);
-  receiver = i.receiver;
+  alive = ap (λ (l : List Item). is_past i.at (length l) (length p.taken)) (alike laws s).taken ∙ i.alive;
 }
 
 pub lands_as : (w : World) (side : Side) (s p : State) (k : ℕ) (bytes : List ℕ) → Pair w side s p → IsNew w side s p k bytes → landing w k ≡ Some (other side, stepped w (arrival k))
@@ -345,7 +349,7 @@ told_out kept w side t o k x before h =
     (subst (λ (e : Ends). IsNamed e q) (sym l.ends) (laws.peers.system o reply_control)) in
     let heard : IsHeard t bytes q (own_meant o o.sent) = proper_heard laws p t q (own_meant o o.sent) to back proper ours in
     let counts : Counts t bytes q (own_meant o o.sent) = laws.counts t bytes q (own_meant o o.sent) heard in
-    let new : IsNew w (other side) p t k bytes = record { at = moment o t; is = h; sender = sym (ap length l.taken); receiver = refl } in
+    let new : IsNew w (other side) p t k bytes = record { at = moment o t; is = h; alive = is_alive (moment o t) (length p.taken) (length t.taken) (sym (ap length l.taken)) refl } in
     let u : State = after_receive t bytes in
     let v : World = stepped w (arrival k) in
     let f : Pair v (other (other side)) u p = flip v (other side) p u (arrived kept w (other side) p t k bytes y new) in

@@ -1,0 +1,388 @@
+-- A program that is read is spelled so.
+use Rattle.std.proofs.Common.{◌≡◌, ◌⊎◌, ℕ, zero, suc, ◌<◌, ◌≤◌, Bool, true, false, cond, ltb, List, [], ◌∷◌, ◌++◌, length, Result, Ok, Err, refl, sym, ap, subst, ◌∙◌, append-nil, arith, inl, inr}
+use Rattle.std.specs.List.{AllByRecursion}
+use Rattle.std.proofs.lemmas.Bool.{ltb-true}
+use Rattle.courier_notation.specs.declared.declared.Dependency.{Dependency}
+use Rattle.courier_notation.specs.declared.reason.Reason.{Reason}
+use Rattle.courier_notation.specs.declared.token.Token.{Token}
+use Rattle.courier_notation.specs.declared.token.Token.TheVariants as tokens
+use Rattle.courier_notation.specs.declared.written.Reference.{Reference}
+use Rattle.courier_notation.specs.Written.{fields_from}
+use Rattle.courier_notation.specs.ProgramModels.{DeclaredModel, FieldList, ProgramModel}
+use Rattle.courier_notation.specs.Reading.{Fault, ◌>>=◌, over, listed, most_parts, name_at, reference_behind, colon_at, open_bracket_at, close_bracket_at, open_parenthesis_at, close_parenthesis_at, fields_behind, fields_at, type_at}
+use Rattle.courier_notation.specs.Programs.{most_depth, begin_at, end_at, program_at, version_at, upon_at, equal_at, semicolon_at, dot_at, long_at, small_or_fault, small_at, constant_at, arguments_at, results_at, reference_at, reports_at}
+use Rattle.courier_notation.specs.Programs.{procedure_behind, error_behind, type_declared, constant_declared, declared_at, declaration_at, is_end, most_declarations, declarations_at, dependency_at, dependencies_at, nothing_at, Header, header_at, body_at, program_with, program_of}
+use Rattle.courier_notation.specs.Spelling.{reference_spelling, parts_spelling, type_spelling, fields_spelling, AreParts}
+use Rattle.courier_notation.specs.ProgramSpelling.{SpellsFields, SaysNothing, SpellsArguments, SpellsResults, SpellsReports, numbered, SpellsDeclared, SpellsDeclaration, SpellsDeclarations, dependency_spelling, IsDependency, SpellsDependencies, SpellsProgram}
+use Rattle.courier_notation.proofs.Takes.{done, ok_is, bind_ok, over_ok, Takes, Takes-then, Takes-behind, Takes-one, IsSound, Any, listed_takes, name_takes, reference_takes, colon_is, open_bracket_is, close_bracket_is, open_parenthesis_is, close_parenthesis_is}
+use Rattle.courier_notation.proofs.Sound.{type_takes, fields_behind_take}
+use Rattle.courier_notation.proofs.ConstantRead.{constant_takes}
+
+-- ---- single tokens
+
+begin_is : (ts rest : List Token) → begin_at ts ≡ Ok rest → ts ≡ tokens.Begin ∷ rest
+begin_is [] rest e = absurd cc
+begin_is (tokens.Begin ∷ ts) rest e = ap (λ (r : List Token). tokens.Begin ∷ r) (ok_is ts rest e)
+begin_is (t ∷ ts) rest e = absurd cc
+
+end_is : (ts rest : List Token) → end_at ts ≡ Ok rest → ts ≡ tokens.End ∷ rest
+end_is [] rest e = absurd cc
+end_is (tokens.End ∷ ts) rest e = ap (λ (r : List Token). tokens.End ∷ r) (ok_is ts rest e)
+end_is (t ∷ ts) rest e = absurd cc
+
+program_is : (ts rest : List Token) → program_at ts ≡ Ok rest → ts ≡ tokens.Program ∷ rest
+program_is [] rest e = absurd cc
+program_is (tokens.Program ∷ ts) rest e = ap (λ (r : List Token). tokens.Program ∷ r) (ok_is ts rest e)
+program_is (t ∷ ts) rest e = absurd cc
+
+version_is : (ts rest : List Token) → version_at ts ≡ Ok rest → ts ≡ tokens.Version ∷ rest
+version_is [] rest e = absurd cc
+version_is (tokens.Version ∷ ts) rest e = ap (λ (r : List Token). tokens.Version ∷ r) (ok_is ts rest e)
+version_is (t ∷ ts) rest e = absurd cc
+
+upon_is : (ts rest : List Token) → upon_at ts ≡ Ok rest → ts ≡ tokens.Upon ∷ rest
+upon_is [] rest e = absurd cc
+upon_is (tokens.Upon ∷ ts) rest e = ap (λ (r : List Token). tokens.Upon ∷ r) (ok_is ts rest e)
+upon_is (t ∷ ts) rest e = absurd cc
+
+equal_is : (ts rest : List Token) → equal_at ts ≡ Ok rest → ts ≡ tokens.Equal ∷ rest
+equal_is [] rest e = absurd cc
+equal_is (tokens.Equal ∷ ts) rest e = ap (λ (r : List Token). tokens.Equal ∷ r) (ok_is ts rest e)
+equal_is (t ∷ ts) rest e = absurd cc
+
+semicolon_is : (ts rest : List Token) → semicolon_at ts ≡ Ok rest → ts ≡ tokens.Semicolon ∷ rest
+semicolon_is [] rest e = absurd cc
+semicolon_is (tokens.Semicolon ∷ ts) rest e = ap (λ (r : List Token). tokens.Semicolon ∷ r) (ok_is ts rest e)
+semicolon_is (t ∷ ts) rest e = absurd cc
+
+dot_is : (ts rest : List Token) → dot_at ts ≡ Ok rest → ts ≡ tokens.Dot ∷ rest
+dot_is [] rest e = absurd cc
+dot_is (tokens.Dot ∷ ts) rest e = ap (λ (r : List Token). tokens.Dot ∷ r) (ok_is ts rest e)
+dot_is (t ∷ ts) rest e = absurd cc
+
+abbrev number_spelling : ℕ → List Token
+number_spelling n = tokens.Number n ∷ []
+
+long_takes : IsSound number_spelling Any long_at
+long_takes [] n rest e = absurd cc
+long_takes (tokens.Number m ∷ ts) n rest e = subst (λ (p : ℕ × List Token). Takes (tokens.Number m ∷ ts) (number_spelling p.0) p.1 × Unit {0}) (ok_is (m, ts) (n, rest) e) (record { parts = refl }, tt)
+long_takes (t ∷ ts) n rest e = absurd cc
+
+small_is : (n : ℕ) (b : Bool) (ts : List Token) (f : Fault) (x : ℕ × List Token) → ltb n 65536 ≡ b → cond {A = Result (ℕ × List Token) Fault} b (Ok (n, ts)) (Err f) ≡ Ok x → ((n, ts) ≡ x) × (n < 65536)
+small_is n false ts f x h e = absurd cc
+small_is n true ts f x h e = (ok_is (n, ts) x e, ltb-true n 65536 h)
+
+abbrev IsSmall : ℕ → Type 0
+IsSmall n = n < 65536
+
+small_takes : IsSound number_spelling IsSmall small_at
+unfolding small_at
+small_takes ts n rest e =
+    let a = bind_ok (long_at ts) (λ n. small_or_fault n.0 n.1) (n, rest) e in
+    let t = long_takes ts a.0.0 a.0.1 a.1 in
+    let s = small_is a.0.0 (ltb a.0.0 65536) a.0.1 _ (n, rest) refl a.2 in
+    subst (λ (p : ℕ × List Token). Takes ts (number_spelling p.0) p.1 × IsSmall p.0) s.0 (t.0, s.1)
+
+-- ---- parts of declarations
+
+-- the front of the tokens spells what was read
+record Found {A : Type 0} (Spells : A → List Token → Type 0) (ts : List Token) (x : A × List Token) : Type 0 where
+  text : List Token
+  takes : Takes ts text x.1
+  spells : Spells x.0 text
+
+fields_found : (ts : List Token) (x : FieldList × List Token) → fields_at (type_at most_depth) ts ≡ Ok x → Found SpellsFields ts x
+unfolding fields_at
+fields_found ts x e =
+    let a = bind_ok (open_bracket_at ts) (fields_behind (type_at most_depth)) x e in
+    let f = fields_behind_take most_depth (type_takes most_depth) a.0 x.0 x.1 a.2 in
+    let text = fields_spelling (fields_from x.0) ++ tokens.CloseBracket ∷ [] in
+    record { text = tokens.OpenBracket ∷ text; takes = Takes-behind tokens.OpenBracket ts a.0 text x.1 (open_bracket_is ts a.0 a.1) f.takes; spells = (f.few, f.good, refl) }
+
+-- nothing was said
+nothing_found : {A : Type 0} (Says : List A → List Token → Type 0) (ts : List Token) (x : List A × List Token) → done ([], ts) ≡ Ok x → Found (λ xs text. SaysNothing xs text ⊎ Says xs text) ts x
+nothing_found {A} Says ts x e =
+    let made : List A × List Token = ([], ts) in
+    subst (λ (p : List A × List Token). Found (λ xs text. SaysNothing xs text ⊎ Says xs text) ts p) (ok_is made x e) (record { text = []; takes = record { parts = refl }; spells = inl (refl, refl) })
+
+arguments_found : (ts : List Token) (x : FieldList × List Token) → arguments_at ts ≡ Ok x → Found SpellsArguments ts x
+unfolding arguments_at
+arguments_found [] x e = nothing_found SpellsFields [] x e
+arguments_found (tokens.OpenBracket ∷ ts) x e = let f = fields_found (tokens.OpenBracket ∷ ts) x e in record { text = f.text; takes = f.takes; spells = inr f.spells }
+arguments_found (t ∷ ts) x e = nothing_found SpellsFields (t ∷ ts) x e
+
+abbrev SaysResults : FieldList → List Token → Type 0
+SaysResults fields text = (inside : List Token) × (text ≡ tokens.Returns ∷ inside) × SpellsFields fields inside
+
+results_found : (ts : List Token) (x : FieldList × List Token) → results_at ts ≡ Ok x → Found SpellsResults ts x
+unfolding results_at
+results_found [] x e = nothing_found SaysResults [] x e
+results_found (tokens.Returns ∷ ts) x e =
+    let f = fields_found ts x e in
+    record { text = tokens.Returns ∷ f.text; takes = Takes-behind tokens.Returns (tokens.Returns ∷ ts) ts f.text x.1 refl f.takes; spells = inr (f.text, refl, f.spells) }
+results_found (t ∷ ts) x e = nothing_found SaysResults (t ∷ ts) x e
+
+whole_takes : IsSound reference_spelling Any reference_at
+unfolding reference_at
+whole_takes ts x rest e =
+    let a = bind_ok (name_at ts) (λ name. reference_behind name.0 name.1) (x, rest) e in
+    let t0 = name_takes ts a.0.0 a.0.1 a.1 in
+    let t1 = reference_takes a.0.0 a.0.1 x rest a.2 in
+    (subst (λ (t : List Token). Takes t (reference_spelling x) rest) (sym t0.0.parts) t1, tt)
+
+abbrev SaysReports : List Reference → List Token → Type 0
+SaysReports errors text = AreParts errors × (text ≡ tokens.Reports ∷ tokens.OpenBracket ∷ (parts_spelling reference_spelling errors ++ tokens.CloseBracket ∷ []))
+
+reports_found : (ts : List Token) (x : List Reference × List Token) → reports_at ts ≡ Ok x → Found SpellsReports ts x
+unfolding reports_at
+reports_found [] x e = nothing_found SaysReports [] x e
+reports_found (tokens.Reports ∷ ts) x e =
+    let a = bind_ok (open_bracket_at ts) (λ inside. listed reference_at most_parts inside >>= λ errors. close_bracket_at errors.1 >>= λ rest. Ok (errors.0, rest)) x e in
+    let b = bind_ok (listed reference_at most_parts a.0) (λ errors. close_bracket_at errors.1 >>= λ rest. Ok (errors.0, rest)) x a.2 in
+    let c = bind_ok (close_bracket_at b.0.1) (λ rest. Ok (b.0.0, rest)) x b.2 in
+    let l = listed_takes reference_spelling Any reference_at whole_takes most_parts a.0 b.0.0 b.0.1 b.1 in
+    let text = parts_spelling reference_spelling b.0.0 ++ tokens.CloseBracket ∷ [] in
+    let inside = Takes-then a.0 (parts_spelling reference_spelling b.0.0) b.0.1 (tokens.CloseBracket ∷ []) c.0 l.takes (Takes-one tokens.CloseBracket b.0.1 c.0 (close_bracket_is b.0.1 c.0 c.1)) in
+    let opened = Takes-behind tokens.OpenBracket ts a.0 text c.0 (open_bracket_is ts a.0 a.1) inside in
+    let whole = Takes-behind tokens.Reports (tokens.Reports ∷ ts) ts (tokens.OpenBracket ∷ text) c.0 refl opened in
+    subst (λ (p : List Reference × List Token). Found SpellsReports (tokens.Reports ∷ ts) p) (ok_is (b.0.0, c.0) x c.2)
+    (record { text = tokens.Reports ∷ tokens.OpenBracket ∷ text; takes = whole; spells = inr ((l.some, l.few), refl) })
+reports_found (t ∷ ts) x e = nothing_found SaysReports (t ∷ ts) x e
+
+-- a number behind an equals sign
+numbered_takes : (ts : List Token) (rest : List Token) (n : ℕ × List Token) → equal_at ts ≡ Ok rest → small_at rest ≡ Ok n → Takes ts (numbered n.0) n.1 × IsSmall n.0
+numbered_takes ts rest n e f =
+    let t = small_takes rest n.0 n.1 f in
+    (Takes-behind tokens.Equal ts rest (tokens.Number n.0 ∷ []) n.1 (equal_is ts rest e) t.0, t.1)
+
+-- ---- declarations
+
+procedure_found : (ts : List Token) (x : DeclaredModel × List Token) → procedure_behind ts ≡ Ok x → Found SpellsDeclared (tokens.Procedure ∷ ts) x
+unfolding procedure_behind
+procedure_found ts x e =
+    let a = bind_ok (arguments_at ts) (λ arguments. results_at arguments.1 >>= λ results. reports_at results.1 >>= λ errors. equal_at errors.1 >>= λ rest. small_at rest >>= λ number. Ok (DeclaredModel.is_procedure arguments.0 results.0 errors.0 number.0, number.1)) x e in
+    let b = bind_ok (results_at a.0.1) (λ results. reports_at results.1 >>= λ errors. equal_at errors.1 >>= λ rest. small_at rest >>= λ number. Ok (DeclaredModel.is_procedure a.0.0 results.0 errors.0 number.0, number.1)) x a.2 in
+    let c = bind_ok (reports_at b.0.1) (λ errors. equal_at errors.1 >>= λ rest. small_at rest >>= λ number. Ok (DeclaredModel.is_procedure a.0.0 b.0.0 errors.0 number.0, number.1)) x b.2 in
+    let d = bind_ok (equal_at c.0.1) (λ rest. small_at rest >>= λ number. Ok (DeclaredModel.is_procedure a.0.0 b.0.0 c.0.0 number.0, number.1)) x c.2 in
+    let f = bind_ok (small_at d.0) (λ number. Ok (DeclaredModel.is_procedure a.0.0 b.0.0 c.0.0 number.0, number.1)) x d.2 in
+    let fa = arguments_found ts a.0 a.1 in
+    let fb = results_found a.0.1 b.0 b.1 in
+    let fc = reports_found b.0.1 c.0 c.1 in
+    let n = numbered_takes c.0.1 d.0 f.0 d.1 f.1 in
+    let t2 = Takes-then b.0.1 fc.text c.0.1 (numbered f.0.0) f.0.1 fc.takes n.0 in
+    let t1 = Takes-then a.0.1 fb.text b.0.1 (fc.text ++ numbered f.0.0) f.0.1 fb.takes t2 in
+    let t0 = Takes-then ts fa.text a.0.1 (fb.text ++ (fc.text ++ numbered f.0.0)) f.0.1 fa.takes t1 in
+    let text = fa.text ++ (fb.text ++ (fc.text ++ numbered f.0.0)) in
+    subst (λ (p : DeclaredModel × List Token). Found SpellsDeclared (tokens.Procedure ∷ ts) p) (ok_is (DeclaredModel.is_procedure a.0.0 b.0.0 c.0.0 f.0.0, f.0.1) x f.2)
+    (record { text = tokens.Procedure ∷ text; takes = Takes-behind tokens.Procedure (tokens.Procedure ∷ ts) ts text f.0.1 refl t0; spells = (fa.text, fb.text, fc.text, fa.spells, fb.spells, fc.spells, n.1, refl) })
+
+error_found : (ts : List Token) (x : DeclaredModel × List Token) → error_behind ts ≡ Ok x → Found SpellsDeclared (tokens.Error ∷ ts) x
+unfolding error_behind
+error_found ts x e =
+    let a = bind_ok (arguments_at ts) (λ arguments. equal_at arguments.1 >>= λ rest. small_at rest >>= λ number. Ok (DeclaredModel.is_error arguments.0 number.0, number.1)) x e in
+    let d = bind_ok (equal_at a.0.1) (λ rest. small_at rest >>= λ number. Ok (DeclaredModel.is_error a.0.0 number.0, number.1)) x a.2 in
+    let f = bind_ok (small_at d.0) (λ number. Ok (DeclaredModel.is_error a.0.0 number.0, number.1)) x d.2 in
+    let fa = arguments_found ts a.0 a.1 in
+    let n = numbered_takes a.0.1 d.0 f.0 d.1 f.1 in
+    let t0 = Takes-then ts fa.text a.0.1 (numbered f.0.0) f.0.1 fa.takes n.0 in
+    let text = fa.text ++ numbered f.0.0 in
+    subst (λ (p : DeclaredModel × List Token). Found SpellsDeclared (tokens.Error ∷ ts) p) (ok_is (DeclaredModel.is_error a.0.0 f.0.0, f.0.1) x f.2)
+    (record { text = tokens.Error ∷ text; takes = Takes-behind tokens.Error (tokens.Error ∷ ts) ts text f.0.1 refl t0; spells = (fa.text, fa.spells, n.1, refl) })
+
+type_found : (ts : List Token) (x : DeclaredModel × List Token) → type_declared ts ≡ Ok x → Found SpellsDeclared (tokens.Type ∷ ts) x
+unfolding type_declared
+type_found ts x e =
+    let a = bind_ok (equal_at ts) (λ rest. type_at most_depth rest >>= λ type. Ok (DeclaredModel.is_type type.0, type.1)) x e in
+    let b = bind_ok (type_at most_depth a.0) (λ type. Ok (DeclaredModel.is_type type.0, type.1)) x a.2 in
+    let t = type_takes most_depth a.0 b.0.0 b.0.1 b.1 in
+    let t1 = Takes-behind tokens.Equal ts a.0 (type_spelling b.0.0) b.0.1 (equal_is ts a.0 a.1) t.0 in
+    subst (λ (p : DeclaredModel × List Token). Found SpellsDeclared (tokens.Type ∷ ts) p) (ok_is (DeclaredModel.is_type b.0.0, b.0.1) x b.2)
+    (record { text = tokens.Type ∷ tokens.Equal ∷ type_spelling b.0.0; takes = Takes-behind tokens.Type (tokens.Type ∷ ts) ts (tokens.Equal ∷ type_spelling b.0.0) b.0.1 refl t1; spells = (t.1, refl) })
+
+constant_declared_found : (ts : List Token) (x : DeclaredModel × List Token) → constant_declared ts ≡ Ok x → Found SpellsDeclared ts x
+unfolding constant_declared
+constant_declared_found ts x e =
+    let a = bind_ok (type_at most_depth ts) (λ type. equal_at type.1 >>= λ rest. constant_at most_depth rest >>= λ constant. Ok (DeclaredModel.is_constant type.0 constant.0, constant.1)) x e in
+    let b = bind_ok (equal_at a.0.1) (λ rest. constant_at most_depth rest >>= λ constant. Ok (DeclaredModel.is_constant a.0.0 constant.0, constant.1)) x a.2 in
+    let c = bind_ok (constant_at most_depth b.0) (λ constant. Ok (DeclaredModel.is_constant a.0.0 constant.0, constant.1)) x b.2 in
+    let t = type_takes most_depth ts a.0.0 a.0.1 a.1 in
+    let f = constant_takes most_depth b.0 c.0.0 c.0.1 c.1 in
+    let t1 = Takes-behind tokens.Equal a.0.1 b.0 f.0 c.0.1 (equal_is a.0.1 b.0 b.1) f.1 in
+    let t0 = Takes-then ts (type_spelling a.0.0) a.0.1 (tokens.Equal ∷ f.0) c.0.1 t.0 t1 in
+    subst (λ (p : DeclaredModel × List Token). Found SpellsDeclared ts p) (ok_is (DeclaredModel.is_constant a.0.0 c.0.0, c.0.1) x c.2)
+    (record { text = type_spelling a.0.0 ++ tokens.Equal ∷ f.0; takes = t0; spells = (f.0, t.1, f.2, refl) })
+
+declared_found : (ts : List Token) (x : DeclaredModel × List Token) → declared_at ts ≡ Ok x → Found SpellsDeclared ts x
+unfolding declared_at
+declared_found [] x e = constant_declared_found [] x e
+declared_found (tokens.Type ∷ ts) x e = type_found ts x e
+declared_found (tokens.Procedure ∷ ts) x e = procedure_found ts x e
+declared_found (tokens.Error ∷ ts) x e = error_found ts x e
+declared_found (t ∷ ts) x e = constant_declared_found (t ∷ ts) x e
+
+abbrev Named : Type 0
+Named = ℕ × DeclaredModel
+
+declaration_found : (ts : List Token) (x : Named × List Token) → declaration_at ts ≡ Ok x → Found SpellsDeclaration ts x
+unfolding declaration_at
+declaration_found ts x e =
+    let a = bind_ok (name_at ts) (λ name. colon_at name.1 >>= λ rest. declared_at rest >>= λ declared. semicolon_at declared.1 >>= λ behind. Ok ((name.0, declared.0), behind)) x e in
+    let b = bind_ok (colon_at a.0.1) (λ rest. declared_at rest >>= λ declared. semicolon_at declared.1 >>= λ behind. Ok ((a.0.0, declared.0), behind)) x a.2 in
+    let c = bind_ok (declared_at b.0) (λ declared. semicolon_at declared.1 >>= λ behind. Ok ((a.0.0, declared.0), behind)) x b.2 in
+    let d = bind_ok (semicolon_at c.0.1) (λ behind. Ok ((a.0.0, c.0.0), behind)) x c.2 in
+    let t0 = name_takes ts a.0.0 a.0.1 a.1 in
+    let f = declared_found b.0 c.0 c.1 in
+    let t3 = Takes-then b.0 f.text c.0.1 (tokens.Semicolon ∷ []) d.0 f.takes (Takes-one tokens.Semicolon c.0.1 d.0 (semicolon_is c.0.1 d.0 d.1)) in
+    let text = f.text ++ tokens.Semicolon ∷ [] in
+    let t2 = Takes-behind tokens.Colon a.0.1 b.0 text d.0 (colon_is a.0.1 b.0 b.1) t3 in
+    let whole = Takes-behind (tokens.Name a.0.0) ts a.0.1 (tokens.Colon ∷ text) d.0 t0.0.parts t2 in
+    let made : Named × List Token = ((a.0.0, c.0.0), d.0) in
+    subst (λ (p : Named × List Token). Found SpellsDeclaration ts p) (ok_is made x d.2)
+    (record { text = tokens.Name a.0.0 ∷ tokens.Colon ∷ text; takes = whole; spells = (f.text, f.spells, refl) })
+
+record AreDeclared (most : ℕ) (ts : List Token) (x : List Named × List Token) : Type 0 where
+  text : List Token
+  takes : Takes ts text x.1
+  spells : SpellsDeclarations x.0 text
+  few : length x.0 ≤ most
+
+no_declaration : (most : ℕ) (ts : List Token) (x : List Named × List Token) → done ([], ts) ≡ Ok x → AreDeclared most ts x
+no_declaration most ts x e =
+    let made : List Named × List Token = ([], ts) in
+    subst (λ (p : List Named × List Token). AreDeclared most ts p) (ok_is made x e) (record { text = []; takes = record { parts = refl }; spells = refl; few = omega arith })
+
+declarations_found : (most : ℕ) (ts : List Token) (x : List Named × List Token) → declarations_at most ts ≡ Ok x → AreDeclared most ts x
+unfolding declarations_at
+declarations_found zero ts x e = by_end (is_end ts) e
+  where
+    by_end : (b : Bool) → cond {A = Result (List Named × List Token) Fault} b (Ok ([], ts)) (Err (length ts, Reason.TooManyDeclarations)) ≡ Ok x → AreDeclared zero ts x
+    by_end true e = no_declaration zero ts x e
+    by_end false e = absurd cc
+declarations_found (suc most) ts x e = by_end (is_end ts) (declarations_found most) e
+  where
+    by_end : (b : Bool) → ((ts : List Token) (x : List Named × List Token) → declarations_at most ts ≡ Ok x → AreDeclared most ts x)
+        → cond {A = Result (List Named × List Token) Fault} b (Ok ([], ts)) (declaration_at ts >>= λ first. over (λ others. first.0 ∷ others) (declarations_at most first.1)) ≡ Ok x → AreDeclared (suc most) ts x
+    by_end true more e = no_declaration (suc most) ts x e
+    by_end false more e =
+        let a = bind_ok (declaration_at ts) (λ first. over (λ others. first.0 ∷ others) (declarations_at most first.1)) x e in
+        let o = over_ok (λ others. a.0.0 ∷ others) (declarations_at most a.0.1) x a.2 in
+        let f = declaration_found ts a.0 a.1 in
+        let m = more a.0.1 o.0 o.1 in
+        subst (λ (p : List Named × List Token). AreDeclared (suc most) ts p) o.2
+        (record { text = f.text ++ m.text; takes = Takes-then ts f.text a.0.1 m.text o.0.1 f.takes m.takes; spells = (f.text, m.text, f.spells, m.spells, refl); few = omega (arith, m.few) })
+
+-- ---- programs
+
+dependency_takes : IsSound dependency_spelling IsDependency dependency_at
+unfolding dependency_at
+dependency_takes ts x rest e =
+    let a = bind_ok (name_at ts) (λ name. open_parenthesis_at name.1 >>= λ inside. long_at inside >>= λ number. close_parenthesis_at number.1 >>= λ rest. version_at rest >>= λ behind. small_at behind >>= λ version. Ok (made name.0 number.0 version.0, version.1)) (x, rest) e in
+    let b = bind_ok (open_parenthesis_at a.0.1) (λ inside. long_at inside >>= λ number. close_parenthesis_at number.1 >>= λ rest. version_at rest >>= λ behind. small_at behind >>= λ version. Ok (made a.0.0 number.0 version.0, version.1)) (x, rest) a.2 in
+    let c = bind_ok (long_at b.0) (λ number. close_parenthesis_at number.1 >>= λ rest. version_at rest >>= λ behind. small_at behind >>= λ version. Ok (made a.0.0 number.0 version.0, version.1)) (x, rest) b.2 in
+    let d = bind_ok (close_parenthesis_at c.0.1) (λ rest. version_at rest >>= λ behind. small_at behind >>= λ version. Ok (made a.0.0 c.0.0 version.0, version.1)) (x, rest) c.2 in
+    let f = bind_ok (version_at d.0) (λ behind. small_at behind >>= λ version. Ok (made a.0.0 c.0.0 version.0, version.1)) (x, rest) d.2 in
+    let g = bind_ok (small_at f.0) (λ version. Ok (made a.0.0 c.0.0 version.0, version.1)) (x, rest) f.2 in
+    let n = name_takes ts a.0.0 a.0.1 a.1 in
+    let l = long_takes b.0 c.0.0 c.0.1 c.1 in
+    let s = small_takes f.0 g.0.0 g.0.1 g.1 in
+    let t3 = Takes-behind tokens.Version d.0 f.0 (tokens.Number g.0.0 ∷ []) g.0.1 (version_is d.0 f.0 f.1) s.0 in
+    let t2 = Takes-behind tokens.CloseParenthesis c.0.1 d.0 (tokens.Version ∷ tokens.Number g.0.0 ∷ []) g.0.1 (close_parenthesis_is c.0.1 d.0 d.1) t3 in
+    let t1 = Takes-behind (tokens.Number c.0.0) b.0 c.0.1 (tokens.CloseParenthesis ∷ tokens.Version ∷ tokens.Number g.0.0 ∷ []) g.0.1 l.0.parts t2 in
+    let t0 = Takes-behind tokens.OpenParenthesis a.0.1 b.0 (tokens.Number c.0.0 ∷ tokens.CloseParenthesis ∷ tokens.Version ∷ tokens.Number g.0.0 ∷ []) g.0.1 (open_parenthesis_is a.0.1 b.0 b.1) t1 in
+    let whole = Takes-behind (tokens.Name a.0.0) ts a.0.1 (tokens.OpenParenthesis ∷ tokens.Number c.0.0 ∷ tokens.CloseParenthesis ∷ tokens.Version ∷ tokens.Number g.0.0 ∷ []) g.0.1 n.0.parts t0 in
+    subst (λ (p : Dependency × List Token). Takes ts (dependency_spelling p.0) p.1 × IsDependency p.0) (ok_is (made a.0.0 c.0.0 g.0.0, g.0.1) (x, rest) g.2) (whole, s.1)
+  where
+    made : ℕ → ℕ → ℕ → Dependency
+    made name number version = record { name = name; number = number; version = version }
+
+abbrev SaysDependencies : List Dependency → List Token → Type 0
+SaysDependencies ds text = AreParts ds × AllByRecursion IsDependency ds × (text ≡ tokens.Depends ∷ tokens.Upon ∷ (parts_spelling dependency_spelling ds ++ tokens.Semicolon ∷ []))
+
+dependencies_found : (ts : List Token) (x : List Dependency × List Token) → dependencies_at ts ≡ Ok x → Found SpellsDependencies ts x
+unfolding dependencies_at
+dependencies_found [] x e = nothing_found SaysDependencies [] x e
+dependencies_found (tokens.Depends ∷ ts) x e =
+    let a = bind_ok (upon_at ts) (λ inside. listed dependency_at most_parts inside >>= λ dependencies. semicolon_at dependencies.1 >>= λ rest. Ok (dependencies.0, rest)) x e in
+    let b = bind_ok (listed dependency_at most_parts a.0) (λ dependencies. semicolon_at dependencies.1 >>= λ rest. Ok (dependencies.0, rest)) x a.2 in
+    let c = bind_ok (semicolon_at b.0.1) (λ rest. Ok (b.0.0, rest)) x b.2 in
+    let l = listed_takes dependency_spelling IsDependency dependency_at dependency_takes most_parts a.0 b.0.0 b.0.1 b.1 in
+    let text = parts_spelling dependency_spelling b.0.0 ++ tokens.Semicolon ∷ [] in
+    let inside = Takes-then a.0 (parts_spelling dependency_spelling b.0.0) b.0.1 (tokens.Semicolon ∷ []) c.0 l.takes (Takes-one tokens.Semicolon b.0.1 c.0 (semicolon_is b.0.1 c.0 c.1)) in
+    let upon = Takes-behind tokens.Upon ts a.0 text c.0 (upon_is ts a.0 a.1) inside in
+    let whole = Takes-behind tokens.Depends (tokens.Depends ∷ ts) ts (tokens.Upon ∷ text) c.0 refl upon in
+    subst (λ (p : List Dependency × List Token). Found SpellsDependencies (tokens.Depends ∷ ts) p) (ok_is (b.0.0, c.0) x c.2)
+    (record { text = tokens.Depends ∷ tokens.Upon ∷ text; takes = whole; spells = inr ((l.some, l.few), l.good, refl) })
+dependencies_found (t ∷ ts) x e = nothing_found SaysDependencies (t ∷ ts) x e
+
+abbrev header_spelling : Header → List Token
+header_spelling h =
+    tokens.Name h.0 ∷ tokens.Colon ∷ tokens.Program ∷ tokens.Number h.1 ∷ tokens.Version ∷ tokens.Number h.2 ∷ tokens.Equal ∷ tokens.Begin ∷ []
+
+abbrev IsHeader : Header → Type 0
+IsHeader h = h.2 < 65536
+
+header_takes : IsSound header_spelling IsHeader header_at
+unfolding header_at
+header_takes ts x rest e =
+    let a = bind_ok (name_at ts) (λ name. colon_at name.1 >>= λ t1. program_at t1 >>= λ t2. long_at t2 >>= λ number. version_at number.1 >>= λ t3. small_at t3 >>= λ version. equal_at version.1 >>= λ t4. begin_at t4 >>= λ t5. Ok ((name.0, number.0, version.0), t5)) (x, rest) e in
+    let b = bind_ok (colon_at a.0.1) (λ t1. program_at t1 >>= λ t2. long_at t2 >>= λ number. version_at number.1 >>= λ t3. small_at t3 >>= λ version. equal_at version.1 >>= λ t4. begin_at t4 >>= λ t5. Ok ((a.0.0, number.0, version.0), t5)) (x, rest) a.2 in
+    let c = bind_ok (program_at b.0) (λ t2. long_at t2 >>= λ number. version_at number.1 >>= λ t3. small_at t3 >>= λ version. equal_at version.1 >>= λ t4. begin_at t4 >>= λ t5. Ok ((a.0.0, number.0, version.0), t5)) (x, rest) b.2 in
+    let d = bind_ok (long_at c.0) (λ number. version_at number.1 >>= λ t3. small_at t3 >>= λ version. equal_at version.1 >>= λ t4. begin_at t4 >>= λ t5. Ok ((a.0.0, number.0, version.0), t5)) (x, rest) c.2 in
+    let f = bind_ok (version_at d.0.1) (λ t3. small_at t3 >>= λ version. equal_at version.1 >>= λ t4. begin_at t4 >>= λ t5. Ok ((a.0.0, d.0.0, version.0), t5)) (x, rest) d.2 in
+    let g = bind_ok (small_at f.0) (λ version. equal_at version.1 >>= λ t4. begin_at t4 >>= λ t5. Ok ((a.0.0, d.0.0, version.0), t5)) (x, rest) f.2 in
+    let h = bind_ok (equal_at g.0.1) (λ t4. begin_at t4 >>= λ t5. Ok ((a.0.0, d.0.0, g.0.0), t5)) (x, rest) g.2 in
+    let k = bind_ok (begin_at h.0) (λ t5. Ok ((a.0.0, d.0.0, g.0.0), t5)) (x, rest) h.2 in
+    let n = name_takes ts a.0.0 a.0.1 a.1 in
+    let l = long_takes c.0 d.0.0 d.0.1 d.1 in
+    let s = small_takes f.0 g.0.0 g.0.1 g.1 in
+    let x6 : List Token = tokens.Begin ∷ [] in
+    let t6 = Takes-one tokens.Begin h.0 k.0 (begin_is h.0 k.0 k.1) in
+    let t5 = Takes-behind tokens.Equal g.0.1 h.0 x6 k.0 (equal_is g.0.1 h.0 h.1) t6 in
+    let t4 = Takes-behind (tokens.Number g.0.0) f.0 g.0.1 (tokens.Equal ∷ x6) k.0 s.0.parts t5 in
+    let t3 = Takes-behind tokens.Version d.0.1 f.0 (tokens.Number g.0.0 ∷ tokens.Equal ∷ x6) k.0 (version_is d.0.1 f.0 f.1) t4 in
+    let t2 = Takes-behind (tokens.Number d.0.0) c.0 d.0.1 (tokens.Version ∷ tokens.Number g.0.0 ∷ tokens.Equal ∷ x6) k.0 l.0.parts t3 in
+    let t1 = Takes-behind tokens.Program b.0 c.0 (tokens.Number d.0.0 ∷ tokens.Version ∷ tokens.Number g.0.0 ∷ tokens.Equal ∷ x6) k.0 (program_is b.0 c.0 c.1) t2 in
+    let t0 = Takes-behind tokens.Colon a.0.1 b.0 (tokens.Program ∷ tokens.Number d.0.0 ∷ tokens.Version ∷ tokens.Number g.0.0 ∷ tokens.Equal ∷ x6) k.0 (colon_is a.0.1 b.0 b.1) t1 in
+    let whole = Takes-behind (tokens.Name a.0.0) ts a.0.1 (tokens.Colon ∷ tokens.Program ∷ tokens.Number d.0.0 ∷ tokens.Version ∷ tokens.Number g.0.0 ∷ tokens.Equal ∷ x6) k.0 n.0.parts t0 in
+    let made : Header × List Token = ((a.0.0, d.0.0, g.0.0), k.0) in
+    subst (λ (p : Header × List Token). Takes ts (header_spelling p.0) p.1 × IsHeader p.0) (ok_is made (x, rest) k.2) (whole, s.1)
+
+abbrev Body : Type 0
+Body = List Dependency × List Named
+
+abbrev SpellsBody : Body → List Token → Type 0
+SpellsBody body text =
+    (x : List Token) × (y : List Token) × SpellsDependencies body.0 x × SpellsDeclarations body.1 y × (length body.1 ≤ most_declarations)
+    × (text ≡ x ++ (y ++ tokens.End ∷ tokens.Dot ∷ []))
+
+body_found : (ts : List Token) (x : Body × List Token) → body_at ts ≡ Ok x → Found SpellsBody ts x
+unfolding body_at
+body_found ts x e =
+    let a = bind_ok (dependencies_at ts) (λ dependencies. declarations_at most_declarations dependencies.1 >>= λ declarations. end_at declarations.1 >>= λ ended. dot_at ended >>= λ rest. Ok ((dependencies.0, declarations.0), rest)) x e in
+    let b = bind_ok (declarations_at most_declarations a.0.1) (λ declarations. end_at declarations.1 >>= λ ended. dot_at ended >>= λ rest. Ok ((a.0.0, declarations.0), rest)) x a.2 in
+    let c = bind_ok (end_at b.0.1) (λ ended. dot_at ended >>= λ rest. Ok ((a.0.0, b.0.0), rest)) x b.2 in
+    let d = bind_ok (dot_at c.0) (λ rest. Ok ((a.0.0, b.0.0), rest)) x c.2 in
+    let fa = dependencies_found ts a.0 a.1 in
+    let fb = declarations_found most_declarations a.0.1 b.0 b.1 in
+    let t3 = Takes-behind tokens.End b.0.1 c.0 (tokens.Dot ∷ []) d.0 (end_is b.0.1 c.0 c.1) (Takes-one tokens.Dot c.0 d.0 (dot_is c.0 d.0 d.1)) in
+    let t2 = Takes-then a.0.1 fb.text b.0.1 (tokens.End ∷ tokens.Dot ∷ []) d.0 fb.takes t3 in
+    let text = fb.text ++ tokens.End ∷ tokens.Dot ∷ [] in
+    let made : Body × List Token = ((a.0.0, b.0.0), d.0) in
+    subst (λ (p : Body × List Token). Found SpellsBody ts p) (ok_is made x d.2)
+    (record { text = fa.text ++ text; takes = Takes-then ts fa.text a.0.1 text d.0 fa.takes t2; spells = (fa.text, fb.text, fa.spells, fb.spells, fb.few, refl) })
+
+nothing_is : (p q : ProgramModel) (ts : List Token) → nothing_at p ts ≡ Ok q → (p ≡ q) × (ts ≡ [])
+nothing_is p q [] e = ((let same : p ≡ q = cc in same), refl)
+nothing_is p q (t ∷ ts) e = absurd cc
+
+pub program_spelled : (ts : List Token) (p : ProgramModel) → program_of ts ≡ Ok p → SpellsProgram p ts
+unfolding program_of
+program_spelled ts p e =
+    let a = bind_ok (header_at ts) (λ header. body_at header.1 >>= λ body. nothing_at (program_with header.0 body.0) body.1) p e in
+    let b = bind_ok (body_at a.0.1) (λ body. nothing_at (program_with a.0.0 body.0) body.1) p a.2 in
+    let h = header_takes ts a.0.0 a.0.1 a.1 in
+    let f = body_found a.0.1 b.0 b.1 in
+    let n = nothing_is (program_with a.0.0 b.0.0) p b.0.1 b.2 in
+    let whole : ts ≡ header_spelling a.0.0 ++ f.text = h.0.parts ∙ ap (λ (t : List Token). header_spelling a.0.0 ++ t) (f.takes.parts ∙ ap (λ (r : List Token). f.text ++ r) n.1 ∙ append-nil f.text) in
+    let s = f.spells in
+    subst (λ (q : ProgramModel). SpellsProgram q ts) n.0 (s.0, s.1, s.2, s.3, s.4, h.1, whole ∙ ap (λ (t : List Token). header_spelling a.0.0 ++ t) s.5)

@@ -1,0 +1,68 @@
+-- Parts that are written together, group by group, as a loop does.
+use Rattle.std.proofs.Common.{◌≡◌, ℕ, ◌+◌, ◌≤◌, List, ◌∷◌, length, drop, Option, Vec, Global, Result, Ok, Err, refl, sym, ap, ◌∙◌}
+use Rattle.courier_notation.specs.declared.written.WrittenType.{WrittenType}
+use Rattle.courier_notation.specs.Written.{Designator, candidate_models, candidates_from, field_models, fields_from, TypeModel, type_model}
+use Rattle.courier_texts.specs.Named.{NamedModel}
+use Rattle.courier_programs.specs.declared.refusal.Refusal.{Refusal}
+use Rattle.courier_programs.specs.declared.refusal.Refusal.TheVariants as refusals
+use Rattle.courier_programs.specs.Meanings.{Components}
+use Rattle.courier_programs.specs.Refused.{NameFault, Refuses, steps}
+use Rattle.courier_programs.specs.Scopes.{Env}
+use Rattle.courier_programs.specs.Types.{Candidates, Members, candidate_group, candidates_meant, component_step, components_meant, once}
+use Rattle.courier_programs.proofs.Items.{drop_past}
+
+-- ---- components
+
+pub more_components : (e : Env) (one : TypeModel → ℕ → Result (NamedModel × ℕ) NameFault) (seen all : List ℕ) (st next : Components × ℕ) (groups : List (Vec ℕ Global × WrittenType)) (i : ℕ) (g : Vec ℕ Global × WrittenType) (total : Result (Components × ℕ) NameFault) → drop i groups ≡ g ∷ drop (i + 1) groups
+    → steps (once e) seen g.0.items ≡ Ok all → steps (component_step e (one (type_model g.1))) st g.0.items ≡ Ok next
+    → components_meant e one seen st (fields_from (field_models (drop i groups))) ≡ total → components_meant e one all next (fields_from (field_models (drop (i + 1) groups))) ≡ total
+unfolding components_meant
+more_components e one seen all st next groups i g total here names parts so_far =
+    let step : components_meant e one seen st (fields_from (field_models (g ∷ drop (i + 1) groups))) ≡ components_meant e one all next (fields_from (field_models (drop (i + 1) groups))) = rw (names, parts) refl in
+    sym step ∙ ap (λ gs. components_meant e one seen st (fields_from (field_models gs))) (sym here) ∙ so_far
+
+pub names_stop : (r : Refusal) (e : Env) (one : TypeModel → ℕ → Result (NamedModel × ℕ) NameFault) (seen : List ℕ) (st : Components × ℕ) (groups : List (Vec ℕ Global × WrittenType)) (i : ℕ) (g : Vec ℕ Global × WrittenType) (total : Result (Components × ℕ) NameFault) → drop i groups ≡ g ∷ drop (i + 1) groups
+    → Refuses r (steps (once e) seen g.0.items) → components_meant e one seen st (fields_from (field_models (drop i groups))) ≡ total → Refuses r total
+unfolding components_meant
+names_stop refusals.NoMemory e one seen st groups i g total here names so_far = tt
+names_stop (refusals.Wrong name reason) e one seen st groups i g total here names so_far =
+    let step : components_meant e one seen st (fields_from (field_models (g ∷ drop (i + 1) groups))) ≡ Err (name, reason) = rw names refl in
+    sym so_far ∙ ap (λ gs. components_meant e one seen st (fields_from (field_models gs))) here ∙ step
+
+pub components_stop : (r : Refusal) (e : Env) (one : TypeModel → ℕ → Result (NamedModel × ℕ) NameFault) (seen all : List ℕ) (st : Components × ℕ) (groups : List (Vec ℕ Global × WrittenType)) (i : ℕ) (g : Vec ℕ Global × WrittenType) (total : Result (Components × ℕ) NameFault) → drop i groups ≡ g ∷ drop (i + 1) groups
+    → steps (once e) seen g.0.items ≡ Ok all → Refuses r (steps (component_step e (one (type_model g.1))) st g.0.items)
+    → components_meant e one seen st (fields_from (field_models (drop i groups))) ≡ total → Refuses r total
+unfolding components_meant
+components_stop refusals.NoMemory e one seen all st groups i g total here names parts so_far = tt
+components_stop (refusals.Wrong name reason) e one seen all st groups i g total here names parts so_far =
+    let step : components_meant e one seen st (fields_from (field_models (g ∷ drop (i + 1) groups))) ≡ Err (name, reason) = rw (names, parts) refl in
+    sym so_far ∙ ap (λ gs. components_meant e one seen st (fields_from (field_models gs))) here ∙ step
+
+pub no_more_components : (e : Env) (one : TypeModel → ℕ → Result (NamedModel × ℕ) NameFault) (seen : List ℕ) (st : Components × ℕ) (groups : List (Vec ℕ Global × WrittenType)) (i : ℕ) (total : Result (Components × ℕ) NameFault) → length groups ≤ i
+    → components_meant e one seen st (fields_from (field_models (drop i groups))) ≡ total → total ≡ Ok st
+unfolding components_meant
+no_more_components e one seen st groups i total le so_far = sym so_far ∙ ap (λ gs. components_meant e one seen st (fields_from (field_models gs))) (drop_past groups i le)
+
+-- ---- candidates
+
+pub more_candidates : (e : Env) (tag : Option Members) (one : TypeModel → ℕ → Result (NamedModel × ℕ) NameFault) (taken : Members) (d : Members × (Candidates × ℕ)) (st : Candidates × ℕ) (groups : List (Vec Designator Global × WrittenType)) (i : ℕ) (g : Vec Designator Global × WrittenType) (total : Result (Candidates × ℕ) NameFault) → drop i groups ≡ g ∷ drop (i + 1) groups
+    → candidate_group e tag (one (type_model g.1)) taken st g.0.items ≡ Ok d
+    → candidates_meant e tag one taken st (candidates_from (candidate_models (drop i groups))) ≡ total → candidates_meant e tag one d.0 d.1 (candidates_from (candidate_models (drop (i + 1) groups))) ≡ total
+unfolding candidates_meant
+more_candidates e tag one taken d st groups i g total here parts so_far =
+    let step : candidates_meant e tag one taken st (candidates_from (candidate_models (g ∷ drop (i + 1) groups))) ≡ candidates_meant e tag one d.0 d.1 (candidates_from (candidate_models (drop (i + 1) groups))) = rw parts refl in
+    sym step ∙ ap (λ gs. candidates_meant e tag one taken st (candidates_from (candidate_models gs))) (sym here) ∙ so_far
+
+pub candidates_stop : (r : Refusal) (e : Env) (tag : Option Members) (one : TypeModel → ℕ → Result (NamedModel × ℕ) NameFault) (taken : Members) (st : Candidates × ℕ) (groups : List (Vec Designator Global × WrittenType)) (i : ℕ) (g : Vec Designator Global × WrittenType) (total : Result (Candidates × ℕ) NameFault) → drop i groups ≡ g ∷ drop (i + 1) groups
+    → Refuses r (candidate_group e tag (one (type_model g.1)) taken st g.0.items)
+    → candidates_meant e tag one taken st (candidates_from (candidate_models (drop i groups))) ≡ total → Refuses r total
+unfolding candidates_meant
+candidates_stop refusals.NoMemory e tag one taken st groups i g total here parts so_far = tt
+candidates_stop (refusals.Wrong name reason) e tag one taken st groups i g total here parts so_far =
+    let step : candidates_meant e tag one taken st (candidates_from (candidate_models (g ∷ drop (i + 1) groups))) ≡ Err (name, reason) = rw parts refl in
+    sym so_far ∙ ap (λ gs. candidates_meant e tag one taken st (candidates_from (candidate_models gs))) here ∙ step
+
+pub no_more_candidates : (e : Env) (tag : Option Members) (one : TypeModel → ℕ → Result (NamedModel × ℕ) NameFault) (taken : Members) (st : Candidates × ℕ) (groups : List (Vec Designator Global × WrittenType)) (i : ℕ) (total : Result (Candidates × ℕ) NameFault) → length groups ≤ i
+    → candidates_meant e tag one taken st (candidates_from (candidate_models (drop i groups))) ≡ total → total ≡ Ok st
+unfolding candidates_meant
+no_more_candidates e tag one taken st groups i total le so_far = sym so_far ∙ ap (λ gs. candidates_meant e tag one taken st (candidates_from (candidate_models gs))) (drop_past groups i le)

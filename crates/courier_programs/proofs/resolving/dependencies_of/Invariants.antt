@@ -1,0 +1,8 @@
+use Rattle.std.proofs.Common.{◌≡◌, [], drop}
+use Rattle.courier_programs.specs.Refused.{steps}
+use Rattle.courier_programs.specs.Resolving.{dependency_step}
+use Rattle.courier_programs.specs.Scopes.{names_seen}
+use Rattle.courier_programs.proofs.resolving.dependencies_of.Given as goal
+
+abbrev pub invariant-loop-dependency : goal.invariant-loop-dependency
+invariant-loop-dependency l = steps (dependency_step (names_seen l.names) l.before) l.dependencies.items (drop l.dependency-index l.written) ≡ steps (dependency_step (names_seen l.names) l.before) [] l.written

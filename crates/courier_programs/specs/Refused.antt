@@ -1,0 +1,34 @@
+-- Resolving that stops at its first fault.
+use Rattle.std.specs.Prelude.{◌≡◌, ℕ, List, [], ◌∷◌, Result, Ok, Err}
+use Rattle.courier_programs.specs.declared.name_reason.NameReason.{NameReason}
+use Rattle.courier_programs.specs.declared.refusal.Refusal.{Refusal}
+use Rattle.courier_programs.specs.declared.refusal.Refusal.TheVariants as refusals
+
+-- the number of the wrong name, and what is wrong
+abbrev pub NameFault : Type 0
+NameFault = ℕ × NameReason
+
+infixl 10 ◌>>=◌
+abbrev pub ◌>>=◌ : {A B : Type 0} → Result A NameFault → (A → Result B NameFault) → Result B NameFault
+(Ok x) >>= f = f x
+(Err e) >>= f = Err e
+
+-- resolving stops there, unless memory ran out
+abbrev pub Refuses : {Y : Type 0} → Refusal → Result Y NameFault → Type 0
+Refuses (refusals.Wrong name reason) meant = meant ≡ Err (name, reason)
+Refuses refusals.NoMemory meant = Unit {0}
+
+-- a function answered what is meant, seen by view, unless memory ran out
+abbrev pub Gives : {X Y : Type 0} → (X → Y) → Result X Refusal → Result Y NameFault → Type 0
+Gives view (Ok x) meant = meant ≡ Ok (view x)
+Gives view (Err refusal) meant = Refuses refusal meant
+
+-- the same under another name
+abbrev pub over : {A B S : Type 0} → (A → B) → Result (A × S) NameFault → Result (B × S) NameFault
+over f (Ok x) = Ok (f x.0, x.1)
+over f (Err e) = Err e
+
+-- one step for each item, each from where the one before it came to
+abbrev pub steps : {S A : Type 0} → (S → A → Result S NameFault) → S → List A → Result S NameFault
+steps f s [] = Ok s
+steps f s (x ∷ xs) = f s x >>= λ t. steps f t xs

@@ -1,0 +1,81 @@
+//! Copies of types.
+
+ghost use Rattle.std.specs.Prelude.{◌≡◌, IfOk};
+ghost use Rattle.courier_texts.specs.Named.{members_seen, named_model};
+ghost use Rattle.courier_programs.specs.Meanings.{components_seen};
+ghost use Rattle.courier_programs.specs.Types.{candidates_seen};
+
+use courier_texts::Named;
+use std::alloc::{AllocError, Global};
+
+fn copy_members(
+    alloc: Global,
+    members: &[(Vec<u8>, u16)],
+) -> Result<Vec<(Vec<u8>, u16)>, AllocError>
+    ensures { IfOk result (λ copies. members_seen copies.items ≡ members_seen members.now) }
+{
+    let mut copies = Vec::new(alloc);
+    for member in members {
+        copies.push((Vec::from_slice(alloc, &member.0)?, member.1))?;
+    }
+    Ok(copies)
+}
+
+#[cycle(copying)]
+fn copy_components(
+    alloc: Global,
+    components: &[(Vec<u8>, Named)],
+) -> Result<Vec<(Vec<u8>, Named)>, AllocError>
+    ensures { IfOk result (λ copies. components_seen copies.items ≡ components_seen components.now) }
+{
+    let mut copies = Vec::new(alloc);
+    for component in components {
+        let name = Vec::from_slice(alloc, &component.0)?;
+        let part = copy_of(alloc, &component.1)?;
+        copies.push((name, part))?;
+    }
+    Ok(copies)
+}
+
+#[cycle(copying)]
+fn copy_variants(
+    alloc: Global,
+    variants: &[(Vec<u8>, (u16, Named))],
+) -> Result<Vec<(Vec<u8>, (u16, Named))>, AllocError>
+    ensures { IfOk result (λ copies. candidates_seen copies.items ≡ candidates_seen variants.now) }
+{
+    let mut copies = Vec::new(alloc);
+    for variant in variants {
+        let name = Vec::from_slice(alloc, &variant.0)?;
+        let part = copy_of(alloc, &variant.1.1)?;
+        copies.push((name, (variant.1.0, part)))?;
+    }
+    Ok(copies)
+}
+
+/// A copy of the type. The only error is want of memory.
+#[cycle(copying)]
+pub(crate) fn copy_of(alloc: Global, named: &Named) -> Result<Named, AllocError>
+    ensures { IfOk result (λ copy. named_model copy ≡ named_model named.now) }
+{
+    match named {
+        Named::Boolean => Ok(Named::Boolean),
+        Named::Cardinal => Ok(Named::Cardinal),
+        Named::LongCardinal => Ok(Named::LongCardinal),
+        Named::Integer => Ok(Named::Integer),
+        Named::LongInteger => Ok(Named::LongInteger),
+        Named::Unspecified => Ok(Named::Unspecified),
+        Named::Text => Ok(Named::Text),
+        Named::Enumeration(members) => Ok(Named::Enumeration(copy_members(alloc, members)?)),
+        Named::Array(count, element) => {
+            let copy = copy_of(alloc, element)?;
+            Ok(Named::Array(*count, Box::new(alloc, copy)?))
+        }
+        Named::Sequence(most, element) => {
+            let copy = copy_of(alloc, element)?;
+            Ok(Named::Sequence(*most, Box::new(alloc, copy)?))
+        }
+        Named::Record(components) => Ok(Named::Record(copy_components(alloc, components)?)),
+        Named::Choice(variants) => Ok(Named::Choice(copy_variants(alloc, variants)?)),
+    }
+}

@@ -1,0 +1,312 @@
+//! What declarations stand for.
+
+ghost use Rattle.std.specs.Prelude.{◌≡◌, OnOk, map};
+ghost use Rattle.courier_types.specs.Shape.{shape_model};
+ghost use Rattle.courier_notation.specs.ProgramModels.{declaration_view, declared_view};
+ghost use Rattle.courier_notation.specs.Written.{field_models, type_model};
+ghost use Rattle.courier_texts.specs.Named.{named_model};
+ghost use Rattle.courier_programs.specs.Declarations.{addition_of, constant_meant, constant_value as constant_value_of};
+ghost use Rattle.courier_programs.specs.Declarations.{declaration_meant, declaration_step, error_meant, is_type as is_type_of, new_error as new_error_of, new_procedure as new_procedure_of, once_meant};
+ghost use Rattle.courier_programs.specs.Declarations.{procedure_meant, settled, sound, whole_fields as whole_fields_of, whole_type as whole_type_of, with_addition};
+ghost use Rattle.courier_programs.specs.Meanings.{error_model, fields_model, meaning_model, procedure_model, resolved_model};
+ghost use Rattle.courier_programs.specs.Refused.{Gives};
+ghost use Rattle.courier_programs.specs.Scopes.{env, names_seen};
+
+use crate::bytes::text;
+use crate::finding::{error_of, procedure_of};
+use crate::name_reason::NameReason;
+use crate::program::{Fields, Meaning, Procedure, Program, RemoteError};
+use crate::refusal::{Refusal, wrong};
+use crate::scope::{Scope, meaning_of, spend, value_named};
+use crate::types::{components_of, type_of};
+use courier_notation::limits::MOST_DEPTH;
+use courier_notation::{Constant, Declaration, Declared, Dependency, WrittenType};
+use courier_texts::{Named, shape_of, shape_of_record};
+use courier_types::{Shape, ShapeFault};
+use std::alloc::{AllocError, Global};
+
+/// What a declaration adds to a program.
+#[derive(Debug, Drop)]
+pub enum Added {
+    Meaning(Meaning),
+    Procedure(Procedure),
+    Error(RemoteError),
+}
+
+/// Checks a shape. Its fault is told at the name that is declared.
+fn check(scope: &Scope, shape: &Shape) -> Result<(), Refusal>
+    ensures { Gives (λ _. tt) result (sound (env scope.now) (shape_model shape.now)) }
+{
+    match shape.check() {
+        Ok(()) => Ok(()),
+        Err(ShapeFault::TooDeep) => Err(wrong(scope.own, NameReason::TooDeep)),
+        Err(_) => Err(wrong(scope.own, NameReason::NoWords)),
+    }
+}
+
+/// A type that stands by itself, and what is left of the room for parts.
+#[tactic(auto, unfolding(crate::specs::Declarations::whole_type))]
+fn whole_type(
+    alloc: Global,
+    scope: &Scope,
+    room: usize,
+    written: &WrittenType,
+) -> Result<(Named, usize), Refusal>
+    ensures { Gives (λ x. (named_model x.0, x.1)) result (whole_type_of (env scope.now) (type_model written.now) room) }
+{
+    let (named, left) = type_of(alloc, MOST_DEPTH, written, scope, room)?;
+    let shape = shape_of(alloc, &named)?;
+    check(scope, &shape)?;
+    Ok((named, left))
+}
+
+/// Arguments or results, and what is left of the room for parts.
+#[tactic(auto, using(crate::proofs::Models::components_are), unfolding(crate::specs::Declarations::whole_fields))]
+fn whole_fields(
+    alloc: Global,
+    scope: &Scope,
+    room: usize,
+    groups: &[(Vec<u32>, WrittenType)],
+) -> Result<(Fields, usize), Refusal>
+    ensures { Gives (λ x. (fields_model x.0, x.1)) result (whole_fields_of (env scope.now) (field_models groups.now) room) }
+{
+    let left = spend(scope, room, 1)?;
+    let (components, left) = components_of(alloc, MOST_DEPTH, groups, scope, left)?;
+    let shape = shape_of_record(alloc, &components)?;
+    check(scope, &shape)?;
+    Ok((Fields { components, shape }, left))
+}
+
+/// A type. One that is recursive may be declared, and stands for none.
+fn type_added(
+    alloc: Global,
+    scope: &Scope,
+    room: usize,
+    written: &WrittenType,
+) -> Result<(Added, usize), Refusal>
+    ensures { Gives (λ x. (addition_of x.0, x.1)) result (settled room (whole_type_of (env scope.now) (type_model written.now) room)) }
+{
+    match whole_type(alloc, scope, room, written) {
+        Ok((named, left)) => {
+            let size = room.saturating_sub(left);
+            Ok((Added::Meaning(Meaning::Type { named, size }), left))
+        }
+        Err(Refusal::Wrong { name, reason }) => {
+            if reason == NameReason::Recursive {
+                return Ok((Added::Meaning(Meaning::Recursive), room));
+            }
+            Err(wrong(name, reason))
+        }
+        Err(Refusal::NoMemory) => Err(Refusal::NoMemory),
+    }
+}
+
+fn constant_value(scope: &Scope, constant: Constant) -> Result<Option<u32>, Refusal>
+    ensures { Gives (λ x. x) result (constant_value_of (env scope.now) constant) }
+{
+    match constant {
+        Constant::Number(number) => Ok(Some(number)),
+        Constant::Named(reference) => value_named(scope, reference),
+        Constant::Other => Ok(None),
+    }
+}
+
+#[tactic(auto, unfolding(crate::specs::Declarations::constant_meant))]
+fn constant_added(
+    alloc: Global,
+    scope: &Scope,
+    room: usize,
+    written: &WrittenType,
+    constant: Constant,
+) -> Result<(Added, usize), Refusal>
+    ensures { Gives (λ x. (addition_of x.0, x.1)) result (constant_meant (env scope.now) (type_model written.now) constant room) }
+{
+    let (_named, left) = whole_type(alloc, scope, room, written)?;
+    let value = constant_value(scope, constant)?;
+    Ok((Added::Meaning(Meaning::Constant(value)), left))
+}
+
+/// A procedure, if no other one has its number.
+fn new_procedure(
+    scope: &Scope,
+    procedures: &[Procedure],
+    procedure: Procedure,
+    room: usize,
+) -> Result<(Added, usize), Refusal>
+    ensures { Gives (λ x. (addition_of x.0, x.1)) result (new_procedure_of (env scope.now) (map procedure_model procedures.now) (procedure_model procedure) room) }
+{
+    match procedure_of(procedures, procedure.number) {
+        Some(_) => Err(wrong(scope.own, NameReason::DoubledNumber)),
+        None => Ok((Added::Procedure(procedure), room)),
+    }
+}
+
+/// An error, if no other one has its number.
+fn new_error(
+    scope: &Scope,
+    errors: &[RemoteError],
+    error: RemoteError,
+    room: usize,
+) -> Result<(Added, usize), Refusal>
+    ensures { Gives (λ x. (addition_of x.0, x.1)) result (new_error_of (env scope.now) (map error_model errors.now) (error_model error) room) }
+{
+    match error_of(errors, error.number) {
+        Some(_) => Err(wrong(scope.own, NameReason::DoubledNumber)),
+        None => Ok((Added::Error(error), room)),
+    }
+}
+
+#[tactic(auto, unfolding(crate::specs::Declarations::procedure_meant))]
+fn procedure_added(
+    alloc: Global,
+    scope: &Scope,
+    procedures: &[Procedure],
+    arguments: &[(Vec<u32>, WrittenType)],
+    results: &[(Vec<u32>, WrittenType)],
+    number: u16,
+    room: usize,
+) -> Result<(Added, usize), Refusal>
+    ensures { Gives (λ x. (addition_of x.0, x.1)) result (procedure_meant (env scope.now) (map procedure_model procedures.now) (field_models arguments.now) (field_models results.now) number room) }
+{
+    let (arguments, left) = whole_fields(alloc, scope, room, arguments)?;
+    let (results, left) = whole_fields(alloc, scope, left, results)?;
+    let name = Vec::from_slice(alloc, text(scope.names, scope.own))?;
+    let procedure = Procedure {
+        name,
+        number,
+        arguments,
+        results,
+    };
+    new_procedure(scope, procedures, procedure, left)
+}
+
+#[tactic(auto, unfolding(crate::specs::Declarations::error_meant))]
+fn error_added(
+    alloc: Global,
+    scope: &Scope,
+    errors: &[RemoteError],
+    arguments: &[(Vec<u32>, WrittenType)],
+    number: u16,
+    room: usize,
+) -> Result<(Added, usize), Refusal>
+    ensures { Gives (λ x. (addition_of x.0, x.1)) result (error_meant (env scope.now) (map error_model errors.now) (field_models arguments.now) number room) }
+{
+    let (arguments, left) = whole_fields(alloc, scope, room, arguments)?;
+    let name = Vec::from_slice(alloc, text(scope.names, scope.own))?;
+    let error = RemoteError {
+        name,
+        number,
+        arguments,
+    };
+    new_error(scope, errors, error, left)
+}
+
+/// What a declaration adds to the program.
+#[tactic(auto, unfolding(crate::specs::Declarations::declaration_meant))]
+fn added_by(
+    alloc: Global,
+    scope: &Scope,
+    program: &Program,
+    declared: &Declared,
+    room: usize,
+) -> Result<(Added, usize), Refusal>
+    ensures { Gives (λ x. (addition_of x.0, x.1)) result (declaration_meant (env scope.now) (resolved_model program.now) (declared_view declared.now) room) }
+{
+    match declared {
+        Declared::Type(written) => type_added(alloc, scope, room, written),
+        Declared::Constant(written, constant) => constant_added(
+            alloc, scope, room, written, *constant,
+        ),
+        Declared::Procedure {
+            arguments,
+            results,
+            errors: _,
+            number,
+        } => procedure_added(
+            alloc,
+            scope,
+            &program.procedures,
+            arguments,
+            results,
+            *number,
+            room,
+        ),
+        Declared::Error { arguments, number } => {
+            error_added(alloc, scope, &program.errors, arguments, *number, room)
+        }
+    }
+}
+
+/// Adds to the program what was declared.
+fn add(program: &mut Program, name: Vec<u8>, added: Added) -> Result<(), AllocError>
+    ensures { OnOk result (resolved_model program.new ≡ with_addition (resolved_model program.old) name.items (addition_of added)) }
+{
+    match added {
+        Added::Meaning(meaning) => {
+            program.meanings.push((name, meaning))?;
+            Ok(())
+        }
+        Added::Procedure(procedure) => {
+            program.procedures.push(procedure)?;
+            program.meanings.push((name, Meaning::Procedure))?;
+            Ok(())
+        }
+        Added::Error(error) => {
+            program.errors.push(error)?;
+            program.meanings.push((name, Meaning::Error))?;
+            Ok(())
+        }
+    }
+}
+
+fn is_type(declared: &Declared) -> bool
+    ensures { result ≡ is_type_of (declared_view declared.now) }
+{
+    match declared {
+        Declared::Type(_) => true,
+        _ => false,
+    }
+}
+
+/// What the declaration adds, if its name differs from those before.
+fn named_once(
+    alloc: Global,
+    scope: &Scope,
+    program: &Program,
+    declaration: &Declaration,
+    room: usize,
+) -> Result<(Added, usize), Refusal>
+    ensures { Gives (λ x. (addition_of x.0, x.1)) result (once_meant (env scope.now) (resolved_model program.now) (declaration_view declaration.now) room) }
+{
+    match meaning_of(&program.meanings, text(scope.names, declaration.name)) {
+        Some(_) => Err(wrong(declaration.name, NameReason::DoubledName)),
+        None => added_by(alloc, scope, program, &declaration.declared, room),
+    }
+}
+
+/// Adds a declaration to the program, and answers what is left of the room for parts.
+#[tactic(auto, unfolding(crate::specs::Declarations::declaration_step))]
+pub(crate) fn take_declaration(
+    alloc: Global,
+    names: &[Vec<u8>],
+    before: &[Program],
+    dependencies: &[Dependency],
+    program: &mut Program,
+    declaration: &Declaration,
+    room: usize,
+) -> Result<usize, Refusal>
+    ensures { Gives (λ left. (resolved_model program.new, left)) result (declaration_step (names_seen names.now) before.now dependencies.now (resolved_model program.old, room) (declaration_view declaration.now)) }
+{
+    let scope = Scope {
+        names,
+        before,
+        dependencies,
+        meanings: &program.meanings,
+        own: declaration.name,
+        is_type: is_type(&declaration.declared),
+    };
+    let (added, left) = named_once(alloc, &scope, program, declaration, room)?;
+    let name = Vec::from_slice(alloc, text(names, declaration.name))?;
+    add(program, name, added)?;
+    Ok(left)
+}

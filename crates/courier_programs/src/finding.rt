@@ -1,0 +1,47 @@
+//! Programs, procedures and errors found by number.
+
+ghost use Rattle.std.specs.Prelude.{◌≡◌, IfNone, IfSome, None, Some, map};
+ghost use Rattle.courier_programs.specs.Declarations.{error_by, procedure_by};
+ghost use Rattle.courier_programs.specs.Meanings.{error_model, procedure_model};
+ghost use Rattle.courier_programs.specs.Scopes.{program_by};
+
+use crate::program::{Procedure, Program, RemoteError};
+
+/// The program with that number and version. `None` if none of the programs has both.
+pub fn program_of(programs: &[Program], number: u32, version: u16) -> Option<&Program>
+    ensures some { IfSome result (λ p. program_by programs.now number version ≡ Some p.now) }
+    ensures none { IfNone result (program_by programs.now number version ≡ None) }
+{
+    for program in programs {
+        if program.number == number && program.version == version {
+            return Some(program);
+        }
+    }
+    None
+}
+
+/// The procedure with that number. `None` if none has it.
+pub fn procedure_of(procedures: &[Procedure], number: u16) -> Option<&Procedure>
+    ensures some { IfSome result (λ p. procedure_by (map procedure_model procedures.now) number ≡ Some (procedure_model p.now)) }
+    ensures none { IfNone result (procedure_by (map procedure_model procedures.now) number ≡ None) }
+{
+    for procedure in procedures {
+        if procedure.number == number {
+            return Some(procedure);
+        }
+    }
+    None
+}
+
+/// The error with that number. `None` if none has it.
+pub fn error_of(errors: &[RemoteError], number: u16) -> Option<&RemoteError>
+    ensures some { IfSome result (λ e. error_by (map error_model errors.now) number ≡ Some (error_model e.now)) }
+    ensures none { IfNone result (error_by (map error_model errors.now) number ≡ None) }
+{
+    for error in errors {
+        if error.number == number {
+            return Some(error);
+        }
+    }
+    None
+}
