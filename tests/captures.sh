@@ -133,7 +133,8 @@ same 'the same cut at its second opening' once from_new
 
 # ---- live: what comes through a pipe is printed before the next packet comes
 
-{ head -c $((24 + 16 + 14 + 34)) ethernet.pcap; sleep 1; cp from_live first_live; tail -c +$((24 + 16 + 14 + 35)) ethernet.pcap; } | xns dump - > from_live
+editcap -F pcap ethernet.pcap live.pcap 2> /dev/null
+{ head -c $((24 + 16 + 14 + 34)) live.pcap; sleep 1; cp from_live first_live; tail -c +$((24 + 16 + 14 + 35)) live.pcap; } | xns dump - > from_live
 same 'live packets' text from_live
 head -2 text > first_expected
 same 'the first live packet' first_expected first_live

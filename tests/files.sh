@@ -60,6 +60,51 @@ ends 'the version' 0 '' "$work/text"
 
 # ---- captures
 
+# A pcapng file of the packets of the example, each in a frame of Ethernet, and a frame of another type in front.
+python3 - $example "$work/x.pcapng" << 'END'
+import struct
+import sys
+
+def block(kind, body):
+    body += bytes(-len(body) % 4)
+    return struct.pack("<II", kind, 12 + len(body)) + body + struct.pack("<I", 12 + len(body))
+
+with open(sys.argv[1], encoding="ascii") as lines, open(sys.argv[2], "wb") as file:
+    file.write(block(0x0A0D0D0A, struct.pack("<IHHq", 0x1A2B3C4D, 1, 0, -1)) + block(1, struct.pack("<HHI", 1, 0, 0)))
+    frames = [bytes(12) + b"\x08\x00"] + [bytes(12) + b"\x06\x00" + bytes.fromhex(line) for line in lines]
+    for frame in frames:
+        file.write(block(6, struct.pack("<IIIII", 0, 0, 0, len(frame), len(frame)) + frame))
+END
+"$program" calls $example | awk '{$1=$1+1} $5=="of"&&$6!="-"{$6=$6+1} 1' > "$work/text"
+run calls "$work/x.pcapng"
+ends 'the calls of a capture' 0 '' "$work/text"
+head -c -1 "$work/x.pcapng" > "$work/cut.pcapng"
+run dump "$work/cut.pcapng"
+ends 'a capture that is cut' 3 "xns: $work/cut.pcapng: the capture is cut" -
+
+# Each growth is refused in turn: the whole text, or a front of it and 3.
+if has gcc; then
+    build_refusing
+    growth=1
+    while [ $growth -le 1000 ]; do
+        refuse_growth $growth "$program" calls "$work/x.pcapng" < /dev/null
+        [ -e "$work/refused" ] || break
+        head -c "$(wc -c < "$work/out")" "$work/text" > "$work/front"
+        if [ "$ended" -eq 0 ]; then
+            ends "growth $growth refused, and done without" 0 '' "$work/text"
+        elif [ "$(cat "$work/err")" = 'xns: no memory' ]; then
+            ends "growth $growth refused before the file is opened" 3 'xns: no memory' /dev/null
+        else
+            ends "growth $growth refused" 3 "xns: $work/x.pcapng: no memory" "$work/front"
+        fi
+        growth=$((growth + 1))
+    done
+    echo "$((growth - 1)) growths were refused"
+    ends 'a run that is refused nothing' 0 '' "$work/text"
+else
+    left_out gcc 'each growth refused in turn'
+fi
+
 for seed in 1 2; do
     python3 tests/files.py "$program" $seed 150 > "$work/compared"
     grep -v ' passed, ' "$work/compared"
