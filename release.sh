@@ -40,7 +40,7 @@ Of packets in hex:         DIR/bin/xns calls DIR/share/doc/xns/examples/six-call
 A program in C:            gcc program.c -IDIR/include DIR/lib/libxns.a
 The same by pkg-config:    PKG_CONFIG_PATH=DIR/lib/pkgconfig pkg-config --cflags --libs xns
 A program in Python:       PYTHONPATH=DIR/share/xns/python python3 program.py
-Hosts of a network:        DIR/bin/xns-net --help
+Hosts of a network:        DIR/bin/xns-net --help      man DIR/share/man/man1/xns-net.1
 The pages:                 DIR/share/doc/xns
 
 The program needs the C library (glibc), and a processor of x86-64-v2 (since about 2009). The

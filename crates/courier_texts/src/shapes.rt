@@ -19,6 +19,7 @@ fn words_of(alloc: Global, members: &[(Vec<u8>, u16)]) -> Result<Vec<u16>, Alloc
     Ok(words)
 }
 
+/// The shapes of components, in their order.
 #[cycle(shapes)]
 fn shapes_of_components(
     alloc: Global,
@@ -34,6 +35,7 @@ fn shapes_of_components(
     Ok(shapes)
 }
 
+/// The designators of candidates with the shapes of their values, in their order.
 #[cycle(shapes)]
 fn members_of_variants(
     alloc: Global,
