@@ -10,6 +10,7 @@ pub mod Channels
 pub mod Plays
 pub mod Onward
 pub mod Finishing
+pub mod SmallSteps
 pub mod Deliveries
 pub mod Outward
 pub mod Linking

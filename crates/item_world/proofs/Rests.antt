@@ -204,7 +204,8 @@ get_set (z ∷ xs) zero (suc j) y x lt h = h
 get_set (z ∷ xs) (suc k) zero y x lt h = absurd (omega (arith, lt))
 get_set (z ∷ xs) (suc k) (suc j) y x lt h = get_set xs k j y x (omega (arith, lt)) h
 
-lands_kept : (w : World) (k j : ℕ) (x : Emitted) (o : Option (Side × World)) → landing w k ≡ o → k < j → slice_get w.bag j ≡ Some x
+lands_kept : (w : World) (k j : ℕ) (x : Emitted) (o : Option (Side × World)) → landing w k ≡ o → k < j
+    → slice_get w.bag j ≡ Some x
     → slice_get (flushed w o).bag j ≡ Some x
 lands_kept w k j x None e lt h = h
 lands_kept w k j x (Some l) e lt h =
@@ -244,7 +245,8 @@ record Split (i k : ℕ) (bag : List Emitted) : Type 0 where
   before : All (λ n. n < k) pre
   behind : All (λ n. n < i + length bag) post
 
-split_on : (i k : ℕ) (y : Emitted) (ys : List Emitted) (b : Bool) → y.delivered ≡ b → i < k → Split (i + 1) k ys → Split i k (y ∷ ys)
+split_on : (i k : ℕ) (y : Emitted) (ys : List Emitted) (b : Bool) → y.delivered ≡ b → i < k → Split (i + 1) k ys
+    → Split i k (y ∷ ys)
 split_on i k y ys true e lt s = record {
   pre = s.pre;
   post = s.post;
@@ -260,7 +262,8 @@ split_on i k y ys false e lt s = record {
   behind = All-weaker (λ n. n < i + 1 + length ys) (λ n. n < i + length (y ∷ ys)) (λ n h. omega (arith, h)) s.post s.behind;
 }
 
-split : (i k j : ℕ) (bag : List Emitted) (x : Emitted) → k ≡ i + j → slice_get bag j ≡ Some x → x.delivered ≡ false → Split i k bag
+split : (i k j : ℕ) (bag : List Emitted) (x : Emitted) → k ≡ i + j → slice_get bag j ≡ Some x → x.delivered ≡ false
+    → Split i k bag
 split i k j [] x e h d = absurd (cc)
 split i k zero (y ∷ ys) x e h d =
     let same : y ≡ x = cc in
@@ -283,7 +286,8 @@ pub record Visit (w v : World) (k : ℕ) (x : Emitted) : Type 0 where
   pub after : Ahead 0 (delivers at k) v
   pub keeps : (j : ℕ) (y : Emitted) → length w.bag ≤ j → slice_get (delivers at k).bag j ≡ Some y → slice_get v.bag j ≡ Some y
 
-pub visit : Kept → (w : World) (k : ℕ) (x : Emitted) → Both w → slice_get w.bag k ≡ Some x → x.delivered ≡ false → Visit w (rested w) k x
+pub visit : Kept → (w : World) (k : ℕ) (x : Emitted) → Both w → slice_get w.bag k ≡ Some x → x.delivered ≡ false
+    → Visit w (rested w) k x
 visit kept w k x b is d =
     let s : Split 0 k w.bag = split 0 k k w.bag x (omega arith) is d in
     let u : World = fold delivers w s.pre in

@@ -110,11 +110,14 @@ pub record Came (w : World) (side : Side) (k : ℕ) (q : SppPacketModel) (m : Me
   pub after : Ahead 0 (delivers at k) (rested w)
   pub keeps : (j : ℕ) (y : Emitted) → length w.bag ≤ j → slice_get (delivers at k).bag j ≡ Some y → slice_get (rested w).bag j ≡ Some y
 
-young : (w u : World) (side : Side) (least : ℕ) → Ahead 0 w u → (end_of w side).handed ≤ least + 100 → length (end_of u side).taken ≤ least + 200
+young : (w u : World) (side : Side) (least : ℕ) → Ahead 0 w u → (end_of w side).handed ≤ least + 100
+    → length (end_of u side).taken ≤ least + 200
 young w u side least on few =
     let fits = (on.both.holds.ends side).fits in omega (arith, few, (on.ends side).handed, fits.bounds.window_holds, fits.ends.window_most)
 
-pub rest_comes : Kept → (w : World) (side : Side) (s p : State) (k : ℕ) (q : SppPacketModel) (m : Meant) (least_s least_p : ℕ) → Both w → Pair w side s p
+pub rest_comes : Kept
+    → (w : World) (side : Side) (s p : State) (k : ℕ) (q : SppPacketModel) (m : Meant) (least_s least_p : ℕ) → Both w
+    → Pair w side s p
     → OnItsWay w.bag side s p k q m least_s least_p → s.handed ≤ least_s + 100 → p.handed ≤ least_p + 100 → Came w side k q m
 rest_comes kept w side s p k q m least_s least_p b x i few_s few_p =
     let v : Visit w (rested w) k (emitted side i.at (spp_packet_spelling q)) = visit kept w k (emitted side i.at (spp_packet_spelling q)) b i.is refl in
@@ -218,7 +221,8 @@ told_on most s t n g i = record {
   allowed = λ few. omega (arith, i.allowed few, g.grows.allowed);
 }
 
-pub tell : Kept → (w : World) (side : Side) (n m : ℕ) → Both w → Offer w side n m → (end_of w (other side)).handed ≤ n + 100 → (end_of w side).handed ≤ m + 100
+pub tell : Kept → (w : World) (side : Side) (n m : ℕ) → Both w → Offer w side n m
+    → (end_of w (other side)).handed ≤ n + 100 → (end_of w side).handed ≤ m + 100
     → IsTold (end_of (turn w) side) n
 tell kept w side n m b f few_p few_s =
     let w2 : World = ticked_both w in

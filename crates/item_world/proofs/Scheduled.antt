@@ -35,8 +35,10 @@ takes_next k p bytes n true h le takes =
 takes_next k p bytes n false h le takes = omega (arith, le, takes (ltb-false n (length p.taken) h))
 
 -- the next item of a side is its first that is not acknowledged
-sends_next : Kept → (w : World) (side : Side) (n : ℕ) (b : Both w) (t : Ticks w side) → IsTold (end_of w side) n → (end_of w (other side)).handed ≡ n
-    → n < length (end_of w side).accepted → length (end_of t.before (other side)).taken ≤ n → n < length (end_of (rested (ticked_both w)) (other side)).taken
+sends_next : Kept → (w : World) (side : Side) (n : ℕ) (b : Both w) (t : Ticks w side) → IsTold (end_of w side) n
+    → (end_of w (other side)).handed ≡ n
+    → n < length (end_of w side).accepted → length (end_of t.before (other side)).taken ≤ n
+    → n < length (end_of (rested (ticked_both w)) (other side)).taken
 sends_next kept w side n b t told is left none =
     let w1 : World = t.before in
     let w2 : World = ticked_both w in
@@ -78,7 +80,8 @@ sends_next kept w side n b t told is left none =
     let grew = (c.after.ends (other side)).grows.taken in
     omega (arith, more, same, begins_length (end_of (delivers u k) (other side)).taken (end_of (rested w2) (other side)).taken grew)
 
-waits_by : Kept → (w : World) (side : Side) (n : ℕ) (b : Both w) (t : Ticks w side) (c : Bool) → nat_lt n (length (end_of t.before (other side)).taken) ≡ c
+waits_by : Kept → (w : World) (side : Side) (n : ℕ) (b : Both w) (t : Ticks w side) (c : Bool)
+    → nat_lt n (length (end_of t.before (other side)).taken) ≡ c
     → IsTold (end_of w side) n → (end_of w (other side)).handed ≡ n → n < length (end_of w side).accepted
     → n < length (end_of (rested (ticked_both w)) (other side)).taken
 waits_by kept w side n b t true h told is left =
@@ -95,7 +98,8 @@ waits_by kept w side n b t true h told is left =
 waits_by kept w side n b t false h told is left =
     sends_next kept w side n b t told is left (ltb-false n (length (end_of t.before (other side)).taken) h)
 
-next_moves : Kept → (w : World) (side : Side) (n : ℕ) → Both w → IsTold (end_of w side) n → (end_of w (other side)).handed ≡ n
+next_moves : Kept → (w : World) (side : Side) (n : ℕ) → Both w → IsTold (end_of w side) n
+    → (end_of w (other side)).handed ≡ n
     → n < length (end_of w side).accepted → n < (end_of (turn w) (other side)).handed
 next_moves kept w side n b told is left =
     let t : Ticks w side = tick_of kept w side b in
@@ -104,15 +108,18 @@ next_moves kept w side n b told is left =
 
 -- ---- three rounds
 
-three_after : Kept → (w : World) (side : Side) (n : ℕ) (b : Bool) → nat_lt n (end_of w (other side)).handed ≡ b → Both w → IsTold (end_of w side) n
+three_after : Kept → (w : World) (side : Side) (n : ℕ) (b : Bool) → nat_lt n (end_of w (other side)).handed ≡ b → Both w
+    → IsTold (end_of w side) n
     → n ≤ (end_of w (other side)).handed → n < length (end_of w side).accepted → n < (end_of (turn w) (other side)).handed
 three_after kept w side n true h b told le left =
     omega (arith, ltb-true n (end_of w (other side)).handed h, ((turn_ahead kept w b).ends (other side)).grows.handed)
 three_after kept w side n false h b told le left =
     next_moves kept w side n b told (omega (arith, le, ltb-false n (end_of w (other side)).handed h)) left
 
-three_by : Kept → (w : World) (side : Side) (b : Bool) → nat_lt (end_of w (other side)).handed (length (end_of w (other side)).taken) ≡ b → Both w
-    → (end_of w (other side)).handed < length (end_of w side).accepted → (end_of w (other side)).handed < (end_of (turn (turn (turn w))) (other side)).handed
+three_by : Kept → (w : World) (side : Side) (b : Bool)
+    → nat_lt (end_of w (other side)).handed (length (end_of w (other side)).taken) ≡ b → Both w
+    → (end_of w (other side)).handed < length (end_of w side).accepted
+    → (end_of w (other side)).handed < (end_of (turn (turn (turn w))) (other side)).handed
 three_by kept w side true h b left =
     let w1 : World = turn w in
     let w2 : World = turn w1 in
@@ -185,7 +192,8 @@ record Reached (w v : World) (side : Side) : Type 0 where
   handed : length (end_of w side).accepted ≤ (end_of v (other side)).handed
   acknowledged : length (end_of w side).accepted ≤ (end_of v side).acknowledged
 
-settle : Kept → (n : ℕ) (w : World) (side : Side) (b : Bool) → nat_lt (end_of w side).acknowledged (length (end_of w side).accepted) ≡ b → Both w
+settle : Kept → (n : ℕ) (w : World) (side : Side) (b : Bool)
+    → nat_lt (end_of w side).acknowledged (length (end_of w side).accepted) ≡ b → Both w
     → length (end_of w side).accepted ≤ (end_of w (other side)).handed → 2 ≤ n → Reached w (turns n w) side
 unfolding turns
 settle kept zero w side c h b all le = absurd (omega (arith, le))
@@ -213,7 +221,8 @@ settle kept (suc (suc n)) w side true h b all le =
       acknowledged = omega (arith, all, told.acknowledged, (g.ends side).grows.acknowledged);
     }
 
-reaches : Kept → (d n : ℕ) (w : World) (side : Side) (b : Bool) → nat_lt (end_of w (other side)).handed (length (end_of w side).accepted) ≡ b → Both w
+reaches : Kept → (d n : ℕ) (w : World) (side : Side) (b : Bool)
+    → nat_lt (end_of w (other side)).handed (length (end_of w side).accepted) ≡ b → Both w
     → length (end_of w side).accepted ≤ (end_of w (other side)).handed + d → 3 * d + 2 ≤ n → Reached w (turns n w) side
 unfolding turns
 reaches kept d n w side false h b few le =
@@ -250,7 +259,8 @@ pub finishes_in_rounds : Kept → (w : World) → Holds w → Linked w → Finis
 finishes_in_rounds kept w holds linked n le = subst (IsDone w) (sym (rounds_are n w)) (in_turns kept w n (record { holds = holds; linked = linked }) le)
 
 -- whatever was before
-pub always_in_rounds : Kept → (setup : Setup) (events : List Event) → Holds (start setup) → Linked (start setup) → All IsEvent events
+pub always_in_rounds : Kept → (setup : Setup) (events : List Event) → Holds (start setup) → Linked (start setup)
+    → All IsEvent events
     → FinishesInRounds (run (start setup) events)
 always_in_rounds kept setup events h l fits =
     let b : Both (run (start setup) events) = events_after kept (start setup) events fits (record { holds = h; linked = l }) in

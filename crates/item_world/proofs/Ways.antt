@@ -66,7 +66,8 @@ way_on bag more side s t p r k q m least_s least_p n a b i is = record {
   receiver = omega (arith, i.receiver, begins_length p.taken r.taken b.grows.taken);
 }
 
-young_alive : (at : Moment) (m n least_s least_p : ℕ) → least_s ≤ at.sender → least_p ≤ at.receiver → m ≤ least_s + 200 → n ≤ least_p + 200
+young_alive : (at : Moment) (m n least_s least_p : ℕ) → least_s ≤ at.sender → least_p ≤ at.receiver → m ≤ least_s + 200
+    → n ≤ least_p + 200
     → is_past at m n ≡ false
 young_alive at m n least_s least_p a b c d =
     let old_s : m - at.sender ≤ lifetime = omega (arith, a, c) in
@@ -79,8 +80,10 @@ pub record Comes (w : World) (side : Side) (s p : State) (k : ℕ) (q : SppPacke
   pub counts : Counts p (spp_packet_spelling q) q m
   pub pair : Pair (delivers w k) side s (after_flush (after_receive p (spp_packet_spelling q)))
 
-pub comes : Kept → (w : World) (side : Side) (s p : State) (k : ℕ) (q : SppPacketModel) (m : Meant) (least_s least_p : ℕ) → Pair w side s p
-    → OnItsWay w.bag side s p k q m least_s least_p → length s.taken ≤ least_s + 200 → length p.taken ≤ least_p + 200 → Comes w side s p k q m
+pub comes : Kept → (w : World) (side : Side) (s p : State) (k : ℕ) (q : SppPacketModel) (m : Meant) (least_s least_p : ℕ)
+    → Pair w side s p
+    → OnItsWay w.bag side s p k q m least_s least_p → length s.taken ≤ least_s + 200 → length p.taken ≤ least_p + 200
+    → Comes w side s p k q m
 comes kept w side s p k q m least_s least_p x i young_s young_p =
     let laws : EndLaws = kept.laws in
     let bytes : List ℕ = spp_packet_spelling q in
@@ -112,7 +115,8 @@ pub record Replies (w : World) (side : Side) (o s p : State) (k : ℕ) : Type 0 
   pub allows : p.handed < most_items → p.handed ≤ window_top o
   pub named : 0 < (system_packet o reply_control).header.source_id
 
-pub replies : Kept → (w : World) (side : Side) (s p : State) (k : ℕ) (q : SppPacketModel) (m : Meant) → Pair w side s p → Comes w side s p k q m
+pub replies : Kept → (w : World) (side : Side) (s p : State) (k : ℕ) (q : SppPacketModel) (m : Meant) → Pair w side s p
+    → Comes w side s p k q m
     → wants_reply q.header ≡ true → Replies w side (after_receive p (spp_packet_spelling q)) s p k
 replies kept w side s p k q m x c asks =
     let laws : EndLaws = kept.laws in
@@ -157,7 +161,8 @@ pub record TickAsks (w : World) (side : Side) (s p : State) : Type 0 where
   pub asks : wants_reply packet.header ≡ true
   pub way : OnItsWay (ticks w side).bag side (after_tick s) p (length w.bag) packet meant s.handed p.handed
 
-tick_way : Kept → (w : World) (side : Side) (s p : State) (q : SppPacketModel) (m : Meant) → Pair w side s p → slice_get (tick_packets s) 0 ≡ Some q
+tick_way : Kept → (w : World) (side : Side) (s p : State) (q : SppPacketModel) (m : Meant) → Pair w side s p
+    → slice_get (tick_packets s) 0 ≡ Some q
     → IsNamed s.ends q → IsProperAs (moment (after_tick s) p) (after_tick s) q m
     → OnItsWay (ticks w side).bag side (after_tick s) p (length w.bag) q m s.handed p.handed
 tick_way k w side s p q m x first named proper =
@@ -179,7 +184,8 @@ tick_way k w side s p q m x first named proper =
       receiver = omega arith;
     }
 
-pub tick_asks : Kept → (w : World) (side : Side) (s p : State) → Pair w side s p → s.acknowledged < length s.accepted → TickAsks w side s p
+pub tick_asks : Kept → (w : World) (side : Side) (s p : State) → Pair w side s p → s.acknowledged < length s.accepted
+    → TickAsks w side s p
 tick_asks k w side s p x left =
     let laws : EndLaws = k.laws in
     let a : Asks s = laws.asks.asks s left in
@@ -203,7 +209,8 @@ pub record TickSends (w : World) (side : Side) (s p : State) : Type 0 where
   pub way : OnItsWay (ticks w side).bag side (after_tick s) p (length w.bag) packet (own_meant s s.acknowledged) s.handed p.handed
 
 -- an open end sends the first item that is not acknowledged, where it may go out
-pub tick_sends_item : Kept → (w : World) (side : Side) (s p : State) → Pair w side s p → is_open s.ends ≡ true → s.acknowledged < send_limit s
+pub tick_sends_item : Kept → (w : World) (side : Side) (s p : State) → Pair w side s p → is_open s.ends ≡ true
+    → s.acknowledged < send_limit s
     → s.acknowledged < length s.accepted → TickSends w side s p
 tick_sends_item k w side s p x ready may left =
     let laws : EndLaws = k.laws in

@@ -1,5 +1,6 @@
 use Rattle.item_world.proofs.Onward.{Kept}
-use Rattle.item_world.proofs.Finishing.{finishes, always_finishes, always_finishes_by}
+use Rattle.item_world.proofs.Finishing.{always_finishes_by}
+use Rattle.item_world.proofs.SmallSteps.{finishes, always_finishes}
 use Rattle.item_world.proofs.Outward.{stirs, stirs_out}
 use Rattle.item_world.proofs.Scheduled.{always_in_rounds}
 use Rattle.item_world.proofs.Linking.{keeps_links, starts_linked}
