@@ -9,15 +9,38 @@ pub enum Manner {
     GivesNoRoom,
     /// It calls, and closes in the middle of the call.
     ClosesInACall,
+    /// It sends two calls before it reads anything. Each call and each answer is longer than the buffers of both ends.
+    ReadsLate,
+    /// It does so too, but reads what came while its end is full.
+    ReadsWhileFull,
 }
 
 impl Manner {
-    pub const ALL: [Manner; 4] = [
+    pub const ALL: [Manner; 6] = [
         Manner::FallsSilent,
         Manner::AcknowledgesNothing,
         Manner::GivesNoRoom,
         Manner::ClosesInACall,
+        Manner::ReadsLate,
+        Manner::ReadsWhileFull,
     ];
+
+    /// Whether the peer reads what came, by whether it has sent all, and whether its end is full.
+    pub fn reads(self, is_all_sent: bool, is_full: bool) -> bool {
+        match self {
+            Manner::ReadsLate => is_all_sent,
+            Manner::ReadsWhileFull => is_all_sent || is_full,
+            Manner::FallsSilent
+            | Manner::AcknowledgesNothing
+            | Manner::GivesNoRoom
+            | Manner::ClosesInACall => false,
+        }
+    }
+
+    /// Whether the peer sends again what is not acknowledged.
+    pub fn insists(self) -> bool {
+        self == Manner::ReadsLate || self == Manner::ReadsWhileFull
+    }
 
     pub fn name(self) -> &'static str {
         match self {
@@ -25,6 +48,8 @@ impl Manner {
             Manner::AcknowledgesNothing => "a peer that acknowledges nothing",
             Manner::GivesNoRoom => "a peer that gives no room",
             Manner::ClosesInACall => "a peer that closes in the middle of a call",
+            Manner::ReadsLate => "a peer that sends two long calls before it reads an answer",
+            Manner::ReadsWhileFull => "the same, but it reads while its end is full",
         }
     }
 }

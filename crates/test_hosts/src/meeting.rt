@@ -1,7 +1,10 @@
 use crate::manner::Manner;
+use courier_messages::{PiecedMessage, put_out, versions};
+use courier_sessions::Answer;
 use host_scenes::player::SERVER;
 use host_scenes::station::Station;
 use std::alloc::{AllocError, Global};
+use std::collections::VecDeque;
 use xns_host::{Event, HostFault, Settings, Why};
 use xns_idp::Address;
 use xns_spp::{Bytes, Endpoint, Item, opening};
@@ -24,6 +27,9 @@ const END_REPLY: u8 = 255;
 /// A call's beginning: versions 3 to 3, a call, transaction 0, program 7.
 const HALF_A_CALL: [u8; 12] = [0, 3, 0, 3, 0, 0, 0, 0, 0, 0, 0, 7];
 
+/// The words of a long call: 30 items, where the window of one end and the backlog of the other hold 24.
+const LONG: [u16; 8_000] = [7; 8_000];
+
 /// A host, and a peer that is odd.
 #[derive(Drop)]
 pub struct Meeting {
@@ -32,10 +38,13 @@ pub struct Meeting {
     host: Station,
     /// `None`: it was not called yet.
     peer: Option<Endpoint>,
+    /// What the peer has still to send.
+    out: VecDeque<Item>,
     /// What the peer said first.
     first: Option<Bytes>,
     now: u64,
     packets: usize,
+    answered: usize,
     closed: Option<Why>,
 }
 
@@ -46,6 +55,48 @@ fn item_of(alloc: Global, stream: u8, bytes: &[u8]) -> Result<Item, AllocError> 
         last: stream != 0,
         body: Bytes::new(Vec::from_slice(alloc, bytes)?),
     })
+}
+
+/// Puts a long call behind what is out.
+fn put_call(alloc: Global, transaction: u16, out: &mut VecDeque<Item>) -> Result<(), AllocError> {
+    let mut words = Vec::new(alloc);
+    words.extend_from_slice(&[0, transaction, 0, 7, 2, 1])?;
+    words.extend_from_slice(&LONG)?;
+    put_out(alloc, words.as_slice(), out)
+}
+
+/// Two long calls.
+fn long_calls(alloc: Global) -> Result<VecDeque<Item>, AllocError> {
+    let mut out = versions(alloc)?;
+    put_call(alloc, 1, &mut out)?;
+    put_call(alloc, 2, &mut out)?;
+    Ok(out)
+}
+
+/// Half of a call.
+fn half_a_call(alloc: Global) -> Result<VecDeque<Item>, AllocError> {
+    let mut out = VecDeque::new(alloc);
+    out.push_back(item_of(alloc, 0, &HALF_A_CALL)?)?;
+    Ok(out)
+}
+
+/// The peer's end accepts what it has room for.
+fn send_more(peer: &mut Endpoint, out: &mut VecDeque<Item>) {
+    for _ in 0..out.len() {
+        if peer.is_full() {
+            return;
+        }
+        if let Some(item) = out.pop_front() {
+            let _ = peer.send(item);
+        }
+    }
+}
+
+/// The peer reads all that came.
+fn read_all(peer: &mut Endpoint) {
+    for _ in 0..peer.waiting() {
+        let _ = peer.take();
+    }
 }
 
 impl Meeting {
@@ -62,19 +113,27 @@ impl Meeting {
             manner,
             host,
             peer: None,
+            out: VecDeque::new(alloc),
             first: None,
             now: 0,
             packets: 0,
+            answered: 0,
             closed: None,
         })
     }
 
     /// The host is called, or calls.
     fn begin(&mut self) -> Result<(), anyhow::Error> {
-        if self.manner == Manner::ClosesInACall {
-            self.be_called()
-        } else {
-            self.call()
+        match self.manner {
+            Manner::ClosesInACall => {
+                self.out = half_a_call(self.alloc)?;
+                self.be_called()
+            }
+            Manner::ReadsLate | Manner::ReadsWhileFull => {
+                self.out = long_calls(self.alloc)?;
+                self.be_called()
+            }
+            Manner::FallsSilent | Manner::AcknowledgesNothing | Manner::GivesNoRoom => self.call(),
         }
     }
 
@@ -85,16 +144,15 @@ impl Meeting {
         Ok(())
     }
 
-    /// The peer opens a connection to the host.
+    /// The peer opens a connection to the host, which it closes once all is sent.
     fn be_called(&mut self) -> Result<(), anyhow::Error> {
         self.host.serve(SERVER.socket, &[])?;
         let mut peer = Endpoint::initiator(self.alloc, PEER, 9, SERVER, 8, 16)?;
         for packet in &peer.tick(self.alloc)? {
             self.host.receive(0, 0, packet.as_slice());
         }
-        let _ = peer.send(item_of(self.alloc, 0, &HALF_A_CALL)?);
-        let _ = peer.send(item_of(self.alloc, END, &[])?);
-        let _ = peer.send(item_of(self.alloc, END_REPLY, &[])?);
+        self.out.push_back(item_of(self.alloc, END, &[])?)?;
+        self.out.push_back(item_of(self.alloc, END_REPLY, &[])?)?;
         self.peer = Some(peer);
         Ok(())
     }
@@ -129,9 +187,16 @@ impl Meeting {
         match self.manner {
             Manner::FallsSilent => {}
             Manner::AcknowledgesNothing => self.say_again(),
-            Manner::GivesNoRoom | Manner::ClosesInACall => {
+            Manner::GivesNoRoom
+            | Manner::ClosesInACall
+            | Manner::ReadsLate
+            | Manner::ReadsWhileFull => {
                 if let Some(reply) = peer.receive(self.alloc, bytes)?.reply {
                     self.host.receive(self.now, 0, reply.as_slice());
+                }
+                send_more(peer, &mut self.out);
+                if self.manner.reads(self.out.is_empty(), peer.is_full()) {
+                    read_all(peer);
                 }
                 for packet in &peer.flush(self.alloc)? {
                     self.host.receive(self.now, 0, packet.as_slice());
@@ -152,10 +217,47 @@ impl Meeting {
     }
 
     /// What the host tells.
-    fn listen(&mut self) {
-        if let Some(Event::Closed { why, .. }) = self.host.next_event() {
-            self.closed = Some(why);
+    fn listen(&mut self) -> Result<(), anyhow::Error> {
+        match self.host.next_event() {
+            Some(event) => self.hear_event(&event),
+            None => Ok(()),
         }
+    }
+
+    fn hear_event(&mut self, event: &Event) -> Result<(), anyhow::Error> {
+        match event {
+            Event::Call {
+                number,
+                message,
+                ..
+            } => return self.answer(*number, message),
+            Event::Answer { .. } => {}
+            Event::Closed { why, .. } => self.closed = Some(*why),
+        }
+        Ok(())
+    }
+
+    /// Answers a call by its own words.
+    fn answer(&mut self, number: usize, message: &PiecedMessage) -> Result<(), anyhow::Error> {
+        let words = message.words(self.alloc)?;
+        self.answered = self.answered.saturating_add(1);
+        Ok(
+            self.host
+                .answer(self.now, number, Answer::Return, words.as_slice())?,
+        )
+    }
+
+    /// A timeout at a peer that insists.
+    fn insist(&mut self) -> Result<(), AllocError> {
+        if !self.manner.insists() {
+            return Ok(());
+        }
+        if let Some(peer) = &mut self.peer {
+            for packet in &peer.tick(self.alloc)? {
+                self.host.receive(self.now, 0, packet.as_slice());
+            }
+        }
+        Ok(())
     }
 
     /// Lets them talk while the host has packets, and goes on to when it wants to be asked again; whether there is such a time.
@@ -165,11 +267,14 @@ impl Meeting {
                 break;
             }
         }
-        self.listen();
+        self.listen()?;
         let Some(at) = self.host.wake() else {
             return Ok(false);
         };
-        self.now = self.now.max(at);
+        if at > self.now {
+            self.now = at;
+            self.insist()?;
+        }
         Ok(self.now <= LONGEST)
     }
 
@@ -188,6 +293,9 @@ impl Meeting {
         match self.closed {
             Some(why) => write!(text, "closed, {why:?}, ")?,
             None => text.push_str("open, ")?,
+        }
+        if self.manner.insists() {
+            write!(text, "{} of 2 calls answered, ", self.answered)?;
         }
         write!(text, "{} packets, {} ms", self.packets, self.now)
     }
