@@ -12,7 +12,7 @@ Proves and builds the program xns and the library for C, and installs under the 
     bin/xns, bin/xns-net
     include/xns.h
     lib/libxns.a, lib/libxns.so and its versions, lib/pkgconfig/xns.pc
-    share/man/man1/xns.1
+    share/man/man1/xns.1, share/man/man1/xns-net.1
     share/doc/xns       the pages that help, manual page and header name, and an example
     share/xns           the module for Python, and the list of what was installed
 
@@ -141,7 +141,7 @@ done
 version=$(cat VERSION)
 soname=libxns.so.${version%%.*}
 pages='C CAPTURES COURIER ENDPOINT FORMATS GLOSSARY NETWORKS PROMISES PROOF WORLD'
-files="bin/xns bin/xns-net include/xns.h lib/libxns.a lib/libxns.so.$version lib/$soname lib/libxns.so lib/pkgconfig/xns.pc share/man/man1/xns.1"
+files="bin/xns bin/xns-net include/xns.h lib/libxns.a lib/libxns.so.$version lib/$soname lib/libxns.so lib/pkgconfig/xns.pc share/man/man1/xns.1 share/man/man1/xns-net.1"
 for page in $pages; do files="$files share/doc/xns/$page.md"; done
 files="$files share/doc/xns/examples/six-calls.hex share/xns/installed"
 modules=$(cd python/xns && echo *.py)
@@ -181,7 +181,7 @@ Version: $version
 Cflags: -I\${includedir}
 Libs: -L\${libdir} -lxns
 END
-sed "s/@VERSION@/$version/" docs/xns.1 > "$work/xns.1"
+for page in xns xns-net; do sed "s/@VERSION@/$version/" "docs/$page.1" > "$work/$page.1"; done
 
 # ---- the list: the files, the folders that were made here or by an earlier installation, and how many from PREFIX up were made
 
@@ -213,7 +213,7 @@ install -m 755 "$work/libxns.so" "$root/lib/libxns.so.$version"
 ln -sf "libxns.so.$version" "$root/lib/$soname"
 ln -sf "$soname" "$root/lib/libxns.so"
 install -m 644 "$work/xns.pc" "$root/lib/pkgconfig/xns.pc"
-install -m 644 "$work/xns.1" "$root/share/man/man1/xns.1"
+for page in xns xns-net; do install -m 644 "$work/$page.1" "$root/share/man/man1/$page.1"; done
 for page in $pages; do install -m 644 "docs/$page.md" "$root/share/doc/xns/$page.md"; done
 install -m 644 examples/six-calls.hex "$root/share/doc/xns/examples/six-calls.hex"
 for module in $modules; do install -m 644 "python/xns/$module" "$root/share/xns/python/xns/$module"; done

@@ -35,10 +35,12 @@ xns $version: packets of the Xerox Network Systems, and calls of Courier. For x8
 Below, DIR is this folder. Nothing has to be installed.
 
 The program:               DIR/bin/xns --help          man DIR/share/man/man1/xns.1
-Calls of a capture:        DIR/bin/xns calls < DIR/share/doc/xns/examples/six-calls.hex
+Calls of a capture:        DIR/bin/xns calls x.pcap
+Of packets in hex:         DIR/bin/xns calls DIR/share/doc/xns/examples/six-calls.hex
 A program in C:            gcc program.c -IDIR/include DIR/lib/libxns.a
 The same by pkg-config:    PKG_CONFIG_PATH=DIR/lib/pkgconfig pkg-config --cflags --libs xns
 A program in Python:       PYTHONPATH=DIR/share/xns/python python3 program.py
+Hosts of a network:        DIR/bin/xns-net --help      man DIR/share/man/man1/xns-net.1
 The pages:                 DIR/share/doc/xns
 
 The program needs the C library (glibc), and a processor of x86-64-v2 (since about 2009). The

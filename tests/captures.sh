@@ -1,6 +1,6 @@
 #!/bin/sh
-# Tries the commands of docs/CAPTURES.md, whose functions it takes from there, and that of the manual page, on captures that it makes
-# itself. It builds the program first.
+# Tries the commands of docs/CAPTURES.md, whose function it takes from there, on captures that it makes itself, and compares what the
+# program reads of a capture with what it prints of the lines that tshark makes of it. It builds the program first.
 # Without tshark or text2pcap it says so and ends with 0; without tcpdump that one command is passed over.
 # Its last line is 'N passed, M failed', and it ends with 1 where one failed.
 set -u
@@ -78,20 +78,30 @@ frames llc 1 "$ends LENGTH+3 808003"
 frames cooked 113 '0000 0001 0006 0000aa0003040000 0600'
 frames cooked_newer 276 '0600 0000 00000002 0001 00 06 0000aa0003040000'
 for link in ethernet vlan qinq snap snap_behind_vlan llc cooked cooked_newer; do
-    xns_hex -r $link.pcap 2> /dev/null | xns dump > from_$link
+    xns dump $link.pcap > from_$link
     same "$link" text from_$link
+    xns_hex -r $link.pcap 2> /dev/null | xns dump > lines_of_$link
+    same "$link, by tshark" text lines_of_$link
 done
+frames old_ethernet 2 '03 04 0600'
+xns dump old_ethernet.pcap > from_old_ethernet
+same 'the 3 Mb/s Ethernet' text from_old_ethernet
 
 ethernet_links='ethernet vlan qinq snap snap_behind_vlan llc'
 for link in $ethernet_links; do cat $link.hex; done > mixture.hex
 for link in $ethernet_links; do cat in.hex; done | xns dump > mixture_expected
 text2pcap -q -r '^(?<data>[0-9a-f]+)$' mixture.hex mixture.pcap 2> /dev/null
-xns_hex -r mixture.pcap 2> /dev/null | xns dump > from_mixture
+xns dump mixture.pcap > from_mixture
 same 'a mixture' mixture_expected from_mixture
-
-sed -n '/^tshark .*x\.pcap/,/^xns dump/p' "$root/docs/xns.1" | sed "s/\\\\-/-/g; s/\\\\(aq/'/g; s/\\\\e\$/\\\\/; s/x\.pcap/mixture.pcap/" > from_manual.sh
-. ./from_manual.sh > from_manual 2> /dev/null
-same 'the command of the manual page' mixture_expected from_manual
+for kind in pcap pcapng nsecpcap; do
+    editcap -F $kind mixture.pcap mixture.$kind 2> /dev/null
+    xns dump mixture.$kind > from_mixture
+    same "a mixture as $kind" mixture_expected from_mixture
+done
+mergecap -a -w merged.pcapng ethernet.pcap cooked.pcap llc.pcap 2> /dev/null
+for link in ethernet cooked llc; do cat in.hex; done | xns dump > merged_expected
+xns dump merged.pcapng > from_merged
+same 'a merged capture' merged_expected from_merged
 
 # ---- calls, and one conversation of them
 
@@ -102,32 +112,36 @@ worked() {
 worked stdin | sed 's/^calls //; s/\\n$//; s/\\n/\n/g' > calls.hex
 worked stdout > calls_expected
 text2pcap -q -r '^(?<data>[0-9a-f]+)$' -e 0x600 calls.hex calls.pcap 2> /dev/null
-xns_hex -r calls.pcap 2> /dev/null | xns calls > from_calls
+xns calls calls.pcap > from_calls
 same 'the calls of a capture' calls_expected from_calls
 grep -E '^[0-9]+ 2[ab] ' calls_expected > second_expected
-xns_hex -r calls.pcap 2> /dev/null | xns calls | grep -E '^[0-9]+ 2[ab] ' > from_second
+xns calls calls.pcap | grep -E '^[0-9]+ 2[ab] ' > from_second
 same 'one conversation' second_expected from_second
 
 # ---- identifiers that are used again: the second time prints nothing, and all where the capture is cut at its opening
 
 cat "$root/examples/six-calls.hex" "$root/examples/six-calls.hex" > again.hex
-xns calls < "$root/examples/six-calls.hex" > once
-xns calls < again.hex > from_again
+text2pcap -q -r '^(?<data>[0-9a-f]+)$' -e 0x600 again.hex again.pcap 2> /dev/null
+xns calls "$root/examples/six-calls.hex" > once
+xns calls again.pcap > from_again
 same 'a connection that comes again' once from_again
-at=$(xns dump < again.hex | grep ' spp .* target 0000 ' | tail -1 | cut -d ' ' -f 1)
-{ head -n $((at - 1)) again.hex | xns calls; tail -n "+$at" again.hex | xns calls; } > from_cut
-cat once once > twice
-[ -s once ] || echo nothing > from_cut
-same 'the same cut at its second opening' twice from_cut
+at=$(xns dump again.pcap | grep ' spp .* target 0000 ' | tail -1 | cut -d ' ' -f 1)
+editcap -r again.pcap new.pcap "$at-999999" 2> /dev/null
+xns calls new.pcap > from_new
+[ -s once ] || echo nothing > from_new
+same 'the same cut at its second opening' once from_new
 
-# ---- live, from a pipe in the place of an interface
+# ---- live: what comes through a pipe is printed before the next packet comes
 
-xns_hex -l -i - < ethernet.pcap 2> /dev/null | xns dump > from_live
+editcap -F pcap ethernet.pcap live.pcap 2> /dev/null
+{ head -c $((24 + 16 + 14 + 34)) live.pcap; sleep 1; cp from_live first_live; tail -c +$((24 + 16 + 14 + 35)) live.pcap; } | xns dump - > from_live
 same 'live packets' text from_live
-xns_hex -l -i - < ethernet.pcap 2> /dev/null | split -l 65536 --filter='xns dump || [ $? = 1 ]' > from_live
-same 'live packets, in parts' text from_live
+head -2 text > first_expected
+same 'the first live packet' first_expected first_live
+xns_hex -l -i - < ethernet.pcap 2> /dev/null | xns dump > from_live
+same 'live packets, by tshark' text from_live
 
-# ---- parts, large frames, frame numbers, tcpdump
+# ---- parts, large frames, tcpdump
 
 split -l 2 --filter='xns dump || [ $? = 1 ]' in.hex > in_parts
 { head -2 in.hex | xns dump; tail -1 in.hex | xns dump; } > parts
@@ -135,31 +149,28 @@ same 'an input in parts' parts in_parts
 
 { cat in.hex; printf '%04098d\n' 0; } > with_large.hex
 text2pcap -q -r '^(?<data>[0-9a-f]+)$' -e 0x600 with_large.hex with_large.pcap 2> /dev/null
-xns_hex -r with_large.pcap 2> /dev/null > with_large
-xns dump < with_large > from_with_large 2> /dev/null
-echo $? > status
-echo 3 > status_expected
-same 'a large frame ends a run' status_expected status
-grep -vE '.{4097}' with_large | xns dump > from_without_large
-same 'large frames left out' text from_without_large
+{ cat text; echo '4 idp refused BadLength 0'; } > large_expected
+xns dump with_large.pcap | cut -d ' ' -f 1-3 > from_with_large
+cut -d ' ' -f 1-3 large_expected > large_front
+same 'a large frame' large_front from_with_large
 
 # With a frame of another type in front, so that frame numbers and line numbers differ.
 { echo "0000aa0001020000aa000304080045"; cat ethernet.hex; } > behind.hex
 text2pcap -q -r '^(?<data>[0-9a-f]+)$' behind.hex behind.pcap 2> /dev/null
-xns_framed dump behind.pcap 2> /dev/null > numbered
+xns dump behind.pcap > numbered
 awk '{$1=$1+1}1' text > later
-same 'frame numbers kept' later numbered
+same 'frame numbers' later numbered
 
 # The worked calls behind two such frames: each number of a line is two more, that of an answer's call too.
 { head -1 behind.hex; head -1 behind.hex; sed 's/^/0000aa0001020000aa0003040600/' calls.hex; } > calls_behind.hex
 text2pcap -q -r '^(?<data>[0-9a-f]+)$' calls_behind.hex calls_behind.pcap 2> /dev/null
-xns_framed calls calls_behind.pcap 2> /dev/null > calls_numbered
+xns calls calls_behind.pcap > calls_numbered
 sed -E 's/ of ([0-9]+) / of @\1 /' calls_expected | awk '{$1=$1+2} $6~/^@/{$6=substr($6,2)+2} 1' > calls_later
 grep -q ' of [0-9]' calls_later || : > calls_numbered
 same 'frame numbers of calls and of what they answer' calls_later calls_numbered
 
 if command -v tcpdump > /dev/null; then
-    tcpdump -xtr ethernet.pcap ether proto 0x600 2> /dev/null | awk '/^\t/{$1="";printf "%s",$0;next} NR>1{print ""} END{if(NR)print ""}' | xns dump > from_tcpdump
+    tcpdump -U -r ethernet.pcap -w - 2> /dev/null | xns dump - > from_tcpdump
     same 'a capture by tcpdump' text from_tcpdump
 else
     echo "the command with tcpdump is not tried: there is no tcpdump"
@@ -171,7 +182,7 @@ tr a-f A-F < in.hex | sed 's/../& /g' > any.hex
 tr -d ' \t\r' < any.hex | tr A-F a-f > lower.hex
 same 'hex in lower case without blanks' in.hex lower.hex
 text2pcap -q -r '^(?<data>[0-9a-f]+)$' -e 0x600 lower.hex back.pcap 2> /dev/null
-xns_hex -r back.pcap 2> /dev/null | xns dump > from_back
+xns dump back.pcap > from_back
 same 'a capture made of hex' text from_back
 
 echo "$passed passed, $failed failed"

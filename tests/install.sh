@@ -35,7 +35,7 @@ holds() {
 version=$(cat VERSION)
 pages='C CAPTURES COURIER ENDPOINT FORMATS GLOSSARY NETWORKS PROMISES PROOF WORLD'
 folders='bin include lib lib/pkgconfig share share/doc share/doc/xns share/doc/xns/examples share/man share/man/man1 share/xns share/xns/python share/xns/python/xns'
-files="bin/xns bin/xns-net include/xns.h lib/libxns.a lib/libxns.so lib/libxns.so.0 lib/libxns.so.$version lib/pkgconfig/xns.pc share/man/man1/xns.1"
+files="bin/xns bin/xns-net include/xns.h lib/libxns.a lib/libxns.so lib/libxns.so.0 lib/libxns.so.$version lib/pkgconfig/xns.pc share/man/man1/xns.1 share/man/man1/xns-net.1"
 for page in $pages; do files="$files share/doc/xns/$page.md"; done
 files="$files share/doc/xns/examples/six-calls.hex share/xns/installed"
 for module in python/xns/*.py; do files="$files share/xns/$module"; done
@@ -257,13 +257,26 @@ if has qemu-x86_64; then
     expect 'and is answered there' grep -qx 42 "$work/out"
 else left_out qemu-x86_64 'the archive on the first x86-64 processors'; fi
 
-# ---- the manual page
+# ---- the command of the module
+
+if has python3; then
+    echo "xns-net $(cat VERSION)" > "$work/named"
+    ln -s "$prefix/bin/xns-net" "$work/linked-net"
+    for command in "$prefix/bin/xns-net" "$work/linked-net"; do
+        expect 'xns-net' env -u XNS_LIBRARY -u PYTHONPATH -u LD_LIBRARY_PATH PYTHONDONTWRITEBYTECODE=1 "$command" --version
+        expect 'has its version' cmp "$work/named" "$work/out"
+    done
+else left_out python3 xns-net; fi
+
+# ---- the manual pages
 
 if has man && man --version 2> /dev/null | grep -q '^man [0-9]'; then
     expect 'the manual page' env LC_ALL=C MANWIDTH=80 man --warnings -l "$prefix/share/man/man1/xns.1"
     cp "$work/out" "$work/page"
     expect 'has the version' grep -q "xns $(cat VERSION)" "$work/page"
     expect 'has the commands' sh -c "grep -q 'xns dump' '$work/page' && grep -q 'xns calls' '$work/page' && grep -q 'xns sim' '$work/page'"
+    expect 'that of xns-net' env LC_ALL=C MANWIDTH=80 man --warnings -l "$prefix/share/man/man1/xns-net.1"
+    expect 'has the version too' grep -q "xns $(cat VERSION)" "$work/out"
 else left_out man 'the manual page'; fi
 
 # ---- the archive for those who have no kit
@@ -292,6 +305,8 @@ if sh release.sh "$work/one" > "$work/said" 2> "$work/err"; then
     if has python3; then
         expect 'an example in Python' env -u XNS_LIBRARY PYTHONPATH="$unpacked/share/xns/python" python3 -B examples/python/endpoint.py
         expect 'has its item' grep -qx world "$work/out"
+        expect 'its xns-net' env -u XNS_LIBRARY -u PYTHONPATH PYTHONDONTWRITEBYTECODE=1 "$unpacked/bin/xns-net" --version
+        expect 'has its version too' cmp "$work/named" "$work/out"
     else left_out python3 'the module for Python'; fi
 else fail 'release.sh'; fi
 

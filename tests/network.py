@@ -127,7 +127,9 @@ def agree(path):
     for line in subprocess.run(["xns", "dump", path], stdout=subprocess.PIPE, text=True).stdout.splitlines():
         lines[int(line.split()[0])].append(line.split(" ", 1)[1])
     agreed = 0
-    for told, at in zip(theirs, sorted(lines), strict=True):
+    if len(theirs) != len(lines):
+        sys.exit(f"tshark has {len(theirs)} packets, xns {len(lines)}")
+    for told, at in zip(theirs, sorted(lines)):
         head = re.fullmatch(r"idp length (\d+) sum (\w+) control (\d+) type (\d+) to (\w+)\.(\w+)\.(\w+) from (\w+)\.(\w+)\.(\w+)", lines[at][0]).groups()
         ours = [65535 if head[1] == "none" else int(head[1], 16), int(head[0]), int(head[2]), int(head[3]), *(int(part, 16) for part in head[4:])]
         if head[3] == "5":

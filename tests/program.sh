@@ -298,23 +298,23 @@ expect 'a subcommand in another case' 2 "error: unrecognized subcommand 'Dump'; 
 run play
 expect 'another subcommand' 2 "error: unrecognized subcommand 'play'; the subcommands are dump, calls and sim; try 'xns --help'" "$work/nothing"
 
-run dump file
-expect 'a word too many' 2 "error: unexpected argument 'file' found; a command reads standard input, as in 'xns dump < FILE'; try 'xns --help'" "$work/nothing"
+run dump one two
+expect 'a word too many' 2 "error: unexpected argument 'two' found; a command reads one FILE, as in 'xns calls x.pcap'; try 'xns --help'" "$work/nothing"
 
 run dump --loud
-expect 'an option that is none' 2 "error: unexpected argument '--loud' found; a command reads standard input, as in 'xns dump < FILE'; try 'xns --help'" "$work/nothing"
+expect 'an option that is none' 2 "error: unexpected argument '--loud' found; a command reads one FILE, as in 'xns calls x.pcap'; try 'xns --help'" "$work/nothing"
 
 run --loud
-expect 'an option before any subcommand' 2 "error: unexpected argument '--loud' found; a command reads standard input, as in 'xns dump < FILE'; try 'xns --help'" "$work/nothing"
+expect 'an option before any subcommand' 2 "error: unexpected argument '--loud' found; a command reads one FILE, as in 'xns calls x.pcap'; try 'xns --help'" "$work/nothing"
 
 run "$(printf 'dump\377')"
 expect 'a word that is not UTF-8' 2 "error: a word of the command line is not UTF-8; try 'xns --help'" "$work/nothing"
 
-run calls file
-expect 'a word too many behind calls' 2 "error: unexpected argument 'file' found; a command reads standard input, as in 'xns dump < FILE'; try 'xns --help'" "$work/nothing"
+run calls one two
+expect 'a word too many behind calls' 2 "error: unexpected argument 'two' found; a command reads one FILE, as in 'xns calls x.pcap'; try 'xns --help'" "$work/nothing"
 
-run sim file
-expect 'a word too many behind sim' 2 "error: unexpected argument 'file' found; a command reads standard input, as in 'xns dump < FILE'; try 'xns --help'" "$work/nothing"
+run sim one two
+expect 'a word too many behind sim' 2 "error: unexpected argument 'two' found; a command reads one FILE, as in 'xns calls x.pcap'; try 'xns --help'" "$work/nothing"
 
 for words in --help -h 'dump --help' 'dump -h' 'calls --help' 'sim --help' 'help' 'help dump' 'help calls' 'help sim'; do
     # shellcheck disable=SC2086
@@ -451,8 +451,8 @@ refuse_mistaken() {
 : > "$work/in"
 refuse_mistaken "error: unrecognized subcommand 'play'; the subcommands are dump, calls and sim; try 'xns --help'" \
     "error: the command line is wrong; the subcommands are dump, calls and sim; try 'xns --help'" play
-refuse_mistaken "error: unexpected argument 'extra' found; a command reads standard input, as in 'xns dump < FILE'; try 'xns --help'" \
-    "error: the command line is wrong; a command reads standard input, as in 'xns dump < FILE'; try 'xns --help'" dump extra
+refuse_mistaken "error: unexpected argument 'extra' found; a command reads one FILE, as in 'xns calls x.pcap'; try 'xns --help'" \
+    "error: the command line is wrong; a command reads one FILE, as in 'xns calls x.pcap'; try 'xns --help'" dump x extra
 
 { cat "$work/packet" && echo 5g; } > "$work/in"
 "$program" dump < "$work/in" > "$work/text"

@@ -4,30 +4,41 @@ A server is one call. This one returns what it is given:
 
     with socket.socket(socket.AF_INET, socket.SOCK_DGRAM) as udp:
         udp.bind(("127.0.0.1", 4000))
-        xns.serve(udp, xns.Address(1, bytes.fromhex("0000aa000102"), 5), [(7, 1, 1)], lambda call: xns.returns(call.words))
+        own = xns.Address(1, bytes.fromhex("0000aa000102"), 5)
+        xns.serve(udp, own, [(7, 1, 1)], lambda call: xns.returns(call.words))
 
 And a client of it is this. Its socket, 3000, is one that no other client of its host has:
 
-    own, peer = xns.Address(1, bytes.fromhex("0000aa000304"), 3000), xns.Address(1, bytes.fromhex("0000aa000102"), 5)
-    with socket.socket(socket.AF_INET, socket.SOCK_DGRAM) as udp, xns.Client(udp, ("127.0.0.1", 4000), own, peer, timeout=10) as client:
-        print(client.call(7, 1, 1, [5, 6]).words)
+    own = xns.Address(1, bytes.fromhex("0000aa000304"), 3000)
+    peer = xns.Address(1, bytes.fromhex("0000aa000102"), 5)
+    with socket.socket(socket.AF_INET, socket.SOCK_DGRAM) as udp:
+        with xns.Client(udp, ("127.0.0.1", 4000), own, peer, timeout=10) as client:
+            print(client.call(7, 1, 1, [5, 6]).words)
 
-On Ethernet the socket is `xns.ethernet("eth0")`, and by way of a hub of emulators `xns.nethub("127.0.0.1", 3333)`; the place of a peer is then the host of its
-address. `Carrier` says what else can carry packets. In a loop of asyncio there are `serve_async` and `AsyncClient`. For another loop there is `Host`, for
-what is no call of Courier's `Endpoint`, for the values in words `Reader` and `Writer`, and for packets `decode`, `encode` and others.
+On Ethernet the socket is `xns.ethernet("eth0")`, and by way of a hub of emulators
+`xns.nethub("127.0.0.1", 3333)`; the place of a peer is then the host of its address. `Carrier` says
+what else can carry packets. In a loop of asyncio there are `serve_async` and `AsyncClient`. For
+another loop there is `Host`, for what is no call of Courier's `Endpoint`, for the values in words
+`Reader` and `Writer`, and for packets `decode`, `encode` and others.
 
-Bytes go in and come out as `bytes`, words as lists of numbers below 65,536. Each error of the module is an `XnsError`: where the library answers another result
-than that it was done, the one of its name is raised, as `TooLongError`. A value of another type is a `TypeError`, and a number that is too large a
-`ValueError`, with the name of the argument. That there is nothing of what was asked for is no error: such a call returns None.
+Bytes go in and come out as `bytes`, words as lists of numbers below 65,536. Each error of the
+module is an `XnsError`: where the library answers another result than that it was done, the one of
+its name is raised, as `TooLongError`. A value of another type is a `TypeError`, and a number that
+is too large a `ValueError`, with the name of the argument. That there is nothing of what was asked
+for is no error: such a call returns None.
 
-The module calls the shared library `libxns.so`: the one that the environment's XNS_LIBRARY names, else the one that `install.sh` installed with this module,
-else the one that the system finds. What the library does is proved; this module is not. It needs Python 3.8 or later and nothing else. docs/C.md says
-more on each call, and when a program makes it.
+The module calls the shared library `libxns.so`: the one that the environment's XNS_LIBRARY names,
+else the one that `install.sh` installed with this module, else the one that the system finds. What
+the library does is proved; this module is not. It needs Python 3.8 or later and nothing else.
+docs/C.md says more on each call, and when a program makes it.
 
-An object is used by the thread that made it alone; `Server.stop` can be called by any. It gives its memory back when it is freed, by `free` or at the end of
-a `with`, or when Python lets it go in that thread; the memory of one that is let go in another thread stays taken."""
+An object is used by the thread that made it alone; `Server.stop` can be called by any. It gives its
+memory back when it is freed, by `free` or at the end of a `with`, or when Python lets it go in that
+thread; the memory of one that is let go in another thread stays taken."""
+import importlib
+from typing import Any, List
+
 from . import _errors
-from ._asynchronous import AsyncClient, serve_async
 from ._client import Client
 from ._errors import ArgumentsError, ClosedError, LibraryError, NoCallError, NotServedError, SilentError, XnsError
 from ._library import version
@@ -57,7 +68,27 @@ __all__ = [
     "exchange_request", "exchange_accept", "exchange_reply", "header_read", "header_write", "message_read", "message_write", "new_identifier", "opening",
     "version", "LONGEST_PACKET", "LONGEST_ITEM", "MOST_WINDOW", "MOST_CALL_WORDS", "MOST_MESSAGE_WORDS",
 ]
-for _name in __all__:  # help and tracebacks name what the program imports
-    if hasattr(globals()[_name], "__module__") and getattr(globals()[_name], "__module__", "").startswith("xns."):
-        globals()[_name].__module__ = __name__
+_LATE = ("serve_async", "AsyncClient")  # asyncio takes as long to load as all else: who does not use it does not wait for it
+
+
+def _named(one: Any) -> Any:
+    """A class or function of the package, with the name that programs import it by."""
+    if getattr(one, "__module__", "").startswith(f"{__name__}."):
+        one.__module__ = __name__
+    return one
+
+
+def __getattr__(name: str) -> Any:
+    if name not in _LATE:
+        raise AttributeError(f"module {__name__!r} has no attribute {name!r}")
+    globals()[name] = found = _named(getattr(importlib.import_module("._asynchronous", __name__), name))
+    return found
+
+
+def __dir__() -> List[str]:
+    return sorted({*globals(), *_LATE})
+
+
+for _name in set(__all__) - set(_LATE):
+    _named(globals()[_name])
 del _name

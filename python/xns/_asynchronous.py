@@ -9,8 +9,8 @@ from ._errors import SilentError
 from ._library import unsigned, words_of
 from ._links import Carrier, not_blocking
 from ._objects import Host
-from ._serving import CLOSING, UNSPECIFIED, Programs, failed, give
-from ._station import Other, Station, file_of
+from ._serving import CLOSING, UNSPECIFIED, Programs, failed, give, guarded
+from ._station import Other, Station, file_of, milliseconds
 from ._told import Address, Answer, Call, Closed, Event, Reply, rejects
 
 _AGAIN = 1.0  # seconds after which a carrier without a file is looked at again
@@ -26,9 +26,12 @@ class _Pump:
         self._station, self._turned, self._loop = station, turned, asyncio.get_running_loop()
         self._file: Optional[int] = None
         self._timer: Optional[asyncio.TimerHandle] = None
+        self._is_stopped = False
 
     def turn(self) -> None:
         """What is to be done after each call of the host: events, packets, and when to come again."""
+        if self._is_stopped:
+            return
         self._turned()
         self._station.send()
         self._watch(file_of(self._station.carrier))
@@ -39,6 +42,7 @@ class _Pump:
         self._timer = self._loop.call_later(seconds if self._file is not None else min(seconds, _AGAIN), self._come)
 
     def stop(self) -> None:
+        self._is_stopped = True
         self._watch(None)
         if self._timer is not None:
             self._timer.cancel()
@@ -156,7 +160,7 @@ async def serve_async(
     tasks, stopped = set(), asyncio.Event() if stop is None else stop
     with Host(own, **settings) as host, not_blocking(carrier):
         host.serve(own.socket, list(programs))
-        station, gone = Station(carrier, host, other), asyncio.Event()
+        station, gone = Station(carrier, host, guarded(other)), asyncio.Event()
         there, closed = None, set()  # the connections that are to be closed, and those that are
 
         async def carry_out(call: Call) -> None:
@@ -166,7 +170,7 @@ async def serve_async(
                     reply = await reply
             except Exception as error:
                 reply = failed(call, error)
-            give(host, call, reply)
+            give(host, milliseconds(), call, reply)
             pump.turn()
 
         def turned() -> None:
@@ -180,7 +184,7 @@ async def serve_async(
                     tasks.add(task)
                     task.add_done_callback(tasks.discard)
                 elif isinstance(event, Call):
-                    give(host, event, rejects(UNSPECIFIED))
+                    give(host, station.now, event, rejects(UNSPECIFIED))
             if there is not None and not there:
                 gone.set()
 

@@ -29,18 +29,30 @@ def failed(call: Call, error: Exception) -> Reply:
     return rejects(UNSPECIFIED)
 
 
-def give(host: Host, call: Call, reply: Reply) -> None:
+def give(host: Host, now: int, call: Call, reply: Reply) -> None:
     """Answers a call, unless its connection has closed. A reply that can't be given is a failure of the call."""
     for one in (reply, rejects(UNSPECIFIED)):
         try:
-            host.answer(milliseconds(), call.number, one)
+            host.answer(now, call.number, one)
             return
         except (ClosingError, NoConnectionError, NoCallError):
             return
         except Exception as error:
             failed(call, error)
     with contextlib.suppress(XnsError):  # there is no memory, not even for a reject
-        host.close(milliseconds(), call.number)
+        host.close(now, call.number)
+
+
+def guarded(other: Other) -> Other:
+    """What is given each packet that is not the host's: what it raises ends nothing."""
+
+    def heard(packet: bytes, place: Any) -> None:
+        try:
+            other(packet, place)
+        except Exception as error:
+            LOG.error("a packet that is not the host's was not taken", exc_info=error)
+
+    return None if other is None else heard
 
 
 class Server:
@@ -67,7 +79,7 @@ class Server:
         try:
             with Host(self._own, **self._settings) as host, not_blocking(self._carrier):
                 host.serve(self._own.socket, self._programs)
-                station = Station(self._carrier, host, self._heard)
+                station = Station(self._carrier, host, guarded(self._other))
                 try:
                     while not (self._is_stopped or stop is not None and stop.is_set()):
                         station.wait(also=self._bell.fileno(), **({} if stop is None else {"most": _LOOKED_AT}))
@@ -83,7 +95,7 @@ class Server:
         for event in station.host.events():
             if isinstance(event, Call):
                 self._gone.discard(event.number)
-                give(station.host, event, self._reply(event))
+                give(station.host, station.now, event, self._reply(event))
             elif isinstance(event, Closed):
                 self._gone.add(event.number)
         station.send()
@@ -93,14 +105,6 @@ class Server:
             return self._service(call)
         except Exception as error:
             return failed(call, error)
-
-    def _heard(self, packet: bytes, place: Any) -> None:
-        """Gives a packet that is not the host's to the program."""
-        if self._other is not None:
-            try:
-                self._other(packet, place)
-            except Exception as error:
-                LOG.error("a packet that is not the host's was not taken", exc_info=error)
 
     def _close(self, station: Station) -> None:
         host, until = station.host, milliseconds() + CLOSING
@@ -113,7 +117,7 @@ class Server:
             station.take_in()
             for event in host.events():
                 if isinstance(event, Call):
-                    give(host, event, rejects(UNSPECIFIED))
+                    give(host, station.now, event, rejects(UNSPECIFIED))
                 elif isinstance(event, Closed):
                     there.discard(event.number)
             station.send()

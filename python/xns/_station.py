@@ -76,6 +76,7 @@ class Station:
 
     def __init__(self, carrier: Carrier, host: Host, other: Other = None) -> None:
         self.carrier, self.host, self._other, self._places = carrier, host, other, Places(host)
+        self._files, self._waiting = (None, None), select.poll()
         self.heard: Optional[int] = None  # when the last packet of a connection came
         self.now = milliseconds()  # of this turn: what comes while a call is carried out is read before anything is due for want of it
 
@@ -112,11 +113,13 @@ class Station:
 
     def wait(self, until: Optional[int] = None, also: Optional[int] = None, most: int = _MOST_WAIT) -> None:
         """Waits until a packet comes, the host wants to be asked, this time is there, so many milliseconds have passed, or `also`, a file, can be read."""
-        rest, file, waiting = self.rest(until), file_of(self.carrier), select.poll()
-        for one in (file, also):
-            if one is not None:
-                waiting.register(one, select.POLLIN)
-        waiting.poll(min(most if file is not None else min(most, _AGAIN), _MOST_WAIT if rest is None else rest))
+        rest, file = self.rest(until), file_of(self.carrier)
+        if self._files != (file, also):
+            self._files, self._waiting = (file, also), select.poll()
+            for one in (file, also):
+                if one is not None:
+                    self._waiting.register(one, select.POLLIN)
+        self._waiting.poll(min(most if file is not None else min(most, _AGAIN), _MOST_WAIT if rest is None else rest))
         self.now = milliseconds()
 
 

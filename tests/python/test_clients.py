@@ -3,7 +3,9 @@ import asyncio
 import collections
 import contextlib
 import os
+import pathlib
 import pydoc
+import re
 import select
 import signal
 import socket
@@ -177,6 +179,31 @@ class OverUdp(unittest.TestCase):
         finally:
             signal.signal(signal.SIGALRM, before)
 
+    @unittest.skipUnless(threading.current_thread() is threading.main_thread(), "signals go to another thread")
+    def test_ctrl_c_ends_a_server_that_closes_its_connections(self):
+        told = []
+
+        def calls():
+            with bound() as udp, xns.Client(udp, self.there.getsockname(), CLIENT, SERVER, **QUICK) as client:
+                client.call(7, 1, 1)
+                client.wait(1)
+                try:
+                    client.call(7, 1, 1)
+                except xns.XnsError as error:
+                    told.append(error)
+
+        thread = threading.Thread(target=calls)
+        before = signal.signal(signal.SIGALRM, signal.default_int_handler)
+        try:
+            thread.start()
+            with self.assertRaises(KeyboardInterrupt):
+                signal.setitimer(signal.ITIMER_REAL, 0.5)
+                xns.serve(self.there, SERVER, [], answers)
+        finally:
+            signal.signal(signal.SIGALRM, before)
+            thread.join()
+        self.assertIsInstance(told[0], xns.ClosedError)
+
     def test_a_network_that_is_down_ends_nothing(self):
         theirs, ours = Counting(self.there), Counting(self.here)
         with serving(theirs), self.client(ours, tries=30) as client:
@@ -185,6 +212,15 @@ class OverUdp(unittest.TestCase):
                 one.is_down = True
                 threading.Timer(0.3, setattr, (one, "is_down", False)).start()
                 self.assertEqual(client.call(7, 1, 1, [5]).words, [5])
+
+    def test_the_carrier_of_the_page(self):
+        page = (pathlib.Path(__file__).resolve().parents[2] / "docs" / "NETWORKS.md").read_text(encoding="utf-8")
+        defined = {}
+        exec(re.search(r"```python\n(.*?)```", page, re.S).group(1), defined)
+        losing = defined["Losing"](self.here)
+        with serving(self.there, tries=30), self.client(losing, tries=30) as client:
+            for number in range(30):
+                self.assertEqual(client.call(7, 1, 1, [number]).words, [number])
 
     def test_a_socket_that_is_closed_ends_the_server(self):
         self.there.close()

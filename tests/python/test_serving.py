@@ -30,9 +30,11 @@ FAILURES = [fails, lambda: None, lambda: xns.returns([1] * 65535), lambda: xns.r
 
 
 def exchanges(udp):
-    """Answers packet exchanges with what is asked, backwards."""
+    """Answers packet exchanges with what is asked, backwards; fails at a packet that is none."""
 
     def answer(packet, place):
+        if packet == b"none":
+            raise ValueError
         try:
             told = xns.decode(packet)
         except xns.XnsError:
@@ -153,6 +155,9 @@ class Serving(unittest.TestCase):
             udp.settimeout(5)
             udp.sendto(xns.echo_request(CLIENT, SERVER._replace(socket=2), b"Hi"), self.udp.getsockname())
             self.assertEqual(xns.echo_accept(SERVER._replace(socket=2), udp.recv(2048)), b"Hi")
+            with self.assertLogs("xns", "ERROR"):
+                udp.sendto(b"none", self.udp.getsockname())
+                time.sleep(0.2)
             udp.sendto(xns.exchange_request(CLIENT, SERVER, 77, 5, b"abc"), self.udp.getsockname())
             self.assertEqual(xns.exchange_accept(SERVER, 77, udp.recv(2048)), b"cba")
         self.assertEqual(client.call(7, 1, 1, [6]).words, [6, 6])

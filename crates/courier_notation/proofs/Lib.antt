@@ -10,3 +10,4 @@ pub mod Declaring
 pub mod ConstantRead
 pub mod ProgramSound
 pub mod ProgramComplete
+pub mod LexemesRead

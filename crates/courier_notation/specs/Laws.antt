@@ -1,8 +1,11 @@
 -- What the definitions imply: the statements of the laws, each under the name of its law.
-use Rattle.std.specs.Prelude.{◌≡◌, ◌↔◌, ℕ, List, ◌++◌, Ok, true}
+use Rattle.std.specs.Prelude.{◌≡◌, ◌↔◌, ℕ, ◌<◌, ◌≤◌, List, ◌++◌, length, Ok, true}
+use Rattle.std.specs.List.{AllByRecursion}
 use Rattle.courier_notation.specs.declared.token.Token.{Token}
 use Rattle.courier_notation.specs.Written.{TypeModel}
 use Rattle.courier_notation.specs.Reading.{type_at}
+use Rattle.courier_notation.specs.Lexing.{LexemeModel, lexing_of, most_text, most_tokens, nothing_read}
+use Rattle.courier_notation.specs.LexemeSpelling.{IsLexeme, lexemes_spelling, lexing_with}
 use Rattle.courier_notation.specs.ProgramModels.{ProgramModel}
 use Rattle.courier_notation.specs.Programs.{program_of}
 use Rattle.courier_notation.specs.ProgramSpelling.{SpellsProgram}
@@ -21,3 +24,8 @@ WrittenTypeIsRead = (depth : ℕ) (type : TypeModel) (rest : List Token) → IsT
 -- what is read of tokens as a program is what they spell
 abbrev pub ProgramIsReadAsItIsSpelled : Type 0
 ProgramIsReadAsItIsSpelled = (ts : List Token) (p : ProgramModel) → (program_of ts ≡ Ok p) ↔ SpellsProgram p ts
+
+-- lexemes that are written with a blank behind each are read, if they are not too many and the text is not too long
+abbrev pub SpelledLexemesAreRead : Type 0
+SpelledLexemesAreRead = (xs : List LexemeModel) → AllByRecursion IsLexeme xs → length xs < most_tokens → length (lexemes_spelling xs) ≤ most_text →
+    lexing_of (lexemes_spelling xs) ≡ Ok (lexing_with nothing_read xs)

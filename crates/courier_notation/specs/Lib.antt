@@ -6,3 +6,4 @@ pub mod Lexing
 pub mod ProgramModels
 pub mod Programs
 pub mod ProgramSpelling
+pub mod LexemeSpelling

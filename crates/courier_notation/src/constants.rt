@@ -66,6 +66,7 @@ fn component_of(
     }
 }
 
+/// An element, or a component behind its name and a colon: the last constant of it.
 #[cycle(constants)]
 #[tactic(auto, unfolding(crate::specs::Programs::element_at))]
 fn element_of(alloc: Global, depth: usize, tokens: &[Token]) -> Result<(Constant, &[Token]), Stop>
@@ -75,6 +76,7 @@ fn element_of(alloc: Global, depth: usize, tokens: &[Token]) -> Result<(Constant
     component_of(alloc, depth, constant, rest)
 }
 
+/// Elements with commas between.
 #[cycle(constants)]
 fn elements_of(
     alloc: Global,
@@ -116,6 +118,7 @@ fn elements_inside(
     }
 }
 
+/// A number behind a minus sign.
 fn negative_of(tokens: &[Token]) -> Result<(Constant, &[Token]), Stop>
     ensures { Reads (λ x. (x.0, x.1.now)) result (over (λ n. Other) (long_at tokens.now)) }
 {

@@ -23,6 +23,7 @@ use crate::types::{bracketed, type_of};
 use crate::written::{Reference, WrittenType};
 use std::alloc::Global;
 
+/// The arguments of a procedure or an error; none where no bracket stands first.
 #[tactic(auto, unfolding(crate::specs::Programs::arguments_at))]
 fn arguments_of(
     alloc: Global,
@@ -36,6 +37,7 @@ fn arguments_of(
     }
 }
 
+/// The results of a procedure; none where `RETURNS` does not stand first.
 #[tactic(auto, unfolding(crate::specs::Programs::results_at))]
 fn results_of(
     alloc: Global,
@@ -49,6 +51,7 @@ fn results_of(
     }
 }
 
+/// The errors that a procedure reports; none where `REPORTS` does not stand first.
 #[tactic(auto, unfolding(crate::specs::Programs::reports_at))]
 fn reports_of(alloc: Global, tokens: &[Token]) -> Result<(Vec<Reference>, &[Token]), Stop>
     ensures { Gives (λ x. (x.0.items, x.1.now)) result (reports_at tokens.now) }
@@ -64,6 +67,7 @@ fn reports_of(alloc: Global, tokens: &[Token]) -> Result<(Vec<Reference>, &[Toke
     }
 }
 
+/// A procedure, behind `PROCEDURE`.
 #[tactic(auto, unfolding(crate::specs::Programs::procedure_behind))]
 fn procedure_of(alloc: Global, tokens: &[Token]) -> Result<(Declared, &[Token]), Stop>
     ensures { Gives (λ x. (declared_view x.0, x.1.now)) result (procedure_behind tokens.now) }
@@ -84,6 +88,7 @@ fn procedure_of(alloc: Global, tokens: &[Token]) -> Result<(Declared, &[Token]),
     ))
 }
 
+/// An error, behind `ERROR`.
 #[tactic(auto, unfolding(crate::specs::Programs::error_behind))]
 fn error_of(alloc: Global, tokens: &[Token]) -> Result<(Declared, &[Token]), Stop>
     ensures { Gives (λ x. (declared_view x.0, x.1.now)) result (error_behind tokens.now) }
@@ -94,6 +99,7 @@ fn error_of(alloc: Global, tokens: &[Token]) -> Result<(Declared, &[Token]), Sto
     Ok((Declared::Error { arguments, number }, rest))
 }
 
+/// A type, behind `TYPE`.
 #[tactic(auto, unfolding(crate::specs::Programs::type_declared))]
 fn declared_type(alloc: Global, tokens: &[Token]) -> Result<(Declared, &[Token]), Stop>
     ensures { Gives (λ x. (declared_view x.0, x.1.now)) result (type_declared tokens.now) }
@@ -103,6 +109,7 @@ fn declared_type(alloc: Global, tokens: &[Token]) -> Result<(Declared, &[Token])
     Ok((Declared::Type(written), rest))
 }
 
+/// A constant, from its type on.
 #[tactic(auto, unfolding(crate::specs::Programs::constant_declared))]
 fn declared_constant(alloc: Global, tokens: &[Token]) -> Result<(Declared, &[Token]), Stop>
     ensures { Gives (λ x. (declared_view x.0, x.1.now)) result (constant_declared tokens.now) }
@@ -113,6 +120,7 @@ fn declared_constant(alloc: Global, tokens: &[Token]) -> Result<(Declared, &[Tok
     Ok((Declared::Constant(written, constant), rest))
 }
 
+/// What a name is declared as, behind its colon.
 #[tactic(auto, unfolding(crate::specs::Programs::declared_at))]
 fn declared_of(alloc: Global, tokens: &[Token]) -> Result<(Declared, &[Token]), Stop>
     ensures { Gives (λ x. (declared_view x.0, x.1.now)) result (declared_at tokens.now) }
@@ -125,6 +133,7 @@ fn declared_of(alloc: Global, tokens: &[Token]) -> Result<(Declared, &[Token]), 
     }
 }
 
+/// A declaration, up to its semicolon.
 #[tactic(auto, unfolding(crate::specs::Programs::declaration_at))]
 fn declaration_of(alloc: Global, tokens: &[Token]) -> Result<(Declaration, &[Token]), Stop>
     ensures { Gives (λ x. (declaration_view x.0, x.1.now)) result (declaration_at tokens.now) }

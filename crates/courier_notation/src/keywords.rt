@@ -12,6 +12,7 @@ fn is(word: &[u8], name: &[u8]) -> bool
     word == name
 }
 
+/// The keyword that a word is; `None` where it is none.
 pub fn keyword_of(word: &[u8]) -> Option<Token>
     ensures { result ≡ keyword_of_word word.now }
 {
@@ -90,7 +91,7 @@ pub fn keyword_of(word: &[u8]) -> Option<Token>
     None
 }
 
-/// The token of a mark that is one byte.
+/// The token of a mark that is one byte; `None` where the byte is no such mark.
 pub fn mark_of(byte: u8) -> Option<Token>
     ensures { result ≡ mark_of_byte byte }
 {

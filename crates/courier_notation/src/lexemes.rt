@@ -21,6 +21,7 @@ pub enum Lexeme<'a> {
     Quoted(&'a [u8]),
 }
 
+/// Whether two bytes are the two dashes that begin or end a comment.
 fn are_dashes(first: u8, second: u8) -> bool
     ensures { result ≡ (first == 45 && second == 45) }
 {
@@ -57,7 +58,7 @@ fn is_passed(is_comment: bool, byte: u8) -> bool
     is_comment || is_blank(byte)
 }
 
-/// The same of at most one byte.
+/// What stands behind a blank, or behind a byte of a comment, of at most one byte.
 fn behind_last(is_comment: bool, rest: &[u8]) -> &[u8]
     requires { length rest.now ≤ 1 }
     ensures { result.now ≡ skipped is_comment rest.now }
@@ -71,6 +72,7 @@ fn behind_last(is_comment: bool, rest: &[u8]) -> &[u8]
     rest
 }
 
+/// The letters and digits that stand first, and what is behind them.
 fn name_and_rest(bytes: &[u8]) -> (&[u8], &[u8])
     ensures front { result.0.now ≡ front_of is_name_byte_of bytes.now }
     ensures rest { result.1.now ≡ behind_front is_name_byte_of bytes.now }
@@ -83,6 +85,7 @@ fn name_and_rest(bytes: &[u8]) -> (&[u8], &[u8])
     bytes.split_at(bytes.len())
 }
 
+/// The digits that stand first, and what is behind them.
 fn digits_and_rest(bytes: &[u8]) -> (&[u8], &[u8])
     ensures front { result.0.now ≡ front_of is_digit_of bytes.now }
     ensures rest { result.1.now ≡ behind_front is_digit_of bytes.now }
@@ -95,6 +98,7 @@ fn digits_and_rest(bytes: &[u8]) -> (&[u8], &[u8])
     bytes.split_at(bytes.len())
 }
 
+/// What stands before the first quote, and the rest from it on.
 fn string_and_rest(bytes: &[u8]) -> (&[u8], &[u8])
     ensures front { result.0.now ≡ front_of is_no_quote bytes.now }
     ensures rest { result.1.now ≡ behind_front is_no_quote bytes.now }
@@ -121,6 +125,7 @@ fn number_of(digits: &[u8]) -> Option<u32>
     Some(number as u32)
 }
 
+/// A keyword or a name.
 fn word_of(bytes: &[u8]) -> Result<(Lexeme<'_>, &[u8]), Stop>
     ensures { Reads (λ x. (lexeme_view x.0, x.1.now)) result (word_at bytes.now) }
 {
@@ -135,6 +140,7 @@ fn word_of(bytes: &[u8]) -> Result<(Lexeme<'_>, &[u8]), Stop>
     }
 }
 
+/// A number.
 fn number_lexeme(bytes: &[u8]) -> Result<(Lexeme<'_>, &[u8]), Stop>
     ensures { Reads (λ x. (lexeme_view x.0, x.1.now)) result (number_at bytes.now) }
 {

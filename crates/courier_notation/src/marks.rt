@@ -1,4 +1,4 @@
-//! Single tokens that have to stand where they stand.
+//! Single tokens that have to stand first.
 ghost use Rattle.std.specs.Prelude.{◌≡◌, IfNone, IfSome, None, Some, length};
 ghost use Rattle.courier_notation.specs.declared.stop.Stop.TheVariants.{Wrong};
 ghost use Rattle.courier_notation.specs.Reading.{Reads, arrow_at, behind_comma, close_brace_at, close_bracket_at};
@@ -11,7 +11,7 @@ use crate::reason::Reason;
 use crate::stop::Stop;
 use crate::token::Token;
 
-/// The first of the tokens is wrong.
+/// The first of the tokens is wrong, or there is none.
 pub fn wrong(tokens: &[Token], reason: Reason) -> Stop
     ensures { result ≡ Wrong (length tokens.now) reason }
 {
@@ -21,6 +21,7 @@ pub fn wrong(tokens: &[Token], reason: Reason) -> Stop
     }
 }
 
+/// The tokens behind `OF`, which has to stand first.
 pub fn behind_of(tokens: &[Token]) -> Result<&[Token], Stop>
     ensures { Reads (λ x. x.now) result (of_at tokens.now) }
 {
@@ -30,6 +31,7 @@ pub fn behind_of(tokens: &[Token]) -> Result<&[Token], Stop>
     }
 }
 
+/// The tokens behind `=>`, which has to stand first.
 pub fn behind_arrow(tokens: &[Token]) -> Result<&[Token], Stop>
     ensures { Reads (λ x. x.now) result (arrow_at tokens.now) }
 {
@@ -39,6 +41,7 @@ pub fn behind_arrow(tokens: &[Token]) -> Result<&[Token], Stop>
     }
 }
 
+/// The tokens behind `:`, which has to stand first.
 pub fn behind_colon(tokens: &[Token]) -> Result<&[Token], Stop>
     ensures { Reads (λ x. x.now) result (colon_at tokens.now) }
 {
@@ -48,6 +51,7 @@ pub fn behind_colon(tokens: &[Token]) -> Result<&[Token], Stop>
     }
 }
 
+/// The tokens behind `{`, which has to stand first.
 pub fn behind_open_brace(tokens: &[Token]) -> Result<&[Token], Stop>
     ensures { Reads (λ x. x.now) result (open_brace_at tokens.now) }
 {
@@ -57,6 +61,7 @@ pub fn behind_open_brace(tokens: &[Token]) -> Result<&[Token], Stop>
     }
 }
 
+/// The tokens behind `}`, which has to stand first.
 pub fn behind_close_brace(tokens: &[Token]) -> Result<&[Token], Stop>
     ensures { Reads (λ x. x.now) result (close_brace_at tokens.now) }
 {
@@ -66,6 +71,7 @@ pub fn behind_close_brace(tokens: &[Token]) -> Result<&[Token], Stop>
     }
 }
 
+/// The tokens behind `[`, which has to stand first.
 pub fn behind_open_bracket(tokens: &[Token]) -> Result<&[Token], Stop>
     ensures { Reads (λ x. x.now) result (open_bracket_at tokens.now) }
 {
@@ -75,6 +81,7 @@ pub fn behind_open_bracket(tokens: &[Token]) -> Result<&[Token], Stop>
     }
 }
 
+/// The tokens behind `]`, which has to stand first.
 pub fn behind_close_bracket(tokens: &[Token]) -> Result<&[Token], Stop>
     ensures { Reads (λ x. x.now) result (close_bracket_at tokens.now) }
 {
@@ -84,6 +91,7 @@ pub fn behind_close_bracket(tokens: &[Token]) -> Result<&[Token], Stop>
     }
 }
 
+/// The tokens behind `(`, which has to stand first.
 pub fn behind_open_parenthesis(tokens: &[Token]) -> Result<&[Token], Stop>
     ensures { Reads (λ x. x.now) result (open_parenthesis_at tokens.now) }
 {
@@ -93,6 +101,7 @@ pub fn behind_open_parenthesis(tokens: &[Token]) -> Result<&[Token], Stop>
     }
 }
 
+/// The tokens behind `)`, which has to stand first.
 pub fn behind_close_parenthesis(tokens: &[Token]) -> Result<&[Token], Stop>
     ensures { Reads (λ x. x.now) result (close_parenthesis_at tokens.now) }
 {
@@ -102,7 +111,7 @@ pub fn behind_close_parenthesis(tokens: &[Token]) -> Result<&[Token], Stop>
     }
 }
 
-/// What stands behind a comma, if there is one.
+/// The tokens behind a comma; `None` where no comma stands first.
 pub fn next_part(tokens: &[Token]) -> Option<&[Token]>
     ensures some { IfSome result (λ next. behind_comma tokens.now ≡ Some next.now) }
     ensures none { IfNone result (behind_comma tokens.now ≡ None) }
@@ -113,6 +122,7 @@ pub fn next_part(tokens: &[Token]) -> Option<&[Token]>
     }
 }
 
+/// The tokens behind `BEGIN`, which has to stand first.
 pub fn behind_begin(tokens: &[Token]) -> Result<&[Token], Stop>
     ensures { Reads (λ x. x.now) result (begin_at tokens.now) }
 {
@@ -122,6 +132,7 @@ pub fn behind_begin(tokens: &[Token]) -> Result<&[Token], Stop>
     }
 }
 
+/// The tokens behind `END`, which has to stand first.
 pub fn behind_end(tokens: &[Token]) -> Result<&[Token], Stop>
     ensures { Reads (λ x. x.now) result (end_at tokens.now) }
 {
@@ -131,6 +142,7 @@ pub fn behind_end(tokens: &[Token]) -> Result<&[Token], Stop>
     }
 }
 
+/// The tokens behind `PROGRAM`, which has to stand first.
 pub fn behind_program(tokens: &[Token]) -> Result<&[Token], Stop>
     ensures { Reads (λ x. x.now) result (program_at tokens.now) }
 {
@@ -140,6 +152,7 @@ pub fn behind_program(tokens: &[Token]) -> Result<&[Token], Stop>
     }
 }
 
+/// The tokens behind `VERSION`, which has to stand first.
 pub fn behind_version(tokens: &[Token]) -> Result<&[Token], Stop>
     ensures { Reads (λ x. x.now) result (version_at tokens.now) }
 {
@@ -149,6 +162,7 @@ pub fn behind_version(tokens: &[Token]) -> Result<&[Token], Stop>
     }
 }
 
+/// The tokens behind `UPON`, which has to stand first.
 pub fn behind_upon(tokens: &[Token]) -> Result<&[Token], Stop>
     ensures { Reads (λ x. x.now) result (upon_at tokens.now) }
 {
@@ -158,6 +172,7 @@ pub fn behind_upon(tokens: &[Token]) -> Result<&[Token], Stop>
     }
 }
 
+/// The tokens behind `=`, which has to stand first.
 pub fn behind_equal(tokens: &[Token]) -> Result<&[Token], Stop>
     ensures { Reads (λ x. x.now) result (equal_at tokens.now) }
 {
@@ -167,6 +182,7 @@ pub fn behind_equal(tokens: &[Token]) -> Result<&[Token], Stop>
     }
 }
 
+/// The tokens behind `;`, which has to stand first.
 pub fn behind_semicolon(tokens: &[Token]) -> Result<&[Token], Stop>
     ensures { Reads (λ x. x.now) result (semicolon_at tokens.now) }
 {
@@ -176,6 +192,7 @@ pub fn behind_semicolon(tokens: &[Token]) -> Result<&[Token], Stop>
     }
 }
 
+/// The tokens behind `.`, which has to stand first.
 pub fn behind_dot(tokens: &[Token]) -> Result<&[Token], Stop>
     ensures { Reads (λ x. x.now) result (dot_at tokens.now) }
 {
@@ -185,6 +202,7 @@ pub fn behind_dot(tokens: &[Token]) -> Result<&[Token], Stop>
     }
 }
 
+/// Whether `END` stands first.
 pub fn is_end(tokens: &[Token]) -> bool
     ensures { result ≡ is_end_of tokens.now }
 {

@@ -12,6 +12,7 @@ use crate::token::Token;
 use crate::written::{Numeric, Reference};
 use std::alloc::Global;
 
+/// The name that stands first, and the tokens behind it.
 pub fn name_of(tokens: &[Token]) -> Result<(u32, &[Token]), Stop>
     ensures { Reads (λ x. (x.0, x.1.now)) result (name_at tokens.now) }
 {
@@ -48,6 +49,7 @@ fn word_behind(number: u32, tokens: &[Token]) -> Result<(Numeric, &[Token]), Sto
     }
 }
 
+/// A number of one word, or the name of a constant.
 #[tactic(auto, unfolding(crate::specs::Reading::numeric_at))]
 pub fn numeric_of(tokens: &[Token]) -> Result<(Numeric, &[Token]), Stop>
     ensures { Reads (λ x. (x.0, x.1.now)) result (numeric_at tokens.now) }
@@ -62,6 +64,7 @@ pub fn numeric_of(tokens: &[Token]) -> Result<(Numeric, &[Token]), Stop>
     }
 }
 
+/// Names with commas between.
 pub fn names_of(alloc: Global, tokens: &[Token]) -> Result<(Vec<u32>, &[Token]), Stop>
     ensures { Gives (λ x. (x.0.items, x.1.now)) result (listed name_at most_parts tokens.now) }
 {
@@ -78,6 +81,7 @@ pub fn names_of(alloc: Global, tokens: &[Token]) -> Result<(Vec<u32>, &[Token]),
     Err(wrong(rest, Reason::TooManyParts))
 }
 
+/// A member of an enumeration: a name, and its number in parentheses.
 #[tactic(auto, unfolding(crate::specs::Reading::member_at))]
 fn member_of(tokens: &[Token]) -> Result<((u32, Numeric), &[Token]), Stop>
     ensures { Reads (λ x. (x.0, x.1.now)) result (member_at tokens.now) }
@@ -89,6 +93,7 @@ fn member_of(tokens: &[Token]) -> Result<((u32, Numeric), &[Token]), Stop>
     Ok(((name, number), rest))
 }
 
+/// Members with commas between.
 pub fn members_of(alloc: Global, tokens: &[Token]) -> Result<(Vec<(u32, Numeric)>, &[Token]), Stop>
     ensures { Gives (λ x. (x.0.items, x.1.now)) result (listed member_at most_parts tokens.now) }
 {
@@ -105,6 +110,7 @@ pub fn members_of(alloc: Global, tokens: &[Token]) -> Result<(Vec<(u32, Numeric)
     Err(wrong(rest, Reason::TooManyParts))
 }
 
+/// The designator that begins with the name: its number in parentheses may be left out.
 #[tactic(auto, unfolding(crate::specs::Reading::designator_behind))]
 fn designator_of_name(
     name: u32,
@@ -122,6 +128,7 @@ fn designator_of_name(
     }
 }
 
+/// A designator.
 #[tactic(auto, unfolding(crate::specs::Reading::designator_at))]
 fn designator_of(tokens: &[Token]) -> Result<((u32, Option<Numeric>), &[Token]), Stop>
     ensures { Reads (λ x. (x.0, x.1.now)) result (designator_at tokens.now) }
@@ -130,6 +137,7 @@ fn designator_of(tokens: &[Token]) -> Result<((u32, Option<Numeric>), &[Token]),
     designator_of_name(name, rest)
 }
 
+/// Designators with commas between.
 pub fn designators_of(
     alloc: Global,
     tokens: &[Token],
@@ -149,6 +157,7 @@ pub fn designators_of(
     Err(wrong(rest, Reason::TooManyParts))
 }
 
+/// The enumeration that designators are of; `None` where none is named.
 pub fn tag_of(tokens: &[Token]) -> Result<(Option<Reference>, &[Token]), Stop>
     ensures { Reads (λ x. (x.0, x.1.now)) result (tag_at tokens.now) }
 {
@@ -161,6 +170,7 @@ pub fn tag_of(tokens: &[Token]) -> Result<(Option<Reference>, &[Token]), Stop>
     }
 }
 
+/// A maximum; `None` where `OF` stands first.
 #[tactic(auto, unfolding(crate::specs::Reading::maximum_at))]
 pub fn maximum_of(tokens: &[Token]) -> Result<(Option<Numeric>, &[Token]), Stop>
     ensures { Reads (λ x. (x.0, x.1.now)) result (maximum_at tokens.now) }
@@ -174,6 +184,7 @@ pub fn maximum_of(tokens: &[Token]) -> Result<(Option<Numeric>, &[Token]), Stop>
     }
 }
 
+/// A number.
 pub fn long_of(tokens: &[Token]) -> Result<(u32, &[Token]), Stop>
     ensures { Reads (λ x. (x.0, x.1.now)) result (long_at tokens.now) }
 {
@@ -197,6 +208,7 @@ fn small_behind(number: u32, tokens: &[Token]) -> Result<(u16, &[Token]), Stop>
     }
 }
 
+/// A number of one word.
 #[tactic(auto, unfolding(crate::specs::Programs::small_at))]
 pub fn small_of(tokens: &[Token]) -> Result<(u16, &[Token]), Stop>
     ensures { Reads (λ x. (x.0, x.1.now)) result (small_at tokens.now) }
@@ -205,6 +217,7 @@ pub fn small_of(tokens: &[Token]) -> Result<(u16, &[Token]), Stop>
     small_behind(number, rest)
 }
 
+/// A name that is referred to.
 #[tactic(auto, unfolding(crate::specs::Programs::reference_at))]
 fn whole_reference(tokens: &[Token]) -> Result<(Reference, &[Token]), Stop>
     ensures { Reads (λ x. (x.0, x.1.now)) result (reference_at tokens.now) }
@@ -213,6 +226,7 @@ fn whole_reference(tokens: &[Token]) -> Result<(Reference, &[Token]), Stop>
     reference_of(name, rest)
 }
 
+/// Names that are referred to, with commas between.
 pub fn references_of(alloc: Global, tokens: &[Token]) -> Result<(Vec<Reference>, &[Token]), Stop>
     ensures { Gives (λ x. (x.0.items, x.1.now)) result (listed reference_at most_parts tokens.now) }
 {

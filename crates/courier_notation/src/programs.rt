@@ -20,6 +20,7 @@ use crate::stop::Stop;
 use crate::token::Token;
 use std::alloc::Global;
 
+/// A program that is depended upon: its name, number and version.
 #[tactic(auto, unfolding(crate::specs::Programs::dependency_at))]
 fn dependency_of(tokens: &[Token]) -> Result<(Dependency, &[Token]), Stop>
     ensures { Reads (λ x. (x.0, x.1.now)) result (dependency_at tokens.now) }
@@ -40,6 +41,7 @@ fn dependency_of(tokens: &[Token]) -> Result<(Dependency, &[Token]), Stop>
     ))
 }
 
+/// Dependencies with commas between.
 fn some_dependencies(alloc: Global, tokens: &[Token]) -> Result<(Vec<Dependency>, &[Token]), Stop>
     ensures { Gives (λ x. (x.0.items, x.1.now)) result (listed dependency_at most_parts tokens.now) }
 {
@@ -56,6 +58,7 @@ fn some_dependencies(alloc: Global, tokens: &[Token]) -> Result<(Vec<Dependency>
     Err(wrong(rest, Reason::TooManyParts))
 }
 
+/// The programs that are depended upon; none where `DEPENDS` does not stand first.
 #[tactic(auto, unfolding(crate::specs::Programs::dependencies_at))]
 fn dependencies_of(alloc: Global, tokens: &[Token]) -> Result<(Vec<Dependency>, &[Token]), Stop>
     ensures exact { Gives (λ x. (x.0.items, x.1.now)) result (dependencies_at tokens.now) }

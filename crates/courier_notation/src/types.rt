@@ -20,6 +20,7 @@ use crate::token::Token;
 use crate::written::{Numeric, WrittenType};
 use std::alloc::Global;
 
+/// An enumeration, behind its opening brace.
 #[tactic(auto, unfolding(crate::specs::Reading::enumeration_behind))]
 fn enumeration_of(alloc: Global, tokens: &[Token]) -> Result<(WrittenType, &[Token]), Stop>
     ensures { Gives (λ x. (type_model x.0, x.1.now)) result (enumeration_behind tokens.now) }
@@ -29,6 +30,7 @@ fn enumeration_of(alloc: Global, tokens: &[Token]) -> Result<(WrittenType, &[Tok
     Ok((WrittenType::Enumeration(members), rest))
 }
 
+/// A long cardinal or a long integer, behind `LONG`.
 fn long_of(tokens: &[Token]) -> Result<(WrittenType, &[Token]), Stop>
     ensures { Reads (λ x. (type_model x.0, x.1.now)) result (long_behind tokens.now) }
 {
@@ -55,6 +57,7 @@ fn field_of(
     Ok(((names, written), rest))
 }
 
+/// Components with commas between.
 #[cycle(types)]
 fn fields_of(
     alloc: Global,
@@ -126,6 +129,7 @@ fn candidate_of(
     Ok(((designators, written), rest))
 }
 
+/// Candidates with commas between.
 #[cycle(types)]
 fn candidates_of(
     alloc: Global,
@@ -148,6 +152,7 @@ fn candidates_of(
     Err(wrong(rest, Reason::TooManyParts))
 }
 
+/// An array, behind `ARRAY`.
 #[cycle(types)]
 #[tactic(auto, unfolding(crate::specs::Reading::array_behind))]
 fn array_of(alloc: Global, depth: usize, tokens: &[Token]) -> Result<(WrittenType, &[Token]), Stop>
@@ -159,6 +164,7 @@ fn array_of(alloc: Global, depth: usize, tokens: &[Token]) -> Result<(WrittenTyp
     Ok((WrittenType::Array(number, Box::new(alloc, element)?), rest))
 }
 
+/// A sequence, behind `SEQUENCE`.
 #[cycle(types)]
 #[tactic(auto, unfolding(crate::specs::Reading::sequence_behind))]
 fn sequence_of(
@@ -174,6 +180,7 @@ fn sequence_of(
     Ok((WrittenType::Sequence(most, Box::new(alloc, element)?), rest))
 }
 
+/// A record, behind `RECORD`.
 #[cycle(types)]
 fn record_of(alloc: Global, depth: usize, tokens: &[Token]) -> Result<(WrittenType, &[Token]), Stop>
     ensures { Gives (λ x. (type_model x.0, x.1.now)) result (record_behind (type_at depth) tokens.now) }
@@ -182,6 +189,7 @@ fn record_of(alloc: Global, depth: usize, tokens: &[Token]) -> Result<(WrittenTy
     Ok((WrittenType::Record(fields), rest))
 }
 
+/// A choice, behind `CHOICE`.
 #[cycle(types)]
 #[tactic(auto, unfolding(crate::specs::Reading::choice_behind))]
 fn choice_of(alloc: Global, depth: usize, tokens: &[Token]) -> Result<(WrittenType, &[Token]), Stop>
@@ -195,6 +203,7 @@ fn choice_of(alloc: Global, depth: usize, tokens: &[Token]) -> Result<(WrittenTy
     Ok((WrittenType::Choice(tag, candidates), rest))
 }
 
+/// A type that is referred to, behind the first part of its name.
 fn named_of(name: u32, tokens: &[Token]) -> Result<(WrittenType, &[Token]), Stop>
     ensures { Reads (λ x. (type_model x.0, x.1.now)) result (over TypeModel.named (reference_behind name tokens.now)) }
 {

@@ -1,9 +1,10 @@
 -- The shapes of parts, one after the other.
-use Rattle.std.proofs.Common.{◌≡◌, ℕ, ◌+◌, ◌≤◌, List, [], ◌∷◌, ◌++◌, length, drop, map, Vec, Global, refl, sym, ap, ◌∙◌, rules}
+use Rattle.std.proofs.Common.{◌≡◌, ℕ, ◌+◌, ◌≤◌, ◌<◌, List, [], ◌∷◌, ◌++◌, length, drop, map, Vec, Global, Result, Ok, Err, refl, sym, ap, ◌∙◌, rules, arith}
+use Rattle.std.specs.Prelude.{OnErr}
 use Rattle.courier_types.specs.declared.shape.Shape.{Shape, Fields, Choice, Enumeration as Words, the_lemmas}
 use Rattle.courier_types.specs.Shape.{ShapeModel, ShapeModels, no_shapes, shape_and, MemberModels, no_members, member_and, shape_model, shape_models, member_models}
 use Rattle.courier_texts.specs.declared.named.Named.{Named, Enumeration, the_lemmas as named_lemmas}
-use Rattle.courier_texts.specs.Named.{NamedModel, named_model, members_seen, component_models, variant_models, shape_of, shapes_of, members_of}
+use Rattle.courier_texts.specs.Named.{HasParts, NamedModel, named_model, members_seen, component_models, variant_models, shape_of, shapes_of, members_of}
 use Rattle.courier_texts.proofs.Printed.{drop_past}
 
 -- shapes that stand before others
@@ -76,3 +77,17 @@ named_members v = search (rules, named_lemmas)
 pub enumeration_shape : (words : Vec ℕ Global) (members : Vec (Vec ℕ Global × ℕ) Global) → words.items ≡ map (λ m. m.1) members.items → shape_model (Words words) ≡ shape_of (named_model (Enumeration members))
 enumeration_shape words members h =
     shape_words words ∙ ap ShapeModel.enumeration (h ∙ words_seen members.items) ∙ sym (ap shape_of (named_members members))
+
+-- ---- parts
+
+pub has_components : (parts : List (Vec ℕ Global × Named)) → 0 < length parts → HasParts (NamedModel.components (component_models parts))
+has_components [] h = absurd (omega arith)
+has_components (p ∷ parts) h = tt
+
+pub has_variants : (parts : List (Vec ℕ Global × (ℕ × Named))) → 0 < length parts → HasParts (NamedModel.choice (variant_models parts))
+has_variants [] h = absurd (omega arith)
+has_variants (p ∷ parts) h = tt
+
+pub on_err : {T E : Type 0} (r : Result T E) (P Q : Type 0) → (P → Q) → OnErr r P → OnErr r Q
+on_err (Ok x) P Q f h = tt
+on_err (Err e) P Q f h = f h

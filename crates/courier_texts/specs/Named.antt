@@ -1,5 +1,5 @@
 -- Types with their names.
-use Rattle.std.specs.Prelude.{ℕ, List, [], ◌∷◌, map}
+use Rattle.std.specs.Prelude.{ℕ, ◌<◌, List, [], ◌∷◌, length, map}
 use Rattle.std.specs.Global.{Vec}
 use Rattle.courier_types.specs.Shape.{ShapeModel, ShapeModels, no_shapes, shape_and, MemberModels, no_members, member_and}
 use Rattle.courier_texts.specs.declared.named.Named.{Named, fold-Named}
@@ -70,6 +70,17 @@ component_models (c ∷ cs) = component_and c.0.items (named_model c.1) (compone
 abbrev pub variant_models : List (Vec ℕ × (ℕ × Named)) → VariantModels
 variant_models [] = no_variants
 variant_models (v ∷ vs) = variant_and v.0.items v.1.0 (named_model v.1.1) (variant_models vs)
+
+-- the type has members, elements, components or candidates
+abbrev pub HasParts : NamedModel → Type 0
+HasParts (NamedModel.enumeration members) = 0 < length members
+HasParts (NamedModel.array n element) = Unit {0}
+HasParts (NamedModel.sequence most element) = Unit {0}
+HasParts (NamedModel.components no_components) = ⊥
+HasParts (NamedModel.components (component_and name part parts)) = Unit {0}
+HasParts (NamedModel.choice no_variants) = ⊥
+HasParts (NamedModel.choice (variant_and name designator part parts)) = Unit {0}
+HasParts _ = ⊥
 
 -- the same without names
 abbrev mutual

@@ -15,6 +15,7 @@ use crate::text_refusal::TextRefusal;
 use courier_types::Value;
 use itoa::Buffer;
 
+/// `TRUE` or `FALSE`.
 fn print_boolean(out: &mut Vec<u8>, bit: bool) -> Result<(), TextRefusal>
     requires { vec_len out.old ≤ most_text }
     ensures { Appends result (boolean_text bit) out.old out.new }
@@ -26,6 +27,7 @@ fn print_boolean(out: &mut Vec<u8>, bit: bool) -> Result<(), TextRefusal>
     }
 }
 
+/// A number in decimal.
 fn print_number(out: &mut Vec<u8>, number: u32) -> Result<(), TextRefusal>
     requires { vec_len out.old ≤ most_text }
     ensures { Appends result (decimal number) out.old out.new }
@@ -34,6 +36,7 @@ fn print_number(out: &mut Vec<u8>, number: u32) -> Result<(), TextRefusal>
     append(out, buffer.format(number).as_bytes())
 }
 
+/// A number in decimal, behind a minus sign where it is negative.
 fn print_signed(out: &mut Vec<u8>, number: i32) -> Result<(), TextRefusal>
     requires { vec_len out.old ≤ most_text }
     ensures { Appends result (signed_decimal number) out.old out.new }
@@ -42,6 +45,7 @@ fn print_signed(out: &mut Vec<u8>, number: i32) -> Result<(), TextRefusal>
     append(out, buffer.format(number).as_bytes())
 }
 
+/// The hex digit of a value below 16.
 fn digit_of(value: u8) -> u8
     requires { value < 16 }
     ensures { result ≡ hex_digit value }
@@ -49,6 +53,7 @@ fn digit_of(value: u8) -> u8
     if value < 10 { 48 + value } else { 87 + value }
 }
 
+/// A byte as `\x` and two hex digits.
 fn print_escaped(out: &mut Vec<u8>, byte: u8) -> Result<(), TextRefusal>
     requires { vec_len out.old ≤ most_text }
     ensures { Appends result (escaped byte) out.old out.new }
@@ -59,6 +64,7 @@ fn print_escaped(out: &mut Vec<u8>, byte: u8) -> Result<(), TextRefusal>
     )
 }
 
+/// A byte of a string.
 fn print_byte(out: &mut Vec<u8>, byte: u8) -> Result<(), TextRefusal>
     requires { vec_len out.old ≤ most_text }
     ensures { Appends result (quoted_byte byte) out.old out.new }
@@ -78,6 +84,7 @@ fn print_byte(out: &mut Vec<u8>, byte: u8) -> Result<(), TextRefusal>
     append(out, &[byte])
 }
 
+/// The bytes of a string, without the quotes.
 fn print_bytes(out: &mut Vec<u8>, bytes: &[u8]) -> Result<(), TextRefusal>
     requires { vec_len out.old ≤ most_text }
     ensures { Appends result (flat_map quoted_byte bytes.now) out.old out.new }
@@ -88,6 +95,7 @@ fn print_bytes(out: &mut Vec<u8>, bytes: &[u8]) -> Result<(), TextRefusal>
     Ok(())
 }
 
+/// A string between quotes.
 fn print_text(out: &mut Vec<u8>, bytes: &[u8]) -> Result<(), TextRefusal>
     requires { vec_len out.old ≤ most_text }
     ensures { Appends result (quoted_of bytes.now) out.old out.new }
@@ -97,6 +105,7 @@ fn print_text(out: &mut Vec<u8>, bytes: &[u8]) -> Result<(), TextRefusal>
     append(out, b"\"")
 }
 
+/// The name of the member that has the word; nothing where none has it.
 fn print_member(out: &mut Vec<u8>, members: &[(Vec<u8>, u16)], word: u16) -> Result<(), TextRefusal>
     requires { vec_len out.old ≤ most_text }
     ensures { Appends result (member_text (members_seen members.now) word) out.old out.new }
@@ -136,6 +145,7 @@ fn print_list(out: &mut Vec<u8>, element: &Named, values: &[Value]) -> Result<()
     append(out, b"]")
 }
 
+/// A component: its name, a colon and its value.
 #[cycle(print)]
 fn print_component(
     out: &mut Vec<u8>,
@@ -191,6 +201,7 @@ pub fn print_record(
     append(out, b"]")
 }
 
+/// A candidate: its name and its value.
 #[cycle(print)]
 fn print_variant(
     out: &mut Vec<u8>,
@@ -207,6 +218,7 @@ fn print_variant(
     print_value(out, part, value)
 }
 
+/// The candidate that has the designator, with its value; nothing where none has it.
 #[cycle(print)]
 fn print_chosen(
     out: &mut Vec<u8>,

@@ -1,7 +1,7 @@
 //! The shapes of types with names.
-ghost use Rattle.std.specs.Prelude.{◌≡◌, IfOk, map};
+ghost use Rattle.std.specs.Prelude.{◌≡◌, ◌<◌, IfOk, OnErr, length, map};
 ghost use Rattle.courier_types.specs.Shape.{ShapeModel, member_models, shape_model, shape_models};
-ghost use Rattle.courier_texts.specs.Named.{component_models, members_of, named_model, shape_of as shape_of_named, shapes_of, variant_models};
+ghost use Rattle.courier_texts.specs.Named.{HasParts, component_models, members_of, named_model, shape_of as shape_of_named, shapes_of, variant_models};
 
 use crate::named::Named;
 use courier_types::Shape;
@@ -9,7 +9,8 @@ use std::alloc::{AllocError, Global};
 
 /// The words of the members.
 fn words_of(alloc: Global, members: &[(Vec<u8>, u16)]) -> Result<Vec<u16>, AllocError>
-    ensures { IfOk result (λ words. words.items ≡ map (λ m. m.1) members.now) }
+    ensures words { IfOk result (λ words. words.items ≡ map (λ m. m.1) members.now) }
+    ensures memory { OnErr result (0 < length members.now) }
 {
     let mut words = Vec::new(alloc);
     for member in members {
@@ -18,12 +19,14 @@ fn words_of(alloc: Global, members: &[(Vec<u8>, u16)]) -> Result<Vec<u16>, Alloc
     Ok(words)
 }
 
+/// The shapes of components, in their order.
 #[cycle(shapes)]
 fn shapes_of_components(
     alloc: Global,
     components: &[(Vec<u8>, Named)],
 ) -> Result<Vec<Shape>, AllocError>
-    ensures { IfOk result (λ shapes. shape_models shapes.items ≡ shapes_of (component_models components.now)) }
+    ensures shapes { IfOk result (λ shapes. shape_models shapes.items ≡ shapes_of (component_models components.now)) }
+    ensures memory { OnErr result (0 < length components.now) }
 {
     let mut shapes = Vec::new(alloc);
     for component in components {
@@ -32,12 +35,14 @@ fn shapes_of_components(
     Ok(shapes)
 }
 
+/// The designators of candidates with the shapes of their values, in their order.
 #[cycle(shapes)]
 fn members_of_variants(
     alloc: Global,
     variants: &[(Vec<u8>, (u16, Named))],
 ) -> Result<Vec<(u16, Shape)>, AllocError>
-    ensures { IfOk result (λ members. member_models members.items ≡ members_of (variant_models variants.now)) }
+    ensures members { IfOk result (λ members. member_models members.items ≡ members_of (variant_models variants.now)) }
+    ensures memory { OnErr result (0 < length variants.now) }
 {
     let mut members = Vec::new(alloc);
     for variant in variants {
@@ -46,18 +51,21 @@ fn members_of_variants(
     Ok(members)
 }
 
-/// The shape of a record of these components. The only error is want of memory.
+/// The shape of a record of these components. The only error is want of memory, where there are components.
 #[cycle(shapes)]
 pub fn shape_of_record(alloc: Global, components: &[(Vec<u8>, Named)]) -> Result<Shape, AllocError>
-    ensures { IfOk result (λ shape. shape_model shape ≡ ShapeModel.fields (shapes_of (component_models components.now))) }
+    ensures shape { IfOk result (λ shape. shape_model shape ≡ ShapeModel.fields (shapes_of (component_models components.now))) }
+    ensures memory { OnErr result (0 < length components.now) }
 {
     Ok(Shape::Fields(shapes_of_components(alloc, components)?))
 }
 
-/// The shape of a type: what is left of it without names. The only error is want of memory.
+/// The shape of a type: what is left of it without names. The only error is want of memory, of an enumeration,
+/// a record or a choice that has parts, an array or a sequence.
 #[cycle(shapes)]
 pub fn shape_of(alloc: Global, named: &Named) -> Result<Shape, AllocError>
-    ensures { IfOk result (λ shape. shape_model shape ≡ shape_of_named (named_model named.now)) }
+    ensures shape { IfOk result (λ shape. shape_model shape ≡ shape_of_named (named_model named.now)) }
+    ensures memory { OnErr result (HasParts (named_model named.now)) }
 {
     match named {
         Named::Boolean => Ok(Shape::Boolean),

@@ -25,18 +25,21 @@ use Rattle.item_world.specs.declared.side.Side.{Side}
 
 -- ---- a packet is delivered that was just sent
 
-delivers_now : (w : World) (side : Side) (s p : State) (k : ℕ) (bytes : List ℕ) → Pair w side s p → IsNew w side s p k bytes → delivers w k ≡ flushes (stepped w (arrival k)) (other side)
+pub delivers_now : (w : World) (side : Side) (s p : State) (k : ℕ) (bytes : List ℕ) → Pair w side s p
+    → IsNew w side s p k bytes → delivers w k ≡ flushes (stepped w (arrival k)) (other side)
 delivers_now w side s p k bytes x i =
     delivers_lands w k ∙ (ap (flushed w) (lands_there w side s p k bytes x i) ∙ ap (λ (v : World). flushes v (other side)) (sym (lands_now w side s p k bytes x i)))
 
 -- from a world in which the packet came
-delivered : Kept → (w : World) (side : Side) (s p : State) (k : ℕ) (bytes : List ℕ) → Pair w side s p → IsNew w side s p k bytes → Pair (delivers w k) side s (after_flush (after_receive p bytes))
+pub delivered : Kept → (w : World) (side : Side) (s p : State) (k : ℕ) (bytes : List ℕ) → Pair w side s p
+    → IsNew w side s p k bytes → Pair (delivers w k) side s (after_flush (after_receive p bytes))
 delivered kept w side s p k bytes x i =
     let v : World = stepped w (arrival k) in
     subst (λ (u : World). Pair u side s (after_flush (after_receive p bytes))) (sym (delivers_now w side s p k bytes x i))
     (flushed_pair kept v side s (after_receive p bytes) (arrived kept w side s p k bytes x i))
 
-still_there : (w v : World) (side : Side) (k : ℕ) (x : Emitted) → v ≡ flushes w side → slice_get w.bag k ≡ Some x → slice_get v.bag k ≡ Some x
+pub still_there : (w v : World) (side : Side) (k : ℕ) (x : Emitted) → v ≡ flushes w side → slice_get w.bag k ≡ Some x
+    → slice_get v.bag k ≡ Some x
 still_there w v side k x e h = ap (λ (u : World). slice_get u.bag k) e ∙ front_get w.bag _ k x h
 
 -- ---- an end asks, and is told
@@ -59,7 +62,8 @@ pub record AskedBy (w : World) (side : Side) (s p : State) : Type 0 where
       (after_flush (after_receive (after_tick s) (spp_packet_spelling (system_packet (after_receive p a.bytes) reply_control)))) (after_flush (after_receive p a.bytes))
 
 -- the end before a tick, and after it
-pub asked_by : Kept → (w : World) (side : Side) (s p : State) → Pair w side s p → Pair (ticks w side) side (after_tick s) p → s.acknowledged < length s.accepted → AskedBy w side s p
+pub asked_by : Kept → (w : World) (side : Side) (s p : State) → Pair w side s p
+    → Pair (ticks w side) side (after_tick s) p → s.acknowledged < length s.accepted → AskedBy w side s p
 asked_by k w side s p x y left =
     let a : Asked w side s p = asked k w side s p x left in
     let t : State = after_tick s in
@@ -89,8 +93,10 @@ one_by : (n : ℕ) (e : Event) → IsFurther n e → All (IsFurther n) (e ∷ []
 one_by n e h = All-cons (IsFurther n) e [] h (All-nil (IsFurther n))
 
 -- by whether the packet of the first tick brought an item
-by_item : Kept → (w : World) (side : Side) (s p : State) → Pair w side s p → p.handed ≡ length p.taken → p.handed < length s.accepted → (a : AskedBy w side s p) (b : Bool)
-    → nat_lt (after_flush (after_receive p a.a.bytes)).handed (length (after_flush (after_receive p a.a.bytes)).taken) ≡ b → AdvancesBy w side p.handed
+by_item : Kept → (w : World) (side : Side) (s p : State) → Pair w side s p → p.handed ≡ length p.taken
+    → p.handed < length s.accepted → (a : AskedBy w side s p) (b : Bool)
+    → nat_lt (after_flush (after_receive p a.a.bytes)).handed (length (after_flush (after_receive p a.a.bytes)).taken) ≡ b
+    → AdvancesBy w side p.handed
 by_item k w side s p x none left a true h =
     let laws : EndLaws = k.laws in
     let w1 : World = ticks w side in
@@ -149,7 +155,8 @@ by_item k w side s p x none left a false h =
       more = omega (arith, took laws w5 side (after_tick u) e last (omega (arith, g.takes, all, same, ap length (alike laws e0).taken)), same, handed);
     }
 
-by_waiting : Kept → (w : World) (side : Side) (s p : State) (b : Bool) → nat_lt p.handed (length p.taken) ≡ b → Pair w side s p → p.handed < length s.accepted → AdvancesBy w side p.handed
+by_waiting : Kept → (w : World) (side : Side) (s p : State) (b : Bool) → nat_lt p.handed (length p.taken) ≡ b
+    → Pair w side s p → p.handed < length s.accepted → AdvancesBy w side p.handed
 by_waiting k w side s p true h x left = record {
   steps = Take (other side) ∷ [];
   plain = one_by (length w.bag) (Take (other side)) tt;
@@ -163,7 +170,8 @@ by_waiting k w side s p false h x left =
     let a : AskedBy w side s p = asked_by k w side s p x (ticked k w side s p x) (omega (arith, before.acknowledged, none, left)) in
     by_item k w side s p x none left a (nat_lt (after_flush (after_receive p a.a.bytes)).handed (length (after_flush (after_receive p a.a.bytes)).taken)) refl
 
-pub advances_by : Kept → (w : World) (side : Side) → Holds w → Linked w → (end_of w (other side)).handed < length (end_of w side).accepted → AdvancesBy w side (end_of w (other side)).handed
+pub advances_by : Kept → (w : World) (side : Side) → Holds w → Linked w
+    → (end_of w (other side)).handed < length (end_of w side).accepted → AdvancesBy w side (end_of w (other side)).handed
 advances_by k w side h l left =
     let s : State = end_of w side in
     let p : State = end_of w (other side) in
@@ -177,7 +185,8 @@ pub record SettlesBy (w : World) (side : Side) (n : ℕ) : Type 0 where
   pub few : length steps ≤ 3
   pub all : n ≤ (end_of (run w steps) side).acknowledged
 
-asks_by : Kept → (w : World) (side : Side) (s p : State) → Pair w side s p → length s.accepted ≤ p.handed → s.acknowledged < length s.accepted → SettlesBy w side (length s.accepted)
+asks_by : Kept → (w : World) (side : Side) (s p : State) → Pair w side s p → length s.accepted ≤ p.handed
+    → s.acknowledged < length s.accepted → SettlesBy w side (length s.accepted)
 asks_by k w side s p x all left =
     let laws : EndLaws = k.laws in
     let a : AskedBy w side s p = asked_by k w side s p x (ticked k w side s p x) left in
@@ -201,7 +210,9 @@ asks_by k w side s p x all left =
       all = omega (arith, all, handed, there.fits.bounds.handed_taken, knows.acknowledged, ap (λ (y : State). y.acknowledged) knows.pair.here);
     }
 
-settled_by : Kept → (w : World) (side : Side) (b : Bool) → nat_lt (end_of w side).acknowledged (length (end_of w side).accepted) ≡ b → Holds w → Linked w → length (end_of w side).accepted ≤ (end_of w (other side)).handed
+settled_by : Kept → (w : World) (side : Side) (b : Bool)
+    → nat_lt (end_of w side).acknowledged (length (end_of w side).accepted) ≡ b → Holds w → Linked w
+    → length (end_of w side).accepted ≤ (end_of w (other side)).handed
     → SettlesBy w side (length (end_of w side).accepted)
 settled_by k w side true e h l all =
     let s : State = end_of w side in
@@ -213,5 +224,7 @@ settled_by k w side false e h l all = record {
   all = ltb-false (end_of w side).acknowledged (length (end_of w side).accepted) e;
 }
 
-pub settles_by : Kept → (w : World) (side : Side) → Holds w → Linked w → length (end_of w side).accepted ≤ (end_of w (other side)).handed → SettlesBy w side (length (end_of w side).accepted)
+pub settles_by : Kept → (w : World) (side : Side) → Holds w → Linked w
+    → length (end_of w side).accepted ≤ (end_of w (other side)).handed
+    → SettlesBy w side (length (end_of w side).accepted)
 settles_by k w side = settled_by k w side (nat_lt (end_of w side).acknowledged (length (end_of w side).accepted)) refl

@@ -7,7 +7,7 @@ use Rattle.std.specs.Option.{option_to_list}
 use Rattle.std.proofs.Math.Nat.{le_refl}
 use Rattle.std.proofs.lemmas.Bool.{ltb-true, ltb-false, ne_eqb}
 use Rattle.std.proofs.lemmas.List.{length-take}
-use Rattle.std.proofs.lemmas.List.Elements.{All-nil, All-append, All-weaker, All-head, All-tail, All-cons}
+use Rattle.std.proofs.lemmas.List.Elements.{All-nil, All-append, All-weaker, All-head, All-tail}
 use Rattle.std.proofs.lemmas.List.Sums.{fold-append}
 use Rattle.xns_spp.specs.Growth.{Begins}
 use Rattle.xns_spp.specs.Receiving.{receive_answer, after_receive}
@@ -18,11 +18,11 @@ use Rattle.item_world.proofs.Later.{run_later}
 use Rattle.item_world.proofs.Onward.{Kept, longer}
 use Rattle.item_world.proofs.Sides.{each_end, same_marked, has_landed}
 use Rattle.item_world.specs.EndLaws.{EndLaws}
-use Rattle.item_world.specs.Events.{Step, IsStep, arrival, taking, flushing, ticking, stepped, all_stepped, IsEvent, steps_of, happens, run, arrival_steps}
+use Rattle.item_world.specs.Events.{Step, IsStep, stepped, all_stepped, IsEvent, steps_of, happens, run}
 use Rattle.item_world.specs.Going.{Later}
 use Rattle.item_world.specs.Invariant.{Holds}
 use Rattle.item_world.specs.Landing.{answered, landing}
-use Rattle.item_world.specs.Progress.{IsPlain, IsDone, pending, Finishes, Linked, IsFurther, FinishesByEvents}
+use Rattle.item_world.specs.Progress.{IsDone, pending, Linked, IsFurther, FinishesByEvents}
 use Rattle.item_world.specs.Side.{other}
 use Rattle.item_world.specs.World.{World, start, end_of, moved, marked, sent_at, handed_at, flushes}
 use Rattle.item_world.specs.declared.emitted.Emitted.{Emitted}
@@ -51,7 +51,8 @@ works_then s t u a b = record { accepted = b.accepted ∙ a.accepted; handed = o
 abbrev pub Ongoing : World → World → Type 0
 Ongoing w v = (side : Side) → Works (end_of w side) (end_of v side)
 
-pub moved_works : (w : World) (side : Side) (s : State) (bs : List (List ℕ)) → Works (end_of w side) s → Ongoing w (moved w side s bs)
+pub moved_works : (w : World) (side : Side) (s : State) (bs : List (List ℕ)) → Works (end_of w side) s
+    → Ongoing w (moved w side s bs)
 moved_works w side s bs h t = each_end w side s bs (λ u y. Works (end_of w u) y) h t (works_itself (end_of w t))
 
 pub handing_works : (s : State) (o : Option Item) → Works s (handing o s)
@@ -125,7 +126,7 @@ both_after k w (s ∷ ss) fits b =
     let step = All-head IsStep s ss fits in
     both_after k (stepped w s) ss (All-tail IsStep s ss fits) (record { holds = k.order.each w s step b.holds; linked = k.links w s step b.holds b.linked })
 
-events_after : Kept → (w : World) (es : List Event) → All IsEvent es → Both w → Both (run w es)
+pub events_after : Kept → (w : World) (es : List Event) → All IsEvent es → Both w → Both (run w es)
 events_after k w [] fits b = b
 events_after k w (e ∷ es) fits b =
     events_after k (happens w e) es (All-tail IsEvent e es fits) (both_after k w (steps_of w e) (steps_fit w e (All-head IsEvent e es fits)) b)
@@ -167,7 +168,8 @@ record Reaches (w : World) (side : Side) (d : ℕ) : Type 0 where
   leads : Leads w then (6 * d)
   all : length (end_of then side).accepted ≤ (end_of then (other side)).handed
 
-reaches : Kept → (d : ℕ) (w : World) (side : Side) (b : Bool) → nat_lt (end_of w (other side)).handed (length (end_of w side).accepted) ≡ b → Both w
+reaches : Kept → (d : ℕ) (w : World) (side : Side) (b : Bool)
+    → nat_lt (end_of w (other side)).handed (length (end_of w side).accepted) ≡ b → Both w
     → length (end_of w side).accepted ≤ (end_of w (other side)).handed + d → Reaches w side d
 reaches k d w side false e h le = record {
   then = w;
@@ -185,7 +187,8 @@ reaches k (suc d) w side true e h le =
     let count : 6 + 6 * d ≡ 6 * suc d = omega arith in
     record { then = r.then; leads = subst (λ (n : ℕ). Leads w r.then n) count (leads_then k w v r.then 6 (6 * d) l r.leads); all = r.all }
 
-reaches_all : Kept → (w : World) (side : Side) (d : ℕ) → length (end_of w side).accepted ≤ (end_of w (other side)).handed + d → Both w → Reaches w side d
+reaches_all : Kept → (w : World) (side : Side) (d : ℕ)
+    → length (end_of w side).accepted ≤ (end_of w (other side)).handed + d → Both w → Reaches w side d
 reaches_all k w side d le h = reaches k d w side (nat_lt (end_of w (other side)).handed (length (end_of w side).accepted)) refl h le
 
 -- ---- both ways
@@ -198,20 +201,25 @@ same_list xs ys (rest, e) le = by_rest rest e
     by_rest [] e = sym (append-nil xs) ∙ e
     by_rest (x ∷ rest) e = absurd (omega (arith, le, ap length e, length-append xs (x ∷ rest)))
 
-all_handed : (s p : State) → s.handed ≤ length s.taken → Begins (take s.handed s.taken) p.accepted → length p.accepted ≤ s.handed → take s.handed s.taken ≡ p.accepted
+all_handed : (s p : State) → s.handed ≤ length s.taken → Begins (take s.handed s.taken) p.accepted
+    → length p.accepted ≤ s.handed → take s.handed s.taken ≡ p.accepted
 all_handed s p within b le = same_list (take s.handed s.taken) p.accepted b (omega (arith, length-take s.handed s.taken))
 
-done_at : Kept → (v : World) → Holds v → (side : Side) → length (end_of v side).accepted ≤ (end_of v (other side)).handed → handed_at v (other side) ≡ sent_at v side
+done_at : Kept → (v : World) → Holds v → (side : Side) → length (end_of v side).accepted ≤ (end_of v (other side)).handed
+    → handed_at v (other side) ≡ sent_at v side
 done_at k v h A le = all_handed v.b v.a (h.ends B).fits.bounds.handed_taken (k.order.order v B h) le
 done_at k v h B le = all_handed v.a v.b (h.ends A).fits.bounds.handed_taken (k.order.order v A h) le
 
-pub not_full : (s : State) → IsState s → s.acknowledged ≡ length s.accepted → length s.accepted < most_items → is_full s ≡ false
+pub not_full : (s : State) → IsState s → s.acknowledged ≡ length s.accepted → length s.accepted < most_items
+    → is_full s ≡ false
 not_full s fits all less =
     ap (λ (b : Bool). b || is_backlog_full s.ends (numbers_of s)) (ne_eqb (length s.accepted) most_items (λ e. omega (arith, e, less)))
     ∙ ne_eqb (length s.accepted - s.acknowledged) s.ends.backlog (λ e. omega (arith, e, all, fits.ends.backlog_least))
 
 -- all is done once each way is handed up and acknowledged
-pub all_done : Kept → (w v : World) → Both v → Ongoing w v → ((side : Side) → length (end_of w side).accepted ≤ (end_of v (other side)).handed) → ((side : Side) → length (end_of w side).accepted ≤ (end_of v side).acknowledged)
+pub all_done : Kept → (w v : World) → Both v → Ongoing w v
+    → ((side : Side) → length (end_of w side).accepted ≤ (end_of v (other side)).handed)
+    → ((side : Side) → length (end_of w side).accepted ≤ (end_of v side).acknowledged)
     → IsDone w v
 all_done k w v both works handed acknowledged =
     let count : (side : Side) → length (end_of v side).accepted ≡ length (end_of w side).accepted = λ side. ap length (works side).accepted in
@@ -240,7 +248,8 @@ record Handed (w v : World) (side : Side) (n : ℕ) : Type 0 where
   since : Ongoing v then
   all : length (end_of w side).accepted ≤ (end_of then (other side)).handed
 
-hands_over : Kept → (w v : World) (side : Side) (c d : ℕ) → Both w → Leads w v c → length (end_of w side).accepted ≤ (end_of v (other side)).handed + d → Handed w v side (c + 6 * d)
+hands_over : Kept → (w v : World) (side : Side) (c d : ℕ) → Both w → Leads w v c
+    → length (end_of w side).accepted ≤ (end_of v (other side)).handed + d → Handed w v side (c + 6 * d)
 hands_over k w v side c d h l le =
     let now : Both v = leads_both k w v c l h in
     let before : length (end_of v side).accepted ≡ length (end_of w side).accepted = ap length (leads_works k.laws w v c l side).accepted in
@@ -259,7 +268,8 @@ record Acknowledged (w v : World) (side : Side) (n : ℕ) : Type 0 where
   since : Ongoing v then
   all : length (end_of w side).accepted ≤ (end_of then side).acknowledged
 
-learns_all : Kept → (w v : World) (side : Side) (c : ℕ) → Both w → Leads w v c → length (end_of w side).accepted ≤ (end_of v (other side)).handed → Acknowledged w v side (c + 3)
+learns_all : Kept → (w v : World) (side : Side) (c : ℕ) → Both w → Leads w v c
+    → length (end_of w side).accepted ≤ (end_of v (other side)).handed → Acknowledged w v side (c + 3)
 learns_all k w v side c h l le =
     let now : Both v = leads_both k w v c l h in
     let before : length (end_of v side).accepted ≡ length (end_of w side).accepted = ap length (leads_works k.laws w v c l side).accepted in
@@ -268,7 +278,8 @@ learns_all k w v side c h l le =
     let on : Leads v u 3 = record { steps = r.steps; plain = r.plain; few = r.few; is = refl } in
     record { then = u; leads = leads_then k w v u c 3 l on; since = leads_works k.laws v u 3 on; all = omega (arith, before, r.all) }
 
-by_sides : Kept → (w v : World) (n : ℕ) → Both w → Leads w v n → length (end_of w A).accepted ≤ (end_of v B).handed → length (end_of w B).accepted ≤ (end_of v A).handed → length (end_of w A).accepted ≤ (end_of v A).acknowledged
+by_sides : Kept → (w v : World) (n : ℕ) → Both w → Leads w v n → length (end_of w A).accepted ≤ (end_of v B).handed
+    → length (end_of w B).accepted ≤ (end_of v A).handed → length (end_of w A).accepted ≤ (end_of v A).acknowledged
     → length (end_of w B).accepted ≤ (end_of v B).acknowledged → IsDone w v
 by_sides k w v n h l to_b to_a at_a at_b =
     all_done k w v (leads_both k w v n l h) (leads_works k.laws w v n l)
@@ -276,8 +287,10 @@ by_sides k w v n h l to_b to_a at_a at_b =
     (λ side. elim side as (λ t. length (end_of w t).accepted ≤ (end_of v t).acknowledged) [ A ↦ at_a | B ↦ at_b ])
 
 -- the last of four moves
-last_done : Kept → (w v2 : World) (m n : ℕ) → Both w → Leads w v2 (0 + 6 * m + 6 * n) → length (end_of w A).accepted ≤ (end_of v2 B).handed → length (end_of w B).accepted ≤ (end_of v2 A).handed
-    → (c : Acknowledged w v2 A (0 + 6 * m + 6 * n + 3)) (d : Acknowledged w c.then B (0 + 6 * m + 6 * n + 3 + 3)) → IsDone w d.then
+last_done : Kept → (w v2 : World) (m n : ℕ) → Both w → Leads w v2 (0 + 6 * m + 6 * n)
+    → length (end_of w A).accepted ≤ (end_of v2 B).handed → length (end_of w B).accepted ≤ (end_of v2 A).handed
+    → (c : Acknowledged w v2 A (0 + 6 * m + 6 * n + 3)) (d : Acknowledged w c.then B (0 + 6 * m + 6 * n + 3 + 3))
+    → IsDone w d.then
 last_done k w v2 m n h l to_b to_a c d =
     by_sides k w d.then (0 + 6 * m + 6 * n + 3 + 3) h d.leads
     (le_then (length (end_of w A).accepted) (end_of c.then B).handed (end_of d.then B).handed (le_then (length (end_of w A).accepted) (end_of v2 B).handed (end_of c.then B).handed to_b (c.since B).handed) (d.since B).handed)
@@ -286,7 +299,9 @@ last_done k w v2 m n h l to_b to_a c d =
     d.all
 
 -- each end asks until it knows
-asks_both : Kept → (w v : World) (m n : ℕ) → Both w → Leads w v (0 + 6 * m + 6 * n) → length (end_of w A).accepted ≤ (end_of v B).handed → length (end_of w B).accepted ≤ (end_of v A).handed → m ≡ pending w A → n ≡ pending w B
+asks_both : Kept → (w v : World) (m n : ℕ) → Both w → Leads w v (0 + 6 * m + 6 * n)
+    → length (end_of w A).accepted ≤ (end_of v B).handed → length (end_of w B).accepted ≤ (end_of v A).handed
+    → m ≡ pending w A → n ≡ pending w B
     → FinishesByEvents w
 asks_both k w v m n h l to_b to_a is_m is_n =
     let c : Acknowledged w v A (0 + 6 * m + 6 * n + 3) = learns_all k w v A (0 + 6 * m + 6 * n) h l to_b in
@@ -312,79 +327,8 @@ finishes_by k w holds linked =
     (le_then (length (end_of w A).accepted) (end_of a.then B).handed (end_of b.then B).handed a.all (b.since B).handed) b.all refl refl
 
 -- whatever was before
-pub always_finishes_by : Kept → (setup : Setup) (events : List Event) → Holds (start setup) → Linked (start setup) → All IsEvent events → FinishesByEvents (run (start setup) events)
+pub always_finishes_by : Kept → (setup : Setup) (events : List Event) → Holds (start setup) → Linked (start setup)
+    → All IsEvent events → FinishesByEvents (run (start setup) events)
 always_finishes_by k setup events h l fits =
     let b : Both (run (start setup) events) = events_after k (start setup) events fits (record { holds = h; linked = l }) in
     finishes_by k (run (start setup) events) b.holds b.linked
-
--- ---- as small steps
-
--- the small steps of events, each in the world that those before lead to
-steps_along : World → List Event → List Step
-steps_along w [] = []
-steps_along w (e ∷ es) = steps_of w e ++ steps_along (happens w e) es
-
-along_run : (w : World) (es : List Event) → all_stepped w (steps_along w es) ≡ run w es
-unfolding steps_along
-along_run w [] = refl
-along_run w (e ∷ es) = fold-append stepped w (steps_of w e) (steps_along (happens w e) es) ∙ along_run (happens w e) es
-
--- an event is of two small steps at most
-record IsPair (n : ℕ) (ss : List Step) : Type 0 where
-  plain : All (IsPlain n) ss
-  few : length ss ≤ 2
-
-one_plain : (n : ℕ) (s : Step) → IsPlain n s → IsPair n (s ∷ [])
-one_plain n s h = record { plain = All-cons (IsPlain n) s [] h (All-nil (IsPlain n)); few = omega arith }
-
-delivery_plain : (n k : ℕ) (o : Option (Side × World)) → n ≤ k → IsPair n (arrival_steps k o)
-delivery_plain n k None h = record { plain = All-nil (IsPlain n); few = omega arith }
-delivery_plain n k (Some l) h = record {
-  plain = All-cons (IsPlain n) (arrival k) (flushing l.0 ∷ []) h (All-cons (IsPlain n) (flushing l.0) [] tt (All-nil (IsPlain n)));
-  few = omega arith;
-}
-
-event_plain : (n : ℕ) (w : World) (e : Event) → IsFurther n e → IsPair n (steps_of w e)
-event_plain n w (Deliver k) h = delivery_plain n k (landing w k) h
-event_plain n w Rest h = absurd h
-event_plain n w (Tick side) h = one_plain n (ticking side) tt
-event_plain n w (Foreign side bytes) h = absurd h
-event_plain n w (Send side x) h = absurd h
-event_plain n w (Take side) h = one_plain n (taking side) tt
-
-record AreFew (n : ℕ) (ss : List Step) (most : ℕ) : Type 0 where
-  plain : All (IsPlain n) ss
-  few : length ss ≤ 2 * most
-
-along_plain : (n : ℕ) (w : World) (es : List Event) → All (IsFurther n) es → AreFew n (steps_along w es) (length es)
-unfolding steps_along
-along_plain n w [] h = record { plain = All-nil (IsPlain n); few = omega arith }
-along_plain n w (e ∷ es) h =
-    let first = event_plain n w e (All-head (IsFurther n) e es h) in
-    let more = along_plain n (happens w e) es (All-tail (IsFurther n) e es h) in
-    record {
-      plain = All-append (IsPlain n) (steps_of w e) (steps_along (happens w e) es) first.plain more.plain;
-      few = omega (arith, length-append (steps_of w e) (steps_along (happens w e) es), first.few, more.few);
-    }
-
-twelve_each : (c d n : ℕ) → c ≤ 2 * d → d ≤ 6 * n → c ≤ 12 * n
-twelve_each c d n h i = omega arith
-
-by_events_finishes : (w : World) → FinishesByEvents w → Finishes w
-by_events_finishes w f =
-    let steps = along_plain (length w.bag) w f.more f.further in
-    record {
-      more = steps_along w f.more;
-      plain = steps.plain;
-      few = twelve_each (length (steps_along w f.more)) (length f.more) (pending w A + pending w B + 1) steps.few f.few;
-      done = subst (IsDone w) (sym (along_run w f.more)) f.done;
-    }
-
-pub finishes : Kept → (w : World) → Holds w → Linked w → Finishes w
-finishes k w h l = by_events_finishes w (finishes_by k w h l)
-
-pub always_finishes : Kept → (setup : Setup) (steps : List Step) → Holds (start setup) → Linked (start setup) → All IsStep steps
-    → Finishes (all_stepped (start setup) steps)
-always_finishes k setup steps h l fits =
-    let b : Both (all_stepped (start setup) steps) = both_after k (start setup) steps fits (record { holds = h; linked = l }) in
-    finishes k (all_stepped (start setup) steps) b.holds b.linked

@@ -10,6 +10,11 @@ pub mod Channels
 pub mod Plays
 pub mod Onward
 pub mod Finishing
+pub mod SmallSteps
 pub mod Deliveries
 pub mod Outward
 pub mod Linking
+pub mod Rests
+pub mod Ways
+pub mod Rounds
+pub mod Scheduled

@@ -33,15 +33,15 @@ use Rattle.item_world.specs.declared.side.Side.TheVariants.{A, B}
 -- ---- an end's own names stay
 
 -- the same address, identifier and role; the peer's may be learned
-record SameNames (e f : Ends) : Type 0 where
-  own : f.own ≡ e.own
-  id : f.id ≡ e.id
-  role : f.role ≡ e.role
+pub record SameNames (e f : Ends) : Type 0 where
+  pub own : f.own ≡ e.own
+  pub id : f.id ≡ e.id
+  pub role : f.role ≡ e.role
 
 from_on : (e f : Ends) (b : List ℕ) → SameNames e f → IsFrom e b → IsFrom f b
 from_on e f b n h p is = let was = h p is in (was.0 ∙ sym n.own, was.1 ∙ sym n.id)
 
-peer_on : (e f d : Ends) → SameNames e f → IsLinked d e → IsLinked d f
+pub peer_on : (e f d : Ends) → SameNames e f → IsLinked d e → IsLinked d f
 peer_on e f d n l = record {
   peer = l.peer ∙ sym n.own;
   peer_id = elim (l.peer_id) as (λ o. (d.peer_id ≡ 0) ⊎ (d.peer_id ≡ f.id)) [ inl none ↦ inl none | inr same ↦ inr (same ∙ sym n.id) ];
@@ -49,7 +49,8 @@ peer_on e f d n l = record {
 }
 
 -- an end moves: it keeps its names, is linked to its peer, and sends packets that tell its names
-moved_links : (w : World) (side : Side) (t : State) (bs : List (List ℕ)) → SameNames (end_of w side).ends t.ends → IsLinked t.ends (end_of w (other side)).ends → All (IsFrom (end_of w side).ends) bs → Linked w
+moved_links : (w : World) (side : Side) (t : State) (bs : List (List ℕ)) → SameNames (end_of w side).ends t.ends
+    → IsLinked t.ends (end_of w (other side)).ends → All (IsFrom (end_of w side).ends) bs → Linked w
     → Linked (moved w side t bs)
 moved_links w side t bs n l sent k =
     let v : World = moved w side t bs in
@@ -65,7 +66,8 @@ moved_links w side t bs n l sent k =
     }
 
 -- an end that learns nothing
-stays_links : (w : World) (side : Side) (t : State) (bs : List (List ℕ)) → t.ends ≡ (end_of w side).ends → All (IsFrom (end_of w side).ends) bs → Linked w → Linked (moved w side t bs)
+stays_links : (w : World) (side : Side) (t : State) (bs : List (List ℕ)) → t.ends ≡ (end_of w side).ends
+    → All (IsFrom (end_of w side).ends) bs → Linked w → Linked (moved w side t bs)
 stays_links w side t bs e sent k =
     let s : State = end_of w side in
     moved_links w side t bs (record { own = ap (λ (x : Ends). x.own) e; id = ap (λ (x : Ends). x.id) e; role = ap (λ (x : Ends). x.role) e })
@@ -79,14 +81,16 @@ named_from laws e p fits n q is =
     let same : p ≡ q = cc in
     subst (λ (x : SppPacketModel). (x.source ≡ e.own) × (x.header.source_id ≡ e.id)) same (n.source, n.source_id)
 
-own_from : EndLaws → (s t : State) (ps : List SppPacketModel) → All IsSppPacket ps → All (IsOwnPacket s t) ps → All (IsFrom s.ends) (map spp_packet_spelling ps)
+own_from : EndLaws → (s t : State) (ps : List SppPacketModel) → All IsSppPacket ps → All (IsOwnPacket s t) ps
+    → All (IsFrom s.ends) (map spp_packet_spelling ps)
 own_from laws s t [] fits own = All-nil (IsFrom s.ends)
 own_from laws s t (p ∷ ps) fits own =
     All-cons (IsFrom s.ends) (spp_packet_spelling p) (map spp_packet_spelling ps)
     (named_from laws s.ends p (All-head IsSppPacket p ps fits) (laws.peers.own s t p (All-head (IsOwnPacket s t) p ps own)))
     (own_from laws s t ps (All-tail IsSppPacket p ps fits) (All-tail (IsOwnPacket s t) p ps own))
 
-maybe_from : EndLaws → (s t : State) (o : Option SppPacketModel) → ((p : SppPacketModel) → o ≡ Some p → IsSppPacket p) → ((p : SppPacketModel) → o ≡ Some p → IsOwnPacket s t p) → All (IsFrom s.ends) (option_to_list (spelled o))
+maybe_from : EndLaws → (s t : State) (o : Option SppPacketModel) → ((p : SppPacketModel) → o ≡ Some p → IsSppPacket p)
+    → ((p : SppPacketModel) → o ≡ Some p → IsOwnPacket s t p) → All (IsFrom s.ends) (option_to_list (spelled o))
 maybe_from laws s t None fits own = All-nil (IsFrom s.ends)
 maybe_from laws s t (Some p) fits own =
     All-cons (IsFrom s.ends) (spp_packet_spelling p) [] (named_from laws s.ends p (fits p refl) (laws.peers.own s t p (own p refl))) (All-nil (IsFrom s.ends))
@@ -119,7 +123,8 @@ learned_hears e d b f from l learns =
     } in
     subst (λ (x : Ends). Hears e x d) (sym learns.ends) now
 
-hears : EndLaws → (s : State) (d : Ends) (b : List ℕ) → IsFrom d b → IsLinked s.ends d → Hears s.ends (after_receive s b).ends d
+hears : EndLaws → (s : State) (d : Ends) (b : List ℕ) → IsFrom d b → IsLinked s.ends d
+    → Hears s.ends (after_receive s b).ends d
 hears laws s d b from l =
     elim (laws.learns s b) as (λ o. Hears s.ends (after_receive s b).ends d) [
       | inl same ↦ subst (λ (x : Ends). Hears s.ends x d) (sym same) (same_hears s.ends d l)
@@ -128,7 +133,8 @@ hears laws s d b from l =
 
 -- ---- a packet comes
 
-reply_from : EndLaws → (s : State) (b : List ℕ) (o : Option (List ℕ)) → (receive_answer s b).reply ≡ o → IsState (after_receive s b) → SameNames s.ends (after_receive s b).ends → All (IsFrom s.ends) (option_to_list o)
+reply_from : EndLaws → (s : State) (b : List ℕ) (o : Option (List ℕ)) → (receive_answer s b).reply ≡ o
+    → IsState (after_receive s b) → SameNames s.ends (after_receive s b).ends → All (IsFrom s.ends) (option_to_list o)
 reply_from laws s b None e fits n = All-nil (IsFrom s.ends)
 reply_from laws s b (Some r) e fits n =
     let t : State = after_receive s b in
@@ -149,10 +155,12 @@ marked_links w k x is l =
     }
 
 -- the packet's sender is the other side's peer
-from_peer : (w : World) (side : Side) (b : List ℕ) → IsFrom (end_of w side).ends b → IsFrom (end_of w (other (other side))).ends b
+from_peer : (w : World) (side : Side) (b : List ℕ) → IsFrom (end_of w side).ends b
+    → IsFrom (end_of w (other (other side))).ends b
 from_peer w side b h = subst (λ (u : Side). IsFrom (end_of w u).ends b) (sym (other_other side)) h
 
-answered_links : EndLaws → (w : World) (k : ℕ) (x : Emitted) → slice_get w.bag k ≡ Some x → IsState (end_of (answered w k x) (other x.side)) → Linked w → Linked (answered w k x)
+answered_links : EndLaws → (w : World) (k : ℕ) (x : Emitted) → slice_get w.bag k ≡ Some x
+    → IsState (end_of (answered w k x) (other x.side)) → Linked w → Linked (answered w k x)
 answered_links laws w k x is fits l =
     let v : World = marked w k x in
     let side : Side = other x.side in
@@ -168,7 +176,8 @@ answered_links laws w k x is fits l =
     let good : IsState t = subst IsState (same_end v side t (option_to_list o)) fits in
     moved_links v side t (option_to_list o) e.names e.links (reply_from laws s x.bytes o refl good e.names) m
 
-reached_links : EndLaws → EachStepKeepsTheOrder → (w : World) (k : ℕ) (o : Option (Side × World)) → landing w k ≡ o → Holds w → Linked w → Linked (reached w o)
+reached_links : EndLaws → EachStepKeepsTheOrder → (w : World) (k : ℕ) (o : Option (Side × World)) → landing w k ≡ o
+    → Holds w → Linked w → Linked (reached w o)
 reached_links laws order w k None e h l = l
 reached_links laws order w k (Some r) e h l =
     let i = has_landed w k r e in

@@ -170,7 +170,7 @@ pub resend_sends : EndLaws → (s peer : State) → Stands s peer → Sends s (a
 resend_sends laws s peer k =
     sends_one laws s (after_resend s) peer (resend_packet s) _ (laws.goes_out.resend_bytes s) (laws.bounds.resend s k.fits) (laws.grows.resend s) (laws.hears.resend s) (laws.goes_out.resend s) k
 
-same_grows : (s : State) → Grows s s
+pub same_grows : (s : State) → Grows s s
 same_grows s = record {
   accepted = begins_itself s.accepted;
   acknowledged = omega arith;

@@ -61,7 +61,8 @@ pub links : (w : World) (side : Side) (s p : State) → Pair w side s p → IsLi
 links w side s p x = subst (λ (y : State). IsLinked s.ends y.ends) x.there (subst (λ (y : State). IsLinked y.ends (end_of w (other side)).ends) x.here (x.linked.ends side))
 
 -- the first of the packets that joined
-first_new : (bag : List Emitted) (f : List ℕ → Emitted) (bs : List (List ℕ)) (b : List ℕ) → slice_get bs 0 ≡ Some b → slice_get (bag ++ map f bs) (length bag) ≡ Some (f b)
+first_new : (bag : List Emitted) (f : List ℕ → Emitted) (bs : List (List ℕ)) (b : List ℕ) → slice_get bs 0 ≡ Some b
+    → slice_get (bag ++ map f bs) (length bag) ≡ Some (f b)
 first_new [] f [] b h = absurd (cc)
 first_new [] f (c ∷ bs) b h = let at : c ≡ b = cc in ap (λ (y : List ℕ). Some (f y)) at
 first_new (x ∷ bag) f bs b h = first_new bag f bs b h
@@ -76,7 +77,8 @@ ticked k w side s p x = record {
   linked = k.links w (ticking side) tt x.holds x.linked;
 }
 
-ticked_packet : Kept → (w : World) (side : Side) (s p : State) (q : SppPacketModel) → Pair w side s p → slice_get (tick_packets s) 0 ≡ Some q
+pub ticked_packet : Kept → (w : World) (side : Side) (s p : State) (q : SppPacketModel) → Pair w side s p
+    → slice_get (tick_packets s) 0 ≡ Some q
     → slice_get (ticks w side).bag (length w.bag) ≡ Some (emitted side (moment (after_tick s) p) (spp_packet_spelling q))
 ticked_packet k w side s p q x h =
     let b : List ℕ = spp_packet_spelling q in
@@ -93,25 +95,34 @@ is_alive at m n a b =
     let d : n - at.receiver ≡ 0 = omega arith in
     ap (λ (i : ℕ). nat_lt lifetime i || nat_lt lifetime (n - at.receiver)) c ∙ ap (λ (i : ℕ). nat_lt lifetime 0 || nat_lt lifetime i) d
 
--- packet k was sent from this side when both ends had taken what they have now
+-- packet k was sent from this side and never delivered, and it lives
 pub record IsNew (w : World) (side : Side) (s p : State) (k : ℕ) (bytes : List ℕ) : Type 0 where
   pub at : Moment
   pub is : slice_get w.bag k ≡ Some (emitted side at bytes)
-  pub sender : at.sender ≡ length s.taken
-  pub receiver : at.receiver ≡ length p.taken
+  pub alive : is_past at (length s.taken) (length p.taken) ≡ false
 
-pub lands_now : (w : World) (side : Side) (s p : State) (k : ℕ) (bytes : List ℕ) → Pair w side s p → (i : IsNew w side s p k bytes) → stepped w (arrival k) ≡ answered w k (emitted side i.at bytes)
+living : (w : World) (side : Side) (s p : State) (at : Moment) → Pair w side s p
+    → is_past at (length s.taken) (length p.taken) ≡ false
+    → is_past at (length (end_of w side).taken) (length (end_of w (other side)).taken) ≡ false
+living w side s p at x alive =
+    ap (λ (t : State). is_past at (length t.taken) (length (end_of w (other side)).taken)) x.here
+    ∙ (ap (λ (t : State). is_past at (length s.taken) (length t.taken)) x.there ∙ alive)
+
+pub lands_now : (w : World) (side : Side) (s p : State) (k : ℕ) (bytes : List ℕ) → Pair w side s p
+    → (i : IsNew w side s p k bytes) → stepped w (arrival k) ≡ answered w k (emitted side i.at bytes)
 lands_now w side s p k bytes x i =
     let y : Emitted = emitted side i.at bytes in
-    let alive = is_alive i.at (length (end_of w side).taken) (length (end_of w (other side)).taken) (i.sender ∙ sym (ap (λ (t : State). length t.taken) x.here)) (i.receiver ∙ sym (ap (λ (t : State). length t.taken) x.there)) in
+    let alive = living w side s p i.at x i.alive in
     ap (λ (o : Option Emitted). reached w (landed w k o)) i.is
     ∙ ap (λ (b : Bool). reached w (if b then None else Some (other side, answered w k y))) alive
 
-pub peer_moves : (w : World) (side : Side) (s : State) (bs : List (List ℕ)) → end_of (moved w (other side) s bs) side ≡ end_of w side
+pub peer_moves : (w : World) (side : Side) (s : State) (bs : List (List ℕ))
+    → end_of (moved w (other side) s bs) side ≡ end_of w side
 peer_moves w A s bs = refl
 peer_moves w B s bs = refl
 
-pub arrived : Kept → (w : World) (side : Side) (s p : State) (k : ℕ) (bytes : List ℕ) → Pair w side s p → IsNew w side s p k bytes → Pair (stepped w (arrival k)) side s (after_receive p bytes)
+pub arrived : Kept → (w : World) (side : Side) (s p : State) (k : ℕ) (bytes : List ℕ) → Pair w side s p
+    → IsNew w side s p k bytes → Pair (stepped w (arrival k)) side s (after_receive p bytes)
 arrived kept w side s p k bytes x i =
     let y : Emitted = emitted side i.at bytes in
     let e = lands_now w side s p k bytes x i in
@@ -125,7 +136,8 @@ arrived kept w side s p k bytes x i =
       linked = kept.links w (arrival k) tt x.holds x.linked;
     }
 
-pub replied : (w : World) (side : Side) (s p : State) (k : ℕ) (bytes r : List ℕ) → Pair w side s p → IsNew w side s p k bytes → (receive_answer p bytes).reply ≡ Some r
+pub replied : (w : World) (side : Side) (s p : State) (k : ℕ) (bytes r : List ℕ) → Pair w side s p
+    → IsNew w side s p k bytes → (receive_answer p bytes).reply ≡ Some r
     → slice_get (stepped w (arrival k)).bag (length w.bag) ≡ Some (emitted (other side) (moment (after_receive p bytes) s) r)
 replied w side s p k bytes r x i h =
     let y : Emitted = emitted side i.at bytes in
@@ -145,7 +157,8 @@ replied w side s p k bytes r x i h =
 
 -- ---- what an end sends is heard by its peer
 
-pub proper_heard : EndLaws → (t p : State) (q : SppPacketModel) (m : Meant) → Stands t p → Stands p t → IsProperAs (moment t p) t q m → is_ours_at p.ends q ≡ true → IsHeard p (spp_packet_spelling q) q m
+pub proper_heard : EndLaws → (t p : State) (q : SppPacketModel) (m : Meant) → Stands t p → Stands p t
+    → IsProperAs (moment t p) t q m → is_ours_at p.ends q ≡ true → IsHeard p (spp_packet_spelling q) q m
 proper_heard laws t p q m to back i ours =
     let x : Emitted = emitted A (moment t p) (spp_packet_spelling q) in
     let j : IsSoundSpelling t p x = record {
@@ -172,7 +185,8 @@ pub record Asked (w : World) (side : Side) (s p : State) : Type 0 where
   pub reply : slice_get (stepped (ticks w side) (arrival (length w.bag))).bag (length (ticks w side).bag)
       ≡ Some (emitted (other side) (moment (after_receive p bytes) (after_tick s)) (spp_packet_spelling (system_packet (after_receive p bytes) reply_control)))
 
-pub asked : Kept → (w : World) (side : Side) (s p : State) → Pair w side s p → s.acknowledged < length s.accepted → Asked w side s p
+pub asked : Kept → (w : World) (side : Side) (s p : State) → Pair w side s p → s.acknowledged < length s.accepted
+    → Asked w side s p
 asked k w side s p x left =
     let laws : EndLaws = k.laws in
     let a : Asks s = laws.asks.asks s left in
@@ -190,7 +204,7 @@ asked k w side s p x left =
     let heard = proper_heard laws t p q proper.meant now back (as_proper (moment t p) t q proper) ours in
     let bytes : List ℕ = spp_packet_spelling q in
     let reply = (laws.counts p bytes q proper.meant heard).reply a.asks in
-    let new : IsNew v side t p (length w.bag) bytes = record { at = moment t p; is = ticked_packet k w side s p q x a.first; sender = refl; receiver = refl } in
+    let new : IsNew v side t p (length w.bag) bytes = record { at = moment t p; is = ticked_packet k w side s p q x a.first; alive = is_alive (moment t p) (length t.taken) (length p.taken) refl refl } in
     record {
       bytes = bytes;
       new = new;
@@ -214,7 +228,8 @@ pub record Goes (w : World) (side : Side) (s p : State) : Type 0 where
   pub pair : Pair (stepped (ticks w side) (arrival (length w.bag))) side (after_tick s) (after_receive p bytes)
   pub takes : length p.taken < length (after_receive p bytes).taken
 
-pub goes : Kept → (w : World) (side : Side) (s p : State) → Knows w side s p → p.handed ≡ length p.taken → length p.taken < length s.accepted → Goes w side s p
+pub goes : Kept → (w : World) (side : Side) (s p : State) → Knows w side s p → p.handed ≡ length p.taken
+    → length p.taken < length s.accepted → Goes w side s p
 goes k w side s p knows none left =
     let laws : EndLaws = k.laws in
     let x : Pair w side s p = knows.pair in
@@ -239,7 +254,7 @@ goes k w side s p knows none left =
     laws.peers.ours s.ends p.ends q before.fits.ends here.fits.ends (links w side s p x) (links w (other side) p s (flip w side s p x)) (laws.peers.item s n item) in
     let bytes : List ℕ = spp_packet_spelling q in
     let heard : IsHeard p bytes q (own_meant s n) = proper_heard laws t p q (own_meant s n) now back proper ours in
-    let new : IsNew v side t p (length w.bag) bytes = record { at = moment t p; is = ticked_packet k w side s p q x first; sender = refl; receiver = refl } in
+    let new : IsNew v side t p (length w.bag) bytes = record { at = moment t p; is = ticked_packet k w side s p q x first; alive = is_alive (moment t p) (length t.taken) (length p.taken) refl refl } in
     record {
       bytes = bytes;
       new = new;
@@ -253,7 +268,8 @@ pub handing_one : EndLaws → (p : State) → p.handed < length p.taken → (aft
 handing_one laws p lt = let e = element p.taken p.handed lt in ap (λ (t : State). t.handed) (laws.hands_up.some p e.0 e.1)
 
 -- the peer hands up what waits
-pub took : EndLaws → (w : World) (side : Side) (s p : State) → Pair w side s p → p.handed < length p.taken → (end_of (takes w (other side)) (other side)).handed ≡ p.handed + 1
+pub took : EndLaws → (w : World) (side : Side) (s p : State) → Pair w side s p → p.handed < length p.taken
+    → (end_of (takes w (other side)) (other side)).handed ≡ p.handed + 1
 took laws w side s p x lt =
     ap (λ (t : State). t.handed) (same_end w (other side) (after_take (end_of w (other side))) [] ∙ ap after_take x.there) ∙ handing_one laws p lt
 
@@ -286,13 +302,15 @@ alike laws s =
 
 -- ---- where an end flushes
 
-pub lands_there : (w : World) (side : Side) (s p : State) (k : ℕ) (bytes : List ℕ) → Pair w side s p → (i : IsNew w side s p k bytes) → landing w k ≡ Some (other side, answered w k (emitted side i.at bytes))
+pub lands_there : (w : World) (side : Side) (s p : State) (k : ℕ) (bytes : List ℕ) → Pair w side s p
+    → (i : IsNew w side s p k bytes) → landing w k ≡ Some (other side, answered w k (emitted side i.at bytes))
 lands_there w side s p k bytes x i =
     let y : Emitted = emitted side i.at bytes in
-    ap (landed w k) i.is ∙ ap (λ (b : Bool). if b then None else Some (other side, answered w k y)) (is_alive i.at (length (end_of w side).taken) (length (end_of w (other side)).taken)
-    (i.sender ∙ sym (ap (λ (t : State). length t.taken) x.here)) (i.receiver ∙ sym (ap (λ (t : State). length t.taken) x.there)))
+    ap (landed w k) i.is
+    ∙ ap (λ (b : Bool). if b then None else Some (other side, answered w k y)) (living w side s p i.at x i.alive)
 
-pub flushed_pair : Kept → (w : World) (side : Side) (s p : State) → Pair w side s p → Pair (flushes w (other side)) side s (after_flush p)
+pub flushed_pair : Kept → (w : World) (side : Side) (s p : State) → Pair w side s p
+    → Pair (flushes w (other side)) side s (after_flush p)
 flushed_pair k w side s p x =
     let t : State = end_of w (other side) in
     record {
@@ -302,7 +320,8 @@ flushed_pair k w side s p x =
       linked = k.links w (flushing (other side)) tt x.holds x.linked;
     }
 
-pub flushed_here : Kept → (w : World) (side : Side) (s p : State) → Pair w side s p → Pair (flushes w side) side (after_flush s) p
+pub flushed_here : Kept → (w : World) (side : Side) (s p : State) → Pair w side s p
+    → Pair (flushes w side) side (after_flush s) p
 flushed_here k w side s p x =
     let t : State = end_of w side in
     record {
@@ -313,15 +332,16 @@ flushed_here k w side s p x =
     }
 
 -- a packet that was just sent is there still once its sender has flushed
-pub new_out : EndLaws → (w : World) (side : Side) (s p : State) (k : ℕ) (bytes : List ℕ) → IsNew w side s p k bytes → IsNew (flushes w side) side (after_flush s) p k bytes
+pub new_out : EndLaws → (w : World) (side : Side) (s p : State) (k : ℕ) (bytes : List ℕ) → IsNew w side s p k bytes
+    → IsNew (flushes w side) side (after_flush s) p k bytes
 new_out laws w side s p k bytes i = record {
   at = i.at;
   is = front_get w.bag _ k (emitted side i.at bytes) i.is;
-  sender = i.sender ∙ sym (ap length (alike laws s).taken);
-  receiver = i.receiver;
+  alive = ap (λ (l : List Item). is_past i.at (length l) (length p.taken)) (alike laws s).taken ∙ i.alive;
 }
 
-pub lands_as : (w : World) (side : Side) (s p : State) (k : ℕ) (bytes : List ℕ) → Pair w side s p → IsNew w side s p k bytes → landing w k ≡ Some (other side, stepped w (arrival k))
+pub lands_as : (w : World) (side : Side) (s p : State) (k : ℕ) (bytes : List ℕ) → Pair w side s p
+    → IsNew w side s p k bytes → landing w k ≡ Some (other side, stepped w (arrival k))
 lands_as w side s p k bytes x i = lands_there w side s p k bytes x i ∙ ap (λ (v : World). Some (other side, v)) (sym (lands_now w side s p k bytes x i))
 
 -- the reply comes, which was made before its sender flushed
@@ -329,7 +349,9 @@ pub record Told (w : World) (side : Side) (t o : State) (k : ℕ) : Type 0 where
   pub lands : landing w k ≡ Some (side, stepped w (arrival k))
   pub knows : Knows (stepped w (arrival k)) side (after_receive t (spp_packet_spelling (system_packet o reply_control))) (after_flush o)
 
-pub told_out : Kept → (w : World) (side : Side) (t o : State) (k : ℕ) → Pair w side t (after_flush o) → Stands o t → slice_get w.bag k ≡ Some (emitted (other side) (moment o t) (spp_packet_spelling (system_packet o reply_control))) → Told w side t o k
+pub told_out : Kept → (w : World) (side : Side) (t o : State) (k : ℕ) → Pair w side t (after_flush o) → Stands o t
+    → slice_get w.bag k ≡ Some (emitted (other side) (moment o t) (spp_packet_spelling (system_packet o reply_control)))
+    → Told w side t o k
 told_out kept w side t o k x before h =
     let laws : EndLaws = kept.laws in
     let p : State = after_flush o in
@@ -345,7 +367,7 @@ told_out kept w side t o k x before h =
     (subst (λ (e : Ends). IsNamed e q) (sym l.ends) (laws.peers.system o reply_control)) in
     let heard : IsHeard t bytes q (own_meant o o.sent) = proper_heard laws p t q (own_meant o o.sent) to back proper ours in
     let counts : Counts t bytes q (own_meant o o.sent) = laws.counts t bytes q (own_meant o o.sent) heard in
-    let new : IsNew w (other side) p t k bytes = record { at = moment o t; is = h; sender = sym (ap length l.taken); receiver = refl } in
+    let new : IsNew w (other side) p t k bytes = record { at = moment o t; is = h; alive = is_alive (moment o t) (length p.taken) (length t.taken) (sym (ap length l.taken)) refl } in
     let u : State = after_receive t bytes in
     let v : World = stepped w (arrival k) in
     let f : Pair v (other (other side)) u p = flip v (other side) p u (arrived kept w (other side) p t k bytes y new) in
@@ -359,7 +381,8 @@ told_out kept w side t o k x before h =
       };
     }
 
-pub knows_flushed : Kept → (w : World) (side : Side) (s p : State) → Knows w side s p → Knows (flushes w side) side (after_flush s) p
+pub knows_flushed : Kept → (w : World) (side : Side) (s p : State) → Knows w side s p
+    → Knows (flushes w side) side (after_flush s) p
 knows_flushed k w side s p x =
     let l : IsAlike s (after_flush s) = alike k.laws s in
     record {

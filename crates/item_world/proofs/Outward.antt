@@ -19,7 +19,8 @@ use Rattle.item_world.specs.Side.{other}
 use Rattle.item_world.specs.World.{World, end_of, ticks}
 use Rattle.item_world.specs.declared.side.Side.{Side}
 
-pub stirs_out : Kept → (w : World) (side : Side) → Holds w → Linked w → (end_of w side).acknowledged < length (end_of w side).accepted → StirsOut w side
+pub stirs_out : Kept → (w : World) (side : Side) → Holds w → Linked w
+    → (end_of w side).acknowledged < length (end_of w side).accepted → StirsOut w side
 stirs_out k w side holds linked left =
     let laws : EndLaws = k.laws in
     let s : State = end_of w side in
@@ -115,7 +116,8 @@ stirs_when laws w side false c out waits left holds =
           }
     ] left
 
-stirs_by : Kept → (w : World) (side : Side) (b : Bool) → nat_lt (end_of w side).acknowledged (length (end_of w side).accepted) ≡ b
+stirs_by : Kept → (w : World) (side : Side) (b : Bool)
+    → nat_lt (end_of w side).acknowledged (length (end_of w side).accepted) ≡ b
     → Holds w → Linked w → Stirs w side
 stirs_by k w side true e holds linked =
     let s : State = end_of w side in

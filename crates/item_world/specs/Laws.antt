@@ -23,7 +23,7 @@ use Rattle.item_world.specs.World.{World, start, end_of, moved, has_passed, flus
 use Rattle.item_world.specs.World.{handed_at}
 use Rattle.xns_spp.specs.Growth.{Begins}
 use Rattle.item_world.specs.Invariant.{Holds, IsSoundSpelling}
-use Rattle.item_world.specs.Progress.{Linked, Stirs, StirsOut, Finishes, FinishesByEvents}
+use Rattle.item_world.specs.Progress.{Linked, Stirs, StirsOut, Finishes, FinishesByEvents, FinishesInRounds}
 
 pub record EachStepKeepsTheOrder : Type 0 where
   pub start : (setup : Setup) → IsSetup setup → IsGood setup → Holds (start setup)
@@ -130,3 +130,6 @@ pub record NoWorldIsStuck : Type 0 where
       → Finishes (all_stepped (start setup) steps)
   pub by_events : (setup : Setup) (events : List Event) → IsSetup setup → IsGood setup → All IsEvent events
       → FinishesByEvents (run (start setup) events)
+  -- and by a fixed schedule, over a network that from now on delivers what is sent: old packets that come too do no harm
+  pub by_rounds : (setup : Setup) (events : List Event) → IsSetup setup → IsGood setup → All IsEvent events
+      → FinishesInRounds (run (start setup) events)

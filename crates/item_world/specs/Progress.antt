@@ -1,5 +1,5 @@
 -- What is to be done in a world, and what would do it.
-use Rattle.std.specs.Prelude.{◌≡◌, ◌⊎◌, ◌≤◌, ◌<◌, ◌+◌, ◌-◌, ◌*◌, ℕ, false, List, length, Some, Ok, All}
+use Rattle.std.specs.Prelude.{◌≡◌, ◌⊎◌, ◌≤◌, ◌<◌, ◌+◌, ◌-◌, ◌*◌, ℕ, false, List, length, Some, Ok, All, zero, suc, [], ◌∷◌}
 use Rattle.xns_spp.specs.Numbers.{most_items}
 use Rattle.xns_spp.specs.Sending.{is_full}
 use Rattle.xns_spp.specs.Packet.{SppPacketModel, spp_packet_of}
@@ -7,7 +7,7 @@ use Rattle.xns_spp.specs.Peers.{IsLinked}
 use Rattle.xns_spp.specs.declared.ends.Ends.{Ends}
 use Rattle.item_world.specs.declared.emitted.Emitted.{Emitted}
 use Rattle.item_world.specs.declared.event.Event.{Event}
-use Rattle.item_world.specs.declared.event.Event.TheVariants.{Deliver, Tick, Take}
+use Rattle.item_world.specs.declared.event.Event.TheVariants.{Deliver, Rest, Tick, Take}
 use Rattle.item_world.specs.declared.side.Side.{Side}
 use Rattle.item_world.specs.declared.side.Side.TheVariants.{A, B}
 use Rattle.item_world.specs.Events.{Step, arrival, taking, flushing, ticking, stepped, all_stepped, run}
@@ -69,6 +69,21 @@ pub record FinishesByEvents (w : World) : Type 0 where
   pub further : All (IsFurther (length w.bag)) more
   pub few : length more ≤ 6 * (pending w A + pending w B + 1)
   pub done : IsDone w (run w more)
+
+-- ---- by a fixed schedule
+
+-- both ends tick, each packet comes that was never delivered and is there then, and each end hands an item up
+abbrev pub round : List Event
+round = Tick A ∷ Tick B ∷ Rest ∷ Take A ∷ Take B ∷ []
+
+-- so many rounds
+unfoldable pub rounds : ℕ → World → World
+rounds zero w = w
+rounds (suc n) w = rounds n (run w round)
+
+-- all is done after three rounds for each item that is pending and three more, and from then on
+abbrev pub FinishesInRounds : World → Type 0
+FinishesInRounds w = (n : ℕ) → 3 * (pending w A + pending w B + 1) ≤ n → IsDone w (rounds n w)
 
 -- ---- where each end flushes after its tick and after each packet that came
 

@@ -8,10 +8,10 @@ use xns_spp::laws::{
     a_packet_that_is_heard_counts, a_tick_asks_until_all_is_acknowledged, accepted_items_go_out,
     an_end_learns_where_a_packet_comes_from, an_end_only_grows, bounds_hold_after_each_step,
     items_are_accepted_or_change_nothing, items_are_taken_from_the_next_number_on,
-    nearest_number_is_read_back, new_ends_are_fresh, other_steps_accept_and_hand_up_nothing,
-    other_steps_hear_nothing, own_packets_are_packets, own_packets_say_what_is_meant,
-    packets_acknowledge_what_they_say, packets_of_the_peer_are_ours, room_is_near_what_was_taken,
-    the_first_item_goes_out_again, the_next_item_is_handed_up,
+    nearest_number_is_read_back, new_ends_are_fresh, open_ends_learn_nothing,
+    other_steps_accept_and_hand_up_nothing, other_steps_hear_nothing, own_packets_are_packets,
+    own_packets_say_what_is_meant, packets_acknowledge_what_they_say, packets_of_the_peer_are_ours,
+    room_is_near_what_was_taken, the_first_item_goes_out_again, the_next_item_is_handed_up,
     what_goes_out_changes_what_was_sent_alone, written_packet_is_read_again,
 };
 
@@ -41,6 +41,7 @@ pub fn end_laws_are_given()
     a_tick_asks_until_all_is_acknowledged();
     what_goes_out_changes_what_was_sent_alone();
     an_end_learns_where_a_packet_comes_from();
+    open_ends_learn_nothing();
 }
 
 /// What is true at every moment is true at the start, and is kept by each small step of an end and by each packet that comes,

@@ -1,3 +1,4 @@
 //! What the program is asked to do.
 pub mod arguments;
 pub mod help;
+pub mod request;

@@ -1,21 +1,22 @@
 //! The commands of the program that read a file.
-ghost use Rattle.std.specs.Prelude.{◌≤◌, IfOk, length, take};
-ghost use Rattle.std.specs.Io.KnownBytes.{Consumes};
+ghost use Rattle.std.specs.Prelude.{◌≡◌, ◌≤◌, ◌<◌, IfErr, IfOk, IfSome, length, take};
+ghost use Rattle.std.specs.Io.KnownBytes.{Appends, Consumes, IsAtEnd};
+ghost use Rattle.xns_command.specs.Files.{FileStopsIn, StopsAs, file_text, is_file_refused, is_refused_as, text_as};
 
+use crate::commands::perform;
 use crate::mode::Mode;
 use std::alloc::Global;
 use std::io::{Read, Write};
-use xns_calls::{calls, calls_capture};
+use xns_calls::calls_capture;
 use xns_captures::{FileFault, is_capture};
-use xns_dump::{dump, dump_capture};
+use xns_dump::dump_capture;
 use xns_lines::RunFault;
-use xns_sim::sim;
 
 /// So many bytes tell whether a file is a capture.
 const FIRST: usize = 4;
 
 /// Runs the command of the mode over a file, which is a capture, known by its first bytes, or a file of lines; the script
-/// of `sim` is lines. The answer is whether something was refused.
+/// of `sim` has lines always. The answer is whether something was refused.
 ///
 /// # Errors
 /// Those of the command: `dump`, `calls` or `sim`, or `dump_capture` or `calls_capture`.
@@ -24,7 +25,13 @@ pub fn perform_file<R: Read, W: Write>(
     mode: Mode,
     reader: &mut R,
     writer: &mut W,
-) -> Result<bool, FileFault> {
+) -> Result<bool, FileFault>
+    ensures text { IfOk result (λ refused. IfSome (R.remaining reader.old) (λ file.
+        Appends (W.contents writer.old) (W.contents writer.new) (file_text mode file))) }
+    ensures refused { IfOk result (λ refused. IfSome (R.remaining reader.old) (λ file. refused ≡ is_file_refused mode file)) }
+    ensures fault { IfErr result (λ fault. IfSome (R.remaining reader.old) (λ file.
+        FileStopsIn mode file (W.contents writer.old) (W.contents writer.new) fault)) }
+{
     let mut first = [0u8; FIRST];
     let count = match read_first(reader, &mut first) {
         Ok(count) => count,
@@ -32,28 +39,45 @@ pub fn perform_file<R: Read, W: Write>(
     };
     let is_capture = is_capture(&first[..count]);
     let mut whole = (&first[..count]).chain(reader);
-    let answer = match mode {
-        Mode::Dump if is_capture => return dump_capture(alloc, &mut whole, writer),
-        Mode::Calls if is_capture => return calls_capture(alloc, &mut whole, writer),
-        Mode::Dump => dump(alloc, &mut whole, writer),
-        Mode::Calls => calls(alloc, &mut whole, writer),
-        Mode::Sim => sim(alloc, &mut whole, writer),
-    };
-    match answer {
-        Ok(refused) => Ok(refused),
-        Err(fault) => Err(FileFault::Run(fault)),
+    perform_as(alloc, is_capture, mode, &mut whole, writer)
+}
+
+/// Runs the command of the mode over a file that is a capture, or has lines.
+fn perform_as<R: Read, W: Write>(
+    alloc: Global,
+    is_capture: bool,
+    mode: Mode,
+    reader: &mut R,
+    writer: &mut W,
+) -> Result<bool, FileFault>
+    ensures text { IfOk result (λ refused. IfSome (R.remaining reader.old) (λ file.
+        Appends (W.contents writer.old) (W.contents writer.new) (text_as is_capture mode file))) }
+    ensures refused { IfOk result (λ refused. IfSome (R.remaining reader.old) (λ file. refused ≡ is_refused_as is_capture mode file)) }
+    ensures fault { IfErr result (λ fault. IfSome (R.remaining reader.old) (λ file.
+        StopsAs is_capture mode file (R.remaining reader.new) (W.contents writer.old) (W.contents writer.new) fault)) }
+{
+    match mode {
+        Mode::Dump if is_capture => dump_capture(alloc, reader, writer),
+        Mode::Calls if is_capture => calls_capture(alloc, reader, writer),
+        _ => match perform(alloc, mode, reader, writer) {
+            Ok(refused) => Ok(refused),
+            Err(fault) => Err(FileFault::Run(fault)),
+        },
     }
 }
 
-/// Reads the first bytes, fewer only at the end of the file, and says how many there are.
+/// Reads the first bytes, fewer only at the end of the file, and says how many there are. The only error is `Read`.
 fn read_first<R: Read>(reader: &mut R, first: &mut [u8]) -> Result<usize, RunFault>
     ensures few { IfOk result (λ count. count ≤ length first.new) }
+    ensures room { length first.new ≡ length first.old }
     ensures read { IfOk result (λ count. Consumes (R.remaining reader.old) (R.remaining reader.new) (take count first.new)) }
+    ensures end { IfOk result (λ count. count < length first.new → IsAtEnd (R.remaining reader.new)) }
+    ensures fault { IfErr result (λ fault. fault ≡ RunFault.Read) }
 {
     let mut count = 0;
     while count < first.len() {
         match reader.read(&mut first[count..]) {
-            Ok(0) => break,
+            Ok(0) => return Ok(count),
             Ok(more) => count += more,
             Err(_) => return Err(RunFault::Read),
         }

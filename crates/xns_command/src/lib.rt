@@ -12,4 +12,4 @@ pub use commands::perform;
 pub use files::perform_file;
 pub use mode::Mode;
 pub use refusal::Refusal;
-pub use status::{answer_status, refusal_status};
+pub use status::{answer_status, file_status, refusal_status};

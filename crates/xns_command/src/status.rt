@@ -2,6 +2,7 @@
 ghost use Rattle.std.specs.Prelude.{◌≡◌, ◌≢◌, MatchResult, Ok, false, true};
 
 use crate::refusal::Refusal;
+use xns_captures::FileFault;
 use xns_lines::RunFault;
 
 /// All is fine, or help was asked for.
@@ -16,6 +17,20 @@ const FAULT: u8 = 3;
 /// The program's exit status for an answer: 0 where all was fine, 1 where a line was refused, 3 after a fault. It is
 /// never 2, which is for a wrong command line.
 pub fn answer_status(answer: &Result<bool, RunFault>) -> u8
+    ensures fine { answer.now ≡ Ok false → result ≡ 0 }
+    ensures refused { answer.now ≡ Ok true → result ≡ 1 }
+    ensures fault { MatchResult answer.now (λ _. result ≢ 3) (λ _. result ≡ 3) }
+    ensures never { result ≢ 2 }
+{
+    match answer {
+        Ok(false) => FINE,
+        Ok(true) => LINE_REFUSED,
+        Err(_) => FAULT,
+    }
+}
+
+/// The program's exit status for an answer about a file, by the same rule.
+pub fn file_status(answer: &Result<bool, FileFault>) -> u8
     ensures fine { answer.now ≡ Ok false → result ≡ 0 }
     ensures refused { answer.now ≡ Ok true → result ≡ 1 }
     ensures fault { MatchResult answer.now (λ _. result ≢ 3) (λ _. result ≡ 3) }

@@ -181,7 +181,7 @@ all_pumped {v = v} {next = next} u p = record {
 has_rounds : Below → (side : Side) (s : State) (h : Story) {next : Side} {v : State} → is_stopped side ≡ false → Fills side s h
     → Rounds side s next v → HasRounds s v next h
 has_rounds below side s h {next} {v} free fills (once p) = all_pumped tt (has_pumped below s v (Ok tt) side next h free fills p)
-has_rounds below side s h free fills (again {mid = mid} {free = other} {next = next} {v = v} {w = w} r rejected p) =
+has_rounds below side s h free fills (again {mid = mid} {free = other} {next = next} {v = v} {w = w} r still rejected p) =
     let x = has_rounds below side s h free fills r in
     let y = has_rejected below v mid other x.story x.still x.fills rejected in
     let z = all_pumped tt (has_pumped below v w (Ok tt) other next y.story y.still y.fills p) in
@@ -274,7 +274,7 @@ has_conversed below side s h {next = next} free fills (starves rounds unlisted) 
       short = λ is. x.still;
     }
 has_conversed below side s h {next = next} {v = v} free fills (refuses e p) = has_refused e (has_pumped below s v (Err e) side next h free fills p)
-has_conversed below side s h free fills (refuses_on {mid = mid} {free = other} {next = next} {v = v} {w = w} e rounds rejected p) =
+has_conversed below side s h free fills (refuses_on {mid = mid} {free = other} {next = next} {v = v} {w = w} e rounds still rejected p) =
     let x = has_rounds below side s h free fills rounds in
     let y = has_rejected below v mid other x.story x.still x.fills rejected in
     after_all (goes_on (at_end s h) (at_end v x.story) (at_end v y.story) x.goes y.goes)

@@ -71,7 +71,7 @@ why_then None closed moved to s c none is count same = is ∙ by closed same whe
 
 -- ---- memory
 
-not_starved : (r : Result (Unit {0}) FeedRefusal) → is_starved r ≡ false → r ≢ Err NoMemory
+pub not_starved : (r : Result (Unit {0}) FeedRefusal) → is_starved r ≡ false → r ≢ Err NoMemory
 not_starved (Ok u) e = λ z. cc
 not_starved (Err NoMemory) e = absurd (cc)
 not_starved (Err Stopped) e = λ z. cc

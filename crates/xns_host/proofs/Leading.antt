@@ -177,7 +177,7 @@ module _ (next : TheNextItemIsHandedUp) (gives : ServerGives) (feeds_one : Serve
 
 -- ---- a pump: the side is the last one, or it has stopped
 
-stopped_by : (P Q : Type 0) (f : SessionFault) → Stops f ⊥ Q → (Q → P) → P
+pub stopped_by : (P Q : Type 0) (f : SessionFault) → Stops f ⊥ Q → (Q → P) → P
 stopped_by P Q NoCommonVersion s k = k s
 stopped_by P Q BadVersions s k = k s
 stopped_by P Q (BadMessage m) s k = k s

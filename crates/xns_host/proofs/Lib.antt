@@ -1,4 +1,5 @@
 mod Again
+mod Alike
 mod Apart
 mod Closes
 mod Coming

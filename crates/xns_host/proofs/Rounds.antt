@@ -9,6 +9,7 @@ use Rattle.xns_spp.specs.Held.{Held, StandsFor}
 use Rattle.xns_spp.specs.State.{State}
 use Rattle.courier_sessions.specs.Pumping as pumping
 use Rattle.xns_host.specs.Moving.{Led, Pumps, Rejects, rejects, Rounds, again, Converses, refuses_on}
+use Rattle.xns_host.specs.Story.{is_stopped}
 use Rattle.xns_host.specs.declared.side.Side.{Side}
 use Rattle.xns_host.specs.declared.side.Side.TheVariants.{Calls, Answers}
 
@@ -39,11 +40,11 @@ led kind first r next end p = (
 abbrev pub Reached : Held → (State → Type 0) → Type 0
 Reached end P = (v : State) × StandsFor end v × P v
 
-pub one_more : {side mid free next : Side} {s : State} {end after : Held} → Reached end (λ v. Rounds side s mid v) → Rejects mid free
-    → ((v : State) → StandsFor end v → Reached after (λ w. Pumps free v (Ok tt) next w)) → Reached after (λ w. Rounds side s next w)
-one_more r rejected p = let x = p r.0 r.1 in (x.0, x.1, again r.2 rejected x.2)
+pub one_more : {side mid free next : Side} {s : State} {end after : Held} → Reached end (λ v. Rounds side s mid v) → is_stopped mid ≡ false
+    → Rejects mid free → ((v : State) → StandsFor end v → Reached after (λ w. Pumps free v (Ok tt) next w)) → Reached after (λ w. Rounds side s next w)
+one_more r still rejected p = let x = p r.0 r.1 in (x.0, x.1, again r.2 still rejected x.2)
 
 pub refused_on : {side mid free next : Side} {s : State} {end after : Held} (e : FeedRefusal) → Reached end (λ v. Rounds side s mid v)
-    → Rejects mid free → ((v : State) → StandsFor end v → Reached after (λ w. Pumps free v (Err e) next w))
+    → is_stopped mid ≡ false → Rejects mid free → ((v : State) → StandsFor end v → Reached after (λ w. Pumps free v (Err e) next w))
     → Reached after (λ w. Converses side s (Err e) next w)
-refused_on e r rejected p = let x = p r.0 r.1 in (x.0, x.1, refuses_on e r.2 rejected x.2)
+refused_on e r still rejected p = let x = p r.0 r.1 in (x.0, x.1, refuses_on e r.2 still rejected x.2)

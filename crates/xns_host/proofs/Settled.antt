@@ -52,13 +52,13 @@ pumps_fits (Answers a) (Answers b) s v r p = p.fits
 
 rounds_fits : {side next : Side} {s v : State} → Rounds side s next v → IsState v
 rounds_fits {side} {next} {s} {v} (once p) = pumps_fits side next s v (Ok tt) p
-rounds_fits (again {free = other} {next = next} {v = v} {w = w} r rejected p) = pumps_fits other next v w (Ok tt) p
+rounds_fits (again {free = other} {next = next} {v = v} {w = w} r still rejected p) = pumps_fits other next v w (Ok tt) p
 
 conversed_fits : {side next : Side} {s v : State} {r : Result (Unit {0}) FeedRefusal} → Converses side s r next v → IsState v
 conversed_fits (calms rounds listed) = rounds_fits rounds
 conversed_fits (starves rounds unlisted) = rounds_fits rounds
 conversed_fits {side} {next} {s} {v} (refuses e p) = pumps_fits side next s v (Err e) p
-conversed_fits (refuses_on {free = other} {next = next} {v = v} {w = w} e rounds rejected p) = pumps_fits other next v w (Err e) p
+conversed_fits (refuses_on {free = other} {next = next} {v = v} {w = w} e rounds still rejected p) = pumps_fits other next v w (Err e) p
 
 -- ---- items move
 

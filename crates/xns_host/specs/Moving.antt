@@ -60,15 +60,16 @@ pub data Rejects : Side → Side → Type 0 where
 -- items moved until none could, as often as a call was rejected, and once before
 pub data Rounds (side : Side) (s : State) : Side → State → Type 0 where
   once : {next : Side} {v : State} → Pumps side s (Ok tt) next v → Rounds side s next v
-  again : {mid free next : Side} {v w : State} → Rounds side s mid v → Rejects mid free → Pumps free v (Ok tt) next w → Rounds side s next w
+  again : {mid free next : Side} {v w : State} → Rounds side s mid v → is_stopped mid ≡ false → Rejects mid free → Pumps free v (Ok tt) next w
+      → Rounds side s next w
 
 -- the same up to where nothing moves and no call is to be rejected, or where the side refuses an item, or memory is refused
 pub data Converses (side : Side) (s : State) : Result (Unit {0}) FeedRefusal → Side → State → Type 0 where
   calms : {next : Side} {v : State} → Rounds side s next v → (is_stopped next ≡ false → IsListed next) → Converses side s (Ok tt) next v
   starves : {next : Side} {v : State} → Rounds side s next v → IsUnlisted next → Converses side s (Err NoMemory) next v
   refuses : {next : Side} {v : State} (e : FeedRefusal) → Pumps side s (Err e) next v → Converses side s (Err e) next v
-  refuses_on : {mid free next : Side} {v w : State} (e : FeedRefusal) → Rounds side s mid v → Rejects mid free → Pumps free v (Err e) next w
-      → Converses side s (Err e) next w
+  refuses_on : {mid free next : Side} {v w : State} (e : FeedRefusal) → Rounds side s mid v → is_stopped mid ≡ false → Rejects mid free
+      → Pumps free v (Err e) next w → Converses side s (Err e) next w
 
 -- ---- the closing exchange
 

@@ -120,3 +120,8 @@ pub record Promises (now : ℕ) (deed : Deed) (old new : Connection) : Type 0 wh
 abbrev pub AStepKeepsItsPromises : Type 0
 AStepKeepsItsPromises = (now : ℕ) (deed : Deed) (old new : Connection) (s : State) → StandsFor old.conversation.endpoint s
     → Step now deed old new → Promises now deed old new
+
+-- where memory was not refused a step has one end only: the same connection, time and deed give the same parts
+abbrev pub AStepHasOneEnd : Type 0
+AStepHasOneEnd = (now : ℕ) (deed : Deed) (old new other : Connection) (s : State) → StandsFor old.conversation.endpoint s
+    → Step now deed old new → Step now deed old other → new.owed.moving ≡ false → other.owed.moving ≡ false → parts_of new ≡ parts_of other

@@ -13,7 +13,7 @@ ghost use Rattle.xns_host.specs.Agreeing.{handed_up, HasCalled, HasServed, ArePe
 ghost use Rattle.xns_host.specs.Closing.{drains};
 ghost use Rattle.xns_host.specs.Identifiers.{IsOrder, Ids, Turn, Given, HadTurn, most_id};
 ghost use Rattle.xns_host.specs.Living.{Deeds, no_deeds, Lives, IsLived, ProgramsAgree};
-ghost use Rattle.xns_host.specs.Step.{AStepKeepsItsPromises};
+ghost use Rattle.xns_host.specs.Step.{AStepHasOneEnd, AStepKeepsItsPromises};
 ghost use Rattle.xns_host.specs.Story.{Story, GoesOn, new_story};
 ghost use Rattle.xns_host.specs.Telling.{Tells};
 ghost use Rattle.xns_host.specs.declared.conversation.Conversation.{Conversation};
@@ -98,6 +98,11 @@ pub fn a_step_keeps_its_promises()
     courier_sessions::laws::a_session_is_its_conversation();
     courier_sessions::laws::a_server_session_is_its_conversation();
 }
+
+/// Where memory was not refused a step has one end only, whether items moved until none could or the side refused one.
+pub fn a_step_has_one_end()
+    ensures { AStepHasOneEnd }
+{}
 
 /// Neither of two connections that are peers refuses an item of the other's: the next one that waits is of the closing exchange, or the
 /// session takes it, where that is not busy.

@@ -1,9 +1,9 @@
 -- The command line of the program.
-use Rattle.std.specs.Prelude.{List, ◌∷◌, [], Option, Some, None, option_map, codes, map, Bool, true, false, ◌||◌, if◌then◌else◌}
+use Rattle.std.specs.Prelude.{List, ◌∷◌, [], Option, Some, None, option_and_then, option_map, codes, map, Bool, true, false, ◌||◌, if◌then◌else◌}
 use Rattle.std.specs.Borrow.{Bor}
 use Rattle.std.specs.Str.{bytes_eq}
 use Rattle.clap.specs.Kinds.{or_else}
-use Rattle.clap.specs.Words.{App, Kinds, Rule, Text, fault_of, new_app, new_rule, subcommand_of, with_rule, with_subcommand}
+use Rattle.clap.specs.Words.{App, Kinds, Rule, Text, fault_of, first_of, new_app, new_rule, subcommand_of, with_rule, with_subcommand}
 use Rattle.clap.specs.declared.error.kind.ErrorKind.TheVariants as kind
 use Rattle.xns_command.specs.declared.mode.Mode.{Mode}
 use Rattle.xns_command.specs.Modes.{name_of}
@@ -12,20 +12,25 @@ use Rattle.xns_command.specs.Modes.{name_of}
 abbrev pub file_rule : Rule
 file_rule = record (new_rule (codes "file")) { value_names = 1 }
 
--- `xns` with the subcommands that read captures, `dump` and `calls`, each with an optional file; a subcommand is required
+-- `xns` with its version, and with the subcommands that read captures, `dump` and `calls`, each with an optional file; a subcommand is
+-- required
 abbrev pub reading_app : App
 reading_app =
     let subcommands = with_subcommand (with_subcommand (new_app (codes "xns")) (with_rule (new_app (codes "dump")) file_rule).top)
     (with_rule (new_app (codes "calls")) file_rule).top in
-    record subcommands { top = record subcommands.top { subcommand_required = true } }
+    record subcommands { top = record subcommands.top { subcommand_required = true; has_version = true } }
 
 -- the program's command, with `sim` behind these
 abbrev pub program_app : App
-program_app = with_subcommand reading_app (new_app (codes "sim")).top
+program_app = with_subcommand reading_app (with_rule (new_app (codes "sim")) file_rule).top
 
 -- the subcommand that the words name, by clap's meaning
 abbrev pub named_subcommand : List Text → Option Text
 named_subcommand words = option_map (λ p. p.0) (subcommand_of program_app words)
+
+-- and the file that they name, if they name one
+abbrev pub named_file : List Text → Option Text
+named_file words = option_and_then (λ p. first_of (codes "file") p.1) (subcommand_of program_app words)
 
 abbrev pub is_mode : Option Text → Bool
 is_mode None = false
@@ -38,6 +43,10 @@ refusals_of words = or_else (fault_of program_app words) (if is_mode (named_subc
 -- the words `xns` and the mode's name
 abbrev pub words_of : Mode → List Text
 words_of mode = codes "xns" ∷ name_of mode ∷ []
+
+-- those words, and the name of a file
+abbrev pub words_with_file : Mode → List Text
+words_with_file mode = codes "xns" ∷ name_of mode ∷ codes "x.pcap" ∷ []
 
 -- the texts behind references
 abbrev pub texts : List (Bor Text) → List Text

@@ -1,28 +1,34 @@
 //! The command line.
-ghost use Rattle.std.specs.Prelude.{◌≡◌, ◌≢◌, IfOk, IfErr, IfSome, IfNone, Some, codes, false, option_map};
-ghost use Rattle.clap.specs.Words.{FailsBy, app_of, fault_of, kind_of, new_app, with_rule};
+ghost use Rattle.std.specs.Prelude.{◌≡◌, ◌≢◌, IfOk, IfErr, IfSome, IfNone, Some, codes, false, option_and_then, option_map};
+ghost use Rattle.clap.specs.Words.{FailsBy, app_of, fault_of, first_of, kind_of, new_app, subcommand_rows_of, with_rule};
 ghost use Rattle.clap.specs.declared.builder.command.Command.TheViews.{out-Command as fields_of};
 ghost use Rattle.xns_command.specs.declared.mode.Mode.{Mode};
 ghost use Rattle.xns_command.specs.Modes.{name_of};
-ghost use Rattle.xns.specs.Command.Arguments.{file_rule, named_subcommand, program_app, reading_app, refusals_of, texts, words_of};
+ghost use Rattle.xns.specs.Command.Arguments.{file_rule, named_file, named_subcommand, program_app, reading_app, refusals_of, texts};
+ghost use Rattle.xns.specs.Command.Arguments.{words_of, words_with_file};
 
-use crate::command::help::{ABOUT, CALLS_HELP, DUMP_HELP, HELP, SIM_HELP};
+use crate::command::help::{ABOUT, CALLS_HELP, DUMP_HELP, HELP, SIM_HELP, VERSION};
+use crate::command::request::Request;
 use clap::error::ErrorKind;
-use clap::{Arg, Command, Error};
+use clap::{Arg, ArgMatches, Command, Error};
 use std::alloc::{AllocError, Global};
 use xns_command::{Mode, Refusal};
 
 /// The name of the argument for a file.
 const FILE: &str = "file";
+/// What the file of `dump` and `calls` is.
+const CAPTURE: &str = "A capture (pcap or pcapng), or lines of hex; - or no FILE is standard input";
 
 /// A command that takes an optional file in place of standard input.
-fn with_file<'a>(alloc: Global, command: Command<'a>) -> Result<Command<'a>, AllocError>
+fn with_file<'a>(
+    alloc: Global,
+    command: Command<'a>,
+    help: &'a str,
+) -> Result<Command<'a>, AllocError>
     ensures app { IfOk result (λ r. app_of r ≡ with_rule (app_of command.entry) file_rule) }
     ensures local { IfOk result (λ r. (fields_of r).has_globals ≡ (fields_of command.entry).has_globals) }
 {
-    let file = Arg::new(alloc, FILE).value_name("FILE").help(
-        "A capture (pcap or pcapng), or lines of hex; standard input if there is none",
-    );
+    let file = Arg::new(alloc, FILE).value_name("FILE").help(help);
     command.arg(file)
 }
 
@@ -32,9 +38,9 @@ fn dump_command<'a>(alloc: Global) -> Result<Command<'a>, AllocError>
     ensures local { IfOk result (λ command. (fields_of command).has_globals ≡ false) }
 {
     let dump = Command::new(alloc, "dump")
-        .about("Prints what each line of hex says")
+        .about("Prints what the packets of a capture, or of lines of hex, say")
         .after_help(DUMP_HELP);
-    with_file(alloc, dump)
+    with_file(alloc, dump, CAPTURE)
 }
 
 /// `calls`, with its file.
@@ -43,9 +49,24 @@ fn calls_command<'a>(alloc: Global) -> Result<Command<'a>, AllocError>
     ensures local { IfOk result (λ command. (fields_of command).has_globals ≡ false) }
 {
     let calls = Command::new(alloc, "calls")
-        .about("Prints the calls that lines of hex carry, and what came back")
+        .about("Prints the calls that a capture or lines of hex carry, and what came back")
         .after_help(CALLS_HELP);
-    with_file(alloc, calls)
+    with_file(alloc, calls, CAPTURE)
+}
+
+/// `sim`, with its file.
+fn sim_command<'a>(alloc: Global) -> Result<Command<'a>, AllocError>
+    ensures app { IfOk result (λ command. app_of command ≡ with_rule (new_app (codes "sim")) file_rule) }
+    ensures local { IfOk result (λ command. (fields_of command).has_globals ≡ false) }
+{
+    let sim = Command::new(alloc, "sim")
+        .about("Plays calls through a network that loses, repeats and reorders")
+        .after_help(SIM_HELP);
+    with_file(
+        alloc,
+        sim,
+        "The lines of a play; - or no FILE is standard input",
+    )
 }
 
 /// A command that requires one of its subcommands, which read captures.
@@ -55,6 +76,7 @@ fn reading_program<'a>(alloc: Global) -> Result<Command<'a>, AllocError>
     let dump = dump_command(alloc)?;
     let calls = calls_command(alloc)?;
     Command::new(alloc, "xns")
+        .version(VERSION)
         .about(ABOUT)
         .after_help(HELP)
         .subcommand_required(true)
@@ -66,50 +88,59 @@ fn reading_program<'a>(alloc: Global) -> Result<Command<'a>, AllocError>
 fn program<'a>(alloc: Global) -> Result<Command<'a>, AllocError>
     ensures { IfOk result (λ command. app_of command ≡ program_app) }
 {
-    let sim = Command::new(alloc, "sim")
-        .about("Plays calls through a network that loses, repeats and reorders")
-        .after_help(SIM_HELP);
+    let sim = sim_command(alloc)?;
     reading_program(alloc)?.subcommand(sim)
 }
 
 /// Reads the words of the command line, the program's name first.
 ///
 /// # Errors
-/// `clap`'s error of the kind that it gives these words, which is `DisplayHelp` where help is asked for, and
-/// `OutOfMemory` where a growth was refused.
-pub fn mode(alloc: Global, words: &[&str]) -> Result<Mode, Error>
-    ensures named { IfOk result (λ mode. named_subcommand (texts words.entry.now) ≡ Some (name_of mode)) }
+/// `clap`'s error of the kind that it gives these words, which is `DisplayHelp` where help is asked for, `DisplayVersion`
+/// where the version is, and `OutOfMemory` where a growth was refused.
+pub fn request<'a>(alloc: Global, words: &'a [&'a str]) -> Result<Request<'a>, Error>
+    ensures named { IfOk result (λ request. named_subcommand (texts words.entry.now) ≡ Some (name_of request.mode)) }
+    ensures file { IfOk result (λ request. option_map (λ text. text.now) request.file ≡ named_file (texts words.entry.now)) }
     // An error is one of memory, or has a kind that clap's meaning of the words gives.
     ensures kinds { FailsBy (refusals_of (texts words.entry.now)) result }
-    // The mode's own words are refused for memory alone.
+    // The mode's own words, and a file that is called x.pcap behind them, are refused for memory alone.
     ensures alone { IfErr result (λ error. (mode : Mode) → texts words.entry.now ≡ words_of mode
         → kind_of error ≡ ErrorKind.OutOfMemory) }
+    ensures of_file { IfErr result (λ error. (mode : Mode) → texts words.entry.now ≡ words_with_file mode
+        → kind_of error ≡ ErrorKind.OutOfMemory) }
 {
-    let Some(mode) = mode_named(subcommand_in(alloc, words)?) else {
+    let (name, file) = named_in(alloc, words)?;
+    let Some(mode) = mode_named(name) else {
         let message = "a subcommand is required";
         return Err(program(alloc)?.error(ErrorKind::MissingSubcommand, message)?);
     };
-    Ok(mode)
+    Ok(Request { mode, file })
 }
 
-/// The file that the words name, if they name one.
-pub fn file_in<'a>(alloc: Global, words: &'a [&'a str]) -> Result<Option<&'a str>, Error> {
-    let matches = program(alloc)?.try_get_matches_from(words)?;
-    let Some((_, found)) = matches.subcommand() else {
-        return Ok(None);
-    };
-    Ok(found.get_str(FILE))
-}
-
-/// The name of the subcommand that the words name.
-fn subcommand_in<'a>(alloc: Global, words: &'a [&'a str]) -> Result<Option<&'a str>, Error>
-    ensures named { IfOk result (λ name. option_map (λ text. text.now) name ≡ named_subcommand (texts words.entry.now)) }
+/// The name of the subcommand that the words name, and its file.
+fn named_in<'a>(
+    alloc: Global,
+    words: &'a [&'a str],
+) -> Result<(Option<&'a str>, Option<&'a str>), Error>
+    ensures named { IfOk result (λ found. option_map (λ text. text.now) found.0 ≡ named_subcommand (texts words.entry.now)) }
+    ensures file { IfOk result (λ found. option_map (λ text. text.now) found.1 ≡ named_file (texts words.entry.now)) }
     ensures kinds { FailsBy (fault_of program_app (texts words.entry.now)) result }
     ensures alone { IfErr result (λ error. (mode : Mode) → texts words.entry.now ≡ words_of mode
         → kind_of error ≡ ErrorKind.OutOfMemory) }
+    ensures of_file { IfErr result (λ error. (mode : Mode) → texts words.entry.now ≡ words_with_file mode
+        → kind_of error ≡ ErrorKind.OutOfMemory) }
 {
     let matches = program(alloc)?.try_get_matches_from(words)?;
-    Ok(matches.subcommand_name())
+    Ok((matches.subcommand_name(), file_of(&matches)))
+}
+
+/// The file that a subcommand was given, if it was given one.
+fn file_of<'a>(matches: &ArgMatches<'a>) -> Option<&'a str>
+    ensures { option_map (λ text. text.now) result ≡ option_and_then (λ p. first_of (codes "file") p.1) (subcommand_rows_of matches.now) }
+{
+    match matches.subcommand() {
+        Some((_, found)) => found.get_str(FILE),
+        None => None,
+    }
 }
 
 /// The mode that a subcommand of that name asks for, if one is named and there is one.
@@ -123,12 +154,13 @@ fn mode_named(name: Option<&str>) -> Option<Mode>
 /// Why the words name no mode, by `clap`'s error.
 pub fn refusal(error: &Error) -> Refusal
     ensures help { kind_of error.now ≡ ErrorKind.DisplayHelp → result ≡ Refusal.Help }
+    ensures version { kind_of error.now ≡ ErrorKind.DisplayVersion → result ≡ Refusal.Help }
     ensures memory { kind_of error.now ≡ ErrorKind.OutOfMemory → result ≡ Refusal.NoMemory }
-    ensures mistake { kind_of error.now ≢ ErrorKind.DisplayHelp → kind_of error.now ≢ ErrorKind.OutOfMemory
-        → result ≡ Refusal.Mistake }
+    ensures mistake { kind_of error.now ≢ ErrorKind.DisplayHelp → kind_of error.now ≢ ErrorKind.DisplayVersion
+        → kind_of error.now ≢ ErrorKind.OutOfMemory → result ≡ Refusal.Mistake }
 {
     match error.kind() {
-        ErrorKind::DisplayHelp => Refusal::Help,
+        ErrorKind::DisplayHelp | ErrorKind::DisplayVersion => Refusal::Help,
         ErrorKind::OutOfMemory => Refusal::NoMemory,
         _ => Refusal::Mistake,
     }

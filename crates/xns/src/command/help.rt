@@ -1,83 +1,99 @@
 //! What the program says of itself.
 
-/// The first line of `xns --help`. The file VERSION at the top of the repository has the version.
+/// The version, as the file VERSION at the top of the repository has it.
+pub const VERSION: &str = "0.1.0";
+
+/// The first line of `xns --help`.
 pub const ABOUT: &str =
     "xns 0.1.0: reads packets of the Xerox Network Systems, and plays Courier calls";
 
 /// What `xns --help` says at its end. The pages that it names are those that `install.sh` installs.
 pub const HELP: &str = "\
-Each command reads lines from standard input, as in `xns dump < FILE`, and writes
-lines to standard output:
-  dump   A line is one packet in hex. What its header and its body say is printed.
-  calls  A line is one packet in hex. The Courier calls that the packets carry are
-         printed, each once it is complete, and what came back.
+Each command reads a FILE, or standard input, and writes lines to standard output:
+  dump   What the header and the body of each packet say is printed. The packets are
+         those of a capture, or of lines of hex.
+  calls  The Courier calls that these packets carry are printed, each once it is
+         complete, and what came back.
   sim    A line is a call or an event. What came of the calls is printed.
 
-The hex of a packet begins at the checksum of the internet packet, right after the
+A capture is pcap or pcapng, and is known by its first bytes; any other FILE has
+lines. Without a FILE, standard input has lines; a FILE called - is standard input,
+for a capture or lines: `tcpdump -w - .. | xns calls -`.
+The hex of a line begins at the checksum of the internet packet, right after the
 Ethernet header.
 A line has at most 4,096 bytes. An input of dump or sim has at most 65,536 lines.
 
 Exit status:
   0    all is fine
-  1    a line was refused; the output says which
+  1    a packet or a line was refused; the output says which
   2    the command line is wrong
-  3    reading or writing failed, a limit was passed, or there was no memory
+  3    reading or writing failed, a capture can't be read on, a limit was passed, or
+       there was no memory
   127  the processor is older than x86-64-v2
 
 Examples:
+  xns calls x.pcap
   echo 532300220002000000010000aa0001020002000000010000aa000304040000014869 | xns dump
-  echo ffff003c0005000000010000aa0001020005000000010000aa0003040400100012345678000000000003000300030000000100000007000200010005 | xns calls
   printf '%s\\n' 'call add 5' 'tick a' rest rest rest rest rest | xns sim
 
 `xns dump --help`, `xns calls --help` and `xns sim --help` say more, and so does the
-manual page, `man xns`. CAPTURES.md leads from a capture to its packets and calls,
-FORMATS.md has every line that is read and printed: both are in docs/ of the source,
-and in share/doc/xns where xns is installed.";
+manual page, `man xns`. CAPTURES.md says what is read of a capture, FORMATS.md has
+every line that is read and printed: both are in docs/ of the source, and in
+share/doc/xns where xns is installed.";
 
 /// What `xns dump --help` says at its end.
 pub const DUMP_HELP: &str = "\
-Each line of standard input is one packet in hex, of either case. Spaces and tabs
-are ignored. The hex begins at the checksum of the internet packet, right after the
-Ethernet header.
-Two to four lines are printed for each packet: the fields of its header, and what
-its body says. Each begins with the number of the input line.
+FILE is a capture, pcap or pcapng, known by its first bytes, or has lines of hex.
+Without a FILE, standard input has lines; a FILE called - is standard input, for a
+capture or lines.
+Of a capture each frame with an internet packet is read, and each line of the output
+begins with the number of its frame. Two to four lines are printed for each packet:
+the fields of its header, and what its body says.
+A line of hex is one packet. Spaces and tabs are ignored, and digits are of either
+case. It begins at the checksum of the internet packet, right after the Ethernet
+header. Each line of the output begins with the number of the input line.
 A line has at most 4,096 bytes, and there are at most 65,536 lines. A longer input is
 read in parts: `split -l 65536 --filter='xns dump || [ $? = 1 ]' < FILE`.
 
-Exit status: 0 all is fine, 1 a line was refused, 2 the command line is wrong,
-3 reading or writing failed, a limit was passed, or there was no memory.
+Exit status: 0 all is fine, 1 something was refused, 2 the command line is wrong,
+3 reading or writing failed, a capture can't be read on, a limit was passed, or there
+was no memory.
 
-Example:
+Examples:
+  xns dump x.pcap
   echo 532300220002000000010000aa0001020002000000010000aa000304040000014869 | xns dump
 
-FORMATS.md has each line that is printed, CAPTURES.md leads from a capture to these
-lines: both are in share/doc/xns where xns is installed.";
+FORMATS.md has each line that is printed, CAPTURES.md says what is read of a capture:
+both are in share/doc/xns where xns is installed.";
 
 /// What `xns calls --help` says at its end.
 pub const CALLS_HELP: &str = "\
-Each line of standard input is one packet in hex, as for dump. The hex begins at the
-checksum of the internet packet, right after the Ethernet header.
+FILE is a capture, pcap or pcapng, known by its first bytes, or has lines of hex, as
+for dump. Without a FILE, standard input has lines; a FILE called - is standard input,
+for a capture or lines: `tcpdump -w - .. | xns calls -` prints calls as they come.
 A line is printed for each flow of items that begins; for each Courier call, return,
 reject and abort once it is complete, in however many packets it came; for items that
 had not come by that line, which are repeats if they come later; and for what is refused.
-Each begins with the number of the input line, and then, but for a line that is no
-packet, with the name of the flow: `1a` and `1b` are the two flows of the first
-connection. A return, a reject and an abort name the line of their call.
+Each begins with the number of the frame, or of the input line, and then, but for what
+is no packet, with the name of the flow: `1a` and `1b` are the two flows of the first
+connection. A return, a reject and an abort name the frame or line of their call.
 A line has at most 4,096 bytes.
 
-Exit status: 0 all is fine, 1 a line was refused, 2 the command line is wrong,
-3 reading or writing failed, a limit was passed, or there was no memory.
+Exit status: 0 all is fine, 1 something was refused, 2 the command line is wrong,
+3 reading or writing failed, a capture can't be read on, a limit was passed, or there
+was no memory.
 
-Example:
+Examples:
+  xns calls x.pcap
   echo ffff003c0005000000010000aa0001020005000000010000aa0003040400100012345678000000000003000300030000000100000007000200010005 | xns calls
 
-FORMATS.md has each line that is printed, CAPTURES.md leads from a capture to these
-lines: both are in share/doc/xns where xns is installed.";
+FORMATS.md has each line that is printed, CAPTURES.md says what is read of a capture:
+both are in share/doc/xns where xns is installed.";
 
 /// What `xns sim --help` says at its end.
 pub const SIM_HELP: &str = "\
-Each line of standard input makes a call, or lets something happen between the
-caller, a, and the server, b:
+Each line of FILE, or of standard input, makes a call, or lets something happen
+between the caller, a, and the server, b:
   call add N      the call Add: N, at most 65535, is added to the server's tally
   call total      the call Total, which asks for the tally
   call raw PROGRAM VERSION PROCEDURE WORDS

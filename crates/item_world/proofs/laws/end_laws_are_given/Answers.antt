@@ -24,4 +24,5 @@ returns c = record {
   asks = c.a_tick_asks_until_all_is_acknowledged.ensures;
   alone = c.what_goes_out_changes_what_was_sent_alone.ensures;
   learns = c.an_end_learns_where_a_packet_comes_from.ensures;
+  known = c.open_ends_learn_nothing.ensures;
 }

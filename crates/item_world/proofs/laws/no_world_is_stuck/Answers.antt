@@ -1,6 +1,8 @@
 use Rattle.item_world.proofs.Onward.{Kept}
-use Rattle.item_world.proofs.Finishing.{finishes, always_finishes, always_finishes_by}
+use Rattle.item_world.proofs.Finishing.{always_finishes_by}
+use Rattle.item_world.proofs.SmallSteps.{finishes, always_finishes}
 use Rattle.item_world.proofs.Outward.{stirs, stirs_out}
+use Rattle.item_world.proofs.Scheduled.{always_in_rounds}
 use Rattle.item_world.proofs.Linking.{keeps_links, starts_linked}
 use Rattle.item_world.proofs.laws.no_world_is_stuck.Goals as goal
 
@@ -17,4 +19,5 @@ returns c =
       world = finishes k;
       always = λ setup steps fits good. always_finishes k setup steps (order.start setup fits good) (starts_linked setup);
       by_events = λ setup events fits good. always_finishes_by k setup events (order.start setup fits good) (starts_linked setup);
+      by_rounds = λ setup events fits good. always_in_rounds k setup events (order.start setup fits good) (starts_linked setup);
     }

@@ -47,7 +47,7 @@ pub returns-in_err-pump-2-clause-moves : goal.returns-in_err-pump-2-clause-moves
 returns-in_err-pump-2-clause-moves c = moves_on (moves_on (all_moves c.loop-alloc.invariant.moves) (c.reject_unlisted.ensures.moves c.loop-alloc.endpoint)) c.pump-in-loop-alloc.ensures.moves
 
 pub loop-alloc-preserved : goal.loop-alloc-preserved
-loop-alloc-preserved c = record { rounds = λ s stands. one_more (c.loop-alloc.invariant.rounds s stands) (c.in_ok-reject_unlisted.ensures.rejects (ap (λ (b : Bool). Ok b) c.if-not-branch.false)) c.in_ok-pump-2.ensures.pumps; moves = moves_all (moves_on (all_moves c.loop-alloc.invariant.moves) (c.reject_unlisted.ensures.moves c.loop-alloc.endpoint)) c.in_ok-pump-2.ensures.all; waits = c.waiting-left.ensures }
+loop-alloc-preserved c = record { rounds = λ s stands. one_more (c.loop-alloc.invariant.rounds s stands) (cc) (c.in_ok-reject_unlisted.ensures.rejects (ap (λ (b : Bool). Ok b) c.if-not-branch.false)) c.in_ok-pump-2.ensures.pumps; moves = moves_all (moves_on (all_moves c.loop-alloc.invariant.moves) (c.reject_unlisted.ensures.moves c.loop-alloc.endpoint)) c.in_ok-pump-2.ensures.all; waits = c.waiting-left.ensures }
 
 pub returns-then-left-waiting-clause-moves : goal.returns-then-left-waiting-clause-moves
 returns-then-left-waiting-clause-moves c = moves_on (moves_on (all_moves c.loop-alloc.invariant.moves) (c.reject_unlisted.ensures.moves c.loop-alloc.endpoint)) c.pump-in-loop-alloc.ensures.moves
@@ -90,13 +90,13 @@ pub returns-in_err-pump-2-clause-converses : goal.returns-in_err-pump-2-clause-c
 returns-in_err-pump-2-clause-converses c = λ s stands.
     let is : c.from_residual-in_err-pump-2.result ≡ Err c.in_err-pump-2.field-0.0 = search rules in
     subst (λ (r : Result (Unit {0}) FeedRefusal). Reached c.pump-in-loop-alloc.new.endpoint (λ v. Converses c.args.self.now s r c.pump-in-loop-alloc.new.self v)) (sym is)
-    (refused_on c.in_err-pump-2.field-0.0 (c.loop-alloc.invariant.rounds s stands) (c.in_ok-reject_unlisted.ensures.rejects (ap (λ (b : Bool). Ok b) c.if-not-branch.false)) c.in_err-pump-2.ensures.pumps)
+    (refused_on c.in_err-pump-2.field-0.0 (c.loop-alloc.invariant.rounds s stands) (cc) (c.in_ok-reject_unlisted.ensures.rejects (ap (λ (b : Bool). Ok b) c.if-not-branch.false)) c.in_err-pump-2.ensures.pumps)
 
 pub returns-then-left-waiting-clause-converses : goal.returns-then-left-waiting-clause-converses
 returns-then-left-waiting-clause-converses c = λ s stands.
     let rejected = c.in_ok-reject_unlisted.ensures.rejects (ap (λ (b : Bool). Ok b) c.if-not-branch.false) in
     let x = c.loop-alloc.invariant.rounds s stands in
-    let y = one_more x rejected c.in_ok-pump-2.ensures.pumps in
+    let y = one_more x (cc) rejected c.in_ok-pump-2.ensures.pumps in
     let is = c.loop-alloc.invariant.waits x.0 x.1 in
     let was = c.waiting-left.ensures y.0 y.1 in
     let over = c.if-left-waiting.true in (

@@ -1,7 +1,8 @@
 use Rattle.std.proofs.Common.{sym, subst}
 use Rattle.courier_calls.specs.Calls.{Serving}
 use Rattle.courier_calls.specs.Laws.{AllIsAnswered}
-use Rattle.xns_world.proofs.CallProgress.{completes, always_completes, starts, step_goes_on}
+use Rattle.xns_world.proofs.CallMoves.{step_goes_on}
+use Rattle.xns_world.proofs.CallProgress.{completes, always_completes, starts}
 use Rattle.xns_world.proofs.CallEvents.{completes_by_events}
 use Rattle.xns_world.proofs.CallRuns.{start_between}
 use Rattle.xns_world.specs.CallPromises.{AreParties}

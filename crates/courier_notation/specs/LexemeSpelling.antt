@@ -1,0 +1,83 @@
+-- How tokens are written, byte by byte (XSIS 038112, Courier).
+use Rattle.std.specs.Prelude.{◌≡◌, ℕ, ◌<◌, ◌≤◌, List, [], ◌∷◌, ◌++◌, length, None, true, codes}
+use Rattle.std.specs.Fmt.{decimal}
+use Rattle.std.specs.List.{list_all}
+use Rattle.courier_notation.specs.declared.token.Token.{Token}
+use Rattle.courier_notation.specs.declared.token.Token.TheVariants as tokens
+use Rattle.courier_notation.specs.Lexing.{LexemeModel, Lexing, is_letter, is_name_byte, is_no_quote, keyword_of, most_name, with_lexeme}
+
+-- keywords, marks and numbers; a name and a string are written otherwise
+abbrev pub token_spelling : Token → List ℕ
+token_spelling (tokens.Name n) = []
+token_spelling (tokens.Number n) = decimal n
+token_spelling (tokens.Quoted n) = []
+token_spelling tokens.Array = codes "ARRAY"
+token_spelling tokens.Begin = codes "BEGIN"
+token_spelling tokens.Boolean = codes "BOOLEAN"
+token_spelling tokens.Cardinal = codes "CARDINAL"
+token_spelling tokens.Choice = codes "CHOICE"
+token_spelling tokens.Depends = codes "DEPENDS"
+token_spelling tokens.End = codes "END"
+token_spelling tokens.Error = codes "ERROR"
+token_spelling tokens.False = codes "FALSE"
+token_spelling tokens.Integer = codes "INTEGER"
+token_spelling tokens.Long = codes "LONG"
+token_spelling tokens.Of = codes "OF"
+token_spelling tokens.Procedure = codes "PROCEDURE"
+token_spelling tokens.Program = codes "PROGRAM"
+token_spelling tokens.Record = codes "RECORD"
+token_spelling tokens.Reports = codes "REPORTS"
+token_spelling tokens.Returns = codes "RETURNS"
+token_spelling tokens.Sequence = codes "SEQUENCE"
+token_spelling tokens.String = codes "STRING"
+token_spelling tokens.True = codes "TRUE"
+token_spelling tokens.Type = codes "TYPE"
+token_spelling tokens.Unspecified = codes "UNSPECIFIED"
+token_spelling tokens.Upon = codes "UPON"
+token_spelling tokens.Version = codes "VERSION"
+token_spelling tokens.Arrow = codes "=>"
+token_spelling tokens.CloseBrace = codes "}"
+token_spelling tokens.CloseBracket = codes "]"
+token_spelling tokens.CloseParenthesis = codes ")"
+token_spelling tokens.Colon = codes ":"
+token_spelling tokens.Comma = codes ","
+token_spelling tokens.Dot = codes "."
+token_spelling tokens.Equal = codes "="
+token_spelling tokens.Minus = codes "-"
+token_spelling tokens.OpenBrace = codes "{"
+token_spelling tokens.OpenBracket = codes "["
+token_spelling tokens.OpenParenthesis = codes "("
+token_spelling tokens.Semicolon = codes ";"
+
+abbrev pub lexeme_spelling : LexemeModel → List ℕ
+lexeme_spelling (LexemeModel.plain token) = token_spelling token
+lexeme_spelling (LexemeModel.name word) = word
+lexeme_spelling (LexemeModel.quoted string) = 34 ∷ (string ++ 34 ∷ [])
+
+-- a token that is its own lexeme, with a number of 32 bits
+abbrev pub IsPlain : Token → Type 0
+IsPlain (tokens.Name n) = ⊥
+IsPlain (tokens.Number n) = n < 4294967296
+IsPlain (tokens.Quoted n) = ⊥
+IsPlain _ = Unit {0}
+
+-- a letter, and then letters and digits; no keyword; not too long
+abbrev pub IsWord : List ℕ → Type 0
+IsWord [] = ⊥
+IsWord (b ∷ bytes) =
+    (is_letter b ≡ true) × (list_all is_name_byte (b ∷ bytes) ≡ true) × (keyword_of (b ∷ bytes) ≡ None) × (length (b ∷ bytes) ≤ most_name)
+
+abbrev pub IsLexeme : LexemeModel → Type 0
+IsLexeme (LexemeModel.plain token) = IsPlain token
+IsLexeme (LexemeModel.name word) = IsWord word
+IsLexeme (LexemeModel.quoted string) = list_all is_no_quote string ≡ true
+
+-- lexemes with a blank behind each
+abbrev pub lexemes_spelling : List LexemeModel → List ℕ
+lexemes_spelling [] = []
+lexemes_spelling (x ∷ xs) = lexeme_spelling x ++ 32 ∷ lexemes_spelling xs
+
+-- what is read of them, behind what was read
+abbrev pub lexing_with : Lexing → List LexemeModel → Lexing
+lexing_with lexing [] = lexing
+lexing_with lexing (x ∷ xs) = lexing_with (with_lexeme x (length (lexemes_spelling (x ∷ xs))) lexing) xs

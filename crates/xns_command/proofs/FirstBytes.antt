@@ -1,0 +1,116 @@
+-- A file by its first bytes, and what stands where nothing more than these was read.
+use Rattle.std.proofs.Common.{◌≡◌, ◌∙◌, ap, sym, refl, arith, ℕ, ◌<◌, Bool, true, false, nat_lt, List, [], ◌∷◌, ◌++◌, length, append-nil, subst, Option, Some, None, Result, Ok, Err, inl}
+use Rattle.std.specs.Prelude.{IfErr, IfSome}
+use Rattle.std.proofs.lemmas.Bool.{le-ltb}
+use Rattle.std.specs.Fmt.{option_append}
+use Rattle.std.specs.Io.KnownBytes.{Appends, Consumes, IsAtEnd}
+use Rattle.xns_lines.specs.Lines.{split_at_newlines}
+use Rattle.xns_lines.specs.declared.fault.RunFault.TheVariants as run
+use Rattle.xns_captures.specs.Captures.{packets_of}
+use Rattle.xns_captures.specs.Parts.{is_capture}
+use Rattle.xns_captures.specs.declared.file_fault.FileFault.{FileFault}
+use Rattle.xns_captures.specs.declared.file_fault.FileFault.TheVariants.{Run}
+use Rattle.xns_command.specs.Commands.{StopsIn}
+use Rattle.xns_command.specs.Files.{FileStopsIn, StopsAs}
+use Rattle.xns_command.specs.declared.mode.Mode.{Mode}
+use Rattle.xns_command.specs.declared.mode.Mode.TheVariants.{Calls, Dump, Sim}
+
+-- whether a file is a capture is told by its first four bytes, or by all where there are fewer
+short_tells : (xs ys : List ℕ) → ys ≡ [] → is_capture (xs ++ ys) ≡ is_capture xs
+short_tells xs ys none = ap is_capture (ap (λ t. xs ++ t) none ∙ append-nil xs)
+
+long_tells : (a b c d : ℕ) (xs ys : List ℕ) → is_capture (a ∷ b ∷ c ∷ d ∷ xs ++ ys) ≡ is_capture (a ∷ b ∷ c ∷ d ∷ xs)
+long_tells a b c d xs ys =
+    let here : nat_lt (length (a ∷ b ∷ c ∷ d ∷ xs)) 4 ≡ false = le-ltb (length (a ∷ b ∷ c ∷ d ∷ xs)) 4 (omega arith) in
+    let more : nat_lt (length (a ∷ b ∷ c ∷ d ∷ xs ++ ys)) 4 ≡ false = le-ltb (length (a ∷ b ∷ c ∷ d ∷ xs ++ ys)) 4 (omega arith) in
+    rw (here, more) refl
+
+pub tells : (xs ys : List ℕ) → (length xs < 4 → ys ≡ []) → is_capture (xs ++ ys) ≡ is_capture xs
+tells [] ys h = short_tells [] ys (h (omega arith))
+tells (a ∷ []) ys h = short_tells (a ∷ []) ys (h (omega arith))
+tells (a ∷ b ∷ []) ys h = short_tells (a ∷ b ∷ []) ys (h (omega arith))
+tells (a ∷ b ∷ c ∷ []) ys h = short_tells (a ∷ b ∷ c ∷ []) ys (h (omega arith))
+tells (a ∷ b ∷ c ∷ d ∷ xs) ys h = long_tells a b c d xs ys
+
+-- the first bytes and the rest are the file
+pub whole_file : (old new whole : Option (List ℕ)) (first : List ℕ) (b : Bool) → whole ≡ option_append (Some first) new → Consumes old new first → (length first < 4 → IsAtEnd new) → b ≡ is_capture first
+    → IfSome old (λ file. (whole ≡ Some file) × (is_capture file ≡ b))
+whole_file None new whole first b e c end is = tt
+whole_file (Some xs) None whole first b e c end is = absurd c
+whole_file (Some xs) (Some ys) whole first b e c end is = (e ∙ ap Some (sym c), ap is_capture c ∙ tells first ys end ∙ sym is)
+
+of_file : (mode : Mode) (b : Bool) (old whole left before after : Option (List ℕ)) (fault : FileFault) → IfSome old (λ file. (whole ≡ Some file) × (is_capture file ≡ b))
+    → IfSome whole (λ file. StopsAs b mode file left before after fault) → IfSome old (λ file. FileStopsIn mode file before after fault)
+of_file mode b None whole left before after fault same stops = tt
+of_file mode b (Some file) whole left before after fault same stops = (
+  left,
+  subst (λ capture. StopsAs capture mode file left before after fault) (sym same.1)
+      (subst (λ o. IfSome o (λ xs. StopsAs b mode xs left before after fault)) same.0 stops),
+)
+
+-- where the whole stops, the file does
+pub stops_in_file : (mode : Mode) (b : Bool) (old whole left before after : Option (List ℕ)) (r : Result Bool FileFault) → IfSome old (λ file. (whole ≡ Some file) × (is_capture file ≡ b))
+    → IfErr r (λ fault. IfSome whole (λ file. StopsAs b mode file left before after fault)) → IfErr r (λ fault. IfSome old (λ file. FileStopsIn mode file before after fault))
+stops_in_file mode b old whole left before after (Ok refused) same stops = tt
+stops_in_file mode b old whole left before after (Err fault) same stops = of_file mode b old whole left before after fault same stops
+
+-- ---- where no more can be read
+
+nothing_more : (held : Option (List ℕ)) → Appends held held []
+nothing_more None = tt
+nothing_more (Some bytes) = sym (append-nil bytes)
+
+lines_at_first : (mode : Mode) (file : List ℕ) (held : Option (List ℕ)) → StopsIn mode file (Some file) held held run.Read
+unfolding split_at_newlines
+lines_at_first Dump file held = record {
+  read = [];
+  consumed = refl;
+  front = ([], nothing_more held, ([], refl));
+  stops = record {
+    good = [];
+    next = [];
+    part = 0;
+    lines = refl;
+    within = record { short = refl; few = omega arith };
+    shown = refl;
+    few = omega arith;
+    place = inl refl;
+    is_left = nothing_more held;
+  };
+}
+lines_at_first Calls file held = record {
+  read = [];
+  consumed = refl;
+  front = ([], nothing_more held, ([], refl));
+  stops = record {
+    good = [];
+    next = [];
+    part = 0;
+    lines = refl;
+    within = record { short = refl; few = omega arith };
+    shown = refl;
+    few = omega arith;
+    place = inl refl;
+    is_left = nothing_more held;
+  };
+}
+lines_at_first Sim file held = record {
+  read = [];
+  consumed = refl;
+  good = [];
+  next = [];
+  lines = refl;
+  within = record { short = refl; few = omega arith };
+  shown = refl;
+  written = refl;
+}
+
+pub at_first : (b : Bool) (mode : Mode) (file : List ℕ) (held : Option (List ℕ)) → StopsAs b mode file (Some file) held held (Run run.Read)
+at_first true Dump file held = ([], 0, record { rest = packets_of file; joined = refl; few = omega arith; place = inl refl }, nothing_more held)
+at_first true Calls file held = ([], 0, record { rest = packets_of file; joined = refl; few = omega arith; place = inl refl }, nothing_more held)
+at_first true Sim file held = lines_at_first Sim file held
+at_first false mode file held = lines_at_first mode file held
+
+pub stops_at_first : (mode : Mode) (old held : Option (List ℕ)) → IfSome old (λ file. FileStopsIn mode file held held (Run run.Read))
+stops_at_first mode None held = tt
+stops_at_first mode (Some file) held = (Some file, at_first (is_capture file) mode file held)

@@ -1,0 +1,115 @@
+#!/bin/sh
+# Compares what the program prints of random captures with a second account of what they hold, as tests/files.py says, and tries what it
+# says of files: it builds the program first. Its last line is 'N passed, M failed', and it ends with 1 where one failed.
+set -u
+cd "$(dirname "$0")/.."
+. tests/lib.sh
+build_program xns -- sim
+
+# The program on the words, with $work/in as standard input.
+run() {
+    "$program" "$@" < "$work/in" > "$work/out" 2> "$work/err"
+    ended=$?
+}
+
+# The last run ended with the status, said the line (empty: nothing), and wrote the file (-: any).
+ends() {
+    if [ -n "$3" ]; then printf '%s\n' "$3"; fi > "$work/said"
+    if [ "$ended" -eq "$2" ] && cmp -s "$work/said" "$work/err" && { [ "$4" = - ] || cmp -s "$4" "$work/out"; }; then
+        pass
+    else
+        fail "$1: status $ended and not $2, standard error:"
+    fi
+}
+
+# ---- files of lines
+
+example=examples/six-calls.hex
+: > "$work/in"
+"$program" calls < $example > "$work/text"
+run calls $example
+ends 'a file of lines' 0 '' "$work/text"
+cat $example > "$work/in"
+run calls -
+ends 'lines of standard input by its name' 0 '' "$work/text"
+: > "$work/in"
+run sim crates/xns/stdin
+ends 'a file of a script' 0 '' crates/xns/stdout
+
+# ---- faults of files
+
+run dump "$work/none"
+ends 'no such file' 3 "xns: $work/none: No such file or directory (os error 2)" /dev/null
+run calls "$work"
+ends 'a folder' 3 "xns: $work: Is a directory (os error 21)" /dev/null
+{ head -n 16 $example && printf '%04097d\n' 0; } > "$work/long.hex"
+run calls "$work/long.hex"
+ends 'a line that is too long' 3 "xns: $work/long.hex: line 17 is longer than 4,096 bytes" -
+head -c 65537 /dev/zero | tr '\0' '\n' > "$work/many.hex"
+run dump "$work/many.hex"
+ends 'too many lines' 3 "xns: $work/many.hex: too many lines" -
+"$program" dump "$work/many.hex" 2> "$work/err" | head -n 1 > "$work/out"
+: > "$work/nothing"
+if cmp -s "$work/err" "$work/nothing"; then pass; else fail 'a pipe that is closed'; fi
+"$program" dump $example > /dev/full 2> "$work/err"
+ended=$?
+ends 'a full device' 3 "xns: $example: write fault" -
+run --version
+echo "xns $(cat VERSION)" > "$work/text"
+ends 'the version' 0 '' "$work/text"
+
+# ---- captures
+
+# A pcapng file of the packets of the example, each in a frame of Ethernet, and a frame of another type in front.
+python3 - $example "$work/x.pcapng" << 'END'
+import struct
+import sys
+
+def block(kind, body):
+    body += bytes(-len(body) % 4)
+    return struct.pack("<II", kind, 12 + len(body)) + body + struct.pack("<I", 12 + len(body))
+
+with open(sys.argv[1], encoding="ascii") as lines, open(sys.argv[2], "wb") as file:
+    file.write(block(0x0A0D0D0A, struct.pack("<IHHq", 0x1A2B3C4D, 1, 0, -1)) + block(1, struct.pack("<HHI", 1, 0, 0)))
+    frames = [bytes(12) + b"\x08\x00"] + [bytes(12) + b"\x06\x00" + bytes.fromhex(line) for line in lines]
+    for frame in frames:
+        file.write(block(6, struct.pack("<IIIII", 0, 0, 0, len(frame), len(frame)) + frame))
+END
+"$program" calls $example | awk '{$1=$1+1} $5=="of"&&$6!="-"{$6=$6+1} 1' > "$work/text"
+run calls "$work/x.pcapng"
+ends 'the calls of a capture' 0 '' "$work/text"
+head -c -1 "$work/x.pcapng" > "$work/cut.pcapng"
+run dump "$work/cut.pcapng"
+ends 'a capture that is cut' 3 "xns: $work/cut.pcapng: the capture is cut" -
+
+# Each growth is refused in turn: the whole text, or a front of it and 3.
+if has gcc; then
+    build_refusing
+    growth=1
+    while [ $growth -le 1000 ]; do
+        refuse_growth $growth "$program" calls "$work/x.pcapng" < /dev/null
+        [ -e "$work/refused" ] || break
+        head -c "$(wc -c < "$work/out")" "$work/text" > "$work/front"
+        if [ "$ended" -eq 0 ]; then
+            ends "growth $growth refused, and done without" 0 '' "$work/text"
+        elif [ "$(cat "$work/err")" = 'xns: no memory' ]; then
+            ends "growth $growth refused before the file is opened" 3 'xns: no memory' /dev/null
+        else
+            ends "growth $growth refused" 3 "xns: $work/x.pcapng: no memory" "$work/front"
+        fi
+        growth=$((growth + 1))
+    done
+    echo "$((growth - 1)) growths were refused"
+    ends 'a run that is refused nothing' 0 '' "$work/text"
+else
+    left_out gcc 'each growth refused in turn'
+fi
+
+for seed in 1 2; do
+    python3 tests/files.py "$program" $seed 150 > "$work/compared"
+    grep -v ' passed, ' "$work/compared"
+    passed=$((passed + $(sed -n 's/ passed, .*//p' "$work/compared")))
+    failed=$((failed + $(sed -n 's/.* passed, \(.*\) failed/\1/p' "$work/compared")))
+done
+
+finish
