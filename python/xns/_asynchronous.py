@@ -7,7 +7,7 @@ from typing import Any, Awaitable, Callable, Iterable, Optional, Union
 from ._client import Conversation, until_of
 from ._errors import SilentError
 from ._library import unsigned, words_of
-from ._links import Carrier, not_blocking
+from ._links import Carrier, checked, not_blocking
 from ._objects import Host
 from ._serving import CLOSING, UNSPECIFIED, Programs, failed, give, guarded
 from ._station import Other, Station, file_of, milliseconds
@@ -70,7 +70,7 @@ class AsyncClient:
     ) -> None:
         """As of `Client`. Nothing is done before the `async with`."""
         until_of(timeout)
-        self._carrier, self._place, self._own, self._peer, self._timeout, self._settings = carrier, place, own, peer, timeout, settings
+        self._carrier, self._place, self._own, self._peer, self._timeout, self._settings = checked(carrier), place, own, peer, timeout, settings
         self._events: "asyncio.Queue[Event]"
         self._calls: asyncio.Lock
 
@@ -158,7 +158,7 @@ async def serve_async(
     """Serves clients in a loop of asyncio, as `serve` does. `answer` may be a coroutine function: while it waits, other calls are carried out. It ends once the
     event is set, or its task is cancelled, and closes the connections."""
     tasks, stopped = set(), asyncio.Event() if stop is None else stop
-    with Host(own, **settings) as host, not_blocking(carrier):
+    with Host(own, **settings) as host, not_blocking(checked(carrier)):
         host.serve(own.socket, list(programs))
         station, gone = Station(carrier, host, guarded(other)), asyncio.Event()
         there, closed = None, set()  # the connections that are to be closed, and those that are

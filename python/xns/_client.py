@@ -4,7 +4,7 @@ from typing import Any, Iterable, Iterator, Optional
 
 from ._errors import BY_RESULT, TEXTS, BusyError, ClosedError, ClosingError, NoConnectionError, NotServedError, SilentError
 from ._library import unsigned, words_of
-from ._links import Carrier, not_blocking
+from ._links import Carrier, checked, not_blocking
 from ._objects import Host
 from ._station import Station, milliseconds
 from ._told import Address, Answer, Closed, Event, Why
@@ -14,12 +14,12 @@ class TooLate(Exception):
     """The time that was given is over."""
 
 
-def until_of(seconds: Optional[float]) -> Optional[int]:
+def until_of(seconds: Optional[float], name: str = "timeout") -> Optional[int]:
     """The time so many seconds from now. None: it never comes."""
     if seconds is None:
         return None
     if isinstance(seconds, bool) or not isinstance(seconds, (int, float)):
-        raise TypeError(f"timeout is no number of seconds: it is of type {type(seconds).__name__}")
+        raise TypeError(f"{name} is no number of seconds: it is of type {type(seconds).__name__}")
     return milliseconds() + round(1000 * seconds)
 
 
@@ -127,10 +127,10 @@ class Client:
         there. `reopens`: a call opens a new connection first where the old one is closed, or so many seconds have passed since the last call or `wait`;
         None is never. No call is made twice."""
         until_of(timeout)
-        until_of(reopens)
+        until_of(reopens, "reopens")
         self._timeout, self._reopens = timeout, reopens
         self._host = Host(own, **settings)
-        self._station = Station(carrier, self._host)
+        self._station = Station(checked(carrier), self._host)
         self._conversation = Conversation(self._station, place, own, peer)
         with not_blocking(carrier):
             self._station.send()
@@ -160,7 +160,7 @@ class Client:
 
     def wait(self, seconds: float) -> None:
         """Says for so many seconds that it is there, where the server asks: a client that waits so is not given up."""
-        until = until_of(seconds)
+        until = until_of(seconds, "seconds")
         with not_blocking(self._station.carrier):
             while milliseconds() < until:
                 self._conversation.fetch()

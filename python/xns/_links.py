@@ -4,7 +4,7 @@ import secrets
 import select
 import socket
 import time
-from typing import Any, Iterator, Optional, Protocol, Tuple
+from typing import Any, Iterator, Optional, Protocol, Tuple, runtime_checkable
 
 FRAME_TYPE = 0x0600  # the type of an Ethernet frame that has an internet packet in it
 BROADCAST = b"\xff" * 6  # the host that is all hosts, and the station that is all stations
@@ -14,6 +14,7 @@ _TO_OTHERS, _SENT = 3, 4  # kinds of frames, as the kernel tells them
 _LENGTH = 2  # bytes of length before each frame in a hub's stream
 
 
+@runtime_checkable
 class Carrier(Protocol):
     """What `serve` and `Client` want of what carries their packets. A `socket.socket` for datagrams is one; another is a class with these four methods.
 
@@ -30,6 +31,13 @@ class Carrier(Protocol):
 
     def sendto(self, packet: bytes, place: Any) -> Any:
         """Sends a packet to a place. An `OSError` is as a packet that is lost."""
+
+
+def checked(carrier: Carrier) -> Carrier:
+    """The carrier, which has the four methods."""
+    if not isinstance(carrier, Carrier):
+        raise TypeError(f"carrier lacks a method of xns.Carrier: it is of type {type(carrier).__name__}")
+    return carrier
 
 
 @contextlib.contextmanager

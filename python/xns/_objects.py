@@ -127,7 +127,8 @@ class Endpoint(_Object):
         return self._call("is_ours", given, len(given))
 
     def send(self, body: bytes, stream: int = Stream.COURIER, attention: bool = False, last: bool = True) -> None:
-        """Accepts an item, which `flush` and `tick` then send. `TooLongError` over 534 bytes, `AttentionSizeError`, `ExhaustedError`, `FullError`: it is as it was."""
+        """Accepts an item, which `flush` and `tick` then send. `TooLongError` over 534 bytes, `AttentionSizeError`, `ExhaustedError`, `FullError`: the
+        endpoint is as it was."""
         given = octets(body, "body")
         self._done("send", unsigned(stream, 8, "stream"), flag(attention), flag(last), given, len(given))
 

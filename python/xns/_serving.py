@@ -1,13 +1,12 @@
 """A server, by a loop of its own."""
 import contextlib
 import logging
-import os
 import socket
 import threading
 from typing import Any, Callable, Iterable, Optional, Tuple
 
 from ._errors import ArgumentsError, ClosingError, NoCallError, NoConnectionError, XnsError
-from ._links import Carrier, not_blocking
+from ._links import Carrier, checked, not_blocking
 from ._objects import Host
 from ._station import Other, Station, milliseconds
 from ._told import Address, Call, Closed, Reject, Reply, rejects
@@ -59,9 +58,11 @@ class Server:
     """Serves clients by a host with these settings: `run` does, until `stop` is called. See `serve`."""
 
     def __init__(self, carrier: Carrier, own: Address, programs: Programs, answer: Service, other: Other = None, **settings: Optional[int]) -> None:
-        if not callable(answer):
-            raise TypeError("answer is no function")
-        self._carrier, self._own, self._programs, self._service, self._other, self._settings = carrier, own, list(programs), answer, other, settings
+        for name, function in (("answer", answer), ("other", other)):
+            if not callable(function) and (name, function) != ("other", None):
+                raise TypeError(f"{name} is no function: it is of type {type(function).__name__}")
+        self._carrier, self._own, self._programs, self._settings = checked(carrier), own, list(programs), settings
+        self._service, self._other = answer, other
         self._is_stopped, self._gone = False, set()
         self._bell, self._ringer = socket.socketpair()  # wakes what waits
         for one in (self._bell, self._ringer):
@@ -77,6 +78,8 @@ class Server:
         """Serves until `stop` is called, or the event is set, or an exception ends it that is no `Exception`, as KeyboardInterrupt. Then the connections
         are closed, for which their peers have two seconds. Runs once."""
         try:
+            if stop is not None and not hasattr(stop, "is_set"):
+                raise TypeError(f"stop is no event: it is of type {type(stop).__name__}")
             with Host(self._own, **self._settings) as host, not_blocking(self._carrier):
                 host.serve(self._own.socket, self._programs)
                 station = Station(self._carrier, host, guarded(self._other))

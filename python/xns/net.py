@@ -23,6 +23,9 @@ ECHO, COURIER = 2, 5  # sockets
 DONE, FAILED, WRONG_WORDS, NOT_RETURNED, INTERRUPTED = 0, 1, 2, 3, 130  # statuses
 
 _ADDRESS = "HOST, NETWORK.HOST or NETWORK.HOST.SOCKET, in hex as `xns calls` prints them; a host may have colons, and `all` is each host"
+_SERVICE = """what answers calls: a function of a `xns.Call` that gives a reply, or a class of such objects; without it a tally: program 7, version 1,
+procedure 1 adds a cardinal, procedure 2 returns its words"""
+_PROGRAM = "a program that is served, with its versions; else those that the service has as `programs`, else each"
 _END = """statuses: 0 done; 1 the network or the other side failed; 2 wrong words; 3 a call was aborted or rejected; 130 Ctrl-C ended a call"""
 
 
@@ -127,10 +130,8 @@ def _parser() -> argparse.ArgumentParser:
     call.add_argument("words", metavar="WORD", nargs="*", type=_word, help="the arguments, each word four digits of hex")
     call.add_argument("--timeout", type=_seconds, default=10.0, help="seconds for the answer (10)")
     serve = commands.add_parser("serve", help="serve calls until Ctrl-C or SIGTERM ends it", epilog=_END)
-    serve.add_argument("service", metavar="MODULE:NAME", nargs="?", help="what answers calls: a function of a `xns.Call` that gives a reply, or a class of such "
-                       "objects; without it a tally: program 7, version 1, procedure 1 adds a cardinal, procedure 2 returns its words")
-    serve.add_argument("--program", metavar="N:LOW-HIGH", type=_program, action="append", help="a program that is served, with its versions; else those that "
-                       "the service has as `programs`, else each")
+    serve.add_argument("service", metavar="MODULE:NAME", nargs="?", help=_SERVICE)
+    serve.add_argument("--program", metavar="N:LOW-HIGH", type=_program, action="append", help=_PROGRAM)
     serve.add_argument("--socket", metavar="N", type=_whole(1, 65535), default=COURIER, help="the socket (5)")
     for one in (ping, call, serve):
         _with_network(one)

@@ -1,16 +1,11 @@
 """What users expect of `Client`, `Server`, carriers and those of asyncio, over UDP and hubs on this machine, in one process."""
 import asyncio
-import collections
 import contextlib
-import os
 import pathlib
-import pydoc
 import re
 import select
 import signal
 import socket
-import subprocess
-import sys
 import threading
 import time
 import unittest
@@ -62,27 +57,6 @@ class Counting:
         if self.is_down:
             raise OSError(100, "the network is down")
         self._udp.sendto(packet, place)
-
-
-class Memory:
-    """A carrier without a file, whose packets are lists."""
-
-    def __init__(self):
-        self.comes, self.goes = collections.deque(), []
-
-    def fileno(self):
-        return -1
-
-    def setblocking(self, flag):
-        pass
-
-    def recvfrom(self, size):
-        if not self.comes:
-            raise BlockingIOError
-        return self.comes.popleft()
-
-    def sendto(self, packet, place):
-        self.goes.append((packet, place))
 
 
 class OverUdp(unittest.TestCase):
@@ -339,83 +313,6 @@ class HubTest(unittest.TestCase):
             with contextlib.suppress(BlockingIOError):
                 came.append(link.recvfrom(2048))
         self.assertEqual(came, [(mine[14:], SERVER.host)])
-
-
-class PlacesTest(unittest.TestCase):
-    def test_the_place_of_a_connection_is_kept_and_others_go(self):
-        carrier, own = Memory(), CLIENT
-        with xns.Host(own) as host:
-            station = xns._station.Station(carrier, host)
-            station._places.MOST = station._places._most = 200
-            station.connect("far", own, SERVER)
-            for number in range(5000):
-                source = xns.Address(1, number.to_bytes(6, "big"), 2000)
-                carrier.comes.append((xns.echo_request(source, own._replace(socket=2), b"Hi"), f"place {number}"))
-                station.take_in()
-                station.send()
-            self.assertEqual(len([place for _, place in carrier.goes if place.startswith("place")]), 5000)
-            self.assertEqual(carrier.goes[-1][1], "place 4999")
-            self.assertLess(len(station._places._places), 300)
-            station.now += 60_000
-            station.send()
-            self.assertEqual(carrier.goes[-1][1], "far")  # the opening once more
-
-
-class TypesTest(unittest.TestCase):
-    def test_names_of_arguments(self):
-        host = xns.Host(CLIENT)
-        for name, call in (
-            ("number", lambda: host.peer("1")),
-            ("now", lambda: host.close(1.5, 1)),
-            ("packet", lambda: host.receive(0, 0, "text")),
-            ("own", lambda: xns.Host("here")),
-            ("the host of own", lambda: xns.Host(xns.Address(1, "text", 5))),
-            ("the network of peer", lambda: host.connect(0, 0, 5, SERVER._replace(network=None))),
-            ("programs", lambda: host.serve(5, [7])),
-            ("low", lambda: host.serve(5, [(7, "1", 1)])),
-            ("idle", lambda: xns.Host(CLIENT, idle="never")),
-            ("waits", lambda: xns.Host(CLIENT, waits=1)),
-            ("reply", lambda: host.answer(0, 0, None)),
-            ("words", lambda: host.call(0, 0, 7, 1, 1, b"12")),
-            ("words", lambda: host.call(0, 0, 7, 1, 1, bytearray(2))),
-            ("words", lambda: host.call(0, 0, 7, 1, 1, "12")),
-            ("words", lambda: host.call(0, 0, 7, 1, 1, ["1"])),
-            ("words", lambda: host.call(0, 0, 7, 1, 1, 5)),
-            ("words", lambda: xns.Reader(b"12")),
-            ("value", lambda: xns.Writer().cardinal("5")),
-            ("text", lambda: xns.Writer().text("Hello")),
-            ("data", lambda: xns.decode("text")),
-            ("answer", lambda: xns.Server(None, CLIENT, [], "answer")),
-        ):
-            with self.subTest(name), self.assertRaisesRegex(TypeError, name):
-                call()
-        with self.assertRaisesRegex(ValueError, "procedure"):
-            host.call(0, 0, 7, 1, 65536)
-        self.assertEqual(xns.Writer().text(bytearray(b"Hi")).words, [2, 0x4869])
-
-    def test_errors(self):
-        for name in xns.__all__:
-            one = getattr(xns, name)
-            if isinstance(one, type) and issubclass(one, Exception):
-                self.assertTrue(name.endswith("Error") and issubclass(one, xns.XnsError), name)
-                self.assertEqual(one.__module__, "xns")
-        self.assertTrue(issubclass(xns.NotServedError, ConnectionRefusedError) and issubclass(xns.ClosedError, ConnectionResetError))
-        self.assertTrue(issubclass(xns.TruncatedError, xns.ArgumentsError) and issubclass(xns.NoCallError, LookupError))
-
-    def test_help(self):
-        told = pydoc.plain(pydoc.render_doc(xns))
-        self.assertLess(told.index("xns.serve("), told.index("CLASSES"))
-        self.assertLess(told.index("xns.Client("), told.index("CLASSES"))
-        self.assertNotIn("_Raw", told)
-        self.assertEqual(xns.__all__[:2], ["serve", "Client"])
-
-    def test_a_library_that_is_missing_or_another(self):
-        for library, wanted in (("/nowhere/libxns.so", "XNS_LIBRARY names it"), ("libc.so.6", "another version")):
-            words = [sys.executable, "-c", "import xns"]
-            ended = subprocess.run(words, env={**os.environ, "XNS_LIBRARY": library}, stderr=subprocess.PIPE, text=True)
-            self.assertEqual(ended.returncode, 1)
-            self.assertIn("LibraryError", ended.stderr.splitlines()[-1])
-            self.assertIn(wanted, ended.stderr.splitlines()[-1])
 
 
 if __name__ == "__main__":

@@ -1,12 +1,9 @@
 """The command `xns-net` over UDP, as a process: what it prints, its statuses, and how it ends. Ethernet is tried by tests/network.sh, hubs by test_tally.py."""
-import os
 import pathlib
 import re
 import signal
 import subprocess
-import sys
 import tempfile
-import time
 import unittest
 
 import xns
@@ -30,13 +27,17 @@ def run(*words, **more):
     return ended.returncode, ended.stdout, ended.stderr
 
 
+def started(*words, **more):
+    return subprocess.Popen([*NET, *words], stdout=subprocess.PIPE, stderr=subprocess.PIPE, text=True, **more)
+
+
 class Serving:
     """`xns-net serve` at a free port."""
 
     def __init__(self, *words, **more):
         with bound() as free:
             self.port = str(free.getsockname()[1])
-        self.process = subprocess.Popen([*NET, "serve", *words, "--udp", self.port], stdout=subprocess.PIPE, stderr=subprocess.PIPE, text=True, **more)
+        self.process = started("serve", *words, "--udp", self.port, **more)
 
     def __enter__(self):
         self.said = self.process.stdout.readline()
@@ -90,7 +91,7 @@ class NetTest(unittest.TestCase):
             replies = "".join(rf"100 bytes from {place}: seq={k} time={times} ms\n" for k in (1, 2, 3))
             end = rf"--- {place}\n3 sent, 3 answered, 0% lost\ntime min/mean/max = {times}/{times}/{times} ms\n"
             self.assertRegex(out, rf"\A{re.escape(f'ping {place}: 100 bytes')}\n{replies}{end}\Z")
-            pinging = subprocess.Popen([*NET, "ping", SERVER, "--udp", serving.port, "--interval", "0.1"], stdout=subprocess.PIPE, stderr=subprocess.PIPE, text=True)
+            pinging = started("ping", SERVER, "--udp", serving.port, "--interval", "0.1")
             for _ in range(4):
                 pinging.stdout.readline()
             pinging.send_signal(signal.SIGINT)
@@ -114,7 +115,7 @@ class NetTest(unittest.TestCase):
                             client.call(7, 1, 1, [1])
                 self.assertEqual((serving.status, serving.told), (0, ("", "")))
         with bound() as nobody:
-            calling = subprocess.Popen([*NET, "call", SERVER, "7", "1", "1", "--udp", str(nobody.getsockname()[1])], stdout=subprocess.PIPE, stderr=subprocess.PIPE, text=True)
+            calling = started("call", SERVER, "7", "1", "1", "--udp", str(nobody.getsockname()[1]))
             nobody.recv(2048)
             calling.send_signal(signal.SIGINT)
             self.assertEqual((calling.communicate(timeout=30), calling.returncode), (("", ""), 130))
@@ -124,7 +125,8 @@ class NetTest(unittest.TestCase):
     def test_words(self):
         for words in ((), ("pong",), ("ping",), ("ping", SERVER), ("ping", SERVER, "--udp", "0"), ("ping", SERVER, "--udp", "1", "-i", "lo"),
                       ("ping", "12", "--udp", "9"), ("ping", SERVER, "--udp", "9", "-s", "11"), ("ping", SERVER, "--udp", "9", "-s", "545"),
-                      ("call", SERVER, "7", "1", "--udp", "9"), ("call", SERVER, "7", "1", "1", "5", "--udp", "9"), ("call", SERVER, "-1", "1", "1", "--udp", "9"),
+                      ("call", SERVER, "7", "1", "--udp", "9"), ("call", SERVER, "7", "1", "1", "5", "--udp", "9"),
+                      ("call", SERVER, "-1", "1", "1", "--udp", "9"),
                       ("call", SERVER, "7", "65536", "1", "--udp", "9"), ("call", f"{SERVER}.5", "7", "1", "1", "--udp", "9"), ("watch",)):
             status, out, err = run(*words)
             self.assertEqual((status, out), (2, ""), words)
@@ -139,8 +141,8 @@ class NetTest(unittest.TestCase):
 
     def test_addresses(self):
         host = bytes.fromhex(SERVER)
-        for text, wanted in ((SERVER, (3, host, 2)), ("00:00:AA:00:01:02", (3, host, 2)), (f"1.{SERVER}", (1, host, 2)), (f"ffffffff.{SERVER}.fFfF", (2**32 - 1, host, 65535)),
-                             ("all", (3, b"\xff" * 6, 2)), ("0.all.5", (0, b"\xff" * 6, 5))):
+        for text, wanted in ((SERVER, (3, host, 2)), ("00:00:AA:00:01:02", (3, host, 2)), (f"1.{SERVER}", (1, host, 2)),
+                             (f"ffffffff.{SERVER}.fFfF", (2**32 - 1, host, 65535)), ("all", (3, b"\xff" * 6, 2)), ("0.all.5", (0, b"\xff" * 6, 5))):
             self.assertEqual(read_address(text, 3, 2), xns.Address(*wanted))
         for text in ("", ".", "1", "1.2", f"{SERVER}.5", f"1.{SERVER}.", f"1.{SERVER}.10000", f"100000000.{SERVER}", f"1.{SERVER}.5.6", "0000aa00010g"):
             with self.assertRaises(ValueError):

@@ -201,6 +201,16 @@ class TallyTest(unittest.TestCase):
                 self.assertEqual(client.item(), xns.Item(bytes.fromhex("00020001000000aa")))
                 self.assertEqual(client.item(), xns.Item(b"", xns.Stream.END_REPLY))
 
+    @unittest.skipUnless(C and os.path.exists(f"{FOLDER}/ping"), "no programs of C")
+    def test_echo_of_c(self):
+        for server, _ in BOTH:
+            with Serving(server) as serving:
+                serving.client(BOTH[0][1], [1]).communicate(timeout=60)  # it is there
+                ended = subprocess.run([f"{FOLDER}/ping", str(serving.place[1]), "3", "544"], stdout=subprocess.PIPE, text=True, timeout=60)
+                lines = ended.stdout.splitlines()
+                self.assertEqual((ended.returncode, len(lines), lines[-1]), (0, 4, "3 sent, 3 came"))
+                self.assertTrue(all(line.startswith("544 bytes from 0000aa000102 in ") for line in lines[:3]))
+
     @unittest.skipUnless(C and shutil.which("valgrind"), "no programs of C, or no valgrind")
     def test_valgrind(self):
         with Serving([*VALGRIND, *C[0]]) as serving:

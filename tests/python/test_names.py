@@ -1,0 +1,120 @@
+"""What the module refuses, how its errors and its help are named, and which places of packets it knows."""
+import collections
+import os
+import pydoc
+import subprocess
+import sys
+import unittest
+
+import xns
+
+SERVER, CLIENT = xns.Address(1, bytes.fromhex("0000aa000102"), 5), xns.Address(1, bytes.fromhex("0000aa000304"), 1024)
+
+
+class Memory:
+    """A carrier without a file, whose packets are lists."""
+
+    def __init__(self):
+        self.comes, self.goes = collections.deque(), []
+
+    def fileno(self):
+        return -1
+
+    def setblocking(self, flag):
+        pass
+
+    def recvfrom(self, size):
+        if not self.comes:
+            raise BlockingIOError
+        return self.comes.popleft()
+
+    def sendto(self, packet, place):
+        self.goes.append((packet, place))
+
+
+class PlacesTest(unittest.TestCase):
+    def test_the_place_of_a_connection_is_kept_and_others_go(self):
+        carrier, own = Memory(), CLIENT
+        with xns.Host(own) as host:
+            station = xns._station.Station(carrier, host)
+            station._places.MOST = station._places._most = 200
+            station.connect("far", own, SERVER)
+            for number in range(5000):
+                source = xns.Address(1, number.to_bytes(6, "big"), 2000)
+                carrier.comes.append((xns.echo_request(source, own._replace(socket=2), b"Hi"), f"place {number}"))
+                station.take_in()
+                station.send()
+            self.assertEqual(len([place for _, place in carrier.goes if place.startswith("place")]), 5000)
+            self.assertEqual(carrier.goes[-1][1], "place 4999")
+            self.assertLess(len(station._places._places), 300)
+            station.now += 60_000
+            station.send()
+            self.assertEqual(carrier.goes[-1][1], "far")  # the opening once more
+
+
+class TypesTest(unittest.TestCase):
+    def test_names_of_arguments(self):
+        host = xns.Host(CLIENT)
+        for name, call in (
+            ("number", lambda: host.peer("1")),
+            ("now", lambda: host.close(1.5, 1)),
+            ("packet", lambda: host.receive(0, 0, "text")),
+            ("own", lambda: xns.Host("here")),
+            ("the host of own", lambda: xns.Host(xns.Address(1, "text", 5))),
+            ("the network of peer", lambda: host.connect(0, 0, 5, SERVER._replace(network=None))),
+            ("programs", lambda: host.serve(5, [7])),
+            ("low", lambda: host.serve(5, [(7, "1", 1)])),
+            ("idle", lambda: xns.Host(CLIENT, idle="never")),
+            ("waits", lambda: xns.Host(CLIENT, waits=1)),
+            ("reply", lambda: host.answer(0, 0, None)),
+            ("words", lambda: host.call(0, 0, 7, 1, 1, b"12")),
+            ("words", lambda: host.call(0, 0, 7, 1, 1, bytearray(2))),
+            ("words", lambda: host.call(0, 0, 7, 1, 1, "12")),
+            ("words", lambda: host.call(0, 0, 7, 1, 1, ["1"])),
+            ("words", lambda: host.call(0, 0, 7, 1, 1, 5)),
+            ("words", lambda: xns.Reader(b"12")),
+            ("value", lambda: xns.Writer().cardinal("5")),
+            ("text", lambda: xns.Writer().text("Hello")),
+            ("data", lambda: xns.decode("text")),
+            ("answer", lambda: xns.Server(Memory(), CLIENT, [], "answer")),
+            ("other", lambda: xns.serve(Memory(), CLIENT, [], print, "other")),
+            ("stop", lambda: xns.serve(Memory(), CLIENT, [], print, stop=True)),
+            ("carrier", lambda: xns.serve(None, CLIENT, [], print)),
+            ("carrier", lambda: xns.Client(5, None, CLIENT, SERVER)),
+            ("timeout", lambda: xns.Client(Memory(), None, CLIENT, SERVER, timeout="5")),
+            ("reopens", lambda: xns.Client(Memory(), None, CLIENT, SERVER, reopens="5")),
+            ("interface", lambda: xns.ethernet(0)),
+        ):
+            with self.subTest(name), self.assertRaisesRegex(TypeError, name):
+                call()
+        with self.assertRaisesRegex(ValueError, "procedure"):
+            host.call(0, 0, 7, 1, 65536)
+        self.assertEqual(xns.Writer().text(bytearray(b"Hi")).words, [2, 0x4869])
+
+    def test_errors(self):
+        for name in xns.__all__:
+            one = getattr(xns, name)
+            if isinstance(one, type) and issubclass(one, Exception):
+                self.assertTrue(name.endswith("Error") and issubclass(one, xns.XnsError), name)
+                self.assertEqual(one.__module__, "xns")
+        self.assertTrue(issubclass(xns.NotServedError, ConnectionRefusedError) and issubclass(xns.ClosedError, ConnectionResetError))
+        self.assertTrue(issubclass(xns.TruncatedError, xns.ArgumentsError) and issubclass(xns.NoCallError, LookupError))
+
+    def test_help(self):
+        told = pydoc.plain(pydoc.render_doc(xns))
+        self.assertLess(told.index("xns.serve("), told.index("CLASSES"))
+        self.assertLess(told.index("xns.Client("), told.index("CLASSES"))
+        self.assertNotIn("_Raw", told)
+        self.assertEqual(xns.__all__[:2], ["serve", "Client"])
+
+    def test_a_library_that_is_missing_or_another(self):
+        for library, wanted in (("/nowhere/libxns.so", "XNS_LIBRARY names it"), ("libc.so.6", "another version")):
+            words = [sys.executable, "-c", "import xns"]
+            ended = subprocess.run(words, env={**os.environ, "XNS_LIBRARY": library}, stderr=subprocess.PIPE, text=True)
+            self.assertEqual(ended.returncode, 1)
+            self.assertIn("LibraryError", ended.stderr.splitlines()[-1])
+            self.assertIn(wanted, ended.stderr.splitlines()[-1])
+
+
+if __name__ == "__main__":
+    unittest.main()
