@@ -6,10 +6,6 @@ set -u
 cd "$(dirname "$0")/.."
 . tests/lib.sh
 count=${1:-60}
-if [ ! -d crates/test_programs ]; then
-    left_out 'the program test_programs' 'every case'
-    finish
-fi
 build_program test_programs
 PYTHONDONTWRITEBYTECODE=1
 export PYTHONDONTWRITEBYTECODE
