@@ -69,11 +69,11 @@ set_same (y ∷ bag) (suc k) x e = ap (λ (l : Sent). sender_and_bytes y ∷ l) 
 
 -- ---- what is true at every moment
 
-abbrev IsToldAt : (a b : Station) → List Program → Side → Conversation → Deeds → Story → Type 0
+abbrev pub IsToldAt : (a b : Station) → List Program → Side → Conversation → Deeds → Story → Type 0
 IsToldAt a b programs A c l h = IsTold None (calling_end a b) c l h
 IsToldAt a b programs B c l h = IsTold (Some programs) (called_end b a) c l h
 
-record Keeps (a b : Station) (programs : List Program) (m : Meeting) : Type 0 where
+pub record Keeps (a b : Station) (programs : List Program) (m : Meeting) : Type 0 where
   pub told : (side : Side) → IsToldAt a b programs side (at m side).conversation (at m side).deeds (at m side).story
   pub ends : (side : Side) → end_of m.world side ≡ (at m side).story.state
   pub holds : Holds m.world
@@ -118,7 +118,7 @@ went laws keeps {a} {b} {programs} m u B n l given k g = record {
 -- ---- each step
 
 -- what the program does leaves the end
-acts_end : {c : Conversation} {h b : Story} {l r : Deeds} → Acts c h l b r → b.state ≡ h.state
+pub acts_end : {c : Conversation} {h b : Story} {l r : Deeds} → Acts c h l b r → b.state ≡ h.state
 acts_end idling = refl
 acts_end (calling call) = refl
 acts_end {c = c} {h = h} (handing m is) = same c.side where
@@ -180,7 +180,7 @@ gives_keeps laws keeps stories {a} {b} {programs} m side packet n k out =
           (all_made v (packets_of m.world) side (made_on n.on.path) (sym (led_bag m.world side n.on.path (k.ends side)))));
     })
 
-same_marked : (w : World) (k : ℕ) (x : Emitted) (side : Side) → end_of (marked w k x) side ≡ end_of w side
+pub same_marked : (w : World) (k : ℕ) (x : Emitted) (side : Side) → end_of (marked w k x) side ≡ end_of w side
 same_marked w k x A = refl
 same_marked w k x B = refl
 
@@ -222,7 +222,7 @@ strays_keeps laws keeps stories {a} {b} {programs} m side bytes foreign n k same
 
 -- ---- the start
 
-new_holds : EndLaws → (a b : Station) → IsStation a → IsStation b → Holds (record { a = calling_end a b; b = called_end b a; bag = [] })
+pub new_holds : EndLaws → (a b : Station) → IsStation a → IsStation b → Holds (record { a = calling_end a b; b = called_end b a; bag = [] })
 new_holds laws a b here there = record {
   ends = λ side. elim side as (λ s. Stands (end_of (record { a = calling_end a b; b = called_end b a; bag = [] }) s) (end_of (record { a = calling_end a b; b = called_end b a; bag = [] }) (other s))) [
     | A ↦ record {
@@ -259,7 +259,7 @@ opens_keeps laws stories a b programs c d here there calls answers none empty =
       ];
     }
 
-kept : EndLaws → EachStepKeepsTheOrder → StoryLaws → (a b : Station) (programs : List Program) → IsStation a → IsStation b → {m : Meeting} → Meets a b programs m → Keeps a b programs m
+pub kept : EndLaws → EachStepKeepsTheOrder → StoryLaws → (a b : Station) (programs : List Program) → IsStation a → IsStation b → {m : Meeting} → Meets a b programs m → Keeps a b programs m
 kept laws keeps stories a b programs here there (opens c d calls answers none empty) = opens_keeps laws stories a b programs c d here there calls answers none empty
 kept laws keeps stories a b programs here there (acts {m = m} before side act n same) = acts_keeps laws keeps stories m side n (kept laws keeps stories a b programs here there before) act same
 kept laws keeps stories a b programs here there (gives {m = m} before side packet n out) = gives_keeps laws keeps stories m side packet n (kept laws keeps stories a b programs here there before) out

@@ -12,7 +12,7 @@ use Rattle.xns_spp.specs.State.{State, IsState}
 use Rattle.xns_spp.specs.Telling.{resend_answer, after_resend, told_answer}
 use Rattle.xns_spp.specs.declared.item.Item.{Item}
 use Rattle.item_world.specs.EndLaws.{EndLaws}
-use Rattle.item_world.specs.Events.{sending, taking, flushing, resending, telling}
+use Rattle.item_world.specs.Events.{Step, IsStep, stepped, sending, taking, flushing, resending, telling}
 use Rattle.item_world.specs.Invariant.{Holds}
 use Rattle.item_world.specs.Laws.{EachStepKeepsTheOrder}
 use Rattle.item_world.specs.Side.{other}
@@ -127,22 +127,26 @@ fewer_items s v b items k x is = items k x (in_both s.accepted v.accepted k x b 
 same_begins : (s v : State) → v.accepted ≡ s.accepted → Begins s.accepted v.accepted
 same_begins s v e = ([], append-nil s.accepted ∙ sym e)
 
-pub led_holds : EndLaws → EachStepKeepsTheOrder → (w : World) (side : Side) {s v : State} (p : Runs s v) → end_of w side ≡ s → AreItems v → Holds w → Holds (led w side p)
-led_holds laws keeps w side start e items h = h
-led_holds laws keeps w side (accepts {v = v} p x) e items h =
+-- what each small step keeps is true after all of them
+pub led_keeps : EndLaws → (P : World → Type 0) → ((w : World) (s : Step) → IsStep s → P w → P (stepped w s)) → (w : World) (side : Side) {s v : State} (p : Runs s v) → end_of w side ≡ s → AreItems v → P w → P (led w side p)
+led_keeps laws P each w side start e items h = h
+led_keeps laws P each w side (accepts {v = v} p x) e items h =
     let u : World = led w side p in
     let here : end_of u side ≡ v = led_end w side p e in
     let grows : Begins v.accepted (after_send v x).accepted = (laws.grows.send v x).accepted in
-    let before : Holds u = led_holds laws keeps w side p e (fewer_items v (after_send v x) grows items) h in
-    elim (is_ok (send_answer v x)) as (λ b. is_ok (send_answer v x) ≡ b → Holds (sends u side x)) [
+    let before : P u = led_keeps laws P each w side p e (fewer_items v (after_send v x) grows items) h in
+    elim (is_ok (send_answer v x)) as (λ b. is_ok (send_answer v x) ≡ b → P (sends u side x)) [
       | true ↦ λ yes.
           let more : v.accepted ++ x ∷ [] ≡ (after_send v x).accepted = sym (ap (λ (s : State). s.accepted) (laws.accepts.accepted v x yes)) in
-          keeps.each u (sending side x) (items (length v.accepted) x (last_of v.accepted x (after_send v x).accepted ([], append-nil (v.accepted ++ x ∷ []) ∙ more))) before
+          each u (sending side x) (items (length v.accepted) x (last_of v.accepted x (after_send v x).accepted ([], append-nil (v.accepted ++ x ∷ []) ∙ more))) before
       | false ↦ λ no.
           let same : after_send (end_of u side) x ≡ end_of u side = ap (λ (s : State). after_send s x) here ∙ laws.accepts.refused v x no ∙ sym here in
-          subst Holds (sym (ap (λ (s : State). moved u side s []) same ∙ stays u side)) before
+          subst P (sym (ap (λ (s : State). moved u side s []) same ∙ stays u side)) before
     ] refl
-led_holds laws keeps w side (takes {v = v} p) e items h = keeps.each (led w side p) (taking side) tt (led_holds laws keeps w side p e (fewer_items v (after_take v) (laws.grows.take v).accepted items) h)
-led_holds laws keeps w side (flushes {v = v} p) e items h = keeps.each (led w side p) (flushing side) tt (led_holds laws keeps w side p e (fewer_items v (after_flush v) (same_begins v (after_flush v) (laws.stays.flush v).accepted) items) h)
-led_holds laws keeps w side (resends {v = v} p) e items h = keeps.each (led w side p) (resending side) tt (led_holds laws keeps w side p e (fewer_items v (after_resend v) (same_begins v (after_resend v) (laws.stays.resend v).accepted) items) h)
-led_holds laws keeps w side (tells p asks) e items h = keeps.each (led w side p) (telling side asks) tt (led_holds laws keeps w side p e items h)
+led_keeps laws P each w side (takes {v = v} p) e items h = each (led w side p) (taking side) tt (led_keeps laws P each w side p e (fewer_items v (after_take v) (laws.grows.take v).accepted items) h)
+led_keeps laws P each w side (flushes {v = v} p) e items h = each (led w side p) (flushing side) tt (led_keeps laws P each w side p e (fewer_items v (after_flush v) (same_begins v (after_flush v) (laws.stays.flush v).accepted) items) h)
+led_keeps laws P each w side (resends {v = v} p) e items h = each (led w side p) (resending side) tt (led_keeps laws P each w side p e (fewer_items v (after_resend v) (same_begins v (after_resend v) (laws.stays.resend v).accepted) items) h)
+led_keeps laws P each w side (tells p asks) e items h = each (led w side p) (telling side asks) tt (led_keeps laws P each w side p e items h)
+
+pub led_holds : EndLaws → EachStepKeepsTheOrder → (w : World) (side : Side) {s v : State} (p : Runs s v) → end_of w side ≡ s → AreItems v → Holds w → Holds (led w side p)
+led_holds laws keeps = led_keeps laws Holds keeps.each

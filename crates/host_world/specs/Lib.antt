@@ -2,3 +2,4 @@ pub mod Station
 pub mod Meeting
 pub mod Meets
 pub mod Pairing
+pub mod Going

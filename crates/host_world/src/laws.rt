@@ -5,6 +5,7 @@ ghost use Rattle.courier_sessions.specs.declared.program.Program.{Program};
 ghost use Rattle.item_world.specs.Side.{other};
 ghost use Rattle.item_world.specs.World.{lifetime};
 ghost use Rattle.item_world.specs.declared.side.Side.{Side};
+ghost use Rattle.host_world.specs.Going.{CanFinish};
 ghost use Rattle.host_world.specs.Meeting.{Meeting, at};
 ghost use Rattle.host_world.specs.Meets.{Meets, IsMet};
 ghost use Rattle.host_world.specs.Pairing.{MayCome};
@@ -36,6 +37,22 @@ pub fn a_given_packet_may_come()
 {
     item_world::laws::end_laws_are_given();
     item_world::laws::each_step_keeps_the_order();
+    xns_host::laws::one_story_goes_on();
+    xns_host::laws::two_programs_agree();
+}
+
+/// From every meeting, whatever was lost, repeated and reordered, some further steps of the world that it goes through lead to one in which
+/// each item that either connection's end had accepted is handed up at the other and acknowledged. The steps are ticks and flushes of the
+/// two ends, packets sent from then on that come, and items handed up: at most twelve for each item that is pending, and twelve more.
+///
+/// These are steps of the ends. It is not said that a host takes them: a connection never ticks its end, but has it send its first item
+/// again, or a system packet, when that is due; and it hands an item up to its session alone, once that has nothing out and is not busy.
+pub fn the_ends_of_a_meeting_are_not_stuck()
+    ensures { (a b : Station) (programs : List Program) (m : Meeting) → IsStation a → IsStation b → Meets a b programs m → CanFinish m }
+{
+    item_world::laws::end_laws_are_given();
+    item_world::laws::each_step_keeps_the_order();
+    item_world::laws::no_world_is_stuck();
     xns_host::laws::one_story_goes_on();
     xns_host::laws::two_programs_agree();
 }

@@ -411,11 +411,6 @@ impl Connection {
     pub fn receive(&mut self, alloc: Global, now: u64, packet: &SppPacket) -> Result<(), AllocError>
         requires { IsSppPacket packet.now }
         ensures tells { OnOk result ((b : List ℕ) → spp_packet_of b ≡ Ok packet.now → Hears self.old.conversation self.new.conversation b) }
-        ensures calm { OnOk result ((b : List ℕ) → spp_packet_of b ≡ Ok packet.now → self.new.owed.moving ≡ false
-            → drains self.new.conversation.side self.new.conversation.closing ≡ false
-            → CalmFrom self.old.conversation self.new.conversation (λ h. record h { state = after_receive h.state b })) }
-        ensures read { OnOk result ((b : List ℕ) → spp_packet_of b ≡ Ok packet.now → self.new.owed.moving ≡ false
-            → self.new.closed ≡ self.old.closed → ReadsAll self.old.conversation self.new.conversation) }
         ensures said { OnOk result (self.new.owed.moving ≡ false → HasSaidEnd self.new.conversation) }
         ensures replied { OnOk result (self.new.owed.moving ≡ false → self.new.closed ≡ self.old.closed
             → HasSaidReply self.new.conversation) }

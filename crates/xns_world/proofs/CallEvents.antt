@@ -1,4 +1,4 @@
--- The same by events, behind which a side settles.
+-- From every state of a play some events carry out all calls.
 use Rattle.std.proofs.Common.{◌≡◌, ℕ, zero, suc, ◌+◌, ◌<◌, ◌≤◌, Bool, true, false, nat_lt, List, [], ◌∷◌, ◌++◌, length, fold, Option, Some, None, refl, sym, ◌∙◌, ap, subst, arith}
 use Rattle.std.specs.Prelude.{All, if◌then◌else◌}
 use Rattle.std.proofs.lemmas.Bool.{lt-ltb, ltb-true, ltb-false}
@@ -11,7 +11,6 @@ use Rattle.xns_spp.specs.Numbers.{most_items}
 use Rattle.xns_spp.specs.declared.item.Item.{Item}
 use Rattle.item_world.specs.Channel.{IsQuiet}
 use Rattle.item_world.specs.Events as events
-use Rattle.item_world.specs.Events.{undelivered}
 use Rattle.item_world.specs.Landing.{landing}
 use Rattle.item_world.specs.Invariant.{Holds}
 use Rattle.item_world.specs.Laws.{NoWorldIsStuck}
@@ -253,7 +252,7 @@ further_by_events p w g stuck sessions room r left None None a b =
 
 -- ---- to the end
 
-further_before : (m n : ℕ) (e : Event) → m ≤ n → IsFurther n e → IsFurther m e
+pub further_before : (m n : ℕ) (e : Event) → m ≤ n → IsFurther n e → IsFurther m e
 further_before m n (Deliver k) le h = omega (arith, h)
 further_before m n Rest le h = absurd h
 further_before m n (Tick side) le h = tt
@@ -284,6 +283,10 @@ ends_by p (suc d) w true is g stuck sessions room r le =
       done = subst (IsAllDone p) (sym (fold-append (call_happens p) w a.more c.more)) c.done;
     }
 
+pub finishes_by : {S : Type 0} (p : Parties S) (w : CallWorld) → Given p → NoWorldIsStuck → AllIsAnswered p.serving p.service
+    → HasRoom p → AtRest p w → CompletesByEvents p w
+finishes_by p w g stuck sessions room r = ends_by p (bound p) w (nat_lt w.listed (length p.calls)) refl g stuck sessions room r (omega arith)
+
 -- the play begins at rest
 settled_here : {S : Type 0} (p : Parties S) (side : Side) (w : CallWorld) → Given p → IsBetween p w
     → step p side (settles p side w) ≡ None
@@ -304,6 +307,4 @@ pub completes_by_events : {S : Type 0} (p : Parties S) (setup : Setup) (es : Lis
     → AllIsAnswered p.serving p.service → HasRoom p → IsBetween p (call_start setup)
     → CompletesByEvents p (run_calls p setup es)
 completes_by_events p setup es g stuck sessions room b =
-    let w : CallWorld = run_calls p setup es in
-    let r : AtRest p w = events_rest p (begun p setup) es g stuck (begun_rests p setup g stuck b) in
-    ends_by p (bound p) w (nat_lt w.listed (length p.calls)) refl g stuck sessions room r (omega arith)
+    finishes_by p (run_calls p setup es) g stuck sessions room (events_rest p (begun p setup) es g stuck (begun_rests p setup g stuck b))

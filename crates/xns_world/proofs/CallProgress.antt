@@ -1,11 +1,8 @@
--- From every state of a play some plain steps carry out all calls.
-use Rattle.std.proofs.Common.{◌≡◌, ℕ, zero, suc, ◌+◌, ◌≤◌, Bool, true, false, nat_lt, List, [], ◌∷◌, ◌++◌, length, map, refl, sym, ◌∙◌, subst, arith}
-use Rattle.std.proofs.lemmas.Bool.{ltb-true, ltb-false}
+-- How far a play of calls can come, and what is so where it has come there.
+use Rattle.std.proofs.Common.{◌≡◌, ℕ, zero, suc, ◌+◌, ◌≤◌, List, [], ◌∷◌, length, map, sym, ◌∙◌, subst, arith}
 use Rattle.std.proofs.lemmas.List.{length-map, take_all}
 use Rattle.item_world.proofs.Later.{all_later}
 use Rattle.item_world.specs.Going.{Later, as_sent}
-use Rattle.std.proofs.lemmas.List.Elements.{All-nil, All-append, All-weaker}
-use Rattle.std.proofs.lemmas.List.Sums.{fold-append}
 use Rattle.courier_messages.specs.RawCalls.{RawCall, caller_items}
 use Rattle.courier_calls.specs.Calls.{outcomes}
 use Rattle.courier_calls.specs.Server.{server_items}
@@ -20,12 +17,11 @@ use Rattle.xns_world.proofs.CallRuns.{steps_leave}
 use Rattle.xns_world.proofs.CallEntries.{outcomes_length}
 use Rattle.xns_world.specs.CallLaws.{Given}
 use Rattle.xns_world.specs.CallOrder.{CallsHold, IsBetween}
-use Rattle.xns_world.specs.CallProgress.{IsPlainCall, IsAllDone, HasRoom, GoesOn, Completes}
-use Rattle.courier_calls.specs.Laws.{AllIsAnswered}
+use Rattle.xns_world.specs.CallProgress.{IsAllDone, GoesOn}
 use Rattle.item_world.specs.declared.setup.Setup.{Setup}
 use Rattle.xns_world.specs.CallWorld.{Parties, CallWorld, CallStep, arrival, noise, ticking, acting, flushing, resending, telling, call_start, call_stepped, all_call_stepped, carried_at, calls_made, put_out, outcomes_read}
-use Rattle.xns_world.proofs.CallMoves.{total, all_go_on}
-use Rattle.xns_world.proofs.CallStirs.{caller_most, server_most, read_few, further}
+use Rattle.xns_world.proofs.CallMoves.{total}
+use Rattle.xns_world.proofs.CallStirs.{caller_most, server_most, read_few}
 
 -- ---- to the end
 
@@ -65,15 +61,6 @@ all_done p w g h all =
     same_list : {X : Type 0} (xs ys : List X) → Begins xs ys → length ys ≤ length xs → xs ≡ ys
     same_list xs ys b le = sym (front_of xs ys b) ∙ take_all (length xs) ys le
 
-plain_before : (m n : ℕ) (s : CallStep) → m ≤ n → IsPlainCall n s → IsPlainCall m s
-plain_before m n (arrival k) le h = omega (arith, h)
-plain_before m n (noise side bytes) le h = absurd h
-plain_before m n (ticking side) le h = tt
-plain_before m n (acting side) le h = tt
-plain_before m n (flushing side) le h = tt
-plain_before m n (resending side) le h = absurd h
-plain_before m n (telling side asks) le h = absurd h
-
 -- the bag only grows
 pub later_bag : (u v : World) → Later u v → length u.bag ≤ length v.bag
 later_bag u v l = omega (arith, begins_length (map as_sent u.bag) (map as_sent v.bag) l.bag, length-map u.bag as_sent, length-map v.bag as_sent)
@@ -93,39 +80,8 @@ pub bag_longer : {S : Type 0} (p : Parties S) (w : CallWorld) (ss : List CallSte
 bag_longer p w [] g = omega arith
 bag_longer p w (s ∷ ss) g = omega (arith, step_longer p w s g, bag_longer p (call_stepped p w s) ss g)
 
-completes_by : {S : Type 0} (p : Parties S) (d : ℕ) (w : CallWorld) (b : Bool) → nat_lt w.listed (length p.calls) ≡ b
-    → Given p → NoWorldIsStuck → AllIsAnswered p.serving p.service → HasRoom p → GoesOn p w → bound p ≤ total w + d
-    → Completes p w
-completes_by p d w false is g stuck sessions room on le =
-    record { more = []; plain = All-nil (IsPlainCall (length w.world.bag)); done = all_done p w g on.holds (ltb-false w.listed (length p.calls) is) }
-completes_by p zero w true is g stuck sessions room on le =
-    let a = further p w g stuck sessions room on (ltb-true w.listed (length p.calls) is) in
-    let v = all_call_stepped p w a.more in
-    let now : GoesOn p v = all_go_on p w a.more g stuck on in
-    absurd (omega (arith, a.rises, within_bound p v g now.holds, le))
-completes_by p (suc d) w true is g stuck sessions room on le =
-    let a = further p w g stuck sessions room on (ltb-true w.listed (length p.calls) is) in
-    let v = all_call_stepped p w a.more in
-    let n : ℕ = length w.world.bag in
-    let now : GoesOn p v = all_go_on p w a.more g stuck on in
-    let c : Completes p v = completes_by p d v (nat_lt v.listed (length p.calls)) refl g stuck sessions room now (omega (arith, a.rises, le)) in
-    let longer : n ≤ length v.world.bag = bag_longer p w a.more g in
-    record {
-      more = a.more ++ c.more;
-      plain = All-append (IsPlainCall n) a.more c.more a.plain (All-weaker (IsPlainCall (length v.world.bag)) (IsPlainCall n) (λ s. plain_before n (length v.world.bag) s longer) c.more c.plain);
-      done = subst (IsAllDone p) (sym (fold-append (call_stepped p) w a.more c.more)) c.done;
-    }
-
-pub completes : {S : Type 0} (p : Parties S) (w : CallWorld) → Given p → NoWorldIsStuck
-    → AllIsAnswered p.serving p.service → HasRoom p → GoesOn p w → Completes p w
-completes p w g stuck sessions room on = completes_by p (bound p) w (nat_lt w.listed (length p.calls)) refl g stuck sessions room on (omega arith)
-
--- ---- whatever was before
+-- ---- as it begins
 
 pub starts : {S : Type 0} (p : Parties S) (setup : Setup) → NoWorldIsStuck → IsBetween p (call_start setup)
     → GoesOn p (call_start setup)
 starts p setup stuck b = record { holds = b.holds; linked = stuck.starts setup; waits = omega arith }
-
-pub always_completes : {S : Type 0} (p : Parties S) (w : CallWorld) (steps : List CallStep) → Given p → NoWorldIsStuck
-    → AllIsAnswered p.serving p.service → HasRoom p → GoesOn p w → Completes p (all_call_stepped p w steps)
-always_completes p w steps g stuck sessions room on = completes p (all_call_stepped p w steps) g stuck sessions room (all_go_on p w steps g stuck on)

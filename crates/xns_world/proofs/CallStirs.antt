@@ -1,4 +1,4 @@
--- Where no side can take a step the network stirs one, unless all is done.
+-- What is so where no side of a play of calls can take a step.
 use Rattle.std.proofs.Common.{◌≡◌, inl, inr, ℕ, ◌-◌, ◌<◌, ◌≤◌, Bool, true, false, nat_lt, List, length, Option, Some, None, refl, sym, ◌∙◌, ap, arith}
 use Rattle.std.specs.Prelude.{slice_get, All, if◌then◌else◌, ◌||◌, ◌==◌, ◌&&◌}
 use Rattle.std.proofs.lemmas.Bool.{ltb-true, ltb-false, ne_eqb, eq-eqb}
@@ -18,9 +18,6 @@ use Rattle.xns_spp.specs.State.{State, IsState, numbers_of}
 use Rattle.xns_spp.specs.declared.item.Item.{Item}
 use Rattle.item_world.specs.Channel.{IsQuiet}
 use Rattle.item_world.specs.Invariant.{Holds}
-use Rattle.item_world.specs.Laws.{NoWorldIsStuck}
-use Rattle.item_world.specs.Progress.{Stirs}
-use Rattle.item_world.specs.Side.{other}
 use Rattle.item_world.specs.World.{World, end_of, channel_of, sent_at, handed_at}
 use Rattle.item_world.specs.declared.side.Side.{Side}
 use Rattle.item_world.specs.declared.side.Side.TheVariants.{A, B}
@@ -30,7 +27,6 @@ use Rattle.xns_world.specs.CallOrder.{CallsHold}
 use Rattle.xns_world.specs.CallProgress.{HasRoom, GoesOn}
 use Rattle.courier_calls.specs.Laws.{AllIsAnswered}
 use Rattle.xns_world.specs.CallWorld.{Parties, CallWorld, calls_made, put_out, next_out, outcomes_read, in_world, lists, makes, has_outcome, may_call, caller_step, or_caller, step_with, step}
-use Rattle.xns_world.proofs.CallMoves.{wire_quiet, Acts, acts_send, acts_take, Advances, wired, wired_on, after_wire, acts_now}
 
 -- ---- what is so where no side takes a step
 
@@ -63,7 +59,7 @@ rest_by p w side None out none = rest_idle p w side (nat_lt 0 (waiting_count (en
 pub resting : {S : Type 0} (p : Parties S) (w : CallWorld) (side : Side) → step p side w ≡ None → Resting p w side
 resting p w side none = rest_by p w side (next_out p w side) refl none
 
--- ---- the network stirs
+-- ---- what the network leaves as it was
 
 pub put_out_same : {S : Type 0} (p : Parties S) (w : CallWorld) (v : World) (side : Side)
     → IsQuiet (channel_of w.world) (channel_of v) → put_out p (in_world w v) side ≡ put_out p w side
@@ -85,42 +81,7 @@ not_full s fits all less =
     ap (λ (b : Bool). b || is_backlog_full s.ends (numbers_of s)) (ne_eqb (length s.accepted) most_items (λ e. omega (arith, e, less)))
     ∙ ne_eqb (length s.accepted - s.acknowledged) s.ends.backlog (λ e. omega (arith, e, all, fits.ends.backlog_least))
 
--- one side has an item out, and the other none
-pub stir_sending : {S : Type 0} (p : Parties S) (w : CallWorld) (side : Side) (x : Item) → Given p → NoWorldIsStuck
-    → GoesOn p w → next_out p w side ≡ Some x → length (sent_at w.world side) < most_items
-    → next_out p w (other side) ≡ None → Advances p w
-stir_sending p w side x g stuck on out room none =
-    let n : ℕ = length w.world.bag in
-    let s : Stirs w.world side = stuck.stirs w.world side on.holds.holds on.linked in
-    let v : CallWorld = wired w s.more in
-    let now : GoesOn p v = wired_on p w n s.more g stuck s.wire on in
-    let q = wire_quiet p w.world n s.more g s.wire on.holds.holds in
-    after_wire p w s.more g stuck on s.wire
-    (elim (s.comes) as (λ o. Acts p v) [
-      | inl waits ↦ acts_take p v (other side) (next_same p w v.world (other side) q ∙ none) waits
-      | inr all ↦ acts_send p v side x (next_same p w v.world side q ∙ out)
-          (not_full (end_of v.world side) (now.holds.holds.ends side).fits all (omega (arith, ap length (q.accepted side), room)))
-    ])
-
--- an item that one side sent was not handed up at the other, which has none out
-pub stir_waiting : {S : Type 0} (p : Parties S) (w : CallWorld) (side : Side) → Given p → NoWorldIsStuck → GoesOn p w
-    → next_out p w (other side) ≡ None → length (handed_at w.world (other side)) < length (sent_at w.world side)
-    → Advances p w
-stir_waiting p w side g stuck on none left =
-    let n : ℕ = length w.world.bag in
-    let s : Stirs w.world side = stuck.stirs w.world side on.holds.holds on.linked in
-    let v : CallWorld = wired w s.more in
-    let now : GoesOn p v = wired_on p w n s.more g stuck s.wire on in
-    let q = wire_quiet p w.world n s.more g s.wire on.holds.holds in
-    let out = next_same p w v.world (other side) q ∙ none in
-    after_wire p w s.more g stuck on s.wire
-    (elim (s.comes) as (λ o. Acts p v) [
-      | inl waits ↦ acts_take p v (other side) out waits
-      | inr all ↦ acts_take p v (other side) out
-          (omega (arith, all, (now.holds.holds.ends side).acknowledged, ap length (q.accepted side), ap length (q.handed (other side)), handed_count v.world now.holds.holds (other side), left))
-    ])
-
--- ---- where no side takes a step the network stirs
+-- ---- which items are out
 
 pub none_past : (xs : List Item) (k : ℕ) → slice_get xs k ≡ None → length xs ≤ k
 none_past xs k is = by_test (nat_lt k (length xs)) refl
@@ -223,42 +184,3 @@ none_left p w g h rests all left =
     second : (a b : Bool) → a ≡ true → (a && b) ≡ false → b ≡ false
     second true b h i = i
     second false b h i = absurd (cc)
-
--- ---- a play that is not done comes further
-
-pub idle_both : {S : Type 0} (p : Parties S) (w : CallWorld) → Given p → NoWorldIsStuck → AllIsAnswered p.serving p.service
-    → GoesOn p w → w.listed < length p.calls → caller_step p w A ≡ None → next_out p w A ≡ None → next_out p w B ≡ None
-    → (b c : Bool) → nat_lt (length (handed_at w.world B)) (length (sent_at w.world A)) ≡ b
-    → nat_lt (length (handed_at w.world A)) (length (sent_at w.world B)) ≡ c → Advances p w
-idle_both p w g stuck sessions on left rests a b true c is that = stir_waiting p w A g stuck on b (ltb-true (length (handed_at w.world B)) (length (sent_at w.world A)) is)
-idle_both p w g stuck sessions on left rests a b false true is that = stir_waiting p w B g stuck on a (ltb-true (length (handed_at w.world A)) (length (sent_at w.world B)) that)
-idle_both p w g stuck sessions on left rests a b false false is that =
-    let h = on.holds in
-    let out_a = none_past (put_out p w A) (length (sent_at w.world A)) a in
-    let out_b = none_past (put_out p w B) (length (sent_at w.world B)) b in
-    let all_b = ltb-false (length (handed_at w.world B)) (length (sent_at w.world A)) is in
-    let all_a = ltb-false (length (handed_at w.world A)) (length (sent_at w.world B)) that in
-    let to : handed_at w.world B ≡ put_out p w A = same_items (handed_at w.world B) (put_out p w A) (server_front p w g h) (omega (arith, out_a, all_b)) in
-    let back : handed_at w.world A ≡ put_out p w B = same_items (handed_at w.world A) (put_out p w B) (caller_front p w g h) (omega (arith, out_b, all_a)) in
-    absurd (none_left p w g h rests (all_answered p w g sessions h to back) left)
-
-pub stuck_by : {S : Type 0} (p : Parties S) (w : CallWorld) → Given p → NoWorldIsStuck → AllIsAnswered p.serving p.service
-    → HasRoom p → GoesOn p w → w.listed < length p.calls → Resting p w A → Resting p w B
-    → (a b : Option Item) → next_out p w A ≡ a → next_out p w B ≡ b → Advances p w
-stuck_by p w g stuck sessions room on left ra rb (Some x) (Some y) a b = absurd (not_both_out p w x y g sessions on a b (rb.full y b))
-stuck_by p w g stuck sessions room on left ra rb (Some x) None a b = stir_sending p w A x g stuck on a (sends_room p w A x g on.holds room a) b
-stuck_by p w g stuck sessions room on left ra rb None (Some y) a b = stir_sending p w B y g stuck on b (sends_room p w B y g on.holds room b) a
-stuck_by p w g stuck sessions room on left ra rb None None a b =
-    idle_both p w g stuck sessions on left ra.caller a b (nat_lt (length (handed_at w.world B)) (length (sent_at w.world A))) (nat_lt (length (handed_at w.world A)) (length (sent_at w.world B))) refl refl
-
-pub further_by : {S : Type 0} (p : Parties S) (w : CallWorld) → Given p → NoWorldIsStuck → AllIsAnswered p.serving p.service
-    → HasRoom p → GoesOn p w → w.listed < length p.calls
-    → (a b : Option CallWorld) → step p A w ≡ a → step p B w ≡ b → Advances p w
-further_by p w g stuck sessions room on left (Some v) b is that = acts_now p w g stuck on (record { side = A; after = v; is = is })
-further_by p w g stuck sessions room on left None (Some v) is that = acts_now p w g stuck on (record { side = B; after = v; is = that })
-further_by p w g stuck sessions room on left None None is that =
-    stuck_by p w g stuck sessions room on left (resting p w A is) (resting p w B that) (next_out p w A) (next_out p w B) refl refl
-
-pub further : {S : Type 0} (p : Parties S) (w : CallWorld) → Given p → NoWorldIsStuck → AllIsAnswered p.serving p.service
-    → HasRoom p → GoesOn p w → w.listed < length p.calls → Advances p w
-further p w g stuck sessions room on left = further_by p w g stuck sessions room on left (step p A w) (step p B w) refl refl

@@ -2,9 +2,10 @@ use Rattle.std.proofs.Common.{sym, subst}
 use Rattle.courier_calls.specs.Calls.{Serving}
 use Rattle.courier_calls.specs.Laws.{AllIsAnswered}
 use Rattle.xns_world.proofs.CallMoves.{step_goes_on}
-use Rattle.xns_world.proofs.CallProgress.{completes, always_completes, starts}
+use Rattle.xns_world.proofs.CallProgress.{starts}
 use Rattle.xns_world.proofs.CallEvents.{completes_by_events}
 use Rattle.xns_world.proofs.CallRuns.{start_between}
+use Rattle.xns_world.proofs.CallSmallSteps.{completes, always_completes}
 use Rattle.xns_world.specs.CallPromises.{AreParties}
 use Rattle.xns_world.specs.CallWorld.{Parties}
 use Rattle.xns_world.proofs.laws.calls.no_play_is_stuck.Goals as goal

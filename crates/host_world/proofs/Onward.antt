@@ -1,0 +1,91 @@
+-- Whatever steps led there, the world that a meeting goes through is not stuck.
+use Rattle.std.proofs.Common.{◌≡◌, ◌∙◌, ap, sym, refl, subst, ℕ, Bool, false, List, [], Option, Some, None, inl, inr}
+use Rattle.std.specs.Prelude.{slice_get, if◌then◌else◌}
+use Rattle.std.specs.Option.{option_to_list}
+use Rattle.std.proofs.lemmas.List.Elements.{All-nil}
+use Rattle.courier_sessions.specs.declared.program.Program.{Program}
+use Rattle.xns_spp.specs.Peers.{IsLinked}
+use Rattle.xns_spp.specs.Receiving.{receive_answer, after_receive}
+use Rattle.xns_spp.specs.State.{State}
+use Rattle.item_world.specs.EndLaws.{EndLaws}
+use Rattle.item_world.specs.Events.{Step, IsStep, stepped, arrival}
+use Rattle.item_world.specs.Invariant.{Holds}
+use Rattle.item_world.specs.Landing.{answered, landed, landing, reached}
+use Rattle.item_world.specs.Laws.{EachStepKeepsTheOrder, NoWorldIsStuck}
+use Rattle.item_world.specs.Progress.{IsFrom, Linked}
+use Rattle.item_world.specs.Side.{other}
+use Rattle.item_world.specs.World.{World, end_of, marked, has_passed}
+use Rattle.item_world.specs.declared.emitted.Emitted.{Emitted}
+use Rattle.item_world.specs.declared.side.Side.{Side}
+use Rattle.item_world.specs.declared.side.Side.TheVariants.{A, B}
+use Rattle.xns_host.specs.Story.{Story}
+use Rattle.host_world.specs.Going.{CanFinish}
+use Rattle.host_world.specs.Meeting.{Meeting, at, led, Next}
+use Rattle.host_world.specs.Meets.{Meets, opens, acts, gives, arrives, strays}
+use Rattle.host_world.specs.Station.{IsStation, calling_end, called_end}
+use Rattle.host_world.specs.declared.station.Station.{Station}
+use Rattle.host_world.proofs.Kept.{Keeps, StoryLaws, kept, acts_end, same_marked, new_holds}
+use Rattle.host_world.proofs.Led.{same_end, are_items, led_keeps}
+
+-- the laws of the crates below
+pub record Laws : Type 0 where
+  pub ends : EndLaws
+  pub order : EachStepKeepsTheOrder
+  pub onward : NoWorldIsStuck
+  pub stories : StoryLaws
+
+-- both invariants of the world of items
+abbrev IsSound : World → Type 0
+IsSound w = Holds w × Linked w
+
+stepped_sound : Laws → (w : World) (s : Step) → IsStep s → IsSound w → IsSound (stepped w s)
+stepped_sound laws w s fits k = (laws.order.each w s fits k.0, laws.onward.each w s fits k.0 k.1)
+
+led_sound : Laws → (u : World) (side : Side) {base : Story} (n : Next base) → end_of u side ≡ base.state → IsSound u → IsSound (led u side n.on.path)
+led_sound laws u side n here k = led_keeps laws.ends IsSound (stepped_sound laws) u side n.on.path here (are_items n.story.state n.tells.stands.fits) k
+
+-- each end knows the other's address, and the one that is called knows the caller's identifier
+new_linked : (a b : Station) → Linked (record { a = calling_end a b; b = called_end b a; bag = [] })
+new_linked a b =
+    let w : World = record { a = calling_end a b; b = called_end b a; bag = [] } in
+    record {
+      ends = λ side. elim side as (λ s. IsLinked (end_of w s).ends (end_of w (other s)).ends) [
+        | A ↦ record { peer = refl; peer_id = inl refl; one = inr refl }
+        | B ↦ record { peer = refl; peer_id = inr refl; one = inl refl }
+      ];
+      bag = All-nil (λ (x : Emitted). IsFrom (end_of w x.side).ends x.bytes);
+    }
+
+arrived_sound : Laws → (w : World) (j : ℕ) (x : Emitted) → slice_get w.bag j ≡ Some x → has_passed w x ≡ false → IsSound w → IsSound (answered w j x)
+arrived_sound laws w j x is lives k =
+    let lands : landing w j ≡ Some (other x.side, answered w j x) = ap (landed w j) is ∙ ap (λ (b : Bool). if b then None else Some (other x.side, answered w j x)) lives in
+    subst (λ (o : Option (Side × World)). IsSound (reached w o)) lands (stepped_sound laws w (arrival j) tt k)
+
+-- the end that a packet came to goes on from what it was in the connection's story
+arrived_end : (w : World) (j : ℕ) (x : Emitted) (s : State) → end_of w (other x.side) ≡ s → end_of (answered w j x) (other x.side) ≡ after_receive s x.bytes
+arrived_end w j x s e =
+    let side : Side = other x.side in
+    let marks : World = marked w j x in
+    same_end marks side (after_receive (end_of marks side) x.bytes) (option_to_list (receive_answer (end_of marks side) x.bytes).reply)
+    ∙ ap (λ (t : State). after_receive t x.bytes) (same_marked w j x side ∙ e)
+
+sound : Laws → (a b : Station) (programs : List Program) → IsStation a → IsStation b → {m : Meeting} → Meets a b programs m → IsSound m.world
+sound laws a b programs here there (opens c d calls answers none empty) = (new_holds laws.ends a b here there, new_linked a b)
+sound laws a b programs here there (acts {m = m} before side act n same) =
+    let k : Keeps a b programs m = kept laws.ends laws.order laws.stories a b programs here there before in
+    led_sound laws m.world side n (k.ends side ∙ sym (acts_end act)) (sound laws a b programs here there before)
+sound laws a b programs here there (gives {m = m} before side packet n out) =
+    let k : Keeps a b programs m = kept laws.ends laws.order laws.stories a b programs here there before in
+    led_sound laws m.world side n (k.ends side) (sound laws a b programs here there before)
+sound laws a b programs here there (arrives {m = m} before j x is lives n same) =
+    let k : Keeps a b programs m = kept laws.ends laws.order laws.stories a b programs here there before in
+    led_sound laws (answered m.world j x) (other x.side) n (arrived_end m.world j x (at m (other x.side)).story.state (k.ends (other x.side)))
+    (arrived_sound laws m.world j x is lives (sound laws a b programs here there before))
+sound laws a b programs here there (strays {m = m} before side bytes foreign n same) =
+    let k : Keeps a b programs m = kept laws.ends laws.order laws.stories a b programs here there before in
+    led_sound laws m.world side n (k.ends side ∙ sym (laws.ends.foreign.after (at m side).story.state bytes foreign)) (sound laws a b programs here there before)
+
+pub can_finish : Laws → (a b : Station) (programs : List Program) (m : Meeting) → IsStation a → IsStation b → Meets a b programs m → CanFinish m
+can_finish laws a b programs m here there meets =
+    let k = sound laws a b programs here there meets in
+    record { ends = (kept laws.ends laws.order laws.stories a b programs here there meets).ends; finishes = laws.onward.world m.world k.0 k.1 }
