@@ -1,15 +1,12 @@
 #!/bin/sh
 # Compares what the program `test_programs` answers with a second account, tests/notation_account.py: over the descriptions of
-# examples/courier, over a case for each reason and limit, and over random programs, half of them with a fault. It builds the program
-# first. Its last line is 'N passed, M failed', and it ends with 1 where one failed. A first word is the number of random cases.
+# examples/courier, over a case for each reason and limit, and over random programs, half of them with a fault. Then it refuses each
+# growth in turn of a description and a call. It builds the program first. Its last line is 'N passed, M failed', and it ends with 1
+# where one failed. A first word is the number of random cases.
 set -u
 cd "$(dirname "$0")/.."
 . tests/lib.sh
 count=${1:-60}
-if [ ! -d crates/test_programs ]; then
-    left_out 'the program test_programs' 'every case'
-    finish
-fi
 build_program test_programs
 PYTHONDONTWRITEBYTECODE=1
 export PYTHONDONTWRITEBYTECODE
@@ -56,5 +53,26 @@ set -- examples/courier/tally.courier examples/courier/time.courier examples/cou
 python3 tests/notation_account.py "$@" < "$work/lines" > "$work/account"
 "$program" "$@" < "$work/lines" > "$work/out" 2> "$work/err"
 if cmp -s "$work/out" "$work/account"; then pass; else fail 'the descriptions of examples/courier' "$work/out"; fi
+
+# ---- each growth refused in turn
+
+# The program ends by itself. What it printed is the beginning of what it prints else, or that a file wanted memory.
+build_refusing
+printf '%s\n' 'call 7 2 1 0005' > "$work/line"
+tally=examples/courier/tally.courier
+"$program" $tally < "$work/line" > "$work/whole"
+echo "$tally: no memory" > "$work/none"
+growth=1
+while [ $growth -le 2000 ]; do
+    refuse_growth $growth "$program" $tally < "$work/line"
+    [ -e "$work/refused" ] || break
+    if [ $ended -le 1 ] && { cmp -s "$work/out" "$work/none" || cmp -s -n "$(wc -c < "$work/out")" "$work/out" "$work/whole"; }; then
+        pass
+    else
+        fail "growth $growth refused: it ended with $ended and printed" "$work/out"
+    fi
+    growth=$((growth + 1))
+done
+echo "a description and a call: $((growth - 1)) growths"
 
 finish

@@ -391,10 +391,11 @@ class Resolver:
         kind = declared[0]
         if kind == "type":
             self.declared[name[0]] = "type"
+            room = self.left
             try:
                 self.program.types[name[0]] = self.whole(declared[1])
             except Recursive:
-                self.program.types[name[0]] = None
+                self.program.types[name[0]], self.left = None, room
             return
         try:
             if kind == "constant":

@@ -1,6 +1,7 @@
 """The example examples/python/tally.py, and those of examples/c where TALLY_C names the folder of `server` and `client`: servers and clients as processes,
 over a network that spoils one packet in ten. Where `refused_server` and `refused_client` stand there too, each growth of them is refused in turn, and where
 valgrind is there, both are run under it. Each client makes TALLY_CALLS calls, 30 where that is not said."""
+import contextlib
 import os
 import pathlib
 import shutil
@@ -39,11 +40,26 @@ class Serving:
             self.place = free.getsockname()
         self.process = subprocess.Popen([*words, str(self.place[1])], stderr=subprocess.PIPE, text=True, env={**os.environ, **more})
         self.relay = Relay(self.place, one_of, dies_after) if one_of or dies_after else None
+        self.is_refused = bool(more)
 
     def __enter__(self):
+        if not self.is_refused:
+            self.wait()
         if self.relay:
             self.relay.start()
         return self
+
+    def wait(self):
+        """Waits until the server answers Echo: a busy machine may start it later than a client gives up."""
+        request = xns.echo_request(CLIENT, SERVER._replace(socket=2), b"Hi")
+        deadline = time.monotonic() + 60
+        with bound() as udp:
+            udp.settimeout(0.1)
+            while time.monotonic() < deadline and self.process.poll() is None:
+                udp.sendto(request, self.place)
+                with contextlib.suppress(socket.timeout):
+                    udp.recv(2048)
+                    return
 
     def __exit__(self, *_):
         if self.relay:
@@ -205,7 +221,6 @@ class TallyTest(unittest.TestCase):
     def test_echo_of_c(self):
         for server, _ in BOTH:
             with Serving(server) as serving:
-                serving.client(BOTH[0][1], [1]).communicate(timeout=60)  # it is there
                 ended = subprocess.run([f"{FOLDER}/ping", str(serving.place[1]), "3", "544"], stdout=subprocess.PIPE, text=True, timeout=60)
                 lines = ended.stdout.splitlines()
                 self.assertEqual((ended.returncode, len(lines), lines[-1]), (0, 4, "3 sent, 3 came"))

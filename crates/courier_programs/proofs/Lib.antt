@@ -1,4 +1,5 @@
 pub mod Groups
 pub mod Items
 pub mod Models
+pub mod Names
 pub mod Writing

@@ -5,3 +5,4 @@ pub mod Types
 pub mod Declarations
 pub mod Resolving
 pub mod Texts
+pub mod Laws

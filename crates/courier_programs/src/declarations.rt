@@ -1,6 +1,7 @@
 //! What declarations stand for.
 
-ghost use Rattle.std.specs.Prelude.{◌≡◌, OnOk, map};
+ghost use Rattle.std.specs.Prelude.{◌≡◌, OnOk, is_none, map, true};
+ghost use Rattle.courier_types.specs.Check.{shape_fault};
 ghost use Rattle.courier_types.specs.Shape.{shape_model};
 ghost use Rattle.courier_notation.specs.ProgramModels.{declaration_view, declared_view};
 ghost use Rattle.courier_notation.specs.Written.{field_models, type_model};
@@ -35,7 +36,8 @@ pub enum Added {
 
 /// Checks a shape. Its fault is told at the name that is declared.
 fn check(scope: &Scope, shape: &Shape) -> Result<(), Refusal>
-    ensures { Gives (λ _. tt) result (sound (env scope.now) (shape_model shape.now)) }
+    ensures told { Gives (λ _. tt) result (sound (env scope.now) (shape_model shape.now)) }
+    ensures checked { OnOk result (is_none (shape_fault (shape_model shape.now)) ≡ true) }
 {
     match shape.check() {
         Ok(()) => Ok(()),

@@ -10,6 +10,7 @@ mod bytes;
 mod copying;
 mod declarations;
 mod finding;
+pub mod laws;
 pub mod limits;
 mod members;
 mod name_reason;

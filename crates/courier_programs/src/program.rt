@@ -1,5 +1,9 @@
 //! Programs whose names are resolved.
 
+ghost use Rattle.std.specs.Prelude.{◌≡◌, is_none, true};
+ghost use Rattle.courier_types.specs.Check.{shape_fault};
+ghost use Rattle.courier_types.specs.Shape.{shape_model};
+
 use courier_texts::Named;
 use courier_types::Shape;
 
@@ -10,6 +14,7 @@ pub struct Fields {
     pub components: Vec<(Vec<u8>, Named)>,
     /// The shape of the record. It is checked, as `Shape::check` does.
     pub shape: Shape,
+    pub ghost checked: { is_none (shape_fault (shape_model shape)) ≡ true },
 }
 
 /// A remote procedure (XSIS 038112, Courier, Remote programs).
