@@ -1,4 +1,4 @@
-"""Tests of python/xns.py over the shared library: python3 -m unittest, with XNS_LIBRARY and PYTHONPATH set, as tests/c.sh does."""
+"""Tests of the module over the shared library: python3 -m unittest, with XNS_LIBRARY and PYTHONPATH set, as tests/c.sh does."""
 import pathlib
 import re
 import unittest
