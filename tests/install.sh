@@ -33,7 +33,7 @@ holds() {
 }
 
 version=$(cat VERSION)
-pages='C CAPTURES COURIER ENDPOINT FORMATS GLOSSARY NETWORKS PROMISES PROOF WORLD'
+pages='C C-REFERENCE CAPTURES COURIER ENDPOINT FORMATS GLOSSARY NETWORKS PROMISES PROOF WORLD'
 folders='bin include lib lib/pkgconfig share share/doc share/doc/xns share/doc/xns/examples share/man share/man/man1 share/xns share/xns/python share/xns/python/xns'
 files="bin/xns bin/xns-net include/xns.h lib/libxns.a lib/libxns.so lib/libxns.so.0 lib/libxns.so.$version lib/pkgconfig/xns.pc share/man/man1/xns.1 share/man/man1/xns-net.1"
 for page in $pages; do files="$files share/doc/xns/$page.md"; done
@@ -188,7 +188,7 @@ expect 'their names are printed' cmp "$work/expected" "$work/names"
         "$prefix/bin/xns" $words
     done
     cat "$prefix/share/man/man1/xns.1" "$prefix/include/xns.h" "$prefix"/share/xns/python/xns/*.py "$prefix"/share/doc/xns/C*.md
-} | grep -o '[A-Z][A-Z]*\.md' | sort -u > "$work/pages"
+} | grep -o '[A-Z][A-Z-]*\.md' | sort -u > "$work/pages"
 [ -s "$work/pages" ] || fail 'no page is named'
 while read -r page; do
     expect "the page $page, which is named" test -s "$prefix/share/doc/xns/$page"
@@ -249,6 +249,8 @@ else left_out pkg-config 'what it says of the library, and the examples'; fi
 expect 'an example against the archive' "$compiler" $flags -std=c99 -I"$prefix/include" examples/c/courier.c "$prefix/lib/libxns.a" -o "$work/courier"
 expect 'runs' env -u LD_LIBRARY_PATH "$work/courier"
 expect 'and is answered' grep -qx 42 "$work/out"
+words=$(sed -n 's|^    gcc \(.* ~/xns/lib/libxns.a\) -o server$|\1|p' README.md | sed "s|~/xns|$prefix|g")
+expect 'the line of README.md that compiles a program' sh -c "[ -n '$words' ] && '$compiler' $words -o '$work/server' && { '$work/server'; [ \$? -eq 2 ]; }"
 
 # The archive is for every x86-64 processor: here for one without SSSE3 and SSE4.
 if has qemu-x86_64; then

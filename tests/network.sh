@@ -195,7 +195,7 @@ if has setpriv; then
 else left_out setpriv 'what is told where there is no right'; fi
 end_all
 expect 'a call to a server that is gone' sh -c "timeout 60 ip netns exec $front-2 '$work/client' -i eth0 $(station 1) 1 2>&1; [ \$? -eq 1 ]"
-expect 'is given up' grep -qx 'the server does not answer' "$work/out"
+expect 'is given up' grep -qx 'the peer does not answer' "$work/out"
 
 # ---- two programs at one station
 

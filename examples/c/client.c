@@ -45,9 +45,8 @@ static void print_answer(const struct xns_message *message, size_t count) {
 
 /* What the client ends with. */
 static int status_of(const struct xns_event *closed) {
-    static const char *const whys[] = { "", "", "the server closed the connection", "the server does not answer", "there is no server" };
     if (closed->closed == XNS_CLOSED_ASKED) return 0;
-    fprintf(stderr, "%s\n", closed->closed == XNS_CLOSED_REFUSED ? xns_result_text((enum xns_result)closed->fault) : whys[closed->closed]);
+    fprintf(stderr, "%s\n", closed->closed == XNS_CLOSED_REFUSED ? xns_result_text((enum xns_result)closed->fault) : xns_closed_text(closed->closed));
     return 1;
 }
 

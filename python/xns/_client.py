@@ -2,7 +2,7 @@
 import contextlib
 from typing import Any, Iterable, Iterator, Optional
 
-from ._errors import BY_RESULT, TEXTS, BusyError, ClosedError, ClosingError, NoConnectionError, NotServedError, SilentError
+from ._errors import BY_RESULT, CLOSED_TEXTS, TEXTS, BusyError, ClosedError, ClosingError, NoConnectionError, NotServedError, SilentError
 from ._library import unsigned, words_of
 from ._links import Carrier, checked, not_blocking
 from ._objects import Host
@@ -92,9 +92,9 @@ class Conversation:
         if closed is None:
             return
         if closed.why == Why.SILENT:
-            raise SilentError("the server does not answer")
+            raise SilentError(CLOSED_TEXTS[closed.why])
         if closed.why == Why.NOT_SERVED:
-            raise NotServedError("there is no server")
+            raise NotServedError(CLOSED_TEXTS[closed.why])
         if closed.why == Why.REFUSED and closed.fault is not None:
             raise BY_RESULT[closed.fault](TEXTS[closed.fault])
 
@@ -103,7 +103,7 @@ class Conversation:
         if isinstance(event, Answer):
             return event
         self.check()
-        raise ClosedError("the connection is closed")
+        raise ClosedError(CLOSED_TEXTS[self.closed.why] if self.closed is not None else "the connection is closed")
 
 
 class Client:

@@ -1,7 +1,7 @@
 """What goes wrong, each as an exception of its name."""
 from typing import Optional
 
-from ._told import Result
+from ._told import Result, Why
 
 TEXTS = {
     Result.NO_MEMORY: "there is no memory",
@@ -40,6 +40,13 @@ TEXTS = {
     Result.NO_CONNECTION: "no connection has this number",
     Result.TOO_MANY_SERVICES: "the host serves as many sockets as it can",
     Result.PEER_CALLS: "the peer opened the connection: its side calls",
+}
+CLOSED_TEXTS = {
+    Why.ASKED: "the program closed the connection",
+    Why.BY_PEER: "the peer closed the connection",
+    Why.SILENT: "the peer does not answer",
+    Why.NOT_SERVED: "an Error packet says that the opening packet was not taken",
+    Why.REFUSED: "what the peer said is no conversation of Courier's",
 }
 
 

@@ -1,4 +1,4 @@
-/* The parts that the header defines itself, as C and as C++: the initializers, the texts of the results, null pointers with the length 0, and the version,
+/* The parts that the header defines itself, as C and as C++: the initializers, the texts of results and reasons, null pointers with the length 0, and the version,
  * which it prints. Ends with 1 at the first difference. */
 #include "xns.h"
 #include <stdio.h>
@@ -53,20 +53,30 @@ static void results(void) {
     CHECK((size_t)named == count);
 }
 
-/* So has each reason for which an item is not taken; and a cursor says its fault, or that it has one of the program's. */
-static void reasons(void) {
-    static const uint32_t all[] = { XNS_NOT_DROPPED, XNS_NOT_IDP, XNS_NOT_SPP, XNS_NOT_OURS, XNS_AHEAD_OF_US, XNS_OUT_OF_ORDER, XNS_NO_ROOM, XNS_REPEAT };
-    const size_t count = sizeof all / sizeof all[0];
-    const char *none = xns_dropped_text(127);
-    struct xns_cursor cursor = XNS_CURSOR_INIT;
-    uint16_t value;
+/* Each of these reasons has a text of its own, and a number that is none has another. */
+static void have_texts(const char *(*text)(uint32_t), const uint32_t *all, size_t count) {
+    const char *none = text(127);
     uint32_t number, named = 0;
     for (size_t i = 0; i < count; i++) {
-        CHECK(xns_dropped_text(all[i])[0] != 0);
-        for (size_t k = 0; k < i; k++) CHECK(strcmp(xns_dropped_text(all[i]), xns_dropped_text(all[k])) != 0);
+        CHECK(text(all[i])[0] != 0);
+        for (size_t k = 0; k < i; k++) CHECK(strcmp(text(all[i]), text(all[k])) != 0);
     }
-    for (number = 0; number < 127; number++) named += strcmp(xns_dropped_text(number), none) != 0;
+    for (number = 0; number < 127; number++) named += strcmp(text(number), none) != 0;
     CHECK(named == count);
+}
+
+/* So has each reason for which an item is not taken, and each for which a connection is closed. */
+static void reasons(void) {
+    static const uint32_t dropped[] = { XNS_NOT_DROPPED, XNS_NOT_IDP, XNS_NOT_SPP, XNS_NOT_OURS, XNS_AHEAD_OF_US, XNS_OUT_OF_ORDER, XNS_NO_ROOM, XNS_REPEAT };
+    static const uint32_t closed[] = { XNS_CLOSED_ASKED, XNS_CLOSED_BY_PEER, XNS_CLOSED_SILENT, XNS_CLOSED_NOT_SERVED, XNS_CLOSED_REFUSED };
+    have_texts(xns_dropped_text, dropped, sizeof dropped / sizeof dropped[0]);
+    have_texts(xns_closed_text, closed, sizeof closed / sizeof closed[0]);
+}
+
+/* A cursor says its fault, or that it has one of the program's. */
+static void faults(void) {
+    struct xns_cursor cursor = XNS_CURSOR_INIT;
+    uint16_t value;
     CHECK(strcmp(xns_fault_text(&cursor), xns_result_text(XNS_OK)) == 0);
     xns_read_cardinal(NULL, 0, &cursor, &value);
     CHECK(strcmp(xns_fault_text(&cursor), xns_result_text(XNS_TRUNCATED)) == 0);
@@ -138,6 +148,7 @@ int main(void) {
     initializers();
     results();
     reasons();
+    faults();
     nulls();
     xns_endpoint_free(NULL);
     xns_host_free(NULL);

@@ -189,7 +189,7 @@ class TallyTest(unittest.TestCase):
             begun = time.monotonic()
             for one in [serving.client(client, [1] * 100) for _, client in BOTH]:
                 out, err = one.communicate(timeout=60)
-                self.assertEqual((one.returncode, err), (1, "the server does not answer\n"))
+                self.assertEqual((one.returncode, err), (1, "the peer does not answer\n"))
                 self.assertLess(len(out.splitlines()), 40)
             self.assertTrue(3 < time.monotonic() - begun < 15)
 

@@ -51,6 +51,8 @@ class HeaderTest(unittest.TestCase):
         texts = dict(re.findall(r'case XNS_(\w+): return "(.*)";', body))
         self.assertEqual({"OK", "NOTHING"} | {one.name for one in xns._errors.TEXTS}, set(texts))
         self.assertTrue(all(texts[one.name] == text for one, text in xns._errors.TEXTS.items()))
+        body = re.search(r"\*xns_closed_text\(.*?\n}", HEADER, re.S).group(0)
+        self.assertEqual({one.name: text for one, text in xns._errors.CLOSED_TEXTS.items()}, dict(re.findall(r'case XNS_CLOSED_(\w+): return "(.*)";', body)))
 
 
 class ValueTest(unittest.TestCase):
