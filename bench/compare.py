@@ -25,56 +25,27 @@ prints the medians and their ratio.
                                           65,536 flows, and those that end messages of Courier; and the largest resident memory of each
     python3 bench/compare.py captures     `xns calls` of 65,536 packets in hex: short calls of one connection, out of order, long ones, each in a flow
                                           of its own, and messages that never end; beside a peer and beside `xns dump` of the same
+    python3 bench/compare.py loopback     calls Add over UDP on this machine, of one client of the library for C and of 16, beside ONC RPC by libtirpc, over UDP
+                                          and TCP, and beside bare datagrams; and 100,000 bytes there and back, at the default window and at
+                                          window 64, beside bare datagrams and ONC RPC over TCP. Processor time of both sides, and instructions
+                                          of a call by callgrind
+    python3 bench/compare.py python       calls Add by Python over UDP on this machine, beside Python's own XML-RPC, with a connection a call and with one
+                                          for all; processor time and instructions likewise
+
+What needs gcc, libtirpc or valgrind is left out where that is not installed, and a line says so. If XNS_ARCHIVE is in the environment, it names the
+library for C, as `rt lib` makes it, and none is built: for a try.
 
 The proved program is built by `rt run` in its crate, the peer by `rustc -O`. Absolute times say little on a shared machine; the
 ratio is of processor time in one run. What is printed is thrown away, once it is known that both print the same; that of `xns dump` goes
 into a file too, which costs both the same time of the system's.
 """
-import functools, os, pathlib, statistics, subprocess, sys, tempfile, time
+import os, pathlib, statistics, subprocess, sys, tempfile, time
 
-BENCH = pathlib.Path(__file__).resolve().parent
-CRATES = BENCH.parent / "crates"
+from building import BENCH, EXAMPLES, TIRPC, built_c, built_peer, built_program, built_shared, has_gcc, has_tirpc
+from loopback import Kind, bare_datagrams, compare_kinds, onc_rpc, ours_over_udp
+
 RUNS = 5
 MANY_RUNS = 15
-
-
-@functools.cache
-def built_program(crate):
-    """The program of a crate, proved and built."""
-    program = CRATES / crate / "out" / crate
-    program.unlink(missing_ok=True)
-    built = subprocess.run(["rt", "run"], cwd=CRATES / crate, stdin=subprocess.DEVNULL, stdout=subprocess.DEVNULL, stderr=subprocess.PIPE, check=False)
-    if not program.exists():
-        sys.exit(built.stderr.decode() + f"no program at {program}")
-    return program
-
-
-@functools.cache
-def built_peer(name, folder, *flags):
-    peer = pathlib.Path(folder) / "-".join([name, *flags[1:]])
-    subprocess.run(["rustc", "-O", "--edition", "2021", *flags, "-o", peer, BENCH / f"{name}.rs"], check=True)
-    return peer
-
-
-@functools.cache
-def built_library():
-    """The library for C, and the kit's three functions that it stands on."""
-    archive = CRATES / "xns_c" / "out" / "libxns_c.a"
-    archive.unlink(missing_ok=True)
-    built = subprocess.run(["rt", "lib"], cwd=CRATES / "xns_c", stdout=subprocess.PIPE, stderr=subprocess.STDOUT, check=False)
-    if built.returncode != 0 or not archive.exists():
-        sys.exit(built.stdout.decode() + f"no library at {archive}")
-    first = pathlib.Path(subprocess.run(["rt", "doc"], stdout=subprocess.PIPE, check=True, text=True).stdout.strip())
-    return archive, first.parent / "c" / "liblibc_c.a"
-
-
-@functools.cache
-def built_c(name, folder, library):
-    """The program of a C file, with the library for C behind it or not."""
-    program = pathlib.Path(folder) / name
-    words = ["gcc", "-O2", "-std=c99", f"-I{BENCH.parent / 'include'}", BENCH / f"{name}.c"]
-    subprocess.run([*words, *(built_library() if library else ()), "-o", program], check=True)
-    return program
 
 
 def output_of(words, given):
@@ -254,6 +225,45 @@ def time_captures(folder, given):
         yield f"`xns calls` of 65,536 packets, {which}", "captures_peer", ratio_of(medians)
 
 
+CALL_SIZES = (56, 50)  # bytes of the packets of a call Add, and of its answer
+LARGE, LARGE_ITEMS = 100_000, 188  # bytes there and back, and the packets that they fill
+LARGE_SIZES = (576, 576)
+
+
+def time_loopback(folder, _given):
+    if not has_gcc():
+        return
+    server = built_c("server", folder, True, source=EXAMPLES / "c")
+    client, back, bare = (built_c(name, folder, name != "datagrams") for name in ("udp_calls", "udp_back", "datagrams"))
+    onc = built_c("onc_calls", folder, False, *TIRPC) if has_tirpc() else None
+    adds = [ours_over_udp(server, client, 0), *([onc_rpc(onc, carrier, 0) for carrier in ("udp", "tcp")] if onc else [])]
+    alone = [bare_datagrams(bare, kind, CALL_SIZES, 1, 2) for kind in ("batched", "single")]
+    yield from compare_kinds("a call Add over loopback", [*adds, *alone], RUNS, 50_000, 2_000)
+    yield from compare_kinds("the same of 16 clients at once", adds, RUNS, 5_000, 250, clients=16)
+    for name, given, window in (("the default window", 0, 8), ("window 64", 64, 64)):
+        kinds = [ours_over_udp(back, client, LARGE, given), *(bare_datagrams(bare, kind, LARGE_SIZES, LARGE_ITEMS, window) for kind in ("batched", "single"))]
+        yield from compare_kinds(f"100,000 bytes there and back, {name}", [*kinds, *([onc_rpc(onc, "tcp", LARGE)] if onc else [])], RUNS, 300, 20)
+
+
+def time_python(folder, _given):
+    if not has_gcc():
+        return
+    tally, script = EXAMPLES / "python" / "tally.py", BENCH / "python_calls.py"
+    paths = f"{BENCH.parent / 'python'}:{tally.parent}"
+    environment = {"PYTHONPATH": paths, "XNS_LIBRARY": str(built_shared(folder)), "PYTHONHASHSEED": "0", "PYTHONDONTWRITEBYTECODE": "1"}
+    ours = Kind("ours", lambda port: [sys.executable, tally, "serve", port], lambda port, calls: [sys.executable, script, "xns", "ask", port, calls])
+    theirs = [
+        Kind(
+            f"xmlrpc, {kind.upper().replace('HTTP', 'HTTP/')}",
+            lambda port, kind=kind: [sys.executable, script, kind, "serve", port],
+            lambda port, calls, kind=kind: [sys.executable, script, kind, "ask", port, calls],
+            is_tcp=True,
+        )
+        for kind in ("http1.0", "http1.1")
+    ]
+    yield from compare_kinds("a call Add of Python over loopback", [ours, *theirs], RUNS, 3_000, 300, environment=environment)
+
+
 TIMINGS = {
     "checksum": time_checksum,
     "values": time_values,
@@ -265,6 +275,8 @@ TIMINGS = {
     "plays": time_plays,
     "dump": time_dump,
     "captures": time_captures,
+    "loopback": time_loopback,
+    "python": time_python,
 }
 
 
