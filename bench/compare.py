@@ -239,7 +239,7 @@ def time_loopback(folder, _given):
     adds = [ours_over_udp(server, client, 0), *([onc_rpc(onc, carrier, 0) for carrier in ("udp", "tcp")] if onc else [])]
     alone = [bare_datagrams(bare, kind, CALL_SIZES, 1, 2) for kind in ("batched", "single")]
     yield from compare_kinds("a call Add over loopback", [*adds, *alone], RUNS, 50_000, 2_000)
-    yield from compare_kinds("the same of 16 clients at once", adds, RUNS, 5_000, 250, clients=16)
+    yield from compare_kinds("the same of 16 clients at once", adds, RUNS, 10_000, 250, clients=16)
     for name, given, window in (("the default window", 0, 8), ("window 64", 64, 64)):
         kinds = [ours_over_udp(back, client, LARGE, given), *(bare_datagrams(bare, kind, LARGE_SIZES, LARGE_ITEMS, window) for kind in ("batched", "single"))]
         yield from compare_kinds(f"100,000 bytes there and back, {name}", [*kinds, *([onc_rpc(onc, "tcp", LARGE)] if onc else [])], RUNS, 300, 20)

@@ -32,10 +32,12 @@ static inline void batch_set(struct batch *batch, unsigned k, size_t length, siz
 
 /* Takes in the packets that are there: `messages[k].msg_len` bytes of each stand in `bytes[k]`. How many. */
 static inline unsigned batch_receive(int file) {
+    static unsigned used = BATCH_MOST; /* by the packets before: only these messages are to be made ready again */
     int count;
-    for (unsigned k = 0; k < BATCH_MOST; k++) batch_set(&batch_in, k, BATCH_ROOM, sizeof batch_in.places[k]);
+    for (unsigned k = 0; k < used; k++) batch_set(&batch_in, k, BATCH_ROOM, sizeof batch_in.places[k]);
     count = recvmmsg(file, batch_in.messages, BATCH_MOST, MSG_DONTWAIT, NULL);
-    return count < 0 ? 0 : (unsigned)count;
+    used = count < 0 ? 0 : (unsigned)count;
+    return used;
 }
 
 /* Sends what was put. One that can't be sent is as one that is lost. */
