@@ -1,5 +1,6 @@
 """Networks for the tests: a relay between UDP clients and a server that spoils some of their datagrams, and an end of a connection over UDP that says what
 no client says."""
+import contextlib
 import heapq
 import random
 import select
@@ -193,7 +194,9 @@ class Hub(threading.Thread):
             self.frames, self.shortest = self.frames + 1, min(self.shortest, size - 2)
             for other in self.streams:
                 if other is not stream:
-                    other.sendall(left[:size])
+                    # A stream that has ended hears no more, and goes once it is read.
+                    with contextlib.suppress(OSError):
+                        other.sendall(left[:size])
             left = left[size:]
         self.streams[stream] = left
 
