@@ -10,8 +10,10 @@ mod Dues
 mod Ends
 mod Fetching
 mod Fills
+mod Given
 mod Giving
 mod Going
+mod Handed
 mod Handing
 mod Hearing
 mod Keeping

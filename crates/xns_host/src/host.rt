@@ -45,6 +45,7 @@ use crate::connection::Connection;
 use crate::event::Event;
 use crate::guest::Guest;
 use crate::host_fault::HostFault;
+use crate::laws::a_step_keeps_its_promises;
 use crate::opening_quote::{OpeningQuote, quoted_opening};
 use crate::outgoing::Outgoing;
 use crate::peer::Peer;
@@ -252,6 +253,7 @@ impl Host {
             → Answers (call_fault_of g.connection.conversation (words_call program version procedure words.now)) result }
         ensures turn { Turn now number (made (words_call program version procedure words.now)) result self.old self.new }
     {
+        a_step_keeps_its_promises();
         let now = self.clock.tell(now);
         if number >= self.guests.len() {
             return Err(HostFault::NoConnection { number });
@@ -282,6 +284,7 @@ impl Host {
             → Answers (answer_fault_of g.connection.conversation answer words.now) result }
         ensures turn { Turn now number (gave answer words.now) result self.old self.new }
     {
+        a_step_keeps_its_promises();
         let now = self.clock.tell(now);
         if number >= self.guests.len() {
             return Err(HostFault::NoConnection { number });
@@ -301,6 +304,7 @@ impl Host {
         ensures some { (g : Guest) → slice_get self.old.guests.items number ≡ Some (Some g) → result ≡ Ok tt }
         ensures turn { Turn now number asked result self.old self.new }
     {
+        a_step_keeps_its_promises();
         let now = self.clock.tell(now);
         if number >= self.guests.len() {
             return Err(HostFault::NoConnection { number });

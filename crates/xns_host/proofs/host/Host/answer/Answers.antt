@@ -1,9 +1,7 @@
-use Rattle.std.proofs.Common.{subst, None, ◌≡◌, ◌<◌, ◌∙◌, ap, refl, sym, ℕ, length, rules, arith, slice_get, slice_set, get_or, Some, Ok, true, false}
+use Rattle.std.proofs.Common.{subst, None, ◌≡◌, ◌∙◌, refl, rules, arith, Some, Ok}
 use Rattle.xns_host.specs.Deeds.{gave}
 use Rattle.xns_host.specs.Reasons.{answer_fault_of}
-use Rattle.xns_host.specs.Hosting.{has_guest}
 use Rattle.xns_host.specs.declared.guest.Guest.{Guest}
-use Rattle.xns_host.specs.Went.{Went}
 use Rattle.xns_host.proofs.Noting.{kept_but}
 use Rattle.xns_host.proofs.Turns.{gave_still, in_place, is_there, not_none, one_guest, set_apart, slot_known, slot_not_done, slot_registered, went_set}
 use Rattle.xns_host.proofs.host.Host.answer.Goals as goal
@@ -17,7 +15,7 @@ note-requires-clause-others c =
 pub invariant_of-self-2-clause-registered : goal.invariant_of-self-2-clause-registered
 invariant_of-self-2-clause-registered c =
     let w = in_place c.tell-now.result (gave c.args.answer c.args.words.now) c.index_mut.result.now c.in-Some.guest c.answer.new.self c.in-Some.is (c.in_ok-answer.ensures.step) in
-    slot_registered c.tell-now.result (gave c.args.answer c.args.words.now) (Ok tt) c.args.self.now.register c.args.self.now.guests.items c.args.number c.index_mut.result.now (Some c.answer.new.self)
+    slot_registered c.a_step_keeps_its_promises.ensures c.tell-now.result (gave c.args.answer c.args.words.now) (Ok tt) c.args.self.now.register c.args.self.now.guests.items c.args.number c.index_mut.result.now (Some c.answer.new.self)
     c.args.self.now.registered (gave_still c.args.answer c.args.words.now) w tt (search rules) (omega arith)
 
 pub invariant_of-self-2-clause-not_done : goal.invariant_of-self-2-clause-not_done

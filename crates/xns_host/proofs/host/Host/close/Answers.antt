@@ -1,7 +1,5 @@
-use Rattle.std.proofs.Common.{◌≡◌, ◌<◌, ◌∙◌, ap, refl, sym, ℕ, length, rules, arith, slice_get, slice_set, get_or, Some, Ok, true, false}
+use Rattle.std.proofs.Common.{◌∙◌, refl, rules, arith, Some, Ok}
 use Rattle.xns_host.specs.Deeds.{asked}
-use Rattle.xns_host.specs.Hosting.{has_guest}
-use Rattle.xns_host.specs.Went.{Went}
 use Rattle.xns_host.proofs.Noting.{kept_but}
 use Rattle.xns_host.proofs.Turns.{in_place, is_there, not_none, set_apart, slot_known, slot_not_done, slot_registered, went_set}
 use Rattle.xns_host.proofs.host.Host.close.Goals as goal
@@ -15,7 +13,7 @@ note-requires-clause-others c =
 pub invariant_of-self-2-clause-registered : goal.invariant_of-self-2-clause-registered
 invariant_of-self-2-clause-registered c =
     let w = in_place c.tell-now.result asked c.index_mut.result.now c.in-Some.guest c.close.new.self c.in-Some.is c.close.ensures in
-    slot_registered c.tell-now.result asked (Ok tt) c.args.self.now.register c.args.self.now.guests.items c.args.number c.index_mut.result.now (Some c.close.new.self)
+    slot_registered c.a_step_keeps_its_promises.ensures c.tell-now.result asked (Ok tt) c.args.self.now.register c.args.self.now.guests.items c.args.number c.index_mut.result.now (Some c.close.new.self)
     c.args.self.now.registered (λ side h. refl) w tt (search rules) (omega arith)
 
 pub invariant_of-self-2-clause-not_done : goal.invariant_of-self-2-clause-not_done
