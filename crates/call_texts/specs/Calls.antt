@@ -75,12 +75,12 @@ abbrev pub CallWants : List Program → ℕ → ℕ → ℕ → List ℕ → Typ
 CallWants programs program version procedure words = IsSomeAnd (program_by programs program version)
     (λ p. IsSomeAnd (procedure_by (resolved_model p).procedures procedure) (λ q. ShowingWants q.arguments words))
 
--- the same of a return and its results
+-- a return wants memory: its procedure is declared, and showing its results wants memory
 abbrev pub ReturnWants : List Program → ℕ → ℕ → ℕ → List ℕ → Type 0
 ReturnWants programs program version procedure words = IsSomeAnd (program_by programs program version)
     (λ p. IsSomeAnd (procedure_by (resolved_model p).procedures procedure) (λ q. ShowingWants q.results words))
 
--- the same of an abort and the error's arguments
+-- an abort wants memory: its error is declared, and showing the error's arguments wants memory
 abbrev pub AbortWants : List Program → ℕ → ℕ → ℕ → List ℕ → Type 0
 AbortWants programs program version error words = IsSomeAnd (program_by programs program version)
     (λ p. IsSomeAnd (error_by (resolved_model p).errors error) (λ r. ShowingWants r.arguments words))

@@ -1,5 +1,5 @@
 -- Texts and tokens of which something was read.
-use Rattle.std.proofs.Common.{◌≡◌, ℕ, zero, suc, ◌-◌, ◌<◌, Bool, true, false, cond, List, [], ◌∷◌, length, nat_le, Result, Ok, Err, IsOk, refl, ap, arith}
+use Rattle.std.proofs.Common.{◌≡◌, ℕ, zero, suc, ◌-◌, ◌<◌, Bool, true, false, cond, List, [], ◌∷◌, length, nat_le, Result, Ok, Err, IsOk, refl, arith}
 use Rattle.courier_notation.specs.declared.reason.Reason.TheVariants.{TooLong}
 use Rattle.courier_notation.specs.declared.token.Token.{Token}
 use Rattle.courier_notation.specs.Lexing.{HasToken, Lexing, lexed_at, lexed_from, lexeme_in, lexing_of, most_text, most_tokens, nothing_read, skipped, with_lexeme}

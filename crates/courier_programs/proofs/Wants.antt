@@ -10,7 +10,7 @@ use Rattle.courier_programs.specs.declared.refusal.Refusal.{Refusal}
 use Rattle.courier_programs.specs.declared.refusal.Refusal.TheVariants as refusals
 use Rattle.courier_programs.specs.Meanings.{Components, components_from, components_seen}
 use Rattle.courier_programs.specs.Memory.{FirstWasRead, HasFields, TypeWants}
-use Rattle.courier_programs.specs.Refused.{IfNoMemory, IsWanted, NameFault, ◌>>=◌, over, steps}
+use Rattle.courier_programs.specs.Refused.{IfNoMemory, IsWanted, NameFault, ◌>>=◌, over}
 use Rattle.courier_programs.specs.Resolving.{dependency_step}
 use Rattle.courier_programs.specs.Scopes.{Env, dependency_of, program_by, spent, type_named, word_of}
 use Rattle.courier_programs.specs.Types.{array_meant, candidates_seen, candidates_meant, choice_meant, components_meant, enumeration_meant, fields_meant, maximum_of, referred, sequence_meant, tag_members, type_level_meant, type_meant, variants_from}

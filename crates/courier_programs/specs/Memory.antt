@@ -1,5 +1,5 @@
 -- Where resolving may be refused memory: this project's rule. Something grows there, and no fault was found before it.
-use Rattle.std.specs.Prelude.{◌≡◌, ℕ, ◌<◌, List, [], ◌∷◌, length, Option, None, IsOk, true, is_some}
+use Rattle.std.specs.Prelude.{◌≡◌, ◌<◌, List, [], ◌∷◌, length, None, IsOk, true, is_some}
 use Rattle.courier_notation.specs.declared.declared.Dependency.{Dependency}
 use Rattle.courier_notation.specs.ProgramModels.{DeclaredModel, ProgramModel}
 use Rattle.courier_notation.specs.Written.{TypeModel, FieldModels, no_fields, field_and}
