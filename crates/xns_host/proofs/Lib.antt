@@ -10,14 +10,14 @@ mod Dues
 mod Ends
 mod Fetching
 mod Fills
+mod Follows
+mod Foreign
 mod Given
 mod Giving
-mod Going
 mod Handed
 mod Handing
 mod Hearing
 mod Keeping
-mod Known
 mod Leading
 mod Listing
 mod Lives

@@ -228,18 +228,6 @@ acts_by p a w o now is after owes stay =
     ∙ (ap (λ (x : Owed). let q : Parts = record p { wait = after_act p.wait now; owed = x } in q) (owes ∙ ap (λ (b : Act). owed_after p.owed b) is)
     ∙ done_by p (act_at p.wait now) now (λ z. stay (is ∙ z)))
 
-pub gives_up_by : (p : Parts) (a : Act) (w : Waiting) (o : Owed) (why : Why) (now : ℕ) → a ≡ act_at p.wait now → w ≡ after_act p.wait now
-    → o ≡ owed_after p.owed a → a ≡ GiveUp → why ≡ why_given_up p.conversation.closing
-    → (let q : Parts = record p { conversation = given_up p.conversation; wait = w; owed = o; closed = Some why } in q) ≡ acted p now
-gives_up_by p a w o why now is after owes gives reason =
-    let act : act_at p.wait now ≡ GiveUp = sym is ∙ gives in
-    ap (λ (x : Waiting). let q : Parts = record p { conversation = given_up p.conversation; wait = x; owed = o; closed = Some why } in q)
-    (after ∙ ap (λ (b : Act). after_by p.wait b now) act)
-    ∙ (ap (λ (x : Owed). let q : Parts = record p { conversation = given_up p.conversation; wait = after_by p.wait GiveUp now; owed = x; closed = Some why } in q)
-    (owes ∙ ap (λ (b : Act). owed_after p.owed b) gives)
-    ∙ (ap (λ (x : Why). let q : Parts = record p { conversation = given_up p.conversation; wait = after_by p.wait GiveUp now; closed = Some x } in q) reason
-    ∙ ap (λ (b : Act). acted_by p b now) (sym act)))
-
 -- ---- a message that is handed
 
 pub calm_then : (c : Connection) (t : Conversation) (s : State) → c.owed.moving ≡ false → scene t s ≡ done took (scene c.conversation s)

@@ -93,15 +93,6 @@ went_set t u deed gs n old v same less read w =
 pub in_place : (now : ℕ) (deed : Deed) (old : Option Guest) (g h : Guest) → old ≡ Some g → GuestStep now deed g h → Went now deed (Some old) (Some (Some h))
 in_place now deed old g h is step = subst (λ (p : Option Guest). Went now deed (Some p) (Some (Some h))) (sym is) step
 
-pub in_place_if : (now : ℕ) (deed : Deed) (r : Result (Unit {0}) HostFault) (old : Option Guest) (g h : Guest) → old ≡ Some g → OnOk r (GuestStep now deed g h)
-    → OnOk r (Went now deed (Some old) (Some (Some h)))
-in_place_if now deed (Ok u) old g h is step = in_place now deed old g h is step
-in_place_if now deed (Err e) old g h is step = tt
-
-pub stays_if : (r : Result (Unit {0}) HostFault) (old : Option Guest) (g h : Guest) → old ≡ Some g → OnErr r (h ≡ g) → OnErr r (Some h ≡ old)
-stays_if (Ok u) old g h is same = tt
-stays_if (Err e) old g h is same = ap Some same ∙ sym is
-
 pub is_there : (gs : Places) (n : ℕ) (old : Option Guest) (g : Guest) → n < length gs → old ≡ get_or gs n old → old ≡ Some g
     → slice_get gs n ≡ Some (Some g)
 is_there gs n old g less read is = slice_get_read gs (length gs) n old refl less read ∙ ap Some is
