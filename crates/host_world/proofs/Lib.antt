@@ -1,3 +1,10 @@
+mod Dialogues
+mod Sides
+mod Stepping
+mod Deeds
+mod Shown
+mod Numbers
+mod Hosts
 mod Kept
 mod Led
 mod Paired

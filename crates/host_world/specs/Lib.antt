@@ -3,3 +3,5 @@ pub mod Meeting
 pub mod Meets
 pub mod Pairing
 pub mod Going
+pub mod Dialogue
+pub mod Seen

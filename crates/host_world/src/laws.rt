@@ -1,16 +1,21 @@
 //! What the definitions imply, each as the contract of a function that does nothing.
 
-ghost use Rattle.std.specs.Prelude.{◌≤◌, ℕ, List, Contains, length};
+ghost use Rattle.std.specs.Prelude.{◌≡◌, ◌⊎◌, ◌≤◌, ◌∷◌, ◌++◌, ℕ, List, Contains, length, slice_get, true};
 ghost use Rattle.courier_sessions.specs.declared.program.Program.{Program};
 ghost use Rattle.item_world.specs.Side.{other};
 ghost use Rattle.item_world.specs.World.{lifetime};
 ghost use Rattle.item_world.specs.declared.side.Side.{Side};
+ghost use Rattle.host_world.specs.Dialogue.{Course, Dialogue, Happened, Happening, IsInOrder, IsOpening, IsUnheard, View, WasTold};
+ghost use Rattle.host_world.specs.Dialogue.{closes, free, goes, held, is_going, is_news, tells};
 ghost use Rattle.host_world.specs.Going.{CanFinish};
 ghost use Rattle.host_world.specs.Meeting.{Meeting, at};
 ghost use Rattle.host_world.specs.Meets.{Meets, IsMet};
 ghost use Rattle.host_world.specs.Pairing.{MayCome};
+ghost use Rattle.host_world.specs.Seen.{HasHistory, Lives};
 ghost use Rattle.host_world.specs.Station.{IsStation};
 ghost use Rattle.host_world.specs.declared.station.Station.{Station};
+ghost use Rattle.xns_host.specs.declared.host.Host.{Host};
+ghost use Rattle.xns_host.specs.declared.why.Why.{Why};
 
 /// Two connections over a network that loses, repeats and reorders packets, where packets that come to one were made by the other, or are
 /// no packets of the connection, and none comes once either end has taken more than 30,000 further items since it was made: what each end
@@ -56,3 +61,26 @@ pub fn the_ends_of_a_meeting_are_not_stuck()
     xns_host::laws::one_story_goes_on();
     xns_host::laws::two_programs_agree();
 }
+
+/// What every history of one number of a host comes to. The k-th answer is to the k-th call, and at most one call is not answered
+/// (`order`). The reason that the program is told is the one for which the connection was closed (`reason`), and nothing more of that
+/// connection is told behind it (`last`). The number becomes free after that, or where a peer opened the connection and nothing of it was
+/// told (`gone`). Nothing happens at a free number but that a connection gets it (`first`, `again`).
+pub fn a_number_keeps_its_order()
+    ensures order { (xs : List Happening) (d : Dialogue) → Course free xs (held d) → IsInOrder d }
+    ensures reason { (xs : List Happening) (why : Why) (ys : List Happening) (v : View) → Course free (xs ++ tells why ∷ ys) v
+        → Happened (closes why) is_going xs }
+    ensures last { (xs : List Happening) (why : Why) (ys : List Happening) (x : Happening) (zs : List Happening) (v : View)
+        → Course free (xs ++ tells why ∷ (ys ++ x ∷ zs)) v → is_news x ≡ true → Contains ys goes }
+    ensures gone { (xs ys : List Happening) (v : View) → Course free (xs ++ goes ∷ ys) v → WasTold xs ⊎ IsUnheard xs }
+    ensures first { (x : Happening) (xs : List Happening) (v : View) → Course free (x ∷ xs) v → IsOpening x }
+    ensures again { (v : View) (xs : List Happening) (x : Happening) (ys : List Happening) (w : View)
+        → Course v (xs ++ goes ∷ (x ∷ ys)) w → IsOpening x }
+{}
+
+/// Each number of a host has a history, whatever calls are made of the host from a new one on, in whatever order: what the program said and
+/// was told at the number is what is said in that history, which leads from the free number to what the number is now. So what
+/// [`a_number_keeps_its_order`] says of histories holds of what a program sees.
+pub fn each_number_of_a_host_has_a_history()
+    ensures { (h : Host) (said : ℕ → List Happening) → Lives h said → (k : ℕ) → HasHistory (slice_get h.guests.items k) (said k) }
+{}

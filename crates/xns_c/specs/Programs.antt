@@ -1,14 +1,15 @@
 -- Programs of Courier's notation that a handle of C's has, and what C is told of them.
-use Rattle.std.specs.Prelude.{◌≡◌, ◌≢◌, ◌⊎◌, ◌<◌, ◌≤◌, ℕ, ◌+◌, List, [], ◌∷◌, ◌++◌, length, take, Option, Some, None, Result, Ok, Err, option_map}
+use Rattle.std.specs.Prelude.{◌≡◌, ◌≢◌, ◌⊎◌, ◌<◌, ◌≤◌, ℕ, ◌+◌, List, [], ◌∷◌, ◌++◌, length, take, Option, Some, None, Result, Ok, Err, IsOk, option_map}
 use Rattle.std.specs.List.{find, flat_map}
 use Rattle.std.specs.Str.{bytes_eq}
 use Rattle.call_texts.specs.Showing.{UnreadModel}
 use Rattle.call_texts.specs.declared.unread.UnreadReason.{UnreadReason}
 use Rattle.call_texts.specs.declared.unread.UnreadReason.TheVariants as unread
+use Rattle.courier_notation.specs.Lexing.{HasToken}
 use Rattle.courier_programs.specs.Declarations.{error_by, procedure_by}
 use Rattle.courier_programs.specs.Meanings.{ErrorModel, ProcedureModel, ResolvedModel, resolved_model}
 use Rattle.courier_programs.specs.Scopes.{program_by}
-use Rattle.courier_programs.specs.Texts.{TextFault, position_behind}
+use Rattle.courier_programs.specs.Texts.{TextFault, position_behind, text_meant}
 use Rattle.courier_programs.specs.declared.program.Program.{Program}
 use Rattle.program_tables.specs.Tables.{NodeModel, program_nodes}
 use Rattle.xns_c.specs.Given.{IsPut}
@@ -48,6 +49,10 @@ fault_given text f = record {
 abbrev pub ReadsText : Result ResolvedModel TextFault → List ℕ → List Program → List Program → XnsNotationFault → XnsNotationFault → ℕ → Type 0
 ReadsText (Ok p) text before after was fault result = (result ≡ ok) × IsAdded p before after × (fault ≡ was)
 ReadsText (Err f) text before after was fault result = (result ≡ wrong_text) × (after ≡ before) × (fault ≡ fault_given text f)
+
+-- reading a text wants memory: it begins with a token, or it is a program, which is kept
+abbrev pub ReadingWants : List ℕ → List Program → Type 0
+ReadingWants text before = HasToken text ⊎ IsOk (text_meant text before)
 
 -- ---- finding
 

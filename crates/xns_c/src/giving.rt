@@ -1,8 +1,9 @@
 //! What was found of programs, given to C.
 
-ghost use Rattle.std.specs.Prelude.{◌≡◌, ◌≢◌, ◌<◌, ◌≤◌, ◌⊎◌, length as length_of, IfOk, List, MatchOption, None, Ok, Option, Result, Some, ℕ};
+ghost use Rattle.std.specs.Prelude.{◌≡◌, ◌≢◌, ◌<◌, ◌≤◌, ◌⊎◌, length as length_of, Err, IfOk, List, MatchOption, None, Ok, Option, Result, Some, ℕ};
 ghost use Rattle.call_texts.specs.Calls.{ShowsDeclared};
 ghost use Rattle.call_texts.specs.Showing.{UnreadModel};
+ghost use Rattle.call_texts.specs.declared.unread.Unshown.TheVariants.{NoMemory};
 ghost use Rattle.courier_programs.specs.Meanings.{resolved_model};
 ghost use Rattle.program_tables.specs.Tables.{nodes_seen, program_nodes};
 ghost use Rattle.xns_c.specs.Given.{IsPut};
@@ -92,6 +93,7 @@ pub fn give_text(
     ensures given { (text : Option (Result (List ℕ) UnreadModel)) → ShowsDeclared shown text → result ≢ no_memory
         → GivesText text buffer.old buffer.new written.old written.new place.old place.new result }
     ensures memory { result ≡ no_memory → (buffer.new ≡ buffer.old) × (written.new ≡ written.old) × (place.new ≡ place.old) }
+    ensures refused { result ≡ no_memory → shown ≡ Err NoMemory }
 {
     match shown {
         Ok(Some(text)) => give_bytes(&text, buffer, written),

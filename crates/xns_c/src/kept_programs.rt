@@ -2,7 +2,7 @@
 
 ghost use Rattle.std.specs.Prelude.{◌≡◌, ◌≢◌, ◌++◌, ◌∷◌, []};
 ghost use Rattle.courier_programs.specs.Texts.{text_meant};
-ghost use Rattle.xns_c.specs.Programs.{ReadsText, fault_given};
+ghost use Rattle.xns_c.specs.Programs.{ReadingWants, ReadsText, fault_given};
 ghost use Rattle.xns_c.specs.Results.{ok, no_memory};
 
 use crate::notation_fault::XnsNotationFault;
@@ -55,6 +55,7 @@ impl KeptPrograms {
         ensures read { result ≢ no_memory → ReadsText (text_meant text.now self.old.programs.items) text.now
             self.old.programs.items self.new.programs.items fault.old fault.new result }
         ensures memory { result ≡ no_memory → (self.new.programs.items ≡ self.old.programs.items) × (fault.new ≡ fault.old) }
+        ensures wants { result ≡ no_memory → ReadingWants text.now self.old.programs.items }
     {
         match read_text(alloc, text, &self.programs) {
             Ok(program) => self.add(program),

@@ -1,7 +1,7 @@
 //! The texts of calls, returns and aborts by name and value, and the tables of programs.
 
-ghost use Rattle.std.specs.Prelude.{◌≡◌, ◌≢◌, slice_get};
-ghost use Rattle.call_texts.specs.Calls.{abort_shown, call_shown, return_shown};
+ghost use Rattle.std.specs.Prelude.{◌≡◌, ◌≢◌, None, slice_get};
+ghost use Rattle.call_texts.specs.Calls.{AbortWants, CallWants, ReturnWants, abort_shown, call_shown, return_shown};
 ghost use Rattle.xns_c.specs.Programs.{GivesTable, GivesText, programs_of};
 ghost use Rattle.xns_c.specs.Results.{no_memory};
 
@@ -31,6 +31,7 @@ pub extern "C" fn xns_programs_call_text(
 ) -> u32
     ensures given { result ≢ no_memory → GivesText (call_shown (programs_of handle.old) program version procedure words.now)
         buffer.old buffer.new written.old written.new place.old place.new result }
+    ensures wants { result ≡ no_memory → CallWants (programs_of handle.old) program version procedure words.now }
     ensures memory { result ≡ no_memory → (buffer.new ≡ buffer.old) × (written.new ≡ written.old) × (place.new ≡ place.old) }
     ensures same { programs_of handle.new ≡ programs_of handle.old }
 {
@@ -61,6 +62,7 @@ pub extern "C" fn xns_programs_return_text(
 ) -> u32
     ensures given { result ≢ no_memory → GivesText (return_shown (programs_of handle.old) program version procedure words.now)
         buffer.old buffer.new written.old written.new place.old place.new result }
+    ensures wants { result ≡ no_memory → ReturnWants (programs_of handle.old) program version procedure words.now }
     ensures memory { result ≡ no_memory → (buffer.new ≡ buffer.old) × (written.new ≡ written.old) × (place.new ≡ place.old) }
     ensures same { programs_of handle.new ≡ programs_of handle.old }
 {
@@ -91,6 +93,7 @@ pub extern "C" fn xns_programs_abort_text(
 ) -> u32
     ensures given { result ≢ no_memory → GivesText (abort_shown (programs_of handle.old) program version error words.now)
         buffer.old buffer.new written.old written.new place.old place.new result }
+    ensures wants { result ≡ no_memory → AbortWants (programs_of handle.old) program version error words.now }
     ensures memory { result ≡ no_memory → (buffer.new ≡ buffer.old) × (written.new ≡ written.old) × (place.new ≡ place.old) }
     ensures same { programs_of handle.new ≡ programs_of handle.old }
 {
@@ -121,6 +124,7 @@ pub extern "C" fn xns_programs_table(
 ) -> u32
     ensures given { result ≢ no_memory → GivesTable (slice_get (programs_of handle.old) index) (number.old, version.old)
         (number.new, version.new) nodes.old nodes.new names.old names.new (count.old, length.old) (count.new, length.new) result }
+    ensures wants { result ≡ no_memory → slice_get (programs_of handle.old) index ≢ None }
     ensures memory { result ≡ no_memory → (nodes.new ≡ nodes.old) × (names.new ≡ names.old) × (count.new ≡ count.old) × (length.new ≡ length.old)
         × (number.new ≡ number.old) × (version.new ≡ version.old) }
     ensures same { programs_of handle.new ≡ programs_of handle.old }

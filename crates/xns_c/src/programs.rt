@@ -3,7 +3,7 @@
 ghost use Rattle.std.specs.Prelude.{◌≡◌, ◌≢◌, [], None};
 ghost use Rattle.courier_programs.specs.Scopes.{program_by};
 ghost use Rattle.courier_programs.specs.Texts.{text_meant};
-ghost use Rattle.xns_c.specs.Programs.{GivesBytes, ReadsText, TellsNumber, TellsProgram, error_called_in, error_name, error_number};
+ghost use Rattle.xns_c.specs.Programs.{GivesBytes, ReadingWants, ReadsText, TellsNumber, TellsProgram, error_called_in, error_name, error_number};
 ghost use Rattle.xns_c.specs.Programs.{error_numbered_in, kept_programs_of, procedure_called_in, procedure_name, procedure_number};
 ghost use Rattle.xns_c.specs.Programs.{procedure_numbered_in, program_called, program_name, programs_of};
 ghost use Rattle.xns_c.specs.Results.{no_memory};
@@ -15,8 +15,34 @@ use crate::giving::{give_name, tell_number, tell_program};
 use crate::kept_programs::KeptPrograms;
 use crate::notation_fault::XnsNotationFault;
 use crate::programs_handle::XnsPrograms;
-use crate::results::{NO_MEMORY, NOTHING};
+use crate::results::{NO_MEMORY, NOTHING, OK};
 use std::alloc::Global;
+
+/// Reads the first text of a handle.
+fn read_first(
+    alloc: Global,
+    handle: &mut XnsPrograms,
+    text: &[u8],
+    fault: &mut XnsNotationFault,
+) -> u32
+    requires { kept_programs_of handle.old ≡ None }
+    ensures read { result ≢ no_memory → ReadsText (text_meant text.now []) text.now [] (programs_of handle.new) fault.old fault.new result }
+    ensures memory { result ≡ no_memory → (programs_of handle.new ≡ []) × (fault.new ≡ fault.old) }
+    ensures wants { result ≡ no_memory → ReadingWants text.now [] }
+{
+    let mut kept = KeptPrograms::none(alloc);
+    let result = kept.read(alloc, text, fault);
+    if result != OK {
+        return result;
+    }
+    match Box::new(alloc, kept) {
+        Ok(kept) => {
+            handle.put(kept);
+            OK
+        }
+        Err(_) => NO_MEMORY,
+    }
+}
 
 /// Reads a text in Courier's notation, and puts the program that it is behind those that the handle has. What the program depends upon was
 /// read before.
@@ -32,13 +58,10 @@ pub extern "C" fn xns_programs_read(
     ensures read { result ≢ no_memory → ReadsText (text_meant text.now (programs_of handle.old)) text.now
         (programs_of handle.old) (programs_of handle.new) fault.old fault.new result }
     ensures memory { result ≡ no_memory → (programs_of handle.new ≡ programs_of handle.old) × (fault.new ≡ fault.old) }
+    ensures wants { result ≡ no_memory → ReadingWants text.now (programs_of handle.old) }
 {
-    let mut kept = match handle.take(alloc) {
-        Some(kept) => kept,
-        None => match Box::new(alloc, KeptPrograms::none(alloc)) {
-            Ok(kept) => kept,
-            Err(_) => return NO_MEMORY,
-        },
+    let Some(mut kept) = handle.take(alloc) else {
+        return read_first(alloc, handle, text, fault);
     };
     let result = kept.read(alloc, text, fault);
     handle.put(kept);
