@@ -36,7 +36,8 @@ for is no error: such a call returns None.
 The module calls the shared library `libxns.so`: the one that the environment's XNS_LIBRARY names,
 else the one that `install.sh` installed with this module, else the one that the system finds. What
 the library does is proved; this module is not. It needs Python 3.8 or later and nothing else.
-docs/C.md says when a program makes each call, and docs/C-REFERENCE.md more on it.
+docs/PYTHON.md has more on it; docs/C.md says when a program makes each call, and docs/C-REFERENCE.md which
+there are.
 
 An object is used by the thread that made it alone; `Server.stop` can be called by any. It gives its
 memory back when it is freed, by `free` or at the end of a `with`, or when Python lets it go in that

@@ -227,8 +227,9 @@ class CrosswiseTest(Served):
     def test_a_typed_client_and_a_server_of_c(self):
         tally = xns.Programs().read(OLD_TALLY)
         with Serving(C[0]) as serving:
-            by_name = tally.client(self.client(serving.place))
-            self.assertEqual([by_name.Add(amount) for amount in (5, 65535, 1)], [5, 65540, 65541])
+            client = self.client(serving.place)
+            self.assertEqual([tally.client(client).Add(amount) for amount in (5, 65535, 1)], [5, 65540, 65541])
+            client.close()
 
     def test_a_client_of_c_and_a_typed_server(self):
         tally = xns.Programs().read(OLD_TALLY)
