@@ -10,7 +10,7 @@ ghost use Rattle.host_world.specs.Dialogue.{closes, free, goes, held, is_going, 
 ghost use Rattle.host_world.specs.Going.{CanFinish};
 ghost use Rattle.host_world.specs.Meeting.{Meeting, at};
 ghost use Rattle.host_world.specs.Meets.{Meets, IsMet};
-ghost use Rattle.host_world.specs.Pairing.{MayCome};
+ghost use Rattle.host_world.specs.Pairing.{MayCome, WasMade};
 ghost use Rattle.host_world.specs.Seen.{HasHistory, Lives};
 ghost use Rattle.host_world.specs.Station.{IsStation};
 ghost use Rattle.host_world.specs.declared.station.Station.{Station};
@@ -39,6 +39,19 @@ pub fn a_given_packet_may_come()
     ensures { (a b : Station) (programs : List Program) (m : Meeting) (side : Side) (bytes : List ℕ) → IsStation a → IsStation b
         → Meets a b programs m → ((s : Side) → length (at m s).story.state.taken ≤ lifetime) → Contains (at m side).given bytes
         → MayCome m (other side) bytes }
+{
+    item_world::laws::end_laws_are_given();
+    item_world::laws::each_step_keeps_the_order();
+    xns_host::laws::one_story_goes_on();
+    xns_host::laws::two_programs_agree();
+}
+
+/// Each packet that a connection gave was made at a moment that the world keeps with it. It may come to the other connection, now or in any
+/// meeting that the packet is kept in, once or again, as long as neither end has taken more than 30,000 further items since that moment,
+/// however many it took before.
+pub fn a_given_packet_may_come_while_it_lives()
+    ensures { (a b : Station) (programs : List Program) (m : Meeting) (side : Side) (bytes : List ℕ) → IsStation a → IsStation b
+        → Meets a b programs m → Contains (at m side).given bytes → WasMade m side bytes }
 {
     item_world::laws::end_laws_are_given();
     item_world::laws::each_step_keeps_the_order();
