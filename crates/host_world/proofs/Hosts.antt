@@ -3,13 +3,14 @@ use Rattle.std.proofs.Common.{◌≡◌, ap, refl, sym, subst, ℕ, zero, suc, B
 use Rattle.std.specs.Prelude.{◌==◌, if◌then◌else◌, max, slice_get}
 use Rattle.xns_idp.specs.declared.address.Address.{Address}
 use Rattle.xns_spp.specs.Packet.{SppPacketModel}
-use Rattle.xns_host.specs.Coming.{Comes, Opens, Whole}
+use Rattle.xns_host.specs.Coming.{Comes, Opens}
 use Rattle.xns_host.specs.Coming as coming
 use Rattle.xns_host.specs.Hosting.{confirms}
 use Rattle.xns_host.specs.Places.{Acts, ActsAt, AsksEvent, AsksInVain, GivesNone, IsUnmoved, NextEvent, NextPacket, Places, Turns, became, event_passed, packet_passed, places_with, seated, taken_by, vacated, vacated_if}
 use Rattle.xns_host.specs.Places as places
 use Rattle.xns_host.specs.Turn.{ConnectsTo, GivesOut, TellsNext, Turn, places_of, whole_of}
 use Rattle.xns_host.specs.Went.{GuestHears, GuestStep, GuestUnserved, Went}
+use Rattle.xns_host.specs.Whole.{Whole}
 use Rattle.xns_host.specs.Deeds.{Deed}
 use Rattle.xns_host.specs.declared.register.Register.{Register}
 use Rattle.xns_host.specs.declared.event.Event.{Event}
@@ -29,23 +30,25 @@ unmoved {p} places.same = silent p.guests
 unmoved {p} (places.noted_again number place at) = silent p.guests
 
 opens_it : (now way : ℕ) (bytes : List ℕ) (packet : SppPacketModel) (w : Whole) {register : Register} {r : Places} → Opens now way bytes packet w register r → Silent w.places.guests r.guests
-opens_it now way bytes packet w (coming.opened {new = new} number id identifier peer programs guest opener served place answering turn turned_over) =
-    let shows = opened_shows guest answering in
+opens_it now way bytes packet w (coming.opened {mid = mid} {new = new} number id peer programs opener served seats turn) =
+    let guest = seats.guest in
+    let shows = opened_shows guest seats.answering in
     let taken = taken_by (vacated w.places number) number guest in
     then_silent (λ k. []) w.places.guests taken.guests new.guests
-    (unsaid number w.places.guests taken.guests (taking w.places guest [] place
+    (unsaid number w.places.guests taken.guests (taking w.places guest [] seats.place
     (first_unseen free (held (new_dialogue false)) opens [] (Some (Some guest)) opening refl (stays (held (new_dialogue false)) (Some (Some guest)) shows))))
-    (unsaid number taken.guests new.guests (turned (GuestHears now bytes false) number taken new [] (λ d g h s t. hearing now bytes false d g h s t) turn))
+    (unsaid number taken.guests new.guests (turned (GuestHears now bytes false) number taken new [] (λ d g h s t. hearing now bytes false d g h s t)
+    (subst (λ (p : Places). Turns (GuestHears now bytes false) number p new) seats.is turn)))
 opens_it now way bytes packet w (coming.full same) = silent w.places.guests
 
 comes : (now way : ℕ) (bytes : List ℕ) (w : Whole) {result : Bool} {n : Whole} → Comes now way bytes w result n → Silent w.places.guests n.places.guests
-comes now way bytes w (coming.foreign rest) = unmoved rest
-comes now way bytes w (coming.echoes p taken is answered stray) = silent w.places.guests
-comes now way bytes w (coming.refuses p taken {q = q} is kind here r) =
-    unsaid r.number w.places.guests q.guests (turned (GuestUnserved now) r.number w.places q [] (λ d g h s t. unserving now d g h s t) r.turn)
-comes now way bytes w (coming.hears p number {q = q} is here named turn) =
-    unsaid number w.places.guests q.guests (turned (GuestHears now bytes (confirms p)) number w.places q [] (λ d g h s t. hearing now bytes (confirms p) d g h s t) turn)
-comes now way bytes w (coming.opens p is here named o) = opens_it now way bytes p w o
+comes now way bytes w (coming.foreign never rest) = unmoved rest
+comes now way bytes w (coming.echoes p taken is asks stray) = silent w.places.guests
+comes now way bytes w (coming.refuses p taken {q = q} is quotes turn) =
+    unsaid quotes.number w.places.guests q.guests (turned (GuestUnserved now) quotes.number w.places q [] (λ d g h s t. unserving now d g h s t) turn)
+comes now way bytes w (coming.hears p {q = q} is names turn) =
+    unsaid names.number w.places.guests q.guests (turned (GuestHears now bytes (confirms p)) names.number w.places q [] (λ d g h s t. hearing now bytes (confirms p) d g h s t) turn)
+comes now way bytes w (coming.opens p is opener o) = opens_it now way bytes p w o
 
 -- ---- the calls of a host
 

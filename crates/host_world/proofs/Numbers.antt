@@ -24,6 +24,7 @@ use Rattle.xns_host.specs.declared.connection.Connection.{Connection}
 use Rattle.xns_host.specs.declared.event.Event.{Event}
 use Rattle.xns_host.specs.declared.guest.Guest.{Guest}
 use Rattle.xns_host.specs.declared.host_fault.HostFault.{HostFault}
+use Rattle.xns_host.specs.declared.host_fault.HostFault.TheVariants.{NoMemory}
 use Rattle.xns_host.specs.declared.outgoing.Outgoing.{Outgoing}
 use Rattle.xns_host.specs.declared.side.Side.{Side}
 use Rattle.xns_host.specs.declared.side.Side.TheVariants.{Calls, Answers}
@@ -189,8 +190,8 @@ pub next_packet : (now : ℕ) (p : Places) {result : Result (Option Outgoing) Ho
 next_packet now p (places.nothing before none) = gives_none now p before
 next_packet now p (places.gives {q = q} {r = r} {packet = packet} number before first asked) =
     then_silent (λ k. []) p.guests q.guests r.guests (gives_none now p before) (asks_packet now number (Ok (Some packet)) q r asked)
-next_packet now p (places.starves {q = q} {r = r} {fault = fault} number before first asked) =
-    then_silent (λ k. []) p.guests q.guests r.guests (gives_none now p before) (asks_packet now number (Err fault) q r asked)
+next_packet now p (places.starves {q = q} {r = r} number before first asked) =
+    then_silent (λ k. []) p.guests q.guests r.guests (gives_none now p before) (asks_packet now number (Err NoMemory) q r asked)
 
 -- ---- what the program is told
 
