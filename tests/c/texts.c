@@ -65,7 +65,7 @@ static void have_texts(const char *(*text)(uint32_t), const uint32_t *all, size_
     CHECK(named == count);
 }
 
-/* So has each reason for which an item is not taken, and each for which a connection is closed. */
+/* Each reason for which an item is not taken, and each for which a connection is closed, has a text too. */
 static void reasons(void) {
     static const uint32_t dropped[] = { XNS_NOT_DROPPED, XNS_NOT_IDP, XNS_NOT_SPP, XNS_NOT_OURS, XNS_AHEAD_OF_US, XNS_OUT_OF_ORDER, XNS_NO_ROOM, XNS_REPEAT };
     static const uint32_t closed[] = { XNS_CLOSED_ASKED, XNS_CLOSED_BY_PEER, XNS_CLOSED_SILENT, XNS_CLOSED_NOT_SERVED, XNS_CLOSED_REFUSED };
