@@ -1,6 +1,7 @@
 //! Where in the input something comes from.
-ghost use Rattle.std.specs.Prelude.{◌≡◌};
-ghost use Rattle.xns_calls.specs.Origins.{frame_origin, line_origin, shown_known, shown_time, since as since_of};
+ghost use Rattle.std.specs.Prelude.{◌≡◌, option_and_then};
+ghost use Rattle.xns_captures.specs.Times.{nanoseconds_of};
+ghost use Rattle.xns_calls.specs.Origins.{frame_origin, line_origin, shown_from, shown_known, shown_time};
 
 use crate::times::Times;
 use xns_captures::{FrameTime, Stamp};
@@ -61,7 +62,7 @@ fn shown(times: Times, first: Option<FrameTime>, time: Option<FrameTime>) -> Sho
     match times {
         Times::Hidden => ShownTime::Hidden,
         Times::Absolute => known(0, time),
-        Times::Relative => known(since(first), time),
+        Times::Relative => known_from(first, time),
     }
 }
 
@@ -82,12 +83,15 @@ fn known(since: u64, time: Option<FrameTime>) -> ShownTime
     }
 }
 
-/// The time from which relative times are counted: the first one of the capture.
-fn since(first: Option<FrameTime>) -> u64
-    ensures { result ≡ since_of first }
+/// The time of a frame, counted from another, if the capture says both.
+fn known_from(first: Option<FrameTime>, time: Option<FrameTime>) -> ShownTime
+    ensures { result ≡ shown_from (option_and_then nanoseconds_of first) time }
 {
-    match first {
-        Some(time) => time.nanoseconds().unwrap_or(0),
-        None => 0,
+    let Some(first) = first else {
+        return ShownTime::Unknown;
+    };
+    match first.nanoseconds() {
+        Some(since) => known(since, time),
+        None => ShownTime::Unknown,
     }
 }

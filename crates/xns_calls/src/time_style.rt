@@ -19,7 +19,9 @@ pub trait TimeStyle: Copy {
 pub(crate) struct NoTimes;
 
 impl TimeStyle for NoTimes {
-    ghost style = { Times.Hidden };
+    ghost use Rattle.xns_calls.specs.declared.times.Times.TheVariants.{Hidden};
+
+    ghost style = { Hidden };
 
     fn times(self) -> Times {
         Times::Hidden
@@ -31,7 +33,9 @@ impl TimeStyle for NoTimes {
 pub(crate) struct AbsoluteTimes;
 
 impl TimeStyle for AbsoluteTimes {
-    ghost style = { Times.Absolute };
+    ghost use Rattle.xns_calls.specs.declared.times.Times.TheVariants.{Absolute};
+
+    ghost style = { Absolute };
 
     fn times(self) -> Times {
         Times::Absolute
@@ -43,7 +47,9 @@ impl TimeStyle for AbsoluteTimes {
 pub(crate) struct RelativeTimes;
 
 impl TimeStyle for RelativeTimes {
-    ghost style = { Times.Relative };
+    ghost use Rattle.xns_calls.specs.declared.times.Times.TheVariants.{Relative};
+
+    ghost style = { Relative };
 
     fn times(self) -> Times {
         Times::Relative

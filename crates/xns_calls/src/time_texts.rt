@@ -1,5 +1,5 @@
 //! Times as text.
-ghost use Rattle.std.specs.Prelude.{◌≡◌};
+ghost use Rattle.std.specs.Prelude.{◌<◌};
 ghost use Rattle.xns_lines.specs.Report.{Adds};
 ghost use Rattle.xns_calls.specs.TimeTexts.{digits_text, fraction_text, from_to_text, seconds_text, time_text, took_since, took_text};
 
