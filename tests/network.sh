@@ -67,7 +67,7 @@ at() {
     timeout 60 ip netns exec "$at_station" "$@"
 }
 
-# The same beside what follows, for longer. The program is $started, and what it writes is in the file $said.
+# Runs words at the station of this number beside what follows, for longer. The program is $started, and its output is in the file $said.
 begin() {
     begin_station=$front-$1
     begun=$((begun + 1))

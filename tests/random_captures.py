@@ -308,7 +308,7 @@ class Maker:
 
 
 def captures_of(seed, count, is_fair=False):
-    """So many random captures, the same for the same seed."""
+    """As many random captures as asked, the same for the same seed."""
     maker = Maker(random.Random(seed), is_fair)
     return [maker.capture() for _ in range(count)]
 

@@ -24,7 +24,7 @@ ENDS = frozenset("""initiator_state responder_state after_send send_answer after
     flush_answer after_tick tick_answer after_resend resend_answer told_answer is_full waiting_count is_ours State IsItem Holds""".split())
 
 # and what its sessions make of items: the contracts of `Caller` and `Server` cite them
-STEPS = ENDS | frozenset("caller_items server_items server_state answers decided decision after_decision Serving Service IsFitting".split())
+STEPS = ENDS | frozenset("caller_items server_items server_state answers decided_calls decision after_decision Serving Service IsFitting".split())
 
 NOTHING = frozenset()
 

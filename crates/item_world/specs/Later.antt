@@ -1,4 +1,4 @@
--- How an end and a world go on.
+-- What a later state of an end, and a later world, keep.
 use Rattle.std.specs.Prelude.{◌≡◌, ◌≤◌, ℕ, Bool, false, length, map, slice_get, is_some, Some, None}
 use Rattle.std.specs.Option.{option_to_list}
 use Rattle.xns_spp.specs.Growth.{Begins}
