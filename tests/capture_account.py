@@ -3,6 +3,8 @@
 
     capture_account.py FILE        prints the numbered packets of a capture, a line `N HEX` for each, where N is the number
                                    of the frame, from 1. A fault is named on standard error, and the status is then 3.
+    capture_account.py --times FILE    prints standard input, which is what `calls` says of the capture, with the times of its frames;
+    capture_account.py --times=relative FILE    the same, in seconds since the first frame
 
 Faults: NoCapture, Cut, TooLong, Lengths, Order, Version, NoInterface, TooManyInterfaces.
 """
@@ -262,6 +264,10 @@ def with_times(data, text, is_relative):
 
 
 def main(words):
+    if len(words) == 2 and words[0] in ("--times", "--times=relative"):
+        with open(words[1], "rb") as file:
+            sys.stdout.write(with_times(file.read(), sys.stdin.read(), words[0] == "--times=relative"))
+        return 0
     if len(words) != 1:
         sys.stderr.write(__doc__)
         return 2
