@@ -7,7 +7,9 @@ ghost use Rattle.xns_calls.specs.Telling.{after_message, call_left, calls_after,
 use crate::heading::Heading;
 use crate::heard::Heard;
 use crate::scratch::Scratch;
-use crate::texts::{append_answer, append_answer_end, append_call, append_refused_line, append_words};
+use crate::texts::{
+    append_answer, append_answer_end, append_call, append_refused_line, append_words,
+};
 use crate::unanswered::Calls;
 use crate::waiting::Waiting;
 use courier_messages::{Head, PiecedMessage, WholeMessage};

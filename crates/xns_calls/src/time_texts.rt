@@ -64,7 +64,10 @@ fn append_took_since(
 {
     match (call, answer) {
         (
-            ShownTime::Known { nanoseconds: from, .. },
+            ShownTime::Known {
+                nanoseconds: from,
+                ..
+            },
             ShownTime::Known {
                 nanoseconds: to,
                 digits,

@@ -26,7 +26,8 @@ const TIMES: &str = "times";
 
 const RELATIVE: &str = "relative";
 /// What they do.
-const TIMES_HELP: &str = "Print when each frame was captured, in seconds since 1970, and how long each call took";
+const TIMES_HELP: &str =
+    "Print when each frame was captured, in seconds since 1970, and how long each call took";
 
 const RELATIVE_HELP: &str = "The same as --times=relative: in seconds since the first frame";
 
