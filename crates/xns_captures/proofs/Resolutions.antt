@@ -103,5 +103,5 @@ gives-rest order options given long g end value =
       o.0,
       omega (arith, o.1, length-drop count options),
       sym (ap (λ p. cond p 6 (cond (word_at order options 0 == 9 && word_at order options 2 == 1) (slice_index options 4) rest)) (ne-eqb (word_at order options 0) 0 end)
-      ∙ ap (λ p. cond p (slice_index options 4) rest) value) ∙ o.2,
+          ∙ ap (λ p. cond p (slice_index options 4) rest) value) ∙ o.2,
     )

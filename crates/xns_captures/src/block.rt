@@ -203,7 +203,13 @@ fn read_enhanced(
     }
     let interface = interface_at(interfaces, read_long(order, bytes, 8) as usize);
     let time = time_of(interface, read_count(order, bytes, 12));
-    frame_of(interface, 28, read_long(order, bytes, 20), time, bytes.len())
+    frame_of(
+        interface,
+        28,
+        read_long(order, bytes, 20),
+        time,
+        bytes.len(),
+    )
 }
 
 /// The obsolete packet, whose interface has a number of two bytes.
@@ -217,7 +223,13 @@ fn read_old(order: ByteOrder, interfaces: &[Interface], bytes: &[u8]) -> Result<
     }
     let interface = interface_at(interfaces, usize::from(read_word(order, bytes, 8)));
     let time = time_of(interface, read_count(order, bytes, 12));
-    frame_of(interface, 28, read_long(order, bytes, 20), time, bytes.len())
+    frame_of(
+        interface,
+        28,
+        read_long(order, bytes, 20),
+        time,
+        bytes.len(),
+    )
 }
 
 /// A simple packet, of the first interface, which does not say how much of it was captured.

@@ -13,5 +13,7 @@ pub enum Format {
         is_nano: bool,
     },
     /// Blocks of a section.
-    Blocks { order: ByteOrder },
+    Blocks {
+        order: ByteOrder,
+    },
 }

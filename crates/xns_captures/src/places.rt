@@ -33,7 +33,8 @@ pub fn read_count(order: ByteOrder, bytes: &[u8], at: usize) -> u64
     requires { at + 8 ≤ length bytes.now }
     ensures { result ≡ count_at order bytes.now at }
 {
-    u64::from(read_long(order, bytes, at)) * 4_294_967_296 + u64::from(read_long(order, bytes, at + 4))
+    u64::from(read_long(order, bytes, at)) * 4_294_967_296
+        + u64::from(read_long(order, bytes, at + 4))
 }
 
 /// The byte at a place, or 0 behind the end.
