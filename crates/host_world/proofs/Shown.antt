@@ -341,7 +341,7 @@ news_there number (messages.Reject transaction reason words) = refl
 news_there number (messages.Return transaction words) = refl
 news_there number (messages.Abort transaction error words) = refl
 
-why_by : (number : ℕ) (told : Bool) (closed : Option Why) (event : Event) → event_by number None (if told then None else closed) ≡ Some event
+pub why_by : (number : ℕ) (told : Bool) (closed : Option Why) (event : Event) → event_by number None (if told then None else closed) ≡ Some event
     → (why : Why) × (told ≡ false) × (closed ≡ Some why) × (events.Closed number why ≡ event)
 why_by number true closed event e = absurd (cc)
 why_by number false None event e = absurd (cc)
