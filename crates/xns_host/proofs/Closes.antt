@@ -10,12 +10,10 @@ use Rattle.xns_host.specs.Closed.{ClosesBy}
 use Rattle.xns_host.specs.Closing.{drains}
 use Rattle.xns_host.specs.Connecting.{why_after, why_over}
 use Rattle.xns_host.specs.Story.{Story, is_stopped}
-use Rattle.xns_host.specs.Telling.{Goes, GoesUntil, IsUnrefused, ReadsOn, Tells, is_over}
+use Rattle.xns_host.specs.Telling.{GoesUntil, IsUnrefused, ReadsOn, is_over}
 use Rattle.xns_host.specs.declared.closing.Closing.{Closing}
 use Rattle.xns_host.specs.declared.conversation.Conversation.{Conversation}
 use Rattle.xns_host.specs.declared.why.Why.{Why}
-use Rattle.xns_host.proofs.Leading.{goes_on}
-use Rattle.xns_host.proofs.Tellings.{if_err}
 
 -- whether what comes is read does not say why it is closed
 pub deaf_or_not : (c : Closing) (deaf : Bool) (s : State) (moved : Result (Unit {0}) FeedRefusal)
@@ -40,32 +38,6 @@ closes old mid new moved moving was closed refused reads same stays why short no
       why none s there ∙ sym (deaf_or_not mid.closing deaf s moved) ∙ ap (λ (c : Closing). why_after c (is_over c s) moved) (sym (ap (λ (t : Conversation). t.closing) same));
   short = short;
   noted = noted;
-}
-
--- something else was done before
-pub closes_from : {old mid new : Conversation} {moving : Bool} {was closed : Option Why} (base : Story → Story)
-    → ((h : Story) → Tells old h → Tells mid (base h)) → drains mid.side mid.closing ≡ drains old.side old.closing
-    → ClosesBy mid (λ h. h) new moving was closed → ClosesBy old base new moving was closed
-closes_from {old = old} {mid = mid} {new = new} {was = was} {closed = closed} base done same p = record {
-  moved = p.moved;
-  refused = if_err (λ e. GoesUntil mid (λ h. h) e) (λ e. GoesUntil old base e) p.moved (λ e u. record { on = λ h tells. u.on (base h) (done h tells) }) p.refused;
-  reads = λ fine kept h tells d none. p.reads fine kept (base h) (done h tells) (same ∙ d) none;
-  why = p.why;
-  short = p.short;
-  noted = p.noted;
-}
-
--- it went on by itself before
-pub closes_on : {old mid new : Conversation} {moving : Bool} {was closed : Option Why} → Goes old mid → drains mid.side mid.closing ≡ drains old.side old.closing
-    → ClosesBy mid (λ h. h) new moving was closed → ClosesBy old (λ h. h) new moving was closed
-closes_on {old = old} {mid = mid} {new = new} {was = was} {closed = closed} goes same p = record {
-  moved = p.moved;
-  refused = if_err (λ e. GoesUntil mid (λ h. h) e) (λ e. GoesUntil old (λ h. h) e) p.moved
-      (λ e u. record { on = λ h tells. let x = goes.on h tells in let y = u.on x.0 x.1 in (y.0, y.1, y.2, goes_on h x.0 y.1 x.2 y.3, y.4, y.5) }) p.refused;
-  reads = λ fine kept h tells d none. let x = goes.on h tells in p.reads fine kept x.0 x.1 (same ∙ d) none;
-  why = p.why;
-  short = p.short;
-  noted = p.noted;
 }
 
 not_over : (c : Closing) (s : State) (a b c2 d : Bool) → c.reply_sent ≡ c2 → (a || (b || (c2 || d))) ≡ false → is_over c s ≡ false

@@ -10,7 +10,7 @@ use Rattle.xns_host.specs.Step.{parts_of}
 use Rattle.xns_host.specs.Hosting.{ActsIn, EachActs, HasActed, HasActedIn, HasNoneDone, IsAllNoted, IsApart, StaysIn, facts_in, forgotten, is_done, may_go, stays}
 use Rattle.xns_agenda.specs.Times.{HasNoneBy, IsFirstBy}
 use Rattle.xns_agenda.specs.Waiting.{StepsAt, still, step, close, HearsAt, no_word, word, after_step, after_word, lingering}
-use Rattle.xns_agenda.specs.Waiting.{Waiting, IsDueAfter, act_by, after_by, due_time, unless_silent}
+use Rattle.xns_agenda.specs.Waiting.{Waiting, IsDueAfter, act_by, due_time, unless_silent}
 use Rattle.xns_agenda.specs.declared.act.Act.{Act}
 use Rattle.xns_agenda.specs.declared.act.Act.TheVariants.{Nothing, Again, Ask, Forget}
 use Rattle.xns_host.specs.declared.connection.Connection.{Connection}
@@ -59,16 +59,6 @@ gone_due : (now : ℕ) (c : Connection) → may_go c ≡ true → IsDueAfter now
 gone_due now c gone t is =
     let none : due_time c.wait.due ≡ None = no_time (due_time c.wait.due) (third (is_some c.closed) c.told (is_none (due_time c.wait.due)) gone) in
     absurd (cc)
-
-still_by : (b : Bool) (w : Waiting) (a : Act) (now : ℕ) → b ≡ false → after_by w (if b then a else Nothing) now ≡ w
-still_by true w a now is = absurd (cc)
-still_by false w a now is = refl
-
-idle_by : (w : Waiting) (d : Due) (now : ℕ) → IsDueAfter now d → after_by w (act_by w d now) now ≡ w
-idle_by w Never now after = refl
-idle_by w (AgainAt t) now after = still_by (nat_le t now) w (unless_silent w Again) now (lt-leb t now (after t refl))
-idle_by w (AskAt t) now after = still_by (nat_le t now) w (unless_silent w Ask) now (lt-leb t now (after t refl))
-idle_by w (ForgetAt t) now after = still_by (nat_le t now) w Forget now (lt-leb t now (after t refl))
 
 not_by : (b : Bool) (a : Act) → b ≡ false → (if b then a else Nothing) ≡ Nothing
 not_by true a is = absurd (cc)

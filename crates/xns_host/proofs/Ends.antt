@@ -6,8 +6,6 @@ use Rattle.std.specs.Cmp.Lexicographic.{bytes_decides}
 use Rattle.std.specs.Str.{bytes_eq}
 use Rattle.std.specs.declared.alloc.AllocError.{AllocError}
 use Rattle.courier_messages.specs.declared.message.Message.{Message}
-use Rattle.courier_sessions.specs.Answering.{answer_refusal}
-use Rattle.courier_sessions.specs.declared.answer.Answer.{Answer}
 use Rattle.std.proofs.Math.Logic.{∥∥₁_elim}
 use Rattle.std.proofs.Props.{props}
 use Rattle.std.proofs.lemmas.Bool.{eqb-true}
@@ -25,20 +23,15 @@ use Rattle.xns_spp.specs.declared.item.Item.{Item}
 use Rattle.xns_spp.specs.declared.role.Role.{Role}
 use Rattle.xns_spp.specs.declared.role.Role.TheVariants.{Initiator, Responder}
 use Rattle.xns_spp.specs.declared.send_fault.SendFault.{SendFault}
-use Rattle.xns_host.specs.Closing.{drains}
 use Rattle.xns_host.specs.Living.{GoesFrom}
-use Rattle.xns_host.specs.Reasons.{answer_fault_of}
-use Rattle.xns_host.specs.Refusing.{answer_fault, side_answer_fault}
 use Rattle.xns_host.specs.Register.{number_by, owner_in, peer_at, peer_cmp}
 use Rattle.xns_host.specs.Knowing.{Known, known_of}
 use Rattle.xns_host.specs.Registered.{FitsEnd, IsRegistered, opener_at}
-use Rattle.xns_host.specs.Story.{Runs, Story, asked_of, with_handed, start, sends, takes, flushes, resends, tells}
+use Rattle.xns_host.specs.Story.{Runs, Story, with_handed, start, sends, takes, flushes, resends, tells}
 use Rattle.xns_host.specs.Telling.{Goes, Hears, Tells}
 use Rattle.xns_host.specs.declared.side.Side.{Side}
 use Rattle.xns_host.specs.declared.side.Side.TheVariants.{Answers, Calls}
-use Rattle.xns_host.specs.declared.conversation.Conversation.{Conversation}
 use Rattle.xns_host.specs.declared.guest.Guest.{Guest}
-use Rattle.xns_host.specs.declared.host_fault.HostFault.TheVariants.{Closing}
 use Rattle.xns_host.specs.declared.peer.Peer.{Peer}
 use Rattle.xns_host.specs.declared.register.Register.{Register}
 
@@ -157,20 +150,6 @@ received_fits place g f h m (Err e) bytes there is read same ok err fits = same_
 pub handed_still : (side : Side) (m : Message) (s : Story) → (with_handed side s m).state ≡ s.state
 handed_still (Calls t) m s = refl
 handed_still (Answers a) m s = refl
-
--- an answer is given to a call that waits
-asked_by : (side : Side) (b : Bool) (answer : Answer) (words : List ℕ) → (if b then Some Closing else side_answer_fault side answer words) ≡ None
-    → (k : ℕ) × (asked_of side ≡ Some k)
-asked_by side true answer words free = absurd (cc)
-asked_by (Calls t) false answer words free = absurd (cc)
-asked_by (Answers a) false answer words free = waits a.asked free where
-  waits : (o : Option ℕ) → answer_fault (answer_refusal o answer words) ≡ None → (k : ℕ) × (o ≡ Some k)
-  waits None none = absurd (cc)
-  waits (Some k) none = (k, refl)
-
-pub asked_of_one : (t : Conversation) (answer : Answer) (words : List ℕ) → answer_fault_of t answer words ≡ None
-    → (k : ℕ) × (asked_of t.side ≡ Some k)
-asked_of_one t answer words free = asked_by t.side (drains t.side t.closing) answer words free
 
 -- ---- which connection a packet is of
 

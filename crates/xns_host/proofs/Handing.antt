@@ -1,21 +1,16 @@
 -- What a side that is called does with the call that waits: it hands it, or rejects it.
-use Rattle.std.proofs.Common.{◌≡◌, ◌≢◌, ap, sym, refl, subst, ℕ, List, [], ◌∷◌, ◌++◌, Bool, true, false, Option, Some, None, Result, Ok, Err}
+use Rattle.std.proofs.Common.{◌≡◌, ◌≢◌, sym, refl, subst, ℕ, List, [], ◌∷◌, ◌++◌, Bool, true, false, Option, Some, None, Result, Ok, Err}
 use Rattle.std.specs.Option.{is_some}
 use Rattle.std.specs.declared.alloc.AllocError.{AllocError}
 use Rattle.courier_messages.specs.declared.message.Message.{Message}
-use Rattle.xns_spp.specs.Held.{Held}
 use Rattle.xns_spp.specs.declared.item.Item.{Item}
-use Rattle.courier_sessions.specs.Answering.{Answering, has_items, why_unlisted, after_call, after_reject, answer_message, answer_refusal, answered, AnswerAnswers}
+use Rattle.courier_sessions.specs.Answering.{Answering, has_items, why_unlisted, after_call, after_reject, answer_message, answer_refusal, answered}
 use Rattle.courier_sessions.specs.Answerings.{HasAnswered}
 use Rattle.courier_sessions.specs.declared.answer.Answer.{Answer}
-use Rattle.courier_sessions.specs.declared.answer_refusal.AnswerRefusal.{AnswerRefusal}
-use Rattle.courier_sessions.specs.declared.answer_refusal.AnswerRefusal.TheVariants.{NoCall, TooLong, NoMemory}
 use Rattle.courier_sessions.specs.declared.program.Program.{Program}
 use Rattle.courier_sessions.specs.declared.unlisted.Unlisted.{Unlisted}
-use Rattle.xns_host.specs.Refusing.{answer_result}
-use Rattle.xns_host.specs.Story.{Story, ServerHas, Moves, with_handed}
+use Rattle.xns_host.specs.Story.{Story, ServerHas, with_handed}
 use Rattle.xns_host.specs.declared.side.Side.TheVariants.{Answers}
-use Rattle.xns_host.proofs.Leading.{ServerRejects, server_rejected, moves_same}
 use Rattle.xns_host.proofs.Rejecting.{one_handed, one_answered}
 
 -- ---- a call is handed
@@ -51,13 +46,6 @@ abbrev pub ServerAnswers : Type 0
 ServerAnswers = (programs : List Program) (fed given : List Item) (taken handed answers : List Message) (a : Answering) (answer : Answer) (k : ℕ) (words : List ℕ) → HasAnswered programs fed given taken handed answers a → a.asked ≡ Some k → answer_refusal a.asked answer words ≡ None
     → HasAnswered programs fed given taken handed (answers ++ answer_message answer k words ∷ []) (answered a (answer_message answer k words))
 
--- an answer that was told to be given was
-pub was_given : (r : Result (Unit {0}) AnswerRefusal) (f : Option AnswerRefusal) → answer_result r ≡ Ok tt → AnswerAnswers f r → (r ≡ Ok tt) × (f ≡ None)
-was_given (Ok u) f is none = (refl, none)
-was_given (Err NoCall) f is none = absurd (cc)
-was_given (Err TooLong) f is none = absurd (cc)
-was_given (Err NoMemory) f is none = absurd (cc)
-
 pub answers : ServerAnswers → (h : Story) (a n : Answering) (answer : Answer) (k : ℕ) (words : List ℕ) → a.asked ≡ Some k → answer_refusal a.asked answer words ≡ None → n ≡ answered a (answer_message answer k words) → ServerHas h a
     → ServerHas (record h { answers = h.answers ++ answer_message answer k words ∷ [] }) n
 answers law h a n answer k words asked right is has =
@@ -86,12 +74,6 @@ rejected P a n (Ok true) does listed none not does_it does_not = by_call a.call 
   by_call (Some m) c = by_why m (why_unlisted a.programs m) c refl
 rejected P a n (Ok false) does listed none not does_it does_not = does_not (not (λ w. cc))
 rejected P a n (Err f) does listed none not does_it does_not = does_not (not (λ w. cc))
-
-pub reject_moves : ServerRejects → (a n : Answering) (m : Message) (u : Unlisted) (e : Held) → a.call ≡ Some m → why_unlisted a.programs m ≡ Some u → n ≡ after_reject a m u → Moves (Answers a) e (Answers n) e
-reject_moves law a n m u e call unlisted is = record { on = λ h flows. server_rejected law h a n e m u flows call unlisted is }
-
-pub nothing_moves : (a n : Answering) (e : Held) → n ≡ a → Moves (Answers a) e (Answers n) e
-nothing_moves a n e same = moves_same e (ap Answers same)
 
 -- ---- whether items are out
 

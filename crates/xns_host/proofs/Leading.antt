@@ -1,6 +1,6 @@
 -- What the steps of a pump do to the history of a side and its end.
-use Rattle.std.proofs.Common.{◌≡◌, ◌∙◌, ap, sym, refl, subst, ◌+◌, List, [], ◌∷◌, ◌++◌, append-nil, take, length, length-append, Bool, true, false}
-use Rattle.std.proofs.Common.{Option, Some, None, Result, Ok, Err, IfErr, OnOk, arith}
+use Rattle.std.proofs.Common.{◌≡◌, ◌∙◌, ap, sym, refl, subst, ◌+◌, List, [], ◌∷◌, ◌++◌, append-nil, take, length, Bool, true, false}
+use Rattle.std.proofs.Common.{Option, Some, None, Result, Ok, Err, OnOk, arith}
 use Rattle.std.specs.Prelude.{nat_lt, if◌then◌else◌}
 use Rattle.courier_messages.specs.declared.fault.SessionFault.{SessionFault}
 use Rattle.courier_messages.specs.declared.fault.SessionFault.TheVariants as faults
@@ -28,12 +28,10 @@ use Rattle.courier_sessions.specs.declared.feed_refusal.FeedRefusal.{FeedRefusal
 use Rattle.courier_sessions.specs.declared.feed_refusal.FeedRefusal.TheVariants.{Stopped, Busy, TooLong, Attention, Fault, NoMemory}
 use Rattle.courier_sessions.specs.declared.program.Program.{Program}
 use Rattle.courier_sessions.specs.declared.unlisted.Unlisted.{Unlisted}
-use Rattle.xns_host.specs.Story.{Story, CallerHas, ServerHas, AreRejected, Flows, Runs, start, sends, takes, flushes, resends, tells, GoesOn, Moves, IsListed, IsUnlisted, refused, unrejected, MovesAll, Calms, MovesUntil, is_stopped}
-use Rattle.xns_host.specs.Telling.{Goes, Calm, CalmFrom, Tells}
+use Rattle.xns_host.specs.Story.{Story, CallerHas, ServerHas, AreRejected, Flows, Runs, start, sends, takes, flushes, resends, tells, GoesOn, MovesAll}
+use Rattle.xns_host.specs.Telling.{Goes, Calm}
 use Rattle.xns_host.specs.declared.conversation.Conversation.{Conversation}
-use Rattle.xns_host.specs.declared.side.Side.{Side}
 use Rattle.xns_host.specs.declared.side.Side.TheVariants.{Calls, Answers}
-use Rattle.xns_host.proofs.Rejecting.{all_answered, one_rejected}
 
 -- ---- an end's own steps
 
@@ -319,32 +317,7 @@ abbrev pub ServerRejects : Type 0
 ServerRejects = (programs : List Program) (fed given : List Item) (taken handed answers : List Message) (a : Answering) (m : Message) (u : Unlisted) → HasAnswered programs fed given taken handed answers a → a.call ≡ Some m → why_unlisted a.programs m ≡ Some u
     → HasAnswered programs fed given (taken ++ m ∷ []) handed (answers ++ reject_message (transaction_in m) u ∷ []) (after_reject a m u)
 
--- the call that waits was rejected
-pub server_rejected : ServerRejects → (h : Story) (a n : Answering) (e : Held) (m : Message) (u : Unlisted) → Flows (Answers a) e h → a.call ≡ Some m → why_unlisted a.programs m ≡ Some u → n ≡ after_reject a m u
-    → (k : Story) × Flows (Answers n) e k × GoesOn h k
-server_rejected rejects h a n e m u flows call unlisted is =
-    let k : Story = record h { taken = h.taken ++ m ∷ []; answers = h.answers ++ reject_message (transaction_in m) u ∷ [] } in
-    let has = flows.has in
-    let done = rejects a.programs h.fed h.given h.taken h.handed h.answers (record a { failed = false; phase = has.phase }) m u has.done call unlisted in
-    let rejected = one_rejected a.programs h.taken h.answers m u (all_answered m has.done call) unlisted has.rejected in
-    let more : ServerHas k (after_reject a m u) = record { phase = has.phase; done = done; going = has.going; table = has.table; rejected = rejected } in
-    let one = length-append h.taken (m ∷ []) in
-    let other = length-append h.answers (reject_message (transaction_in m) u ∷ []) in (
-      k,
-      record { stands = flows.stands; has = subst (λ (b : Answering). ServerHas k b) (sym is) more; fed = flows.fed; given = flows.given },
-      record { programs = refl; path = start; made = refl; handed = refl; taken = (m ∷ [], refl); answers = (reject_message (transaction_in m) u ∷ [], refl); even = omega (arith, one, other) },
-    )
-
 -- ---- moves, one after the other
-
-pub moves_not : (s : Side) (e : Held) → Moves s e s e
-moves_not s e = record { on = λ h f. (h, f, stays h) }
-
-pub moves_same : {s t : Side} (e : Held) → t ≡ s → Moves s e t e
-moves_same {s} {t} e same = subst (λ (x : Side). Moves s e x e) (sym same) (moves_not s e)
-
-pub moves_on : {s t u : Side} {e f g : Held} → Moves s e t f → Moves t f u g → Moves s e u g
-moves_on p q = record { on = λ h f. let x = p.on h f in let y = q.on x.0 x.1 in (y.0, y.1, goes_on h x.0 y.0 x.2 y.2) }
 
 pub goes_not : (t : Conversation) → Goes t t
 goes_not t = record { still = λ z. z; wanted = λ z. z; on = λ h f. (h, f, stays h) }
@@ -395,82 +368,6 @@ short_at side t (Some x) TooLong n r short = r.0
 short_at side t (Some x) Attention n r short = absurd (cc)
 short_at side t (Some x) (Fault f) n r short = absurd (cc)
 
-pub caller_refuses : TheNextItemIsHandedUp → CallerGives → CallerFeeds → (t n : Talk) (e f : Held) (r : Result (Unit {0}) FeedRefusal) → t.failed ≡ false → ((s : State) → StandsFor e s → Pumped caller_side (t, s) r n f) → IfErr r (λ x. MovesUntil (Calls t) e x (Calls n) f)
-caller_refuses next gives feeds_one t n e f (Ok u) still pumped = tt
-caller_refuses next gives feeds_one t n e f (Err x) still pumped = record {
-  on = λ h flows.
-      let p = pumped h.state flows.stands in
-      let s : State = p.last.1 in
-      let m : Story = record h { state = s; fed = take s.handed s.taken; given = s.accepted } in
-      let after : HasDone h.made (take s.handed s.taken) s.accepted h.handed p.last.0 = caller_last next gives feeds_one h t n e f (Err x) still flows p in (
-        Calls p.last.0,
-        m,
-        record { stands = p.stands; has = going m p.last.0 after flows.has.table; fed = refl; given = refl },
-        same_messages h m (leads_run caller_side p.leads) refl refl refl refl refl,
-        after.going,
-        refused x (n, p.settled),
-      );
-  going = λ short h flows.
-      let p = pumped h.state flows.stands in
-      ap (λ (v : Talk). v.failed) (short_at caller_side p.last.0 (take_answer p.last.1) x n p.settled.1 short)
-      ∙ (caller_last next gives feeds_one h t n e f (Err x) still flows p).going;
-}
-
-pub server_refuses : TheNextItemIsHandedUp → ServerGives → ServerFeeds → (a n : Answering) (e f : Held) (r : Result (Unit {0}) FeedRefusal) → a.failed ≡ false → ((s : State) → StandsFor e s → Pumped server_side (a, s) r n f) → IfErr r (λ x. MovesUntil (Answers a) e x (Answers n) f)
-server_refuses next gives feeds_one a n e f (Ok u) still pumped = tt
-server_refuses next gives feeds_one a n e f (Err x) still pumped = record {
-  on = λ h flows.
-      let p = pumped h.state flows.stands in
-      let s : State = p.last.1 in
-      let m : Story = record h { state = s; fed = take s.handed s.taken; given = s.accepted } in
-      let after : HasAnswered a.programs (take s.handed s.taken) s.accepted h.taken h.handed h.answers p.last.0 = server_last next gives feeds_one h a n e f (Err x) still flows p in (
-        Answers p.last.0,
-        m,
-        record { stands = p.stands; has = server_going m a.programs p.last.0 after flows.has.table flows.has.rejected; fed = refl; given = refl },
-        same_messages h m (leads_run server_side p.leads) refl refl refl refl refl,
-        after.going,
-        refused x (n, p.settled),
-      );
-  going = λ short h flows.
-      let p = pumped h.state flows.stands in
-      ap (λ (v : Answering). v.failed) (short_at server_side p.last.0 (take_answer p.last.1) x n p.settled.1 short)
-      ∙ (server_last next gives feeds_one h a n e f (Err x) still flows p).going;
-}
-
-pub until_then : {s t u : Side} {e f g : Held} {x : FeedRefusal} → Moves s e t f → MovesUntil t f x u g → MovesUntil s e x u g
-until_then p q = record {
-  on = λ h flows. let k = p.on h flows in let z = q.on k.0 k.1 in (z.0, z.1, z.2, goes_on h k.0 z.1 k.2 z.3, z.4, z.5);
-  going = λ short h flows. let k = p.on h flows in q.going short k.0 k.1;
-}
-
--- memory is refused to the reject of a call
-pub unrejects : {s t u : Side} {e f : Held} → MovesAll s e t f → u ≡ t → IsUnlisted t → MovesUntil s e NoMemory u f
-unrejects {t = t} p same unlisted = record {
-  on = λ h flows. let x = p.on h flows in (t, x.0, x.1, x.2, p.going h flows, unrejected unlisted);
-  going = λ short h flows. ap is_stopped same ∙ p.going h flows;
-}
-
-pub all_moves : {s t : Side} {e f : Held} → MovesAll s e t f → Moves s e t f
-all_moves p = record { on = λ h flows. let x = p.on h flows in (x.0, x.1, x.2) }
-
-pub moves_all : {s t u : Side} {e f g : Held} → Moves s e t f → MovesAll t f u g → MovesAll s e u g
-moves_all p q = record {
-  on = λ h flows. let x = p.on h flows in let y = q.on x.0 x.1 in (y.0, y.1, goes_on h x.0 y.0 x.2 y.2, y.3);
-  going = λ h flows. let x = p.on h flows in q.going x.0 x.1;
-}
-
-pub calms_at : {s t u : Side} {e f : Held} → MovesAll s e t f → u ≡ t → IsListed t → Calms s e u f
-calms_at {s} {t} {u} {e} {f} p same listed = subst (λ (x : Side). Calms s e x f) (sym same) (record { on = λ h flows. let x = p.on h flows in (x.0, x.1, x.2, x.3, listed); going = p.going })
-
--- a side that has stopped after items moved has no story
-pub calms_never : {s t : Side} {e f : Held} → MovesAll s e t f → is_stopped t ≡ true → Calms s e t f
-calms_never p stopped = record {
-  on = λ h flows. let z = p.going h flows in absurd (cc);
-  going = p.going;
-}
-
 pub calm_then : {s t u : Conversation} → Goes s t → Calm t u → Calm s u
 calm_then p q = record { on = λ h f. let x = p.on h f in let y = q.on x.0 x.1 in (y.0, y.1, goes_on h x.0 y.0 x.2 y.2, y.3, y.4) }
 
-pub calm_from : {s t u : Conversation} {base : Story → Story} → ((h : Story) → Tells s h → Tells t (base h)) → Calm t u → CalmFrom s u base
-calm_from {base = base} p q = record { on = λ h f. q.on (base h) (p h f) }

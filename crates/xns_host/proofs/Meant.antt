@@ -1,10 +1,8 @@
 -- What is said of a connection means this for what it has done.
-use Rattle.std.proofs.Common.{◌≡◌, ◌≢◌, ◌∙◌, ap, refl, subst, sym, ℕ, List, Bool, true, false, ◌||◌, Option, Some, None, Result}
-use Rattle.std.specs.Prelude.{if◌then◌else◌}
-use Rattle.std.specs.Option.{is_some}
+use Rattle.std.proofs.Common.{◌≡◌, ◌≢◌, ◌∙◌, ap, refl, subst, sym, ℕ, List, Bool, true, false, Option, Some, None, Result}
 use Rattle.std.specs.declared.alloc.AllocError.{AllocError}
 use Rattle.courier_messages.specs.declared.message.Message.{Message}
-use Rattle.xns_agenda.specs.Waiting.{StepsAt, Waiting, act_at, after_by, still}
+use Rattle.xns_agenda.specs.Waiting.{StepsAt, act_at, after_by, still}
 use Rattle.xns_agenda.specs.declared.act.Act.{Act}
 use Rattle.xns_agenda.specs.declared.act.Act.TheVariants.{Nothing, Again, Ask, GiveUp, Forget}
 use Rattle.xns_host.specs.Deeds.{Parts, acted, acted_by, heard, with_taken}

@@ -14,13 +14,12 @@ use Rattle.xns_spp.specs.Sending.{tick_answer, waiting_count}
 use Rattle.xns_spp.specs.Telling.{unacknowledged_count}
 use Rattle.xns_spp.specs.declared.input.Input.{Input}
 use Rattle.xns_spp.specs.State.{State}
-use Rattle.xns_host.specs.Connecting.{goes_again, is_again, is_closed_due, is_foreign, is_open_due, owed_after, owed_heard, wait_heard, why_after, why_given_up}
+use Rattle.xns_host.specs.Connecting.{goes_again, is_again, is_closed_due, is_foreign, is_open_due, owed_after, owed_heard, wait_heard, why_after}
 use Rattle.xns_host.specs.Moving.{HasHistory, IsAt, Scene, Settles, is_calm, scene}
 use Rattle.xns_host.specs.Step.{May, MovesOwed, Step, WaitsBy, is_calm_then, parts_of}
-use Rattle.xns_host.specs.Deeds.{Deed, Parts, acted, acted_by, given_up, heard, Moved, ClosesThen, GoesOnBy, closed_moved, done, given_up_by, is_starved, owed_by, owed_moved, shut, took, wait_by, wait_moved}
+use Rattle.xns_host.specs.Deeds.{Deed, Parts, acted, acted_by, given_up, heard, Moved, ClosesThen, GoesOnBy, closed_moved, done, given_up_by, is_starved, owed_by, owed_moved, shut, took, wait_by}
 use Rattle.xns_host.specs.Closing.{drains}
 use Rattle.xns_host.specs.Telling.{is_over, is_progress, waits}
-use Rattle.xns_host.specs.declared.closing.Closing.{Closing}
 use Rattle.xns_host.specs.declared.connection.Connection.{Connection}
 use Rattle.xns_host.specs.declared.conversation.Conversation.{Conversation}
 use Rattle.xns_host.specs.declared.owed.Owed.{Owed}
@@ -132,12 +131,6 @@ same_connection c d same = by (parts_of d) (sym same) (known_of d) where
   by : (q : Parts) → parts_of c ≡ q → (k : Known q.conversation q.wait q.closed) → with_known q k ≡ c
   by q e = subst (λ (q : Parts). (k : Known q.conversation q.wait q.closed) → with_known q k ≡ c) e
       (λ k. ap (with_known (parts_of c)) (known_one c.conversation c.wait c.closed k (known_of c)))
-
--- an end keeps a history
-pub moved_history : (now : ℕ) (old new : Conversation) (o n : Owed) (was closed : Option Why) (w v : Waiting) → HasHistory old.endpoint
-    → GoesOnBy now old new o n was closed w v → HasHistory new.endpoint
-moved_history now old new o n was closed w v has goes =
-    ∥∥₁_map has (λ x. let m = goes.on x.0 x.1 in ((shut was closed m.to).state, m.at.stands))
 
 pub heard_history : (e f : Held) (bytes : List ℕ) → HasHistory e → ((s : State) → StandsFor e s → StandsFor f (after_receive s bytes)) → HasHistory f
 heard_history e f bytes has next = ∥∥₁_map has (λ x. (after_receive x.0 bytes, next x.0 x.1))

@@ -1,13 +1,10 @@
 -- What steps do to what a connection has done.
-use Rattle.std.proofs.Common.{◌≡◌, ◌∙◌, ap, sym, refl, subst, ℕ, ◌≤◌, List, [], ◌∷◌, ◌++◌, append-nil, append_assoc, take, drop, map, ◌-◌, length, Bool, true, false, Option, Some, None, Result, Ok, Err, IfErr, OnOk, OnErr, arith, ◌≢◌}
+use Rattle.std.proofs.Common.{◌≡◌, ◌∙◌, ap, sym, refl, subst, ℕ, ◌≤◌, List, [], ◌∷◌, ◌++◌, append-nil, take, drop, map, ◌-◌, length, Bool, true, false, Option, Some, None, Result, Ok, Err, IfErr, OnOk, arith}
 use Rattle.std.specs.Prelude.{not, ◌&&◌, ◌||◌, ◌==◌, if◌then◌else◌, is_ok}
 use Rattle.std.proofs.Math.Seq.{drop-length}
 use Rattle.std.proofs.lemmas.Bool.{eqb-true}
 use Rattle.std.proofs.lemmas.List.{drop-append-le, take-append-le}
 use Rattle.std.proofs.lemmas.List.Folds.{list_any-append}
-use Rattle.courier_messages.specs.declared.message.Message.{Message}
-use Rattle.courier_sessions.specs.declared.feed_refusal.FeedRefusal.{FeedRefusal}
-use Rattle.courier_sessions.specs.declared.feed_refusal.FeedRefusal.TheVariants.{NoMemory}
 use Rattle.courier_sessions.specs.declared.program.Program.{Program}
 use Rattle.xns_spp.specs.Fronts.{begins_length, begins_then}
 use Rattle.xns_spp.specs.Growth.{Begins}
@@ -19,11 +16,10 @@ use Rattle.xns_spp.specs.Laws.{TheNextItemIsHandedUp, AnEndOnlyGrows, OtherSteps
 use Rattle.xns_spp.specs.Receiving.{after_receive}
 use Rattle.xns_spp.specs.Sending.{send_answer, after_send, take_answer, after_take, flush_answer, after_flush}
 use Rattle.xns_spp.specs.State.{State, numbers_of, send_limit}
-use Rattle.xns_spp.specs.Telling.{after_resend}
 use Rattle.xns_spp.specs.declared.item.Item.{Item}
-use Rattle.xns_host.specs.Story.{Story, SideHas, Flows, Runs, start, sends, takes, flushes, resends, Moves, is_stopped, with_handed, new_story, Calms, MovesUntil}
-use Rattle.xns_host.specs.Closing.{drains, closing_items, closing_item, put_if, end_stream, end_reply_stream, noted, asks_end, replies_end, Knows}
-use Rattle.xns_host.specs.Telling.{Tells, Goes, Rested, owes_end, owes_reply, Calm, GoesUntil, IsUnrefused, ReadsOn, drained}
+use Rattle.xns_host.specs.Story.{Story, SideHas, Flows, Runs, start, takes, flushes, is_stopped, new_story}
+use Rattle.xns_host.specs.Closing.{drains, closing_items, put_if, end_stream, end_reply_stream, noted, asks_end, replies_end, Knows}
+use Rattle.xns_host.specs.Telling.{Tells, Goes, Rested, owes_end, drained}
 use Rattle.xns_host.specs.declared.closing.Closing.{Closing}
 use Rattle.xns_host.specs.declared.closing.TheConstants.Closing.{NONE}
 use Rattle.xns_host.specs.declared.side.Side.{Side}
@@ -216,19 +212,6 @@ unsaid true b z = absurd (cc)
 unsaid false true z = absurd (cc)
 unsaid false false z = (refl, refl)
 
--- and where nothing was put out meanwhile
-pub reads_still : (u w : Conversation) → drains u.side u.closing ≡ false → w.side ≡ u.side → w.closing.deaf ≡ u.closing.deaf → closing_items w.closing ≡ [] → drains w.side w.closing ≡ false
-reads_still u w d same deaf none =
-    let k = unsaid w.closing.end_sent w.closing.reply_sent none in
-    let is = parts (is_stopped u.side) u.closing.end_sent u.closing.reply_sent u.closing.deaf d in
-    ap (λ (x : Side). drains x w.closing) same ∙ ap (λ (b : Bool). b || (w.closing.end_sent || (w.closing.reply_sent || w.closing.deaf))) is.0
-    ∙ ap (λ (b : Bool). b || (w.closing.reply_sent || w.closing.deaf)) k.0 ∙ ap (λ (b : Bool). b || w.closing.deaf) k.1 ∙ deaf ∙ is.1 where
-      parts : (a b c d : Bool) → (a || (b || (c || d))) ≡ false → (a ≡ false) × (d ≡ false)
-      parts true b c d z = absurd (cc)
-      parts false true c d z = absurd (cc)
-      parts false false true d z = absurd (cc)
-      parts false false false d z = (refl, z)
-
 pub flows_of : (t : Conversation) (h : Story) → drains t.side t.closing ≡ false → Tells t h → Flows t.side t.endpoint h
 flows_of t h d tells =
     let k = nothing_said t.side t.closing d in
@@ -250,24 +233,6 @@ tells_of t h closing knows f = record {
   all = λ z. f.fed;
   given = ap (λ (xs : List Item). h.given ++ xs) closing ∙ append-nil h.given ∙ f.given;
   knows = subst (Knows t.closing) (sym (none_drained h f.fed)) knows;
-}
-
-pub conversed : (t u : Conversation) → drains t.side t.closing ≡ false → u.closing ≡ t.closing → Moves t.side t.endpoint u.side u.endpoint → Goes t u
-conversed t u d closing moves = record {
-  still = λ z. d;
-  wanted = still_wanted closing;
-  on = λ h tells.
-      let k = moves.on h (flows_of t h d tells) in
-      (k.0, tells_of u k.0 (ap closing_items closing ∙ (nothing_said t.side t.closing d).1) (knows_same t.closing u.closing closing [] (knows_none t h d tells)) k.1, k.2);
-}
-
--- up to where no more is moved
-pub converses_until : (t : Conversation) (n : Side) (f : Held) (e : FeedRefusal) → drains t.side t.closing ≡ false → MovesUntil t.side t.endpoint e n f → GoesUntil t (λ h. h) e
-converses_until t n f e d until = record {
-  on = λ h tells.
-      let k = until.on h (flows_of t h d tells) in
-      let last : Conversation = record t { side = k.0; endpoint = f } in
-      (last, k.1, tells_of last k.1 (nothing_said t.side t.closing d).1 (knows_none t h d tells) k.2, k.3, reads_by t.side k.0 t.closing d k.4, k.5);
 }
 
 -- ---- flags that say nothing of what was put out
@@ -299,13 +264,6 @@ beside e f stream is = subst (λ (g : Closing). Beside e g) (sym is) (beside_by 
 
 -- ---- an item of the closing exchange is put out
 
--- one was refused
-pub not_put : ItemsAreAcceptedOrChangeNothing → (t u : Conversation) (x : Item) → u.side ≡ t.side → u.closing ≡ t.closing
-    → ((s : State) → StandsFor t.endpoint s → is_ok (send_answer s x) ≡ false) → ((s : State) → StandsFor t.endpoint s → StandsFor u.endpoint (after_send s x)) → Goes t u
-not_put law t u x same closing refused step = goes_by t u same (λ z. ap (λ (e : Closing). drains t.side e) (sym closing) ∙ ap (λ (y : Side). drains y u.closing) (sym same) ∙ z) (still_wanted closing) (λ s stands.
-    let e : after_send s x ≡ s = law.refused s x (refused s stands) in
-    (s, same_items t u s s closing refl refl refl (subst (λ (v : State). StandsFor u.endpoint v) e (step s stands)), start))
-
 accepts : ItemsAreAcceptedOrChangeNothing → (t u : Conversation) (x : Item) (s : State) → is_ok (send_answer s x) ≡ true → StandsFor u.endpoint (after_send s x)
     → ((g : List Item) → g ++ closing_items u.closing ≡ (g ++ closing_items t.closing) ++ x ∷ []) → KnowsToo t.closing u.closing → Carries t u s (after_send s x)
 accepts law t u x s ok stands more too =
@@ -318,51 +276,6 @@ accepts law t u x s ok stands more too =
       given = λ g is. more g ∙ ap (λ (xs : List Item). xs ++ x ∷ []) is ∙ sym (ap (λ (v : State). v.accepted) e);
       knows = λ fed begins k. knows_still t.closing u.closing s (after_send s x) too front fed k;
     }
-
--- the reply
-pub put_reply : ItemsAreAcceptedOrChangeNothing → (t u : Conversation) → u.side ≡ t.side → u.closing ≡ record t.closing { reply_sent = true } → t.closing.reply_sent ≡ false
-    → ((s : State) → StandsFor t.endpoint s → is_ok (send_answer s (closing_item end_reply_stream)) ≡ true)
-    → ((s : State) → StandsFor t.endpoint s → StandsFor u.endpoint (after_send s (closing_item end_reply_stream))) → Goes t u
-put_reply law t u same closing unsent ok step = goes_by t u same (λ z. absurd (never (is_stopped u.side) t.closing.end_sent t.closing.deaf (sym (ap (λ (e : Closing). drains u.side e) closing) ∙ z))) (still_wanted closing) (λ s stands. (
-  after_send s x,
-  accepts law t u x s (ok s stands) (step s stands) (λ g.
-      ap (λ (f : Closing). g ++ closing_items f) closing ∙ sym (append_assoc g (end_of t.closing) (x ∷ []))
-      ∙ ap (λ (xs : List Item). xs ++ x ∷ []) (sym (ap (λ (b : Bool). g ++ (end_of t.closing ++ put_if b end_reply_stream)) unsent ∙ ap (λ (xs : List Item). g ++ xs) (append-nil (end_of t.closing)))))
-      (λ items k. subst (λ (e : Closing). Knows e items) (sym closing) (record { wanted = k.wanted; heard = k.heard })),
-  sends start x,
-)) where
-  never : (a b c : Bool) → (a || (b || (true || c))) ≡ false → ⊥
-  never true b c z = cc
-  never false true c z = cc
-  never false false c z = cc
-
-  end_of : Closing → List Item
-  end_of e = put_if e.end_sent end_stream
-
-  x : Item
-  x = closing_item end_reply_stream
-
--- the asking for an end
-pub put_end : ItemsAreAcceptedOrChangeNothing → (t u : Conversation) → u.side ≡ t.side → u.closing ≡ record t.closing { end_sent = true } → drains t.side t.closing ≡ false
-    → ((s : State) → StandsFor t.endpoint s → is_ok (send_answer s (closing_item end_stream)) ≡ true)
-    → ((s : State) → StandsFor t.endpoint s → StandsFor u.endpoint (after_send s (closing_item end_stream))) → Goes t u
-put_end law t u same closing free ok step = goes_by t u same (λ z. free) (still_wanted closing) (λ s stands.
-    let none = (nothing_said t.side t.closing free).1 in (
-      after_send s x,
-      accepts law t u x s (ok s stands) (step s stands) (λ g.
-          ap (λ (f : Closing). g ++ closing_items f) closing ∙ ap (λ (b : Bool). g ++ (x ∷ [] ++ put_if b end_reply_stream)) (no_reply (is_stopped t.side) t.closing.end_sent t.closing.reply_sent t.closing.deaf free)
-          ∙ ap (λ (xs : List Item). xs ++ x ∷ []) (sym (ap (λ (xs : List Item). g ++ xs) none ∙ append-nil g)))
-          (λ items k. subst (λ (e : Closing). Knows e items) (sym closing) (record { wanted = k.wanted; heard = k.heard })),
-      sends start x,
-    )) where
-      no_reply : (a b c d : Bool) → (a || (b || (c || d))) ≡ false → c ≡ false
-      no_reply true b c d z = absurd (cc)
-      no_reply false true c d z = absurd (cc)
-      no_reply false false true d z = absurd (cc)
-      no_reply false false false d z = refl
-
-      x : Item
-      x = closing_item end_stream
 
 -- ---- the program's steps: the end stays, and the side goes on
 
@@ -384,18 +297,9 @@ acts t side h m state fed given stop has tells =
 pub packs : (t u : Conversation) → u.side ≡ t.side → u.closing ≡ t.closing → ((s : State) → StandsFor t.endpoint s → (v : State) × Carries t u s v × Runs s v) → Goes t u
 packs t u same closing step = goes_by t u same (λ z. ap (λ (e : Closing). drains t.side e) (sym closing) ∙ ap (λ (y : Side). drains y u.closing) (sym same) ∙ z) (still_wanted closing) step
 
-pub resends_first : OtherStepsAcceptAndHandUpNothing → OtherStepsHearNothing → (t u : Conversation) → u.side ≡ t.side → u.closing ≡ t.closing → ((s : State) → StandsFor t.endpoint s → StandsFor u.endpoint (after_resend s)) → Goes t u
-resends_first stay hear t u same closing step = packs t u same closing (λ s stands.
-    (after_resend s, same_items t u s (after_resend s) closing (stay.resend s).accepted (stay.resend s).handed (hear.resend s).taken (step s stands), resends start))
-
 pub flushed : OtherStepsAcceptAndHandUpNothing → OtherStepsHearNothing → (t u : Conversation) → u.side ≡ t.side → u.closing ≡ t.closing → ((s : State) → StandsFor t.endpoint s → StandsFor u.endpoint (after_flush s)) → Goes t u
 flushed stay hear t u same closing step = packs t u same closing (λ s stands.
     (after_flush s, same_items t u s (after_flush s) closing (stay.flush s).accepted (stay.flush s).handed (hear.flush s).taken (step s stands), flushes start))
-
--- the end, the side and the closing stay
-pub same_end : (t u : Conversation) → u.side ≡ t.side → u.closing ≡ t.closing → u.endpoint ≡ t.endpoint → Goes t u
-same_end t u same closing stay = packs t u same closing (λ s stands.
-    (s, same_items t u s s closing refl refl refl (subst (λ (e : Held). StandsFor e s) (sym stay) stands), start))
 
 -- so do the end, the side and what was put out
 pub marks : (t u : Conversation) → u.side ≡ t.side → closing_items u.closing ≡ closing_items t.closing → KnowsToo t.closing u.closing → (drains u.side u.closing ≡ false → drains t.side t.closing ≡ false) → (t.closing.wanted ≡ true → u.closing.wanted ≡ true) → u.endpoint ≡ t.endpoint → Goes t u
@@ -410,25 +314,10 @@ pub if_err : {X E : Type 0} (P Q : E → Type 0) (r : Result X E) → ((e : E) �
 if_err P Q (Ok x) f h = h
 if_err P Q (Err e) f h = f e h
 
-pub when_ok : {E : Type 0} (P : Type 0) (r : Result (Unit {0}) E) → r ≡ Ok tt → OnOk r P → P
-when_ok P r good h = subst (λ (x : Result (Unit {0}) _). OnOk x P) good h
-
--- what a call that may be refused memory did
-pub done_or_not : {X Y : Type 0} (P Q R : Type 0) (r : Result X Y) → (P → R) → (Q → R) → OnOk r P → OnErr r Q → R
-done_or_not P Q R (Ok x) f g p q = f p
-done_or_not P Q R (Err e) f g p q = g q
-
 -- ---- why something is put out
 
 pub undrained : (t : Conversation) → owes_end t ≡ true → drains t.side t.closing ≡ false
 undrained t owes = by t.closing.wanted (drains t.side t.closing) _ owes where
-  by : (a b c : Bool) → (a && (not b && c)) ≡ true → b ≡ false
-  by true true c e = absurd (cc)
-  by true false c e = refl
-  by false b c e = absurd (cc)
-
-pub unsent_reply : (t : Conversation) → owes_reply t ≡ true → t.closing.reply_sent ≡ false
-unsent_reply t owes = by t.closing.reply_wanted t.closing.reply_sent _ owes where
   by : (a b c : Bool) → (a && (not b && c)) ≡ true → b ≡ false
   by true true c e = absurd (cc)
   by true false c e = refl
@@ -441,10 +330,6 @@ pub record Kept (h m : Story) : Type 0 where
   pub fed : m.fed ≡ h.fed
   pub given : m.given ≡ h.given
 
-pub handed_keeps : (side : Side) (h : Story) (m : Message) → Kept h (with_handed side h m)
-handed_keeps (Calls t) h m = record { state = refl; fed = refl; given = refl }
-handed_keeps (Answers a) h m = record { state = refl; fed = refl; given = refl }
-
 -- ---- nothing is left to go out for the first time
 
 pub flushed_out : (s : State) → flush_answer (after_flush s) ≡ []
@@ -456,28 +341,8 @@ flushed_out s = by (is_open s.ends) refl where
   by true e = rw e (ap (λ (xs : List Item). map spp_packet_spelling (data_packets_at s.ends (numbers_of (record s { sent = send_limit s })) (send_limit s) xs)) (none (send_limit s) (drop (send_limit s) s.accepted)))
   by false e = rw e refl
 
-pub flushes_all : OtherStepsAcceptAndHandUpNothing → OtherStepsHearNothing → (t u : Conversation) → u.side ≡ t.side → u.closing ≡ t.closing → ((s : State) → StandsFor t.endpoint s → StandsFor u.endpoint (after_flush s)) → Rested t u
-flushes_all stay hear t u same closing step = record {
-  on = λ h tells.
-      let s : State = h.state in
-      let m : Story = record h { state = after_flush s } in
-      let drain : drains u.side u.closing ≡ false → drains t.side t.closing ≡ false = λ z. ap (λ (e : Closing). drains t.side e) (sym closing) ∙ ap (λ (y : Side). drains y u.closing) (sym same) ∙ z in (
-        m,
-        carried t u h (after_flush s) same drain (same_items t u s (after_flush s) closing (stay.flush s).accepted (stay.flush s).handed (hear.flush s).taken (step s tells.stands)) tells,
-        same_messages h m (flushes start) refl refl refl refl refl,
-        flushed_out s,
-      );
-}
-
 pub rested_then : {s t u : Conversation} → Goes s t → Rested t u → Rested s u
 rested_then p q = record { on = λ h f. let x = p.on h f in let y = q.on x.0 x.1 in (y.0, y.1, goes_on h x.0 y.0 x.2 y.2, y.3) }
-
--- once it drains it does so for good
-pub drains_still : (t u : Conversation) → Goes t u → drains t.side t.closing ≡ true → drains u.side u.closing ≡ true
-drains_still t u g d = by (drains u.side u.closing) refl where
-  by : (b : Bool) → drains u.side u.closing ≡ b → b ≡ true
-  by true e = refl
-  by false e = let z = g.still e in absurd (cc)
 
 pub deafened : (a b c : Bool) → (a || (b || (c || true))) ≡ false → ⊥
 deafened true b c z = cc
@@ -486,19 +351,6 @@ deafened false false true z = cc
 deafened false false false z = cc
 
 -- ---- only the packets that wait change
-
-tells_same : (t u : Conversation) (h : Story) → u.side ≡ t.side → u.closing ≡ t.closing → u.endpoint ≡ t.endpoint → Tells t h → Tells u h
-tells_same t u h same closing stay tells = record {
-  stands = subst (λ (e : Held). StandsFor e h.state) (sym stay) tells.stands;
-  has = subst (λ (x : Side). SideHas h x) (sym same) tells.has;
-  fed = tells.fed;
-  all = λ z. tells.all (ap (λ (e : Closing). drains t.side e) (sym closing) ∙ ap (λ (y : Side). drains y u.closing) (sym same) ∙ z);
-  given = ap (λ (e : Closing). h.given ++ closing_items e) closing ∙ tells.given;
-  knows = knows_same t.closing u.closing closing (drained h) tells.knows;
-}
-
-pub rested_same : {s t u : Conversation} → Rested s t → u.side ≡ t.side → u.closing ≡ t.closing → u.endpoint ≡ t.endpoint → Rested s u
-rested_same {s} {t} {u} p same closing stay = record { on = λ h f. let x = p.on h f in (x.0, tells_same t u x.0 same closing stay x.1, x.2, x.3) }
 
 -- ---- a new connection
 
@@ -513,47 +365,9 @@ new_tells t programs s e side endpoint same closing stands has none empty = reco
   knows = knows_same NONE t.closing closing (take s.handed s.taken) (subst (Knows NONE) (sym none) (record { wanted = refl; heard = refl }));
 }
 
-pub calmed : (t u : Conversation) → drains t.side t.closing ≡ false → u.closing ≡ t.closing → Calms t.side t.endpoint u.side u.endpoint → Calm t u
-calmed t u d closing calms = record {
-  on = λ h tells.
-      let k = calms.on h (flows_of t h d tells) in
-      (k.0, tells_of u k.0 (ap closing_items closing ∙ (nothing_said t.side t.closing d).1) (knows_same t.closing u.closing closing [] (knows_none t h d tells)) k.1, k.2, k.3, k.4);
-}
-
-pub settle_calm : (t u v w : Conversation) (r : Result (Unit {0}) FeedRefusal) → (r ≡ Ok tt → drains u.side u.closing ≡ false → Calm t u) → (r ≡ Ok tt → v ≡ u) → (r ≢ Ok tt → r ≢ Err NoMemory → drains v.side v.closing ≡ true)
-    → Goes v w → (drains w.side w.closing ≡ false → w ≡ v) → r ≢ Err NoMemory → drains w.side w.closing ≡ false → Calm t w
-settle_calm t u v w (Ok x) calm good deaf goes idle some z =
-    let same : w ≡ u = idle z ∙ good refl in
-    subst (λ (k : Conversation). Calm t k) (sym same) (calm refl (subst (λ (k : Conversation). drains k.side k.closing ≡ false) same z))
-settle_calm t u v w (Err e) calm good deaf goes idle some z =
-    let d : drains v.side v.closing ≡ true = deaf (λ k. cc) some in
-    let f : drains v.side v.closing ≡ false = goes.still z in
-    absurd (cc)
-
 pub never_false : (a : Bool) → (a || true) ≡ false → ⊥
 never_false true z = cc
 never_false false z = cc
 
-pub never_free : (a b : Bool) → (a || (b || true)) ≡ false → ⊥
-never_free true b z = cc
-never_free false true z = cc
-never_free false false z = cc
-
 -- ---- what was read is read on
 
-pub converse_reads : (t : Conversation) (n : Side) (f : Held) (r : Result (Unit {0}) FeedRefusal) → OnOk r (Calms t.side t.endpoint n f)
-    → IfErr r (λ e. MovesUntil t.side t.endpoint e n f) → IsUnrefused r → (h : Story) → Tells t h → drains t.side t.closing ≡ false → drains n t.closing ≡ false
-converse_reads t n f (Ok x) calms until fine h tells d = reads_by t.side n t.closing d (calms.going h (flows_of t h d tells))
-converse_reads t n f (Err e) calms until fine h tells d =
-    let short : Err e ≡ Err NoMemory = fine (λ z. cc) in
-    let is : e ≡ NoMemory = cc in
-    reads_by t.side n t.closing d (until.going is h (flows_of t h d tells))
-
-pub settle_reads : (t u v w : Conversation) (r : Result (Unit {0}) FeedRefusal)
-    → (IsUnrefused r → (h : Story) → Tells t h → drains t.side t.closing ≡ false → drains u.side u.closing ≡ false)
-    → (r ≡ Ok tt → v ≡ u) → (r ≡ Err NoMemory → v ≡ u) → w.side ≡ v.side → w.closing.deaf ≡ v.closing.deaf → IsUnrefused r → ReadsOn t w
-settle_reads t u v w r reads good short side deaf fine = λ h tells d none.
-    reads_still v w (subst (λ (k : Conversation). drains k.side k.closing ≡ false) (sym (by r refl)) (reads fine h tells d)) side deaf none where
-      by : (q : Result (Unit {0}) FeedRefusal) → r ≡ q → v ≡ u
-      by (Ok x) is = good is
-      by (Err e) is = short (fine (λ z. cc))

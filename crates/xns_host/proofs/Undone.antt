@@ -1,8 +1,7 @@
 -- Of no connection that is there is all done: one that may be forgotten is.
-use Rattle.std.proofs.Common.{◌≡◌, ◌≢◌, ◌∙◌, ◌⊎◌, inl, inr, ap, refl, subst, sym, ℕ, zero, suc, ◌<◌, Bool, true, false, List, length, Option, Some, None, Result, Ok, Err, slice_get, get_or}
-use Rattle.std.specs.Prelude.{◌&&◌, ◌||◌, OnOk, OnErr, nat_le, slice_set, if◌then◌else◌, replicate}
+use Rattle.std.proofs.Common.{◌≡◌, ◌≢◌, ◌∙◌, ◌⊎◌, inl, inr, ap, refl, subst, sym, ℕ, zero, suc, ◌<◌, Bool, true, false, List, length, Option, Some, None, slice_get, get_or}
+use Rattle.std.specs.Prelude.{◌&&◌, ◌||◌, nat_le, slice_set, if◌then◌else◌, replicate}
 use Rattle.std.specs.Option.{is_none, is_some}
-use Rattle.std.specs.declared.alloc.AllocError.{AllocError}
 use Rattle.std.proofs.lemmas.Option.{same_Some, slice_get_read}
 use Rattle.xns_agenda.specs.Waiting.{Waiting, StepsAt, still, step, close, HearsAt, no_word, word, act_at, act_by, after_act, after_by, after_heard, after_step, after_word, due_time, idling, waiting_on}
 use Rattle.xns_agenda.specs.declared.act.Act.{Act}
@@ -83,12 +82,6 @@ not_done_after c d told closed lingers before = λ so_told.
 pub not_done_steps : (now : ℕ) (c d : Connection) → d.told ≡ c.told → (c.closed ≢ None → d.closed ≡ c.closed) → StepsAt now c.wait d.wait
     → IsNotDone c → IsNotDone d
 not_done_steps now c d told closed steps before = not_done_after c d told closed (λ at. lingers_on now c.wait at steps) before
-
-pub not_done_hears : (now : ℕ) (c d : Connection) (r : Result (Unit {0}) AllocError) → d.told ≡ c.told → (c.closed ≢ None → d.closed ≡ c.closed)
-    → OnOk r (HearsAt now c.wait d.wait) → OnErr r (d ≡ c) → IsNotDone c → IsNotDone d
-not_done_hears now c d (Ok u) told closed hears same before =
-    not_done_after c d told closed (λ at. hears_on now c.wait d.wait at hears) before
-not_done_hears now c d (Err e) told closed hears same before = subst IsNotDone (sym same) before
 
 all_so : (a b c : Bool) → a ≡ true → b ≡ true → c ≡ true → (a && (b && c)) ≡ true
 all_so true true true is so_told here = refl

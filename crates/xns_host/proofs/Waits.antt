@@ -1,17 +1,14 @@
 -- How many items wait at an end to be read.
 use Rattle.std.proofs.Common.{◌≡◌, ◌∙◌, ap, sym, refl, ◌-◌, ◌≤◌, Bool, true, false, ◌||◌, Option, Some, None, arith}
-use Rattle.std.specs.Prelude.{nat_lt, not, ◌&&◌}
+use Rattle.std.specs.Prelude.{nat_lt}
 use Rattle.std.specs.Option.{is_some}
 use Rattle.std.proofs.lemmas.Bool.{ltb-false}
 use Rattle.xns_spp.specs.Held.{Held, StandsFor}
 use Rattle.xns_spp.specs.Laws.{TheNextItemIsHandedUp}
-use Rattle.xns_spp.specs.Sending.{send_fault, accepting, after_send, take_answer, after_take, waiting_count}
+use Rattle.xns_spp.specs.Sending.{accepting, take_answer, after_take, waiting_count}
 use Rattle.xns_spp.specs.State.{State}
 use Rattle.xns_spp.specs.declared.item.Item.{Item}
 use Rattle.xns_spp.specs.declared.send_fault.SendFault.{SendFault}
-use Rattle.xns_host.specs.Closing.{drains}
-use Rattle.xns_host.specs.Telling.{owes_reply}
-use Rattle.xns_host.specs.declared.conversation.Conversation.{Conversation}
 
 -- an endpoint knows it
 pub same_waiting : {e : Held} (s v : State) → StandsFor e s → StandsFor e v → waiting_count s ≡ waiting_count v
@@ -25,26 +22,9 @@ one_fewer next s None is =
     omega (arith, few, same)
 one_fewer next s (Some x) is = let few = next.fewer s x is in omega (arith, few)
 
-pub takes_one : TheNextItemIsHandedUp → {e : Held} (s v : State) → StandsFor e (after_take s) → StandsFor e v → waiting_count v ≤ waiting_count s - 1
-takes_one next s v p q =
-    let same = same_waiting (after_take s) v p q in
-    let few = one_fewer next s (take_answer s) refl in
-    omega (arith, same, few)
-
 sent_same : (o : Option SendFault) (s : State) (x : Item) → waiting_count (accepting o s x) ≡ waiting_count s
 sent_same None s x = refl
 sent_same (Some f) s x = refl
-
-pub sends_one : {e : Held} (s v : State) (x : Item) → StandsFor e (after_send s x) → StandsFor e v → waiting_count v ≡ waiting_count s
-sends_one s v x p q = sym (same_waiting (after_send s x) v p q) ∙ sent_same (send_fault s x) s x
-
-pub drains_owed : (t : Conversation) → owes_reply t ≡ true → drains t.side t.closing ≡ true
-drains_owed t owes = by t.closing.reply_wanted (not t.closing.reply_sent) (drains t.side t.closing) _ owes where
-  by : (a b c d : Bool) → (a && (b && (c && d))) ≡ true → c ≡ true
-  by true true true d e = refl
-  by true true false d e = absurd (cc)
-  by true false c d e = absurd (cc)
-  by false b c d e = absurd (cc)
 
 pub stays_true : (a b c : Bool) → (a || (b || (true || c))) ≡ true
 stays_true true b c = refl

@@ -1,7 +1,7 @@
 use Rattle.std.proofs.Common.{◌∙◌, ap, refl}
 use Rattle.xns_host.specs.Closing.{drains}
 use Rattle.xns_host.specs.Deeds.{asked}
-use Rattle.xns_host.specs.Moving.{HasHistory, scene}
+use Rattle.xns_host.specs.Moving.{scene}
 use Rattle.xns_host.specs.declared.conversation.Conversation.{Conversation}
 use Rattle.xns_host.proofs.Steps.{same_history, step_by}
 use Rattle.xns_host.proofs.connection.Connection.close.Goals as goal

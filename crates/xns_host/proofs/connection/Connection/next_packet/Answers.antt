@@ -1,16 +1,6 @@
 use Rattle.std.proofs.Common.{refl}
-use Rattle.xns_agenda.specs.Waiting.{after_step}
 use Rattle.xns_host.specs.Telling.{waits}
-use Rattle.std.proofs.Common.{subst}
-use Rattle.xns_spp.specs.Held.{StandsFor}
-use Rattle.xns_host.specs.declared.connection.Connection.{Connection}
 use Rattle.xns_host.proofs.Done.{steps_then}
-use Rattle.xns_host.proofs.Leading.{goes_then}
-use Rattle.xns_host.proofs.Giving.{moves_and_gives, moves_and_none}
-use Rattle.xns_host.proofs.Tellings.{rested_then}
-use Rattle.std.proofs.Common.{◌∙◌, ap, sym, Bool}
-use Rattle.xns_host.specs.Closed.{ClosesBy}
-use Rattle.xns_spp.specs.Telling.{told_answer}
 use Rattle.xns_host.proofs.Nexts.{unless_closed}
 use Rattle.xns_host.specs.Step.{GivesNext}
 use Rattle.xns_host.proofs.Steps.{moved_steps}

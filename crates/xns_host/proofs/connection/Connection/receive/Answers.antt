@@ -3,18 +3,14 @@ use Rattle.xns_spp.specs.Held.{Held}
 use Rattle.xns_host.specs.Closing.{drains}
 use Rattle.xns_spp.specs.Receiving.{after_receive}
 use Rattle.xns_host.proofs.Done.{hears_at}
-use Rattle.xns_host.proofs.Tellings.{still_wanted}
 use Rattle.std.proofs.Common.{◌∙◌, ap, refl, ℕ}
 use Rattle.std.specs.Prelude.{nat_lt}
-use Rattle.xns_host.proofs.Owing.{again_heard, progress_is, waits_heard, word_heard}
-use Rattle.xns_host.proofs.Closes.{closes_from}
-use Rattle.xns_host.specs.Story.{Story}
+use Rattle.xns_host.proofs.Owing.{progress_is}
 use Rattle.std.proofs.Common.{◌≡◌}
 use Rattle.xns_spp.specs.Held.{StandsFor}
 use Rattle.xns_spp.specs.State.{State}
 use Rattle.xns_host.specs.Telling.{is_progress}
 use Rattle.xns_host.proofs.Steps.{heard_by, owed_is_heard, wait_is_heard}
-use Rattle.xns_host.proofs.Steps.{moved_history}
 use Rattle.xns_host.proofs.Steps.{heard_history, same_history}
 use Rattle.xns_spp.specs.Packet.{spp_packet_spelling}
 use Rattle.std.proofs.Common.{◌++◌, []}

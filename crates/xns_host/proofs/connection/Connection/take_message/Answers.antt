@@ -1,11 +1,5 @@
-use Rattle.xns_host.proofs.Leading.{calm_from, stays}
-use Rattle.xns_host.specs.Story.{with_handed}
 use Rattle.std.proofs.Common.{refl, subst}
 use Rattle.xns_spp.specs.Held.{Held, StandsFor}
-use Rattle.xns_host.specs.Telling.{OwesRoom}
-use Rattle.xns_host.proofs.Owing.{same_room}
-use Rattle.xns_host.proofs.Closes.{closes_calm, closes_from}
-use Rattle.xns_host.specs.Story.{Story}
 use Rattle.std.proofs.Common.{◌≡◌, ◌∙◌, ap, sym, false, None, rules}
 use Rattle.std.specs.Prelude.{not}
 use Rattle.xns_host.specs.Deeds.{took}
@@ -14,7 +8,6 @@ use Rattle.xns_host.specs.Step.{calmly, moving_on, none_waits, parts_of}
 use Rattle.xns_host.specs.declared.conversation.Conversation.{Conversation}
 use Rattle.xns_host.proofs.Steps.{calm_then, first_no, same_connection, second_no, step_by}
 use Rattle.xns_host.proofs.connection.Connection.take_message.Goals.{else-not-self-via-then-not-self+else-is_calm, else-not-self-via-else-not-self}
-use Rattle.xns_host.proofs.Steps.{moved_history}
 use Rattle.xns_host.proofs.Steps.{same_history}
 use Rattle.xns_host.proofs.connection.Connection.take_message.Goals as goal
 

@@ -1,7 +1,3 @@
-use Rattle.std.proofs.Common.{◌∙◌, subst, sym}
-use Rattle.xns_host.specs.Telling.{HasSaidEnd}
-use Rattle.xns_host.proofs.Leading.{goes_then}
-use Rattle.xns_host.proofs.Tellings.{undrained}
 use Rattle.xns_host.specs.Moving.{drained_out, replied}
 use Rattle.xns_host.proofs.Scenes.{then_at}
 use Rattle.xns_host.proofs.conversation.Conversation.close_up.Goals as goal

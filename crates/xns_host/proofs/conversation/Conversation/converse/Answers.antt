@@ -1,7 +1,5 @@
-use Rattle.std.proofs.Common.{◌≡◌, ◌∙◌, true, refl, sym}
+use Rattle.std.proofs.Common.{◌∙◌, true, refl, sym}
 use Rattle.xns_host.specs.Closing.{drains}
-use Rattle.xns_host.proofs.Leading.{goes_not}
-use Rattle.xns_host.proofs.Tellings.{conversed, calmed, converse_reads, converses_until, if_err, when_ok}
 use Rattle.xns_host.specs.Moving.{drains_only, converses, scene}
 use Rattle.xns_host.proofs.Scenes.{at_first}
 use Rattle.xns_host.proofs.conversation.Conversation.converse.Goals as goal

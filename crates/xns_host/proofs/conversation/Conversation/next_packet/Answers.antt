@@ -1,10 +1,5 @@
-use Rattle.xns_host.proofs.Leading.{goes_then}
-use Rattle.xns_host.proofs.Tellings.{rested_then}
-use Rattle.std.proofs.Common.{◌∙◌, subst, ℕ, List, Option}
-use Rattle.xns_host.specs.Telling.{Gives}
-use Rattle.xns_host.proofs.Giving.{then_gives, then_none}
-use Rattle.std.proofs.Common.{ap, sym, Bool, Ok}
-use Rattle.xns_spp.specs.Telling.{told_answer}
+use Rattle.std.proofs.Common.{subst, ℕ, List, Option}
+use Rattle.std.proofs.Common.{sym}
 use Rattle.std.proofs.Common.{◌≡◌, OnErr, Err, Result, rules}
 use Rattle.std.specs.declared.alloc.AllocError.{AllocError}
 use Rattle.xns_spp.specs.State.{State}

@@ -1,7 +1,4 @@
 use Rattle.std.proofs.Common.{rules}
-use Rattle.std.proofs.Common.{refl}
-use Rattle.xns_host.proofs.Leading.{goes_then}
-use Rattle.xns_host.proofs.Tellings.{settle_calm, settle_reads}
 use Rattle.xns_host.proofs.Scenes.{settled_at}
 use Rattle.xns_host.proofs.conversation.Conversation.settle.Goals as goal
 

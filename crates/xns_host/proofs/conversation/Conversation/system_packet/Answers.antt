@@ -1,5 +1,3 @@
-use Rattle.std.proofs.Common.{refl}
-use Rattle.xns_host.proofs.Giving.{gives_none, gives_told}
 use Rattle.xns_host.proofs.Owing.{asked_given, no_word_given, word_given}
 use Rattle.xns_host.proofs.conversation.Conversation.system_packet.Goals.{else-not-owed-via-then-not-owed+else-not-owed-2, else-not-owed-via-else-not-owed}
 use Rattle.xns_host.proofs.conversation.Conversation.system_packet.Goals as goal

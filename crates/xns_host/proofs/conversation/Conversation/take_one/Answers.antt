@@ -1,8 +1,5 @@
-use Rattle.std.proofs.Common.{◌∙◌, refl, sym, subst, Option}
-use Rattle.xns_spp.specs.declared.item.Item.{Item}
-use Rattle.xns_host.specs.declared.conversation.Conversation.{Conversation}
-use Rattle.xns_host.proofs.Waits.{takes_one}
-use Rattle.xns_host.proofs.Tellings.{NotesNext, hands_up, beside, same_closing, same_drains}
+use Rattle.std.proofs.Common.{◌∙◌}
+use Rattle.xns_host.proofs.Tellings.{beside, same_drains}
 use Rattle.xns_host.proofs.conversation.Conversation.take_one.Goals as goal
 
 pub returns-clause-drains : goal.returns-clause-drains

@@ -1,12 +1,9 @@
-use Rattle.std.proofs.Common.{◌≡◌, Bool, Result, Ok, Err, IfErr, ap, sym, subst, rules, arith}
+use Rattle.std.proofs.Common.{◌≡◌, Bool, Result, Ok, Err, ap, sym, subst, rules, arith}
 use Rattle.xns_host.specs.declared.side.Side.{Side}
 use Rattle.courier_sessions.specs.declared.feed_refusal.FeedRefusal.{FeedRefusal}
 use Rattle.courier_sessions.specs.declared.feed_refusal.FeedRefusal.TheVariants.{NoMemory}
 use Rattle.xns_host.specs.Moving.{once, Converses, calms, starves, refuses}
-use Rattle.xns_host.specs.Story.{MovesUntil}
 use Rattle.xns_host.proofs.Rounds.{Reached, one_more, refused_on}
-use Rattle.xns_host.proofs.Coming.{quiet}
-use Rattle.xns_host.proofs.Leading.{moves_on, all_moves, moves_all, calms_at, calms_never, until_then, unrejects}
 use Rattle.xns_host.proofs.side.Side.converse.Goals as goal
 
 pub loop-alloc-init : goal.loop-alloc-init

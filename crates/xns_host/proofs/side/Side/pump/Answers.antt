@@ -1,10 +1,8 @@
-use Rattle.std.proofs.Common.{◌∙◌, ap, sym, subst, IfErr, OnOk}
-use Rattle.courier_sessions.specs.declared.feed_refusal.FeedRefusal.{FeedRefusal}
-use Rattle.xns_host.specs.Story.{Flows, is_stopped, has_message, MovesAll, MovesUntil}
+use Rattle.std.proofs.Common.{◌∙◌, ap, sym, subst}
+use Rattle.xns_host.specs.Story.{has_message}
 use Rattle.xns_host.specs.declared.side.Side.{Side}
 use Rattle.xns_host.specs.declared.side.Side.TheVariants.{Calls, Answers}
 use Rattle.xns_host.proofs.Coming.{no_call_comes}
-use Rattle.xns_host.proofs.Leading.{caller_pumped, server_pumped, caller_all, server_all, caller_refuses, server_refuses}
 use Rattle.courier_sessions.specs.Pumping.{caller_side, server_side}
 use Rattle.xns_spp.specs.Held.{StandsFor}
 use Rattle.xns_spp.specs.State.{State}

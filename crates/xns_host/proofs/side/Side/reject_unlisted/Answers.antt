@@ -1,10 +1,9 @@
 use Rattle.std.proofs.Common.{◌≡◌, ◌∙◌, ap, sym, subst, refl, OnErr}
-use Rattle.xns_host.specs.Story.{Moves, is_stopped, IsListed, IsUnlisted}
+use Rattle.xns_host.specs.Story.{is_stopped, IsListed, IsUnlisted}
 use Rattle.xns_host.specs.declared.side.Side.{Side}
 use Rattle.xns_host.specs.declared.side.Side.TheVariants.{Answers}
 use Rattle.xns_host.proofs.Coming.{gone, unlisted}
-use Rattle.xns_host.proofs.Handing.{rejected, reject_moves, nothing_moves}
-use Rattle.xns_host.proofs.Leading.{moves_not}
+use Rattle.xns_host.proofs.Handing.{rejected}
 use Rattle.xns_host.specs.Moving.{Rejects}
 use Rattle.xns_host.proofs.Rounds.{rejects_one}
 use Rattle.xns_host.proofs.side.Side.reject_unlisted.Goals as goal

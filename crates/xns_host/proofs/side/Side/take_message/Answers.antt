@@ -1,10 +1,7 @@
-use Rattle.std.proofs.Common.{◌≡◌, ◌∙◌, ap, sym, subst, Some, None}
-use Rattle.courier_messages.specs.declared.message.Message.{Message}
-use Rattle.courier_sessions.specs.Answering.{why_unlisted, after_call}
-use Rattle.xns_host.specs.Story.{ServerHas, SideHas, is_stopped, with_handed}
-use Rattle.xns_host.specs.declared.side.Side.{Side}
+use Rattle.std.proofs.Common.{◌≡◌, ◌∙◌, ap, sym}
+use Rattle.xns_host.specs.Story.{is_stopped}
 use Rattle.xns_host.specs.declared.side.Side.TheVariants.{Answers}
-use Rattle.xns_host.proofs.Handing.{taken, hands}
+use Rattle.xns_host.proofs.Handing.{taken}
 use Rattle.xns_host.proofs.side.Side.take_message.Goals as goal
 
 pub returns-in-Answers-clause-stopped : goal.returns-in-Answers-clause-stopped
