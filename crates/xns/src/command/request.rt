@@ -2,10 +2,17 @@
 use xns_command::Mode;
 
 /// What the words of the command line ask for.
-#[derive(Clone, Copy, Debug)]
-pub struct Request<'a> {
-    /// The command.
-    pub mode: Mode,
-    /// The name of the file that it reads, if one is named; `-` stands for standard input.
-    pub file: Option<&'a str>,
+#[derive(Debug, Drop)]
+pub enum Request<'a> {
+    /// To run a mode.
+    Run {
+        mode: Mode,
+        /// The name of the file that it reads, if one is named; `-` stands for standard input.
+        file: Option<&'a str>,
+    },
+    /// To print the programs that files describe.
+    Programs {
+        /// The names of the files, in order; `-` stands for standard input.
+        files: Vec<&'a str>,
+    },
 }
