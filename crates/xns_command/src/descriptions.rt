@@ -1,5 +1,6 @@
 //! Descriptions of remote programs (XSIS 038112, Courier), read from files and printed.
-ghost use Rattle.std.specs.Prelude.{◌≡◌, IfOk, IfSome, OnOk};
+ghost use Rattle.std.specs.Prelude.{◌≡◌, ◌+◌, IfOk, IfSome, length};
+ghost use Rattle.courier_notation.specs.Lexing.{most_text};
 ghost use Rattle.courier_programs.specs.Meanings.{resolved_model};
 ghost use Rattle.call_texts.specs.Listing.{program_text};
 ghost use Rattle.xns_command.specs.Descriptions.{IsRead, Prints};
@@ -14,11 +15,7 @@ use std::io::{Read, Write};
 use xns_lines::{RunFault, write_whole};
 
 /// The program that a text describes, behind those that were read before it.
-fn read_whole(
-    alloc: Global,
-    text: &[u8],
-    before: &[Program],
-) -> Result<Program, DescriptionFault>
+fn read_whole(alloc: Global, text: &[u8], before: &[Program]) -> Result<Program, DescriptionFault>
     ensures { IsRead result text.now before.now }
 {
     match read_text(alloc, text, before) {
@@ -48,7 +45,20 @@ pub fn read_description<R: Read>(
     ensures { IfSome (R.remaining reader.old) (λ text. IsRead result text before.now) }
 {
     let mut room = vec![in alloc; 0u8; MOST_TEXT + 1]?;
-    match read_first(reader, &mut room) {
+    read_into(alloc, reader, &mut room, before)
+}
+
+/// Reads the program that a file describes, in room for one byte more than a description may have.
+fn read_into<R: Read>(
+    alloc: Global,
+    reader: &mut R,
+    room: &mut [u8],
+    before: &[Program],
+) -> Result<Program, DescriptionFault>
+    requires { length room.old ≡ most_text + 1 }
+    ensures { IfSome (R.remaining reader.old) (λ text. IsRead result text before.now) }
+{
+    match read_first(reader, room) {
         Ok(count) => read_whole(alloc, &room[..count], before),
         Err(fault) => Err(DescriptionFault::Run(fault)),
     }

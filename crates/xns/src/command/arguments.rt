@@ -78,7 +78,9 @@ fn programs_command<'a>(alloc: Global) -> Result<Command<'a>, AllocError>
         .value_name("FILE")
         .num_args(1..)
         .required(true)
-        .help("Descriptions in Courier's notation, each behind those it depends upon; - is standard input");
+        .help(
+            "Descriptions in Courier's notation, each behind those it depends upon; - is standard input",
+        );
     Command::new(alloc, "programs")
         .about("Prints the remote programs that files in Courier's notation describe")
         .after_help(PROGRAMS_HELP)
