@@ -123,7 +123,7 @@ def ours_over_udp(server, client, size, *window):
 
 
 def onc_rpc(program, carrier, size):
-    """The same calls as ONC RPC."""
+    """The calls of this benchmark as ONC RPC."""
     return Kind(
         f"ONC RPC over {carrier.upper()}, libtirpc",
         lambda port: [program, "serve", carrier, port],

@@ -12,8 +12,8 @@ A block of a page is compared where its first line says where it is from:
 
 Each page in docs/crates has a quoted contract, and there no block of Rust may be without one of these two.
 A file or folder that a page or README.md names from the root, as `crates/xns_idp/src/places.rt`, is to be there. In a row of
-docs/MAP.md a name without its folder, as `places.rt`, stands for one in the crate that was named before it. The map's table of crates
-has a row for each line of crates.txt.
+docs/MAP.md a name without its folder, as `places.rt`, stands for one in the crate that was named before it. A name in brackets behind a
+file of the map, as `most_items`, is to stand in that file. The map's table of crates has a row for each line of crates.txt.
 A name of code that a page in docs/ has, as `Endpoint::send` or `xns_decode`, is to stand somewhere in the code.
 A clause that docs/PROMISES.md names behind its functions, as `exact` in "`read`: `exact`", is to be a clause of one of them.
 Another root than this repository is named last.
@@ -26,6 +26,7 @@ CONTAINER = re.compile(r"(?:impl(?:<.*?>)? (?:[\w:]+(?:<.*>)? for )?|(?:pub )?tr
 FUNCTION = re.compile(r"( *)(pub )?(?:const |unsafe )*fn (\w+)")
 OTHER = re.compile(r"()(pub )(?:struct|enum|trait|const|type) (\w+)")
 NAMED = re.compile(r"`([^`\s]+)`")
+FILE_AND_NAMES = re.compile(r"`([^`\s]+)`(?: \((`\w+`(?:, `\w+`)*)\))?")
 FROM_ROOT = re.compile(r"(?:crates|tests|docs|examples|python|bench|include)/[\w./+-]+")
 PARTS = ("src", "specs", "proofs", "must-fail")
 IN_CRATE = re.compile(r"(?:[\w+-]+/)*[\w+-]+\.(?:rt|antt)")
@@ -241,6 +242,21 @@ def missing_in_crate(root, row):
     return missing
 
 
+def absent_in_row(root, row):
+    """The names in brackets behind a file, in a row of the map, that do not stand in that file. A file without its folder is one of the
+    crate, or of the folder, that was named before it."""
+    folders, absent = [], []
+    for name, bracketed in FILE_AND_NAMES.findall(row):
+        if name.startswith("crates/"):
+            folders = [root / "crates" / name.split("/")[1]]
+        elif FROM_ROOT.fullmatch(name):
+            folders = [(root / name).parent]
+        paths = [root / name] if FROM_ROOT.fullmatch(name) else [path for folder in folders for path in folder.rglob(name)]
+        words = {word for path in paths if path.is_file() for word in re.findall(r"\w+", path.read_text())}
+        absent += ["%s has no %s" % (name, wanted) for wanted in NAMED.findall(bracketed) if wanted not in words]
+    return absent
+
+
 def words_of_code(root):
     """Each word of the code, the tests and the examples, and the names of their files."""
     words = set()
@@ -259,11 +275,13 @@ def unknown_names(path, words):
 
 
 def map_faults(root):
-    """Crates that the map lacks, and those that it has and crates.txt lacks."""
+    """Crates that the map lacks, those that it has and crates.txt lacks, and names that its files lack."""
     listed = {line.split()[0].strip(":") for line in (root / "crates.txt").read_text().split("\n") if ":" in line.split("#")[0]}
     shown = set(re.findall(r"^\| `(\w+)` \|", (root / "docs/MAP.md").read_text(), re.MULTILINE))
+    rows = (root / "docs/MAP.md").read_text().split("\n")
     return (["docs/MAP.md: %s is not there" % name for name in sorted(listed - shown)]
-            + ["docs/MAP.md: crates.txt has no %s" % name for name in sorted(shown - listed)])
+            + ["docs/MAP.md: crates.txt has no %s" % name for name in sorted(shown - listed)]
+            + ["docs/MAP.md: %s" % fault for row in rows if row.startswith("| ") for fault in absent_in_row(root, row)])
 
 
 def clauses_by_function(root):

@@ -70,6 +70,7 @@ found a_block_without_an_end docs/crates/xns_small.md '$d' 'docs/crates/xns_smal
 
 found a_crate_that_the_map_lacks crates.txt '$a xns_more: xns_idp' 'docs/MAP.md: xns_more is not there'
 found a_crate_that_went crates.txt '/^dump_alone:/d' 'docs/MAP.md: crates.txt has no dump_alone'
+found a_name_that_a_file_of_the_map_lacks docs/MAP.md 's/(`most_items`)/(`most_bytes`)/' 'Numbers.antt has no most_bytes'
 found a_clause_that_went docs/PROMISES.md 's/`encode`, `encode_parts`: `ok`/`encode`, `encode_parts`: `good`/' 'docs/PROMISES.md: there is no clause good of encode, encode_parts'
 found a_name_that_went docs/ENDPOINT.md 's/`is_full`/`is_quite_full`/' 'docs/ENDPOINT.md: is_quite_full is not in the code'
 gone tests/plays.sh tests/plays.sh

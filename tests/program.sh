@@ -32,7 +32,7 @@ saw() {
     if [ "$2" -eq 0 ]; then pass; else fail "$1"; fi
 }
 
-# So many bytes of one kind.
+# As many bytes of one kind as asked.
 repeat() {
     head -c "$1" /dev/zero | tr '\0' "$2"
 }
@@ -130,7 +130,7 @@ plays() {
     expect "$name" "$status" '' "$work/text"
 }
 
-# So many lines `rest`.
+# As many lines `rest` as asked.
 rests() {
     repeat "$1" r | sed 's/r/rest\n/g'
 }

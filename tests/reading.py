@@ -5,7 +5,7 @@ usage: reading.py CRATE FILE FUNCTION [CLAUSE] [--stop|--stop-ends]
                                                           a function, a method (Type::name) or a law: all its clauses, or one with what
                                                           the function requires
        reading.py --table                                 the table of docs/PROOF.md
-       reading.py --check                                 whether docs/PROOF.md has this table, and the two machines
+       reading.py --check                                 whether docs/PROOF.md has this table, and the machines
        reading.py --write                                 puts both into docs/PROOF.md, where they stand
 
 A definition is one of specs/, or a struct, an enum or a trait of src/. Its lines are those of its text without comments and blank lines.
@@ -24,11 +24,14 @@ ENDS = frozenset("""initiator_state responder_state after_send send_answer after
     flush_answer after_tick tick_answer after_resend resend_answer told_answer is_full waiting_count is_ours State IsItem Holds""".split())
 
 # and what its sessions make of items: the contracts of `Caller` and `Server` cite them
-STEPS = ENDS | frozenset("caller_items server_items server_state answers decided decision after_decision Serving Service IsFitting".split())
+STEPS = ENDS | frozenset("caller_items server_items server_state answers decided_calls decision after_decision Serving Service IsFitting".split())
+
+# and what the calls of a host do: the contracts of `Host` cite them
+TURNS = frozenset("IsNewHost ConnectsTo Turn TellsNext TakesIn GivesOut ServesAt Host Guest".split())
 
 NOTHING = frozenset()
 
-# what docs/PROOF.md gives figures for: its name, crate, file, function, clause (None: all) and what is left out: NOTHING, ENDS or STEPS
+# what docs/PROOF.md gives figures for: its name, crate, file, function, clause (None: all) and what is left out: NOTHING, ENDS, STEPS or TURNS
 SUBJECTS = [
     ("`entries_keep_the_order`, the ledger alone", "xns_world", "laws/calls.rt", "entries_keep_the_order", None, STEPS),
     ("`each_step_is_an_entry`, the headline for calls, with the network", "xns_world", "laws/calls.rt", "each_step_is_an_entry", None, STEPS),
@@ -41,6 +44,10 @@ SUBJECTS = [
     ("`no_play_is_stuck`, with the network", "xns_world", "laws/calls.rt", "no_play_is_stuck", None, STEPS),
     ("the same, with what ends and sessions do", "xns_world", "laws/calls.rt", "no_play_is_stuck", None, NOTHING),
     ("`play_calls`: `once`", "xns_world", "call_play.rt", "play_calls", "once", NOTHING),
+    ("`a_number_keeps_its_order`, the dialogue alone", "host_world", "laws.rt", "a_number_keeps_its_order", None, NOTHING),
+    ("`each_number_of_a_host_has_a_history`, with the calls of a host", "host_world", "laws.rt", "each_number_of_a_host_has_a_history",
+     None, TURNS),
+    ("the same, with what its calls do", "host_world", "laws.rt", "each_number_of_a_host_has_a_history", None, NOTHING),
     ("`decode`", "xns_idp", "decoding.rt", "decode", None, NOTHING),
     ("`Endpoint::receive`", "xns_spp", "endpoint.rt", "Endpoint::receive", None, NOTHING),
     ("`dump`", "xns_dump", "dumping.rt", "dump", None, NOTHING),
@@ -48,7 +55,7 @@ SUBJECTS = [
 ]
 
 # the definitions that docs/PROOF.md shows whole
-MACHINES = ["item_world/specs/Channel.antt", "xns_world/specs/Ledger.antt"]
+MACHINES = ["item_world/specs/Channel.antt", "xns_world/specs/Ledger.antt", "host_world/specs/Dialogue.antt"]
 
 WORD = re.compile(r"[^\s(){}\[\],;]+")
 HEAD = re.compile(r"^(?:(?:abbrev|unfoldable|mutual|pub|data|record|ruleset)\s+)*([^\s(){}:]+)(?=[\s(){:]|$)")

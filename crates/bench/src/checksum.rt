@@ -6,7 +6,7 @@ use xns_idp::{MOST_PACKET, cycle_sum};
 /// The bytes of the longest packet that are summed: all but the checksum field.
 const SUMMED: usize = MOST_PACKET - 2;
 
-/// So many packets are summed.
+/// How many packets are summed.
 const PACKETS: usize = 1_000_000;
 
 /// Sums the packets, and prints the total of the sums.

@@ -4,7 +4,7 @@ use std::io;
 use test_setting::{CALLER, SERVER};
 use xns_idp::{MOST_DATA, MOST_PACKET, Packet, decode, encode_into, packet_type};
 
-/// So many packets are written and read.
+/// How many packets are written and read.
 const PACKETS: usize = 1_000_000;
 
 /// A number that each of the fields and the checksum has a part in.

@@ -6,10 +6,10 @@ use std::io;
 use test_setting::{caller, item, server};
 use xns_spp::{Bytes, Endpoint, MOST_BODY, MOST_PENDING};
 
-/// So many items go out one way before as many go out the other way.
+/// How many items go out one way before as many go out the other way.
 const ROUND: usize = 51;
 
-/// So many rounds are 65,535 items.
+/// How many rounds make 65,535 items.
 const ROUNDS: usize = 1285;
 
 /// The packets from this place of a round on can be lost.

@@ -5,7 +5,8 @@ use std::io;
 /// What is timed, and how much of it.
 #[derive(Clone, Copy)]
 pub enum Timing {
-    /// So many calls Add of Courier, and then so many calls of lists, through a caller and a server in memory.
+    /// Calls Add of Courier, as many as the first number, and then calls of lists, as many as the second, through a caller and a server in
+    /// memory.
     Calls(u32, u32),
     /// The checksum of packets.
     Checksum,

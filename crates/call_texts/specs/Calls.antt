@@ -1,5 +1,5 @@
 -- Calls, returns and aborts by name (XSIS 038112, Courier). The form of the texts is this project's.
-use Rattle.std.specs.Prelude.{◌≡◌, ℕ, List, ◌++◌, Option, Some, None, Result, Ok, Err, codes}
+use Rattle.std.specs.Prelude.{◌≡◌, ℕ, List, ◌++◌, Option, Some, None, IsSomeAnd, Result, Ok, Err, codes}
 use Rattle.std.specs.Global.{Vec}
 use Rattle.std.specs.Fmt.{decimal}
 use Rattle.courier_programs.specs.declared.program.Program.{Program}
@@ -8,7 +8,7 @@ use Rattle.courier_programs.specs.Meanings.{ErrorModel, ProcedureModel, Resolved
 use Rattle.courier_programs.specs.Scopes.{program_by}
 use Rattle.call_texts.specs.declared.unread.Unshown.{Unshown}
 use Rattle.call_texts.specs.declared.unread.Unshown.TheVariants as unshown
-use Rattle.call_texts.specs.Showing.{UnreadModel, shown}
+use Rattle.call_texts.specs.Showing.{ShowingWants, UnreadModel, shown}
 
 -- a text behind a front, or why there is none
 abbrev pub behind : List ℕ → Result (List ℕ) UnreadModel → Result (List ℕ) UnreadModel
@@ -67,3 +67,20 @@ aborted_in error words None = None
 -- an abort of a call: the error and its arguments
 unfoldable pub abort_shown : List Program → ℕ → ℕ → ℕ → List ℕ → Option (Result (List ℕ) UnreadModel)
 abort_shown programs program version error words = aborted_in error words (program_by programs program version)
+
+-- ---- memory
+
+-- a call wants memory: it is declared, and showing its arguments wants memory
+abbrev pub CallWants : List Program → ℕ → ℕ → ℕ → List ℕ → Type 0
+CallWants programs program version procedure words = IsSomeAnd (program_by programs program version)
+    (λ p. IsSomeAnd (procedure_by (resolved_model p).procedures procedure) (λ q. ShowingWants q.arguments words))
+
+-- a return wants memory: its procedure is declared, and showing its results wants memory
+abbrev pub ReturnWants : List Program → ℕ → ℕ → ℕ → List ℕ → Type 0
+ReturnWants programs program version procedure words = IsSomeAnd (program_by programs program version)
+    (λ p. IsSomeAnd (procedure_by (resolved_model p).procedures procedure) (λ q. ShowingWants q.results words))
+
+-- an abort wants memory: its error is declared, and showing the error's arguments wants memory
+abbrev pub AbortWants : List Program → ℕ → ℕ → ℕ → List ℕ → Type 0
+AbortWants programs program version error words = IsSomeAnd (program_by programs program version)
+    (λ p. IsSomeAnd (error_by (resolved_model p).errors error) (λ r. ShowingWants r.arguments words))

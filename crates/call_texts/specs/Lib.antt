@@ -1,3 +1,4 @@
+pub mod Appending
 pub mod Showing
 pub mod Calls
 pub mod Listing

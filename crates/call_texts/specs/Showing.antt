@@ -1,10 +1,11 @@
 -- Words as the text of a record (XSIS 038112, Courier). That a text has a limit is this project's rule.
-use Rattle.std.specs.Prelude.{◌≡◌, ℕ, ◌==◌, List, [], ◌++◌, length, Result, Ok, Err, nat_le, if◌then◌else◌, codes}
+use Rattle.std.specs.Prelude.{◌≡◌, ◌⊎◌, ℕ, ◌==◌, List, [], ◌++◌, length, Result, Ok, Err, nat_le, if◌then◌else◌, codes}
 use Rattle.std.specs.Global.{Vec}
 use Rattle.courier_types.specs.declared.read_fault.ReadFault.{ReadFault}
 use Rattle.courier_types.specs.declared.read_fault.Reason.{Reason}
 use Rattle.courier_types.specs.declared.read_fault.Reason.TheVariants as read_reasons
 use Rattle.courier_types.specs.Front.{value_of}
+use Rattle.courier_types.specs.Memory.{WantsMemory}
 use Rattle.courier_types.specs.Value.{ValueModel, ValueModels}
 use Rattle.courier_texts.specs.Appending.{most_text}
 use Rattle.courier_texts.specs.Printing.{components_text}
@@ -50,3 +51,20 @@ text_of_value parts words (Err fault) = Err (fault.place, reason_of fault.reason
 -- the text of the record that the words are, all of them
 abbrev pub shown : FieldsModel → List ℕ → Result (List ℕ) UnreadModel
 shown fields words = text_of_value fields.0 words (value_of fields.1 words)
+
+-- ---- memory
+
+-- P holds where memory was refused
+abbrev pub IfNoMemory : {X : Type 0} → Result X Unshown → Type 0 → Type 0
+IfNoMemory (Ok x) P = Unit {0}
+IfNoMemory (Err (unshown.Unread u)) P = Unit {0}
+IfNoMemory (Err unshown.NoMemory) P = P
+
+-- a value was read, and takes all the words
+abbrev pub IsWhole : List ℕ → Result (ValueModel × ℕ) ReadFault → Type 0
+IsWhole words (Ok v) = v.1 ≡ length words
+IsWhole words (Err fault) = ⊥
+
+-- showing a record wants memory: for its value, or, where that takes all the words, for its text
+abbrev pub ShowingWants : FieldsModel → List ℕ → Type 0
+ShowingWants fields words = WantsMemory fields.1 words ⊎ IsWhole words (value_of fields.1 words)

@@ -1,48 +1,22 @@
 //! The texts of calls, returns and aborts.
 
-ghost use Rattle.std.specs.Prelude.{◌≡◌, ◌++◌, IfOk, OnOk, codes};
-ghost use Rattle.std.specs.Fmt.{decimal};
-ghost use Rattle.courier_programs.specs.Meanings.{fields_model, resolved_model};
-ghost use Rattle.call_texts.specs.Calls.{ShowsDeclared, abort_shown, behind, call_shown, program_name, return_shown};
-ghost use Rattle.call_texts.specs.Showing.{Shows, shown};
+ghost use Rattle.std.specs.Prelude.{◌≡◌, ◌++◌, IfOk, codes};
+ghost use Rattle.courier_programs.specs.Meanings.{resolved_model};
+ghost use Rattle.call_texts.specs.Calls.{AbortWants, CallWants, ReturnWants, ShowsDeclared, abort_shown, call_shown, program_name, return_shown};
+ghost use Rattle.call_texts.specs.Showing.{IfNoMemory};
 
+use crate::appending::append_program_name;
 use crate::showing::show;
 use crate::unread::Unshown;
-use courier_programs::{Fields, Program, error_of, procedure_of, program_of};
-use itoa::Buffer;
+use courier_programs::{Program, error_of, procedure_of, program_of};
 use std::alloc::{AllocError, Global};
 
-/// Appends a number in decimal.
-pub(crate) fn append_number(out: &mut Vec<u8>, number: u32) -> Result<(), AllocError>
-    ensures { OnOk result (out.new.items ≡ out.old.items ++ decimal number) }
+/// The text behind a front.
+fn text_behind(front: Vec<u8>, text: &[u8]) -> Result<Vec<u8>, AllocError>
+    ensures { IfOk result (λ whole. whole.items ≡ front.items ++ text.now) }
 {
-    let mut buffer = Buffer::new();
-    out.extend_from_slice(buffer.format(number).as_bytes())
-}
-
-/// Appends the name of a program, with its number and version.
-pub(crate) fn append_program_name(out: &mut Vec<u8>, program: &Program) -> Result<(), AllocError>
-    ensures { OnOk result (out.new.items ≡ out.old.items ++ program_name (resolved_model program.now)) }
-{
-    out.extend_from_slice(&program.name)?;
-    out.extend_from_slice(b" ")?;
-    append_number(out, program.number)?;
-    out.extend_from_slice(b".")?;
-    append_number(out, u32::from(program.version))
-}
-
-/// The text of the record that the words are, behind a front.
-fn show_behind(
-    alloc: Global,
-    front: Vec<u8>,
-    fields: &Fields,
-    words: &[u16],
-) -> Result<Vec<u8>, Unshown>
-    ensures { Shows result (behind front.items (shown (fields_model fields.now) words.now)) }
-{
-    let text = show(alloc, fields, words)?;
     let mut whole = front;
-    whole.extend_from_slice(&text)?;
+    whole.extend_from_slice(text)?;
     Ok(whole)
 }
 
@@ -79,14 +53,15 @@ pub fn call_text(
     procedure: u16,
     words: &[u16],
 ) -> Result<Option<Vec<u8>>, Unshown>
-    ensures { ShowsDeclared result (call_shown programs.now program version procedure words.now) }
+    ensures exact { ShowsDeclared result (call_shown programs.now program version procedure words.now) }
+    ensures memory { IfNoMemory result (CallWants programs.now program version procedure words.now) }
 {
     match program_of(programs, program, version) {
         Some(found) => match procedure_of(&found.procedures, procedure) {
             Some(called) => {
+                let text = show(alloc, &called.arguments, words)?;
                 let front = call_front(alloc, found, &called.name)?;
-                let text = show_behind(alloc, front, &called.arguments, words)?;
-                Ok(Some(text))
+                Ok(Some(text_behind(front, &text)?))
             }
             None => Ok(None),
         },
@@ -105,14 +80,15 @@ pub fn return_text(
     procedure: u16,
     words: &[u16],
 ) -> Result<Option<Vec<u8>>, Unshown>
-    ensures { ShowsDeclared result (return_shown programs.now program version procedure words.now) }
+    ensures exact { ShowsDeclared result (return_shown programs.now program version procedure words.now) }
+    ensures memory { IfNoMemory result (ReturnWants programs.now program version procedure words.now) }
 {
     match program_of(programs, program, version) {
         Some(found) => match procedure_of(&found.procedures, procedure) {
             Some(called) => {
+                let text = show(alloc, &called.results, words)?;
                 let front = name_front(alloc, &called.name)?;
-                let text = show_behind(alloc, front, &called.results, words)?;
-                Ok(Some(text))
+                Ok(Some(text_behind(front, &text)?))
             }
             None => Ok(None),
         },
@@ -131,14 +107,15 @@ pub fn abort_text(
     error: u16,
     words: &[u16],
 ) -> Result<Option<Vec<u8>>, Unshown>
-    ensures { ShowsDeclared result (abort_shown programs.now program version error words.now) }
+    ensures exact { ShowsDeclared result (abort_shown programs.now program version error words.now) }
+    ensures memory { IfNoMemory result (AbortWants programs.now program version error words.now) }
 {
     match program_of(programs, program, version) {
         Some(found) => match error_of(&found.errors, error) {
             Some(raised) => {
+                let text = show(alloc, &raised.arguments, words)?;
                 let front = name_front(alloc, &raised.name)?;
-                let text = show_behind(alloc, front, &raised.arguments, words)?;
-                Ok(Some(text))
+                Ok(Some(text_behind(front, &text)?))
             }
             None => Ok(None),
         },

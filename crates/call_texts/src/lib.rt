@@ -4,6 +4,7 @@
 //! and number are declared, and it says why where the words are not exactly one value.
 #![tactic(auto)]
 
+mod appending;
 mod calls;
 mod listing;
 mod showing;

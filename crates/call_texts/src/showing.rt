@@ -4,7 +4,7 @@ ghost use Rattle.std.specs.Prelude.{◌≡◌};
 ghost use Rattle.courier_types.specs.Value.{value_model, value_models};
 ghost use Rattle.call_texts.specs.declared.unread.Unshown.TheVariants.{Unread as UnreadWord};
 ghost use Rattle.courier_programs.specs.Meanings.{components_seen, fields_model};
-ghost use Rattle.call_texts.specs.Showing.{Shows, bracketed, limited, reason_of as reason_in, record_text, shown};
+ghost use Rattle.call_texts.specs.Showing.{IfNoMemory, ShowingWants, Shows, bracketed, limited, reason_of as reason_in, record_text, shown};
 
 use crate::unread::{Unread, UnreadReason, Unshown};
 use courier_programs::Fields;
@@ -63,7 +63,8 @@ fn text_of(
 
 /// The text of the record that the words are.
 pub(crate) fn show(alloc: Global, fields: &Fields, words: &[u16]) -> Result<Vec<u8>, Unshown>
-    ensures { Shows result (shown (fields_model fields.now) words.now) }
+    ensures exact { Shows result (shown (fields_model fields.now) words.now) }
+    ensures memory { IfNoMemory result (ShowingWants (fields_model fields.now) words.now) }
 {
     match read(alloc, &fields.shape, words) {
         Ok((value, taken)) => {

@@ -17,7 +17,7 @@ use Rattle.courier_messages.specs.Laws.{IsShort, items_of, AFrontIsHeard, CallsA
 use Rattle.courier_messages.proofs.Numbered.{caller_items_are, calls_back, calls_short}
 use Rattle.courier_calls.specs.Calls.{Serving, HasWords, IsFitting, IsLawful}
 use Rattle.courier_calls.specs.Caller.{answers}
-use Rattle.courier_calls.specs.Server.{decided, server_items}
+use Rattle.courier_calls.specs.Server.{decided_calls, server_items}
 use Rattle.courier_calls.specs.Laws.{AllIsAnswered}
 use Rattle.courier_calls.proofs.Both.{server_items_are}
 use Rattle.courier_calls.proofs.Lawful.{Values, keeps_all}
@@ -43,10 +43,10 @@ back_of : {S : Type 0} (serving : Serving S) (IsServiceState : S → Type 0) →
 back_of serving IsServiceState k s calls f g can fitting p q =
     let there = k.calls_heard f calls (all_weaker IsFitting IsShortCall (λ c fit. fit.size) calls fitting) p in
     let cs = calls_of (conversation f) in
-    let once : Begins (decided f) calls =
-    subst (λ (l : List RawCall). Begins (decided f) l) (raws_numbered 1 calls) (begins_map (λ c. c.1) cs (numbered 1 calls) there.calls) in
-    let before : AllByRecursion IsFitting (decided f) = all_front IsFitting (decided f) once.0 (subst (λ (l : List RawCall). AllByRecursion IsFitting l) (sym once.1) fitting) in
-    let kept = keeps_all k.laws serving IsServiceState k.law s can (decided f) (all_weaker IsFitting HasWords (λ c fit. fit.words) (decided f) before) in
+    let once : Begins (decided_calls f) calls =
+    subst (λ (l : List RawCall). Begins (decided_calls f) l) (raws_numbered 1 calls) (begins_map (λ c. c.1) cs (numbered 1 calls) there.calls) in
+    let before : AllByRecursion IsFitting (decided_calls f) = all_front IsFitting (decided_calls f) once.0 (subst (λ (l : List RawCall). AllByRecursion IsFitting l) (sym once.1) fitting) in
+    let kept = keeps_all k.laws serving IsServiceState k.law s can (decided_calls f) (all_weaker IsFitting HasWords (λ c fit. fit.words) (decided_calls f) before) in
     let lawful = kept.allowed in
     let short = replies_short k.again serving k.law.table s cs lawful in
     let back = k.heard g (replies serving s cs) short (subst (λ (l : List Item). Begins g l) (server_items_are serving s f) q) in

@@ -16,7 +16,7 @@ use Rattle.courier_messages.specs.RawCalls.{RawCall}
 use Rattle.courier_calls.specs.Calls.{Serving, IsLawful, decision}
 use Rattle.courier_messages.specs.Cutting.{cut, versions_item}
 use Rattle.courier_calls.specs.Answers.{answer_message}
-use Rattle.courier_calls.specs.Server.{decided, server_state, answer_items}
+use Rattle.courier_calls.specs.Server.{decided_calls, server_state, answer_items}
 use Rattle.courier_messages.specs.Bounds.{bytes_in}
 use Rattle.courier_messages.specs.Laws.{IsShort, OneItemMore, AServerHearsOneItemMore, WhatIsHeardHasNumbers}
 use Rattle.courier_messages.specs.Called.{calls_of, raws, server_ending}
@@ -80,7 +80,7 @@ brings messages again laws serving IsServiceState law s F x can items = by_front
   short : (c : ℕ × RawCall) → calls_of (conversation (F ++ x ∷ [])) ≡ before ++ c ∷ [] → IsShort (answer_message c.0 (decision serving (server_state serving s F) c.1))
   short c more =
       let heard = subst (AllByRecursion IsHeard) more (heard_numbers messages.numbers (F ++ x ∷ []) items) in
-      let here = (keeps_all laws serving IsServiceState law s can (decided F) (raws_words before (all_front IsHeard before (c ∷ []) heard))).after in
+      let here = (keeps_all laws serving IsServiceState law s can (decided_calls F) (raws_words before (all_front IsHeard before (c ∷ []) heard))).after in
       let one = last_heard before c heard in
       (reply_read again serving law.table (server_state serving s F) c.0 c.1 (keeps laws serving IsServiceState law (server_state serving s F) here c.1 one.words).well).0
 

@@ -3,7 +3,7 @@ ghost use Rattle.std.specs.Prelude.{◌≡◌, Ok};
 ghost use Rattle.courier_calls.specs.Table.{table_model, IsCheckedTable};
 ghost use Rattle.courier_messages.specs.Head.{words_in};
 ghost use Rattle.courier_calls.specs.Calls.{SeenModel, found};
-ghost use Rattle.courier_calls.specs.Caller.{abort_in, answer_to, Answers, results_in, unasked};
+ghost use Rattle.courier_calls.specs.Caller.{abort_in, answer_to, IsReadAs, results_in, unasked};
 
 use crate::call::Seen;
 use crate::table::Table;
@@ -20,7 +20,7 @@ pub struct Target {
 
 /// The message as a reject, with its words.
 fn read_reject(alloc: Global, reason: u16, message: &PiecedMessage) -> Result<Seen, SessionFault>
-    ensures { Answers result (Ok (SeenModel.rejected reason (words_in message.now))) }
+    ensures { IsReadAs result (Ok (SeenModel.rejected reason (words_in message.now))) }
 {
     Ok(Seen::Rejected(reason, message.words(alloc)?))
 }
@@ -34,7 +34,7 @@ fn read_return(
     message: &PiecedMessage,
 ) -> Result<Seen, SessionFault>
     requires { IsCheckedTable (table_model table.now) }
-    ensures { Answers result (results_in (found (table_model table.now) target.program target.version target.procedure)
+    ensures { IsReadAs result (results_in (found (table_model table.now) target.program target.version target.procedure)
         (words_in message.now)) }
 {
     let Ok((_, listed)) = table.find(target.program, target.version, target.procedure) else {
@@ -56,7 +56,7 @@ fn read_abort(
     message: &PiecedMessage,
 ) -> Result<Seen, SessionFault>
     requires { IsCheckedTable (table_model table.now) }
-    ensures { Answers result (abort_in (found (table_model table.now) target.program target.version target.procedure) error
+    ensures { IsReadAs result (abort_in (found (table_model table.now) target.program target.version target.procedure) error
         (words_in message.now)) }
 {
     let Ok((entry, _)) = table.find(target.program, target.version, target.procedure) else {
@@ -81,7 +81,7 @@ pub fn read_answer(
     message: &PiecedMessage,
 ) -> Result<Seen, SessionFault>
     requires { IsCheckedTable (table_model table.now) }
-    ensures { Answers result (answer_to (table_model table.now) expects target.program target.version target.procedure message.now) }
+    ensures { IsReadAs result (answer_to (table_model table.now) expects target.program target.version target.procedure message.now) }
 {
     match message.head() {
         Head::Call { .. } => Err(SessionFault::BadReply),

@@ -4,5 +4,6 @@ pub mod Scopes
 pub mod Types
 pub mod Declarations
 pub mod Resolving
+pub mod Memory
 pub mod Texts
 pub mod Laws

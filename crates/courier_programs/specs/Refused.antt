@@ -18,12 +18,31 @@ abbrev pub Refuses : {Y : Type 0} → Refusal → Result Y NameFault → Type 0
 Refuses (refusals.Wrong name reason) meant = meant ≡ Err (name, reason)
 Refuses refusals.NoMemory meant = Unit {0}
 
+-- resolving stops there, and wants no memory
+abbrev pub Stops : {Y : Type 0} → Refusal → Result Y NameFault → Type 0
+Stops (refusals.Wrong name reason) meant = meant ≡ Err (name, reason)
+Stops refusals.NoMemory meant = ⊥
+
+-- a function that wants no memory answered what is meant, seen by view
+abbrev pub Finds : {X Y : Type 0} → (X → Y) → Result X Refusal → Result Y NameFault → Type 0
+Finds view (Ok x) meant = meant ≡ Ok (view x)
+Finds view (Err refusal) meant = Stops refusal meant
+
+-- if memory was refused, it was wanted
+abbrev pub IsWanted : Refusal → Type 0 → Type 0
+IsWanted (refusals.Wrong name reason) wants = Unit {0}
+IsWanted refusals.NoMemory wants = wants
+
+abbrev pub IfNoMemory : {X : Type 0} → Result X Refusal → Type 0 → Type 0
+IfNoMemory (Ok x) wants = Unit {0}
+IfNoMemory (Err refusal) wants = IsWanted refusal wants
+
 -- a function answered what is meant, seen by view, unless memory ran out
 abbrev pub Gives : {X Y : Type 0} → (X → Y) → Result X Refusal → Result Y NameFault → Type 0
 Gives view (Ok x) meant = meant ≡ Ok (view x)
 Gives view (Err refusal) meant = Refuses refusal meant
 
--- the same under another name
+-- what was read, made into something else
 abbrev pub over : {A B S : Type 0} → (A → B) → Result (A × S) NameFault → Result (B × S) NameFault
 over f (Ok x) = Ok (f x.0, x.1)
 over f (Err e) = Err e

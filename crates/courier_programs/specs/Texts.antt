@@ -26,6 +26,12 @@ Reads view (Ok x) read = read ≡ Ok (view x)
 Reads view (Err (refusals.Wrong place reason)) read = read ≡ Err (place, reason)
 Reads view (Err refusals.NoMemory) read = Unit {0}
 
+-- P holds where memory was refused
+abbrev pub IfNoMemory : {X : Type 0} → Result X ProgramRefusal → Type 0 → Type 0
+IfNoMemory (Ok x) P = Unit {0}
+IfNoMemory (Err (refusals.Wrong place reason)) P = Unit {0}
+IfNoMemory (Err refusals.NoMemory) P = P
+
 -- ---- places
 
 abbrev pub place_by : List ℕ → Option ℕ → ℕ

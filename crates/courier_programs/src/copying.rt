@@ -1,7 +1,7 @@
 //! Copies of types.
 
-ghost use Rattle.std.specs.Prelude.{◌≡◌, IfOk};
-ghost use Rattle.courier_texts.specs.Named.{members_seen, named_model};
+ghost use Rattle.std.specs.Prelude.{◌≡◌, ◌<◌, IfOk, OnErr, length};
+ghost use Rattle.courier_texts.specs.Named.{HasParts, members_seen, named_model};
 ghost use Rattle.courier_programs.specs.Meanings.{components_seen};
 ghost use Rattle.courier_programs.specs.Types.{candidates_seen};
 
@@ -12,7 +12,8 @@ fn copy_members(
     alloc: Global,
     members: &[(Vec<u8>, u16)],
 ) -> Result<Vec<(Vec<u8>, u16)>, AllocError>
-    ensures { IfOk result (λ copies. members_seen copies.items ≡ members_seen members.now) }
+    ensures copy { IfOk result (λ copies. members_seen copies.items ≡ members_seen members.now) }
+    ensures memory { OnErr result (0 < length members.now) }
 {
     let mut copies = Vec::new(alloc);
     for member in members {
@@ -26,7 +27,8 @@ fn copy_components(
     alloc: Global,
     components: &[(Vec<u8>, Named)],
 ) -> Result<Vec<(Vec<u8>, Named)>, AllocError>
-    ensures { IfOk result (λ copies. components_seen copies.items ≡ components_seen components.now) }
+    ensures copy { IfOk result (λ copies. components_seen copies.items ≡ components_seen components.now) }
+    ensures memory { OnErr result (0 < length components.now) }
 {
     let mut copies = Vec::new(alloc);
     for component in components {
@@ -42,7 +44,8 @@ fn copy_variants(
     alloc: Global,
     variants: &[(Vec<u8>, (u16, Named))],
 ) -> Result<Vec<(Vec<u8>, (u16, Named))>, AllocError>
-    ensures { IfOk result (λ copies. candidates_seen copies.items ≡ candidates_seen variants.now) }
+    ensures copy { IfOk result (λ copies. candidates_seen copies.items ≡ candidates_seen variants.now) }
+    ensures memory { OnErr result (0 < length variants.now) }
 {
     let mut copies = Vec::new(alloc);
     for variant in variants {
@@ -53,10 +56,11 @@ fn copy_variants(
     Ok(copies)
 }
 
-/// A copy of the type. The only error is want of memory.
+/// A copy of the type. The only error is want of memory, where it has parts.
 #[cycle(copying)]
 pub(crate) fn copy_of(alloc: Global, named: &Named) -> Result<Named, AllocError>
-    ensures { IfOk result (λ copy. named_model copy ≡ named_model named.now) }
+    ensures copy { IfOk result (λ copy. named_model copy ≡ named_model named.now) }
+    ensures memory { OnErr result (HasParts (named_model named.now)) }
 {
     match named {
         Named::Boolean => Ok(Named::Boolean),

@@ -1,6 +1,6 @@
 //! What declarations stand for.
 
-ghost use Rattle.std.specs.Prelude.{◌≡◌, OnOk, is_none, map, true};
+ghost use Rattle.std.specs.Prelude.{◌≡◌, ◌<◌, OnOk, false, is_none, is_some, length, map, true};
 ghost use Rattle.courier_types.specs.Check.{shape_fault};
 ghost use Rattle.courier_types.specs.Shape.{shape_model};
 ghost use Rattle.courier_notation.specs.ProgramModels.{declaration_view, declared_view};
@@ -9,9 +9,10 @@ ghost use Rattle.courier_texts.specs.Named.{named_model};
 ghost use Rattle.courier_programs.specs.Declarations.{addition_of, constant_meant, constant_value as constant_value_of};
 ghost use Rattle.courier_programs.specs.Declarations.{declaration_meant, declaration_step, error_meant, is_type as is_type_of, new_error as new_error_of, new_procedure as new_procedure_of, once_meant};
 ghost use Rattle.courier_programs.specs.Declarations.{procedure_meant, settled, sound, whole_fields as whole_fields_of, whole_type as whole_type_of, with_addition};
-ghost use Rattle.courier_programs.specs.Meanings.{error_model, fields_model, meaning_model, procedure_model, resolved_model};
-ghost use Rattle.courier_programs.specs.Refused.{Gives};
-ghost use Rattle.courier_programs.specs.Scopes.{env, names_seen};
+ghost use Rattle.courier_programs.specs.Meanings.{error_model, fields_model, meaning_model, meaning_of as meaning_in, procedure_model, resolved_model};
+ghost use Rattle.courier_programs.specs.Memory.{DeclaredWants, TypeWants};
+ghost use Rattle.courier_programs.specs.Refused.{Finds, Gives, IfNoMemory};
+ghost use Rattle.courier_programs.specs.Scopes.{env, names_seen, text_of};
 
 use crate::bytes::text;
 use crate::finding::{error_of, procedure_of};
@@ -36,7 +37,7 @@ pub enum Added {
 
 /// Checks a shape. Its fault is told at the name that is declared.
 fn check(scope: &Scope, shape: &Shape) -> Result<(), Refusal>
-    ensures told { Gives (λ _. tt) result (sound (env scope.now) (shape_model shape.now)) }
+    ensures told { Finds (λ _. tt) result (sound (env scope.now) (shape_model shape.now)) }
     ensures checked { OnOk result (is_none (shape_fault (shape_model shape.now)) ≡ true) }
 {
     match shape.check() {
@@ -54,7 +55,8 @@ fn whole_type(
     room: usize,
     written: &WrittenType,
 ) -> Result<(Named, usize), Refusal>
-    ensures { Gives (λ x. (named_model x.0, x.1)) result (whole_type_of (env scope.now) (type_model written.now) room) }
+    ensures exact { Gives (λ x. (named_model x.0, x.1)) result (whole_type_of (env scope.now) (type_model written.now) room) }
+    ensures memory { IfNoMemory result (TypeWants (env scope.now) (type_model written.now)) }
 {
     let (named, left) = type_of(alloc, MOST_DEPTH, written, scope, room)?;
     let shape = shape_of(alloc, &named)?;
@@ -70,7 +72,8 @@ fn whole_fields(
     room: usize,
     groups: &[(Vec<u32>, WrittenType)],
 ) -> Result<(Fields, usize), Refusal>
-    ensures { Gives (λ x. (fields_model x.0, x.1)) result (whole_fields_of (env scope.now) (field_models groups.now) room) }
+    ensures exact { Gives (λ x. (fields_model x.0, x.1)) result (whole_fields_of (env scope.now) (field_models groups.now) room) }
+    ensures memory { IfNoMemory result (0 < length groups.now) }
 {
     let left = spend(scope, room, 1)?;
     let (components, left) = components_of(alloc, MOST_DEPTH, groups, scope, left)?;
@@ -86,7 +89,8 @@ fn type_added(
     room: usize,
     written: &WrittenType,
 ) -> Result<(Added, usize), Refusal>
-    ensures { Gives (λ x. (addition_of x.0, x.1)) result (settled room (whole_type_of (env scope.now) (type_model written.now) room)) }
+    ensures exact { Gives (λ x. (addition_of x.0, x.1)) result (settled room (whole_type_of (env scope.now) (type_model written.now) room)) }
+    ensures memory { IfNoMemory result (TypeWants (env scope.now) (type_model written.now)) }
 {
     match whole_type(alloc, scope, room, written) {
         Ok((named, left)) => {
@@ -104,7 +108,7 @@ fn type_added(
 }
 
 fn constant_value(scope: &Scope, constant: Constant) -> Result<Option<u32>, Refusal>
-    ensures { Gives (λ x. x) result (constant_value_of (env scope.now) constant) }
+    ensures { Finds (λ x. x) result (constant_value_of (env scope.now) constant) }
 {
     match constant {
         Constant::Number(number) => Ok(Some(number)),
@@ -121,7 +125,8 @@ fn constant_added(
     written: &WrittenType,
     constant: Constant,
 ) -> Result<(Added, usize), Refusal>
-    ensures { Gives (λ x. (addition_of x.0, x.1)) result (constant_meant (env scope.now) (type_model written.now) constant room) }
+    ensures exact { Gives (λ x. (addition_of x.0, x.1)) result (constant_meant (env scope.now) (type_model written.now) constant room) }
+    ensures memory { IfNoMemory result (TypeWants (env scope.now) (type_model written.now)) }
 {
     let (_named, left) = whole_type(alloc, scope, room, written)?;
     let value = constant_value(scope, constant)?;
@@ -135,7 +140,7 @@ fn new_procedure(
     procedure: Procedure,
     room: usize,
 ) -> Result<(Added, usize), Refusal>
-    ensures { Gives (λ x. (addition_of x.0, x.1)) result (new_procedure_of (env scope.now) (map procedure_model procedures.now) (procedure_model procedure) room) }
+    ensures { Finds (λ x. (addition_of x.0, x.1)) result (new_procedure_of (env scope.now) (map procedure_model procedures.now) (procedure_model procedure) room) }
 {
     match procedure_of(procedures, procedure.number) {
         Some(_) => Err(wrong(scope.own, NameReason::DoubledNumber)),
@@ -150,7 +155,7 @@ fn new_error(
     error: RemoteError,
     room: usize,
 ) -> Result<(Added, usize), Refusal>
-    ensures { Gives (λ x. (addition_of x.0, x.1)) result (new_error_of (env scope.now) (map error_model errors.now) (error_model error) room) }
+    ensures { Finds (λ x. (addition_of x.0, x.1)) result (new_error_of (env scope.now) (map error_model errors.now) (error_model error) room) }
 {
     match error_of(errors, error.number) {
         Some(_) => Err(wrong(scope.own, NameReason::DoubledNumber)),
@@ -212,7 +217,8 @@ fn added_by(
     declared: &Declared,
     room: usize,
 ) -> Result<(Added, usize), Refusal>
-    ensures { Gives (λ x. (addition_of x.0, x.1)) result (declaration_meant (env scope.now) (resolved_model program.now) (declared_view declared.now) room) }
+    ensures exact { Gives (λ x. (addition_of x.0, x.1)) result (declaration_meant (env scope.now) (resolved_model program.now) (declared_view declared.now) room) }
+    ensures memory { IfNoMemory result (DeclaredWants (env scope.now) (declared_view declared.now)) }
 {
     match declared {
         Declared::Type(written) => type_added(alloc, scope, room, written),
@@ -278,7 +284,8 @@ fn named_once(
     declaration: &Declaration,
     room: usize,
 ) -> Result<(Added, usize), Refusal>
-    ensures { Gives (λ x. (addition_of x.0, x.1)) result (once_meant (env scope.now) (resolved_model program.now) (declaration_view declaration.now) room) }
+    ensures exact { Gives (λ x. (addition_of x.0, x.1)) result (once_meant (env scope.now) (resolved_model program.now) (declaration_view declaration.now) room) }
+    ensures memory { IfNoMemory result (is_some (meaning_in (resolved_model program.now).meanings (text_of (names_seen scope.now.names.now) declaration.now.name)) ≡ false) }
 {
     match meaning_of(&program.meanings, text(scope.names, declaration.name)) {
         Some(_) => Err(wrong(declaration.name, NameReason::DoubledName)),
@@ -297,7 +304,8 @@ pub(crate) fn take_declaration(
     declaration: &Declaration,
     room: usize,
 ) -> Result<usize, Refusal>
-    ensures { Gives (λ left. (resolved_model program.new, left)) result (declaration_step (names_seen names.now) before.now dependencies.now (resolved_model program.old, room) (declaration_view declaration.now)) }
+    ensures exact { Gives (λ left. (resolved_model program.new, left)) result (declaration_step (names_seen names.now) before.now dependencies.now (resolved_model program.old, room) (declaration_view declaration.now)) }
+    ensures memory { IfNoMemory result (is_some (meaning_in (resolved_model program.old).meanings (text_of (names_seen names.now) declaration.now.name)) ≡ false) }
 {
     let scope = Scope {
         names,

@@ -1,8 +1,8 @@
 //! Members of enumerations, and designators of choices.
 
-ghost use Rattle.std.specs.Prelude.{◌≡◌, [], option_map};
+ghost use Rattle.std.specs.Prelude.{◌≡◌, ◌<◌, [], IsOk, length, option_map};
 ghost use Rattle.courier_texts.specs.Named.{members_seen};
-ghost use Rattle.courier_programs.specs.Refused.{Gives, steps};
+ghost use Rattle.courier_programs.specs.Refused.{Finds, Gives, IfNoMemory, steps};
 ghost use Rattle.courier_programs.specs.Scopes.{env};
 ghost use Rattle.courier_programs.specs.Types.{agreed, chosen_word as chosen_word_of, designator_step, designator_word as designator_word_of};
 ghost use Rattle.courier_programs.specs.Types.{given_alone, given_word as given_word_of, has_word as has_word_in, member_step};
@@ -42,7 +42,7 @@ fn has_word(members: &[(Vec<u8>, u16)], word: u16) -> bool
 
 /// No member before has that name.
 fn new_name(scope: &Scope, members: &[(Vec<u8>, u16)], name: u32) -> Result<(), Refusal>
-    ensures { Gives (λ _. tt) result (new_name_in (env scope.now) (members_seen members.now) name) }
+    ensures { Finds (λ _. tt) result (new_name_in (env scope.now) (members_seen members.now) name) }
 {
     match word_by_name(members, text(scope.names, name)) {
         Some(_) => Err(wrong(name, NameReason::DoubledName)),
@@ -52,7 +52,7 @@ fn new_name(scope: &Scope, members: &[(Vec<u8>, u16)], name: u32) -> Result<(), 
 
 /// The word, if no member before has it.
 fn new_word(members: &[(Vec<u8>, u16)], name: u32, word: u16) -> Result<u16, Refusal>
-    ensures { Gives (λ x. x) result (new_word_in (members_seen members.now) name word) }
+    ensures { Finds (λ x. x) result (new_word_in (members_seen members.now) name word) }
 {
     if has_word(members, word) {
         return Err(wrong(name, NameReason::DoubledWord));
@@ -66,7 +66,7 @@ fn member_word(
     members: &[(Vec<u8>, u16)],
     member: (u32, Numeric),
 ) -> Result<u16, Refusal>
-    ensures { Gives (λ x. x) result (member_word_of (env scope.now) (members_seen members.now) member) }
+    ensures { Finds (λ x. x) result (member_word_of (env scope.now) (members_seen members.now) member) }
 {
     new_name(scope, members, member.0)?;
     let word = word_of(scope, member.1)?;
@@ -81,7 +81,8 @@ fn take_member(
     members: &mut Vec<(Vec<u8>, u16)>,
     member: (u32, Numeric),
 ) -> Result<usize, Refusal>
-    ensures { Gives (λ left. (members_seen members.new.items, left)) result (member_step (env scope.now) (members_seen members.old.items, room) member) }
+    ensures exact { Gives (λ left. (members_seen members.new.items, left)) result (member_step (env scope.now) (members_seen members.old.items, room) member) }
+    ensures memory { IfNoMemory result (IsOk (member_step (env scope.now) (members_seen members.old.items, room) member)) }
 {
     let left = spend(scope, room, 1)?;
     let word = member_word(scope, members, member)?;
@@ -97,7 +98,8 @@ pub(crate) fn members_of(
     room: usize,
     written: &[(u32, Numeric)],
 ) -> Result<(Vec<(Vec<u8>, u16)>, usize), Refusal>
-    ensures { Gives (λ x. (members_seen x.0.items, x.1)) result (steps (member_step (env scope.now)) ([], room) written.now) }
+    ensures exact { Gives (λ x. (members_seen x.0.items, x.1)) result (steps (member_step (env scope.now)) ([], room) written.now) }
+    ensures memory { IfNoMemory result (0 < length written.now) }
 {
     let mut members = Vec::new(alloc);
     let mut left = room;
@@ -113,7 +115,7 @@ pub(crate) fn tag_members<'a>(
     scope: &Scope<'a>,
     tag: Option<Reference>,
 ) -> Result<Option<&'a [(Vec<u8>, u16)]>, Refusal>
-    ensures { Gives (λ x. option_map (λ m. members_seen m.now) x) result (tag_members_of (env scope.now) tag) }
+    ensures { Finds (λ x. option_map (λ m. members_seen m.now) x) result (tag_members_of (env scope.now) tag) }
 {
     match tag {
         Some(reference) => {
@@ -129,7 +131,7 @@ pub(crate) fn tag_members<'a>(
 
 /// The word that is written behind a designator. `None` if none is.
 fn given_word(scope: &Scope, written: Option<Numeric>) -> Result<Option<u16>, Refusal>
-    ensures { Gives (λ x. x) result (given_word_of (env scope.now) written) }
+    ensures { Finds (λ x. x) result (given_word_of (env scope.now) written) }
 {
     match written {
         Some(numeric) => {
@@ -142,7 +144,7 @@ fn given_word(scope: &Scope, written: Option<Numeric>) -> Result<Option<u16>, Re
 
 /// The word of a member, if what is written behind the designator agrees with it.
 fn agreed_word(name: u32, given: Option<u16>, word: u16) -> Result<u16, Refusal>
-    ensures { Gives (λ x. x) result (agreed name given word) }
+    ensures { Finds (λ x. x) result (agreed name given word) }
 {
     match given {
         Some(number) => {
@@ -158,7 +160,7 @@ fn agreed_word(name: u32, given: Option<u16>, word: u16) -> Result<u16, Refusal>
 
 /// The word of a designator that is of no enumeration.
 fn own_word(name: u32, given: Option<u16>) -> Result<u16, Refusal>
-    ensures { Gives (λ x. x) result (given_alone name given) }
+    ensures { Finds (λ x. x) result (given_alone name given) }
 {
     match given {
         Some(word) => Ok(word),
@@ -173,7 +175,7 @@ fn chosen_word(
     name: u32,
     given: Option<u16>,
 ) -> Result<u16, Refusal>
-    ensures { Gives (λ x. x) result (chosen_word_of (env scope.now) (option_map (λ m. members_seen m.now) tag.entry) name given) }
+    ensures { Finds (λ x. x) result (chosen_word_of (env scope.now) (option_map (λ m. members_seen m.now) tag.entry) name given) }
 {
     match tag {
         Some(members) => match word_by_name(members, text(scope.names, name)) {
@@ -191,7 +193,7 @@ fn designator_word(
     taken: &[(Vec<u8>, u16)],
     designator: (u32, Option<Numeric>),
 ) -> Result<u16, Refusal>
-    ensures { Gives (λ x. x) result (designator_word_of (env scope.now) (option_map (λ m. members_seen m.now) tag.entry) (members_seen taken.now) designator) }
+    ensures { Finds (λ x. x) result (designator_word_of (env scope.now) (option_map (λ m. members_seen m.now) tag.entry) (members_seen taken.now) designator) }
 {
     new_name(scope, taken, designator.0)?;
     let given = given_word(scope, designator.1)?;
@@ -208,7 +210,8 @@ fn take_designator(
     chosen: &mut Vec<(u32, u16)>,
     designator: (u32, Option<Numeric>),
 ) -> Result<(), Refusal>
-    ensures { Gives (λ _. (members_seen taken.new.items, chosen.new.items)) result (designator_step (env scope.now) (option_map (λ m. members_seen m.now) tag.entry) (members_seen taken.old.items, chosen.old.items) designator) }
+    ensures exact { Gives (λ _. (members_seen taken.new.items, chosen.new.items)) result (designator_step (env scope.now) (option_map (λ m. members_seen m.now) tag.entry) (members_seen taken.old.items, chosen.old.items) designator) }
+    ensures memory { IfNoMemory result (IsOk (designator_step (env scope.now) (option_map (λ m. members_seen m.now) tag.entry) (members_seen taken.old.items, chosen.old.items) designator)) }
 {
     let word = designator_word(scope, tag, taken, designator)?;
     let name = Vec::from_slice(alloc, text(scope.names, designator.0))?;
@@ -225,7 +228,8 @@ pub(crate) fn chosen_of(
     taken: &mut Vec<(Vec<u8>, u16)>,
     designators: &[(u32, Option<Numeric>)],
 ) -> Result<Vec<(u32, u16)>, Refusal>
-    ensures { Gives (λ x. (members_seen taken.new.items, x.items)) result (steps (designator_step (env scope.now) (option_map (λ m. members_seen m.now) tag.entry)) (members_seen taken.old.items, []) designators.now) }
+    ensures exact { Gives (λ x. (members_seen taken.new.items, x.items)) result (steps (designator_step (env scope.now) (option_map (λ m. members_seen m.now) tag.entry)) (members_seen taken.old.items, []) designators.now) }
+    ensures memory { IfNoMemory result (0 < length designators.now) }
 {
     let mut chosen = Vec::new(alloc);
     for designator in designators {

@@ -1,14 +1,15 @@
 //! Programs read from texts.
 
-ghost use Rattle.std.specs.Prelude.{◌≡◌, take};
-ghost use Rattle.courier_notation.specs.Lexing.{lexing_view};
+ghost use Rattle.std.specs.Prelude.{◌≡◌, IsOk, take};
+ghost use Rattle.courier_notation.specs.Lexing.{HasToken, lexing_view};
 ghost use Rattle.courier_notation.specs.ProgramModels.{program_view};
-ghost use Rattle.courier_notation.specs.Programs.{program_of};
+ghost use Rattle.courier_notation.specs.Programs.{header_at, program_of};
 ghost use Rattle.courier_notation.specs.Reading.{Gives};
 ghost use Rattle.courier_programs.specs.Meanings.{resolved_model};
+ghost use Rattle.courier_programs.specs.Memory.{ResolvingWants};
 ghost use Rattle.courier_programs.specs.Resolving.{resolved};
 ghost use Rattle.courier_programs.specs.Scopes.{names_seen};
-ghost use Rattle.courier_programs.specs.Texts.{Reads, index_place, is_name as is_name_of, name_index, name_told, position_behind, text_meant};
+ghost use Rattle.courier_programs.specs.Texts.{IfNoMemory, Reads, index_place, is_name as is_name_of, name_index, name_told, position_behind, text_meant};
 ghost use Rattle.courier_programs.specs.Texts.{token_place, written_told};
 
 use crate::program::Program;
@@ -66,7 +67,8 @@ fn resolve_text(
     lexed: &Lexed,
     written: &WrittenProgram,
 ) -> Result<Program, ProgramRefusal>
-    ensures { Reads resolved_model result (name_told text.now (lexing_view lexed.now) (resolved (lexing_view lexed.now).names before.now (program_view written.now))) }
+    ensures exact { Reads resolved_model result (name_told text.now (lexing_view lexed.now) (resolved (lexing_view lexed.now).names before.now (program_view written.now))) }
+    ensures memory { IfNoMemory result (ResolvingWants before.now (program_view written.now)) }
 {
     match resolve(alloc, &lexed.names, before, written) {
         Ok(program) => Ok(program),
@@ -85,7 +87,8 @@ fn read_lexed(
     before: &[Program],
     lexed: &Lexed,
 ) -> Result<Program, ProgramRefusal>
-    ensures { Reads resolved_model result (written_told text.now before.now (lexing_view lexed.now) (program_of (lexing_view lexed.now).tokens)) }
+    ensures exact { Reads resolved_model result (written_told text.now before.now (lexing_view lexed.now) (program_of (lexing_view lexed.now).tokens)) }
+    ensures memory { IfNoMemory result (IsOk (header_at (lexing_view lexed.now).tokens)) }
 {
     match read_program(alloc, &lexed.tokens) {
         Ok(written) => resolve_text(alloc, text, before, lexed, &written),
@@ -102,11 +105,12 @@ fn read_lexed(
 
 /// The program that a text in Courier's notation is, behind the programs that were read before it.
 ///
-/// `Wrong` has the first fault and its place: of the tokens, of the grammar, or of the names. `NoMemory` is
-/// answered where a growth was refused.
+/// `Wrong` has the first fault and its place: of the tokens, of the grammar, or of the names. `NoMemory` only
+/// where a growth was refused, and the text begins with a token.
 #[tactic(auto, unfolding(crate::specs::Texts::text_meant))]
 pub fn read_text(alloc: Global, text: &[u8], before: &[Program]) -> Result<Program, ProgramRefusal>
-    ensures { Reads resolved_model result (text_meant text.now before.now) }
+    ensures exact { Reads resolved_model result (text_meant text.now before.now) }
+    ensures memory { IfNoMemory result (HasToken text.now) }
 {
     match lex(alloc, text) {
         Ok(lexed) => read_lexed(alloc, text, before, &lexed),

@@ -1,10 +1,11 @@
 //! Programs whose names are resolved.
 
-ghost use Rattle.std.specs.Prelude.{◌≡◌, [], IfOk};
+ghost use Rattle.std.specs.Prelude.{◌≡◌, [], IfOk, IsOk};
 ghost use Rattle.courier_notation.specs.ProgramModels.{declaration_view, declaration_views, declared_view, program_view};
 ghost use Rattle.courier_programs.specs.Declarations.{declaration_step};
 ghost use Rattle.courier_programs.specs.Meanings.{resolved_model};
-ghost use Rattle.courier_programs.specs.Refused.{Gives, steps};
+ghost use Rattle.courier_programs.specs.Memory.{FirstWasRead, ResolvingWants};
+ghost use Rattle.courier_programs.specs.Refused.{Finds, Gives, IfNoMemory, steps};
 ghost use Rattle.courier_programs.specs.Resolving.{dependency_step, reported as reported_in, reports_step, resolved};
 ghost use Rattle.courier_programs.specs.Resolving.{empty_program as empty_program_of, with_dependencies as with_dependencies_of, with_reports as with_reports_of};
 ghost use Rattle.courier_programs.specs.Scopes.{env, names_seen};
@@ -27,7 +28,8 @@ fn take_dependency(
     earlier: &mut Vec<Dependency>,
     dependency: Dependency,
 ) -> Result<(), Refusal>
-    ensures { Gives (λ _. earlier.new.items) result (dependency_step (names_seen names.now) before.now earlier.old.items dependency) }
+    ensures exact { Gives (λ _. earlier.new.items) result (dependency_step (names_seen names.now) before.now earlier.old.items dependency) }
+    ensures memory { IfNoMemory result (IsOk (dependency_step (names_seen names.now) before.now earlier.old.items dependency)) }
 {
     if dependency_of(names, earlier, dependency.name).is_some() {
         return Err(wrong(dependency.name, NameReason::DoubledName));
@@ -48,7 +50,8 @@ fn dependencies_of(
     before: &[Program],
     written: &[Dependency],
 ) -> Result<Vec<Dependency>, Refusal>
-    ensures { Gives (λ x. x.items) result (steps (dependency_step (names_seen names.now) before.now) [] written.now) }
+    ensures exact { Gives (λ x. x.items) result (steps (dependency_step (names_seen names.now) before.now) [] written.now) }
+    ensures memory { IfNoMemory result (FirstWasRead before.now written.now) }
 {
     let mut dependencies = Vec::new(alloc);
     for dependency in written {
@@ -87,7 +90,7 @@ fn take_declarations(
 /// An error that is reported is one that is declared.
 #[tactic(auto, unfolding(crate::specs::Resolving::reported))]
 fn check_report(scope: &Scope, reference: Reference) -> Result<(), Refusal>
-    ensures { Gives (λ _. tt) result (reported_in (env scope.now) tt reference) }
+    ensures { Finds (λ _. tt) result (reported_in (env scope.now) tt reference) }
 {
     match look_up(scope, reference)? {
         Some(Meaning::Error) => Ok(()),
@@ -96,7 +99,7 @@ fn check_report(scope: &Scope, reference: Reference) -> Result<(), Refusal>
 }
 
 fn check_references(scope: &Scope, references: &[Reference]) -> Result<(), Refusal>
-    ensures { Gives (λ _. tt) result (steps (reported_in (env scope.now)) tt references.now) }
+    ensures { Finds (λ _. tt) result (steps (reported_in (env scope.now)) tt references.now) }
 {
     for reference in references {
         check_report(scope, *reference)?;
@@ -106,7 +109,7 @@ fn check_references(scope: &Scope, references: &[Reference]) -> Result<(), Refus
 
 /// The errors that a declaration reports are declared.
 fn check_reports(scope: &Scope, declaration: &Declaration) -> Result<(), Refusal>
-    ensures { Gives (λ _. tt) result (reports_step (env scope.now) tt (declaration_view declaration.now)) }
+    ensures { Finds (λ _. tt) result (reports_step (env scope.now) tt (declaration_view declaration.now)) }
 {
     match &declaration.declared {
         Declared::Procedure {
@@ -121,7 +124,7 @@ fn check_reports(scope: &Scope, declaration: &Declaration) -> Result<(), Refusal
 
 /// The errors that procedures report are declared, perhaps behind them.
 fn check_all_reports(scope: &Scope, declarations: &[Declaration]) -> Result<(), Refusal>
-    ensures { Gives (λ _. tt) result (steps (reports_step (env scope.now)) tt (declaration_views declarations.now)) }
+    ensures { Finds (λ _. tt) result (steps (reports_step (env scope.now)) tt (declaration_views declarations.now)) }
 {
     for declaration in declarations {
         check_reports(scope, declaration)?;
@@ -138,7 +141,7 @@ fn with_reports(
     program: Program,
     written: &WrittenProgram,
 ) -> Result<Program, Refusal>
-    ensures { Gives resolved_model result (with_reports_of (names_seen names.now) before.now dependencies.now (resolved_model program) (program_view written.now)) }
+    ensures { Finds resolved_model result (with_reports_of (names_seen names.now) before.now dependencies.now (resolved_model program) (program_view written.now)) }
 {
     let scope = Scope {
         names,
@@ -198,7 +201,8 @@ fn with_dependencies(
 /// The program that is written, behind the programs that were read before. `names` are the texts of its names.
 ///
 /// `Wrong` has the first fault: of the program itself, of its dependencies, of its declarations, or of the
-/// errors that its procedures report, each from left to right.
+/// errors that its procedures report, each from left to right. `NoMemory` only where a growth was refused, no
+/// program before has the number and the version, and what it depends upon first was read.
 #[tactic(auto, unfolding(crate::specs::Resolving::resolved))]
 pub fn resolve(
     alloc: Global,
@@ -206,7 +210,8 @@ pub fn resolve(
     before: &[Program],
     written: &WrittenProgram,
 ) -> Result<Program, Refusal>
-    ensures { Gives resolved_model result (resolved (names_seen names.now) before.now (program_view written.now)) }
+    ensures exact { Gives resolved_model result (resolved (names_seen names.now) before.now (program_view written.now)) }
+    ensures memory { IfNoMemory result (ResolvingWants before.now (program_view written.now)) }
 {
     if program_of(before, written.number, written.version).is_some() {
         return Err(wrong(written.name, NameReason::DoubledProgram));

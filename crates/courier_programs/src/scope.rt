@@ -3,7 +3,7 @@
 ghost use Rattle.std.specs.Prelude.{◌≡◌, IfNone, IfSome, None, Some, option_map};
 ghost use Rattle.courier_texts.specs.Named.{named_model};
 ghost use Rattle.courier_programs.specs.Meanings.{meaning_model, meaning_of as meaning_in, meanings_seen};
-ghost use Rattle.courier_programs.specs.Refused.{Gives};
+ghost use Rattle.courier_programs.specs.Refused.{Finds};
 ghost use Rattle.courier_programs.specs.Scopes.{dependency_of as dependency_in, env, is_itself as is_itself_of, last_name as last_name_of};
 ghost use Rattle.courier_programs.specs.Scopes.{look_up as look_up_of, names_seen, program_named, spent, type_named as type_named_of};
 ghost use Rattle.courier_programs.specs.Scopes.{value_named as value_named_of, word_by, word_of as word_of_numeric};
@@ -74,7 +74,7 @@ pub(crate) fn last_name(reference: Reference) -> u32
 /// The program that is depended upon by that name.
 #[tactic(auto, unfolding(crate::specs::Scopes::program_named))]
 fn named_program<'a>(scope: &Scope<'a>, name: u32) -> Result<&'a Program, Refusal>
-    ensures { Gives (λ p. p.now) result (program_named (env scope.now) name) }
+    ensures { Finds (λ p. p.now) result (program_named (env scope.now) name) }
 {
     match dependency_of(scope.names, scope.dependencies, name) {
         Some(dependency) => match program_of(scope.before, dependency.number, dependency.version) {
@@ -91,7 +91,7 @@ pub(crate) fn look_up<'a>(
     scope: &Scope<'a>,
     reference: Reference,
 ) -> Result<Option<&'a Meaning>, Refusal>
-    ensures { Gives (λ m. option_map (λ x. meaning_model x.now) m) result (look_up_of (env scope.now) reference) }
+    ensures { Finds (λ m. option_map (λ x. meaning_model x.now) m) result (look_up_of (env scope.now) reference) }
 {
     match reference {
         Reference::Own(name) => Ok(meaning_of(scope.meanings, text(scope.names, name))),
@@ -120,7 +120,7 @@ pub(crate) fn type_named<'a>(
     scope: &Scope<'a>,
     reference: Reference,
 ) -> Result<(&'a Named, usize), Refusal>
-    ensures { Gives (λ x. (named_model x.0.now, x.1)) result (type_named_of (env scope.now) reference) }
+    ensures { Finds (λ x. (named_model x.0.now, x.1)) result (type_named_of (env scope.now) reference) }
 {
     match look_up(scope, reference)? {
         Some(Meaning::Type { named, size }) => Ok((named, *size)),
@@ -138,7 +138,7 @@ pub(crate) fn type_named<'a>(
 /// The value of the constant that is referred to. `None` if it is no number.
 #[tactic(auto, unfolding(crate::specs::Scopes::value_named))]
 pub(crate) fn value_named(scope: &Scope, reference: Reference) -> Result<Option<u32>, Refusal>
-    ensures { Gives (λ x. x) result (value_named_of (env scope.now) reference) }
+    ensures { Finds (λ x. x) result (value_named_of (env scope.now) reference) }
 {
     match look_up(scope, reference)? {
         Some(Meaning::Constant(value)) => Ok(*value),
@@ -148,7 +148,7 @@ pub(crate) fn value_named(scope: &Scope, reference: Reference) -> Result<Option<
 
 /// The value, if it is a number of one word.
 fn word_by_value(reference: Reference, value: Option<u32>) -> Result<u16, Refusal>
-    ensures { Gives (λ x. x) result (word_by reference value) }
+    ensures { Finds (λ x. x) result (word_by reference value) }
 {
     match value {
         Some(number) => {
@@ -165,7 +165,7 @@ fn word_by_value(reference: Reference, value: Option<u32>) -> Result<u16, Refusa
 /// A number of one word.
 #[tactic(auto, unfolding(crate::specs::Scopes::word_of))]
 pub(crate) fn word_of(scope: &Scope, numeric: Numeric) -> Result<u16, Refusal>
-    ensures { Gives (λ x. x) result (word_of_numeric (env scope.now) numeric) }
+    ensures { Finds (λ x. x) result (word_of_numeric (env scope.now) numeric) }
 {
     match numeric {
         Numeric::Number(number) => Ok(number),
@@ -178,7 +178,7 @@ pub(crate) fn word_of(scope: &Scope, numeric: Numeric) -> Result<u16, Refusal>
 
 /// What is left of the room for parts, after so many.
 pub(crate) fn spend(scope: &Scope, room: usize, count: usize) -> Result<usize, Refusal>
-    ensures { Gives (λ x. x) result (spent (env scope.now) room count) }
+    ensures { Finds (λ x. x) result (spent (env scope.now) room count) }
 {
     if room < count {
         return Err(wrong(scope.own, NameReason::TooLarge));

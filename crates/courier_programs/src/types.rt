@@ -1,14 +1,15 @@
 //! What types that are written stand for.
 
-ghost use Rattle.std.specs.Prelude.{◌≡◌, [], option_map};
+ghost use Rattle.std.specs.Prelude.{◌≡◌, ◌<◌, [], IsOk, length, option_map};
 ghost use Rattle.courier_notation.specs.Written.{candidate_models, candidates_from, field_models, fields_from, type_model};
 ghost use Rattle.courier_texts.specs.Named.{members_seen, named_model};
 ghost use Rattle.courier_programs.specs.Meanings.{components_seen};
-ghost use Rattle.courier_programs.specs.Refused.{Gives, over, steps};
-ghost use Rattle.courier_programs.specs.Scopes.{env};
+ghost use Rattle.courier_programs.specs.Memory.{TypeWants};
+ghost use Rattle.courier_programs.specs.Refused.{Finds, Gives, IfNoMemory, over, steps};
+ghost use Rattle.courier_programs.specs.Scopes.{env, spent, type_named as type_named_of, word_of as word_of_numeric};
 ghost use Rattle.courier_programs.specs.Types.{array_meant, candidate_group, candidate_step, candidates_meant, candidates_seen, choice_meant, component_step};
 ghost use Rattle.courier_programs.specs.Types.{components_meant, enumeration_meant, fields_meant, has_name as has_name_in, maximum_of as maximum_in, once as once_in};
-ghost use Rattle.courier_programs.specs.Types.{referred as referred_in, sequence_meant, type_level_meant, type_meant};
+ghost use Rattle.courier_programs.specs.Types.{referred as referred_in, sequence_meant, tag_members as tag_members_of, type_level_meant, type_meant};
 
 use crate::bytes::{is_same, text};
 use crate::copying::copy_of;
@@ -34,7 +35,8 @@ fn has_name(scope: &Scope, seen: &[u32], name: u32) -> bool
 
 /// Puts a name behind those that it must differ from.
 fn once(scope: &Scope, seen: &mut Vec<u32>, name: u32) -> Result<(), Refusal>
-    ensures { Gives (λ _. seen.new.items) result (once_in (env scope.now) seen.old.items name) }
+    ensures exact { Gives (λ _. seen.new.items) result (once_in (env scope.now) seen.old.items name) }
+    ensures memory { IfNoMemory result (IsOk (once_in (env scope.now) seen.old.items name)) }
 {
     if has_name(scope, seen, name) {
         return Err(wrong(name, NameReason::DoubledName));
@@ -44,7 +46,8 @@ fn once(scope: &Scope, seen: &mut Vec<u32>, name: u32) -> Result<(), Refusal>
 }
 
 fn all_once(scope: &Scope, seen: &mut Vec<u32>, names: &[u32]) -> Result<(), Refusal>
-    ensures { Gives (λ _. seen.new.items) result (steps (once_in (env scope.now)) seen.old.items names.now) }
+    ensures exact { Gives (λ _. seen.new.items) result (steps (once_in (env scope.now)) seen.old.items names.now) }
+    ensures memory { IfNoMemory result (0 < length names.now) }
 {
     for name in names {
         once(scope, seen, *name)?;
@@ -54,7 +57,7 @@ fn all_once(scope: &Scope, seen: &mut Vec<u32>, names: &[u32]) -> Result<(), Ref
 
 /// The maximum of a sequence, which is 65,535 where none is written.
 fn maximum_of(scope: &Scope, most: Option<Numeric>) -> Result<u16, Refusal>
-    ensures { Gives (λ x. x) result (maximum_in (env scope.now) most) }
+    ensures { Finds (λ x. x) result (maximum_in (env scope.now) most) }
 {
     match most {
         Some(numeric) => word_of(scope, numeric),
@@ -69,7 +72,8 @@ fn enumeration(
     scope: &Scope,
     room: usize,
 ) -> Result<(Named, usize), Refusal>
-    ensures { Gives (λ x. (named_model x.0, x.1)) result (enumeration_meant (env scope.now) members.now room) }
+    ensures exact { Gives (λ x. (named_model x.0, x.1)) result (enumeration_meant (env scope.now) members.now room) }
+    ensures memory { IfNoMemory result (0 < length members.now) }
 {
     let (listed, left) = members_of(alloc, scope, room, members)?;
     Ok((Named::Enumeration(listed), left))
@@ -83,7 +87,8 @@ fn referred(
     scope: &Scope,
     room: usize,
 ) -> Result<(Named, usize), Refusal>
-    ensures { Gives (λ x. (named_model x.0, x.1)) result (referred_in (env scope.now) reference room) }
+    ensures exact { Gives (λ x. (named_model x.0, x.1)) result (referred_in (env scope.now) reference room) }
+    ensures memory { IfNoMemory result (IsOk (type_named_of (env scope.now) reference)) }
 {
     let (named, size) = type_named(scope, reference)?;
     let left = spend(scope, room, size.saturating_sub(1))?;
@@ -101,7 +106,8 @@ fn array(
     scope: &Scope,
     room: usize,
 ) -> Result<(Named, usize), Refusal>
-    ensures { Gives (λ x. (named_model x.0, x.1)) result (array_meant (env scope.now) count (type_meant (env scope.now) depth (type_model element.now)) room) }
+    ensures exact { Gives (λ x. (named_model x.0, x.1)) result (array_meant (env scope.now) count (type_meant (env scope.now) depth (type_model element.now)) room) }
+    ensures memory { IfNoMemory result (IsOk (word_of_numeric (env scope.now) count)) }
 {
     let count = word_of(scope, count)?;
     let (part, left) = type_of(alloc, depth, element, scope, room)?;
@@ -118,7 +124,8 @@ fn sequence(
     scope: &Scope,
     room: usize,
 ) -> Result<(Named, usize), Refusal>
-    ensures { Gives (λ x. (named_model x.0, x.1)) result (sequence_meant (env scope.now) most (type_meant (env scope.now) depth (type_model element.now)) room) }
+    ensures exact { Gives (λ x. (named_model x.0, x.1)) result (sequence_meant (env scope.now) most (type_meant (env scope.now) depth (type_model element.now)) room) }
+    ensures memory { IfNoMemory result (IsOk (maximum_in (env scope.now) most)) }
 {
     let most = maximum_of(scope, most)?;
     let (part, left) = type_of(alloc, depth, element, scope, room)?;
@@ -137,7 +144,8 @@ fn take_component(
     parts: &mut Vec<(Vec<u8>, Named)>,
     name: u32,
 ) -> Result<usize, Refusal>
-    ensures { Gives (λ left. (components_seen parts.new.items, left)) result (component_step (env scope.now) (type_meant (env scope.now) depth (type_model written.now)) (components_seen parts.old.items, room) name) }
+    ensures exact { Gives (λ left. (components_seen parts.new.items, left)) result (component_step (env scope.now) (type_meant (env scope.now) depth (type_model written.now)) (components_seen parts.old.items, room) name) }
+    ensures memory { IfNoMemory result (IsOk (spent (env scope.now) room 1)) }
 {
     let left = spend(scope, room, 1)?;
     let (part, left) = type_of(alloc, depth, written, scope, left)?;
@@ -157,7 +165,8 @@ fn take_components(
     parts: &mut Vec<(Vec<u8>, Named)>,
     names: &[u32],
 ) -> Result<usize, Refusal>
-    ensures { Gives (λ left. (components_seen parts.new.items, left)) result (steps (component_step (env scope.now) (type_meant (env scope.now) depth (type_model written.now))) (components_seen parts.old.items, room) names.now) }
+    ensures exact { Gives (λ left. (components_seen parts.new.items, left)) result (steps (component_step (env scope.now) (type_meant (env scope.now) depth (type_model written.now))) (components_seen parts.old.items, room) names.now) }
+    ensures memory { IfNoMemory result (0 < length names.now) }
 {
     let mut left = room;
     for name in names {
@@ -175,7 +184,8 @@ pub(crate) fn components_of(
     scope: &Scope,
     room: usize,
 ) -> Result<(Vec<(Vec<u8>, Named)>, usize), Refusal>
-    ensures { Gives (λ x. (components_seen x.0.items, x.1)) result (components_meant (env scope.now) (type_meant (env scope.now) depth) [] ([], room) (fields_from (field_models groups.now))) }
+    ensures exact { Gives (λ x. (components_seen x.0.items, x.1)) result (components_meant (env scope.now) (type_meant (env scope.now) depth) [] ([], room) (fields_from (field_models groups.now))) }
+    ensures memory { IfNoMemory result (0 < length groups.now) }
 {
     let mut seen = Vec::new(alloc);
     let mut parts = Vec::new(alloc);
@@ -196,7 +206,8 @@ fn record_of(
     scope: &Scope,
     room: usize,
 ) -> Result<(Named, usize), Refusal>
-    ensures { Gives (λ x. (named_model x.0, x.1)) result (fields_meant (components_meant (env scope.now) (type_meant (env scope.now) depth) [] ([], room) (fields_from (field_models groups.now)))) }
+    ensures exact { Gives (λ x. (named_model x.0, x.1)) result (fields_meant (components_meant (env scope.now) (type_meant (env scope.now) depth) [] ([], room) (fields_from (field_models groups.now)))) }
+    ensures memory { IfNoMemory result (0 < length groups.now) }
 {
     let (parts, left) = components_of(alloc, depth, groups, scope, room)?;
     Ok((Named::Record(parts), left))
@@ -214,7 +225,8 @@ fn take_candidate(
     parts: &mut Vec<(Vec<u8>, (u16, Named))>,
     chosen: (u32, u16),
 ) -> Result<usize, Refusal>
-    ensures { Gives (λ left. (candidates_seen parts.new.items, left)) result (candidate_step (env scope.now) (type_meant (env scope.now) depth (type_model written.now)) (candidates_seen parts.old.items, room) chosen) }
+    ensures exact { Gives (λ left. (candidates_seen parts.new.items, left)) result (candidate_step (env scope.now) (type_meant (env scope.now) depth (type_model written.now)) (candidates_seen parts.old.items, room) chosen) }
+    ensures memory { IfNoMemory result (IsOk (spent (env scope.now) room 1)) }
 {
     let left = spend(scope, room, 1)?;
     let (part, left) = type_of(alloc, depth, written, scope, left)?;
@@ -234,7 +246,8 @@ fn take_candidates(
     parts: &mut Vec<(Vec<u8>, (u16, Named))>,
     chosen: &[(u32, u16)],
 ) -> Result<usize, Refusal>
-    ensures { Gives (λ left. (candidates_seen parts.new.items, left)) result (steps (candidate_step (env scope.now) (type_meant (env scope.now) depth (type_model written.now))) (candidates_seen parts.old.items, room) chosen.now) }
+    ensures exact { Gives (λ left. (candidates_seen parts.new.items, left)) result (steps (candidate_step (env scope.now) (type_meant (env scope.now) depth (type_model written.now))) (candidates_seen parts.old.items, room) chosen.now) }
+    ensures memory { IfNoMemory result (0 < length chosen.now) }
 {
     let mut left = room;
     for designator in chosen {
@@ -257,7 +270,8 @@ fn take_group(
     taken: &mut Vec<(Vec<u8>, u16)>,
     parts: &mut Vec<(Vec<u8>, (u16, Named))>,
 ) -> Result<usize, Refusal>
-    ensures { Gives (λ left. (members_seen taken.new.items, (candidates_seen parts.new.items, left))) result (candidate_group (env scope.now) (option_map (λ m. members_seen m.now) tag.entry) (type_meant (env scope.now) depth (type_model written.now)) (members_seen taken.old.items) (candidates_seen parts.old.items, room) designators.now) }
+    ensures exact { Gives (λ left. (members_seen taken.new.items, (candidates_seen parts.new.items, left))) result (candidate_group (env scope.now) (option_map (λ m. members_seen m.now) tag.entry) (type_meant (env scope.now) depth (type_model written.now)) (members_seen taken.old.items) (candidates_seen parts.old.items, room) designators.now) }
+    ensures memory { IfNoMemory result (0 < length designators.now) }
 {
     let chosen = chosen_of(alloc, scope, tag, taken, designators)?;
     take_candidates(alloc, depth, written, scope, room, parts, &chosen)
@@ -275,7 +289,8 @@ fn take_groups(
     taken: &mut Vec<(Vec<u8>, u16)>,
     parts: &mut Vec<(Vec<u8>, (u16, Named))>,
 ) -> Result<usize, Refusal>
-    ensures { Gives (λ left. (candidates_seen parts.new.items, left)) result (candidates_meant (env scope.now) (option_map (λ m. members_seen m.now) tag.entry) (type_meant (env scope.now) depth) (members_seen taken.old.items) (candidates_seen parts.old.items, room) (candidates_from (candidate_models groups.now))) }
+    ensures exact { Gives (λ left. (candidates_seen parts.new.items, left)) result (candidates_meant (env scope.now) (option_map (λ m. members_seen m.now) tag.entry) (type_meant (env scope.now) depth) (members_seen taken.old.items) (candidates_seen parts.old.items, room) (candidates_from (candidate_models groups.now))) }
+    ensures memory { IfNoMemory result (0 < length groups.now) }
 {
     let mut left = room;
     for group in groups {
@@ -296,7 +311,8 @@ fn candidates_of(
     scope: &Scope,
     room: usize,
 ) -> Result<(Vec<(Vec<u8>, (u16, Named))>, usize), Refusal>
-    ensures { Gives (λ x. (candidates_seen x.0.items, x.1)) result (candidates_meant (env scope.now) (option_map (λ m. members_seen m.now) tag.entry) (type_meant (env scope.now) depth) [] ([], room) (candidates_from (candidate_models groups.now))) }
+    ensures exact { Gives (λ x. (candidates_seen x.0.items, x.1)) result (candidates_meant (env scope.now) (option_map (λ m. members_seen m.now) tag.entry) (type_meant (env scope.now) depth) [] ([], room) (candidates_from (candidate_models groups.now))) }
+    ensures memory { IfNoMemory result (0 < length groups.now) }
 {
     let mut taken = Vec::new(alloc);
     let mut parts = Vec::new(alloc);
@@ -316,7 +332,8 @@ fn choice_of(
     scope: &Scope,
     room: usize,
 ) -> Result<(Named, usize), Refusal>
-    ensures { Gives (λ x. (named_model x.0, x.1)) result (choice_meant (env scope.now) tag (λ members. candidates_meant (env scope.now) members (type_meant (env scope.now) depth) [] ([], room) (candidates_from (candidate_models groups.now)))) }
+    ensures exact { Gives (λ x. (named_model x.0, x.1)) result (choice_meant (env scope.now) tag (λ members. candidates_meant (env scope.now) members (type_meant (env scope.now) depth) [] ([], room) (candidates_from (candidate_models groups.now)))) }
+    ensures memory { IfNoMemory result (IsOk (tag_members_of (env scope.now) tag)) }
 {
     let members = tag_members(scope, tag)?;
     let (parts, left) = candidates_of(alloc, depth, groups, members, scope, room)?;
@@ -333,7 +350,8 @@ fn type_by(
     scope: &Scope,
     room: usize,
 ) -> Result<(Named, usize), Refusal>
-    ensures { Gives (λ x. (named_model x.0, x.1)) result (type_level_meant (env scope.now) (type_meant (env scope.now) depth) (type_model written.now) room) }
+    ensures exact { Gives (λ x. (named_model x.0, x.1)) result (type_level_meant (env scope.now) (type_meant (env scope.now) depth) (type_model written.now) room) }
+    ensures memory { IfNoMemory result (TypeWants (env scope.now) (type_model written.now)) }
 {
     match written {
         WrittenType::Boolean => Ok((Named::Boolean, room)),
@@ -363,7 +381,8 @@ pub(crate) fn type_of(
     scope: &Scope,
     room: usize,
 ) -> Result<(Named, usize), Refusal>
-    ensures { Gives (λ x. (named_model x.0, x.1)) result (type_meant (env scope.now) depth (type_model written.now) room) }
+    ensures exact { Gives (λ x. (named_model x.0, x.1)) result (type_meant (env scope.now) depth (type_model written.now) room) }
+    ensures memory { IfNoMemory result (TypeWants (env scope.now) (type_model written.now)) }
 {
     if depth == 0 {
         return Err(wrong(scope.own, NameReason::TooDeep));

@@ -31,7 +31,7 @@ use Rattle.xns_host.specs.declared.side.Side.{Side as Kind}
 use Rattle.xns_host.specs.declared.side.Side.TheVariants.{Calls, Answers}
 use Rattle.host_world.specs.Meeting.{Meeting, at, new_meeting, led, Next, went_on, IsMade}
 use Rattle.host_world.specs.Meets.{heard, Meets, opens, acts, gives, arrives, strays, IsMet}
-use Rattle.host_world.specs.Pairing.{MayCome, made as comes}
+use Rattle.host_world.specs.Pairing.{MayCome, WasMade, made as comes}
 use Rattle.host_world.specs.Station.{IsStation, calling_end, called_end}
 use Rattle.host_world.specs.declared.station.Station.{Station}
 use Rattle.host_world.proofs.Led.{same_end, same_other, moved_bag, led_end, led_other, led_bag, led_holds, are_items, in_both, by}
@@ -314,3 +314,19 @@ given_may_come laws keeps stories a b programs m side bytes here there meets few
     let x = made_there m.world side bytes (All-contains (IsMade m.world side) (at m side).given bytes (met.given side) given) in
     comes x.0 x.1 x.2 (not_passed m.world x.1 (λ s. subst (λ (e : State). length e.taken ≤ lifetime) (sym (k.ends s)) (few s)))
     (ap (λ (y : Side × List ℕ). other y.0) x.3) (ap (λ (y : Side × List ℕ). y.1) x.3)
+
+-- wherever it is kept it may come while it lives
+comes_there : (side : Side) (bytes : List ℕ) (k : ℕ) (x : Emitted) (n : Meeting) → sender_and_bytes x ≡ (side, bytes) → (y : Emitted) × (slice_get n.world.bag k ≡ Some y) × (y ≡ record x { delivered = y.delivered })
+    → has_passed n.world x ≡ false → MayCome n (other side) bytes
+comes_there side bytes k x n is kept lives =
+    let y = kept.0 in
+    let same = kept.2 in
+    comes k y kept.1 (ap (has_passed n.world) same ∙ lives) (ap (λ (z : Emitted). other z.side) same ∙ ap (λ (z : Side × List ℕ). other z.0) is)
+    (ap (λ (z : Emitted). z.bytes) same ∙ ap (λ (z : Side × List ℕ). z.1) is)
+
+pub was_made : EndLaws → EachStepKeepsTheOrder → StoryLaws → (a b : Station) (programs : List Program) (m : Meeting) (side : Side) (bytes : List ℕ) → IsStation a → IsStation b → Meets a b programs m
+    → Contains (at m side).given bytes → WasMade m side bytes
+was_made laws keeps stories a b programs m side bytes here there meets given =
+    let met : IsMet programs m = is_met laws keeps stories a b programs m here there meets in
+    let x = made_there m.world side bytes (All-contains (IsMade m.world side) (at m side).given bytes (met.given side) given) in
+    record { place = x.0; packet = x.1; there = x.2; is = x.3; comes = λ n kept lives. comes_there side bytes x.0 x.1 n x.3 (kept.each x.0 x.1 x.2) lives }

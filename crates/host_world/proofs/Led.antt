@@ -1,6 +1,6 @@
 -- What an end's own steps do to the world.
 use Rattle.std.proofs.Common.{◌≡◌, ◌∙◌, ap, sym, refl, subst, ℕ, zero, suc, true, false, List, [], ◌∷◌, ◌++◌, append-nil, append_assoc, map, length, Some}
-use Rattle.std.specs.Prelude.{slice_get, is_ok}
+use Rattle.std.specs.Prelude.{slice_get, slice_set, is_ok}
 use Rattle.std.specs.Option.{option_to_list}
 use Rattle.std.proofs.lemmas.List.{map-append}
 use Rattle.std.proofs.lemmas.Option.{get_or_from_slice_get, slice_get_within}
@@ -23,6 +23,7 @@ use Rattle.item_world.specs.declared.side.Side.{Side}
 use Rattle.item_world.specs.declared.side.Side.TheVariants.{A, B}
 use Rattle.xns_host.specs.Story.{Runs, start, sends as accepts, takes, flushes, resends, tells, made_on}
 use Rattle.host_world.specs.Meeting.{led}
+use Rattle.host_world.specs.Pairing.{AreKept}
 
 -- ---- one move
 
@@ -103,6 +104,63 @@ led_bag w side (tells {v = v} p asks) e =
     more_made (packets_of u) (packets_of (led w side (tells p asks))) (packets_of w) side (made_on p) (option_to_list (told_answer (end_of u side) asks)) (option_to_list (told_answer v asks))
     (moved_bag u side (end_of u side) (option_to_list (told_answer (end_of u side) asks))) (led_bag w side p e) (ap (λ (s : State). option_to_list (told_answer s asks)) (led_end w side p e))
 
+-- ---- what was made is kept
+
+in_front : {X : Type 0} (xs ys : List X) (k : ℕ) (x : X) → slice_get xs k ≡ Some x → slice_get (xs ++ ys) k ≡ Some x
+in_front [] ys k x e = absurd (cc)
+in_front (z ∷ xs) ys zero x e = e
+in_front (z ∷ xs) ys (suc k) x e = in_front xs ys k x e
+
+pub kept_itself : (bag : List Emitted) → AreKept bag bag
+kept_itself bag = record { each = λ k x e. (x, e, refl) }
+
+pub kept_then : (xs ys zs : List Emitted) → AreKept xs ys → AreKept ys zs → AreKept xs zs
+kept_then xs ys zs p q = record {
+  each = λ k x e.
+      let one = p.each k x e in
+      let two = q.each k one.0 one.1 in
+      (two.0, two.1, two.2 ∙ ap (λ (y : Emitted). let z : Emitted = record y { delivered = two.0.delivered } in z) one.2);
+}
+
+kept_in_front : (xs ys : List Emitted) → AreKept xs (xs ++ ys)
+kept_in_front xs ys = record { each = λ k x e. (x, in_front xs ys k x e, refl) }
+
+pub kept_moved : (w : World) (side : Side) (s : State) (bs : List (List ℕ)) → AreKept w.bag (moved w side s bs).bag
+kept_moved w side s bs = kept_in_front w.bag (map (emitted side (moment s (end_of w (other side)))) bs)
+
+pub led_kept : (w : World) (side : Side) {s v : State} (p : Runs s v) → AreKept w.bag (led w side p).bag
+led_kept w side start = kept_itself w.bag
+led_kept w side (accepts p x) = let u : World = led w side p in kept_then w.bag u.bag (moved u side (after_send (end_of u side) x) []).bag (led_kept w side p) (kept_moved u side (after_send (end_of u side) x) [])
+led_kept w side (takes p) = let u : World = led w side p in kept_then w.bag u.bag (moved u side (after_take (end_of u side)) []).bag (led_kept w side p) (kept_moved u side (after_take (end_of u side)) [])
+led_kept w side (flushes p) =
+    let u : World = led w side p in
+    let bs = flush_answer (end_of u side) in
+    kept_then w.bag u.bag (moved u side (after_flush (end_of u side)) bs).bag (led_kept w side p) (kept_moved u side (after_flush (end_of u side)) bs)
+led_kept w side (resends p) =
+    let u : World = led w side p in
+    let bs = option_to_list (resend_answer (end_of u side)) in
+    kept_then w.bag u.bag (moved u side (after_resend (end_of u side)) bs).bag (led_kept w side p) (kept_moved u side (after_resend (end_of u side)) bs)
+led_kept w side (tells p asks) =
+    let u : World = led w side p in
+    let bs = option_to_list (told_answer (end_of u side) asks) in
+    kept_then w.bag u.bag (moved u side (end_of u side) bs).bag (led_kept w side p) (kept_moved u side (end_of u side) bs)
+
+kept_first : (x y : Emitted) (xs ys : List Emitted) → y ≡ record x { delivered = y.delivered } → AreKept xs ys → AreKept (x ∷ xs) (y ∷ ys)
+kept_first x y xs ys same rest = record { each = each } where
+  each : (k : ℕ) (z : Emitted) → slice_get (x ∷ xs) k ≡ Some z → (u : Emitted) × (slice_get (y ∷ ys) k ≡ Some u) × (u ≡ record z { delivered = u.delivered })
+  each zero z e =
+      let is : x ≡ z = cc in
+      (y, refl, same ∙ ap (λ (u : Emitted). let v : Emitted = record u { delivered = y.delivered } in v) is)
+  each (suc k) z e = rest.each k z e
+
+-- one that came is marked as delivered, and kept
+pub kept_marked : (bag : List Emitted) (k : ℕ) (x : Emitted) → slice_get bag k ≡ Some x → AreKept bag (slice_set bag k (record x { delivered = true }))
+kept_marked [] k x at = kept_itself []
+kept_marked (b ∷ bag) zero x at =
+    let is : b ≡ x = cc in
+    kept_first b (record x { delivered = true }) bag bag (ap (λ (u : Emitted). let v : Emitted = record u { delivered = true } in v) (sym is)) (kept_itself bag)
+kept_marked (b ∷ bag) (suc k) x at = kept_first b b bag (slice_set bag k (record x { delivered = true })) refl (kept_marked bag k x at)
+
 -- ---- what is true at every moment stays so
 
 -- the accepted items have numbers within their types' bounds
@@ -111,11 +169,6 @@ AreItems s = (k : ℕ) (x : Item) → slice_get s.accepted k ≡ Some x → IsIt
 
 pub are_items : (s : State) → IsState s → AreItems s
 are_items s fits k x is = let i : IsShortItem x = subst IsShortItem (get_or_from_slice_get s.accepted k x x is) (fits.items k x (slice_get_within s.accepted k x is)) in i.fits
-
-in_front : {X : Type 0} (xs ys : List X) (k : ℕ) (x : X) → slice_get xs k ≡ Some x → slice_get (xs ++ ys) k ≡ Some x
-in_front [] ys k x e = absurd (cc)
-in_front (z ∷ xs) ys zero x e = e
-in_front (z ∷ xs) ys (suc k) x e = in_front xs ys k x e
 
 pub in_both : {X : Type 0} (xs ys : List X) (k : ℕ) (x : X) → Begins xs ys → slice_get xs k ≡ Some x → slice_get ys k ≡ Some x
 in_both {X} xs ys k x b e = subst (λ (l : List X). slice_get l k ≡ Some x) b.1 (in_front xs b.0 k x e)

@@ -1,3 +1,13 @@
+mod Dialogues
+mod Sides
+mod Stepping
+mod Deeds
+mod Shown
+mod Numbers
+mod Hosts
+mod Telling
+mod Gives
+mod Guests
 mod Kept
 mod Led
 mod Paired

@@ -1,6 +1,6 @@
 -- What a call on the pair comes to.
 use Rattle.std.proofs.Common.{◌≡◌, ◌∙◌, ap, sym, refl, subst, ℕ, false, List, [], ◌∷◌, ◌++◌, append-nil, Bool, true, Option, Some, None, Result, Ok, Err, OnOk, OnErr, IfOk, IfSome}
-use Rattle.std.specs.Prelude.{if◌then◌else◌}
+use Rattle.std.specs.Prelude.{slice_get, if◌then◌else◌}
 use Rattle.std.specs.Option.{option_to_list}
 use Rattle.courier_messages.specs.RawCalls.{RawCall}
 use Rattle.courier_messages.specs.declared.message.Message.{Message}
@@ -9,7 +9,9 @@ use Rattle.courier_sessions.specs.declared.answer.Answer.{Answer}
 use Rattle.courier_sessions.specs.declared.program.Program.{Program}
 use Rattle.item_world.specs.Landing.{answered}
 use Rattle.item_world.specs.Side.{other}
-use Rattle.item_world.specs.World.{World}
+use Rattle.item_world.specs.World.{World, end_of, marked}
+use Rattle.item_world.specs.declared.emitted.Emitted.{Emitted}
+use Rattle.xns_spp.specs.Receiving.{after_receive, receive_answer}
 use Rattle.item_world.specs.declared.side.Side.{Side}
 use Rattle.item_world.specs.declared.side.Side.TheVariants.{A, B}
 use Rattle.xns_spp.specs.Packet.{SppPacketModel, spp_packet_of}
@@ -30,11 +32,12 @@ use Rattle.xns_host.specs.declared.host_fault.HostFault.{HostFault}
 use Rattle.xns_host.specs.declared.host_fault.HostFault.TheVariants.{Closing}
 use Rattle.xns_host.specs.declared.side.Side.{Side as Kind}
 use Rattle.xns_host.specs.declared.side.Side.TheVariants.{Calls, Answers}
-use Rattle.host_world.specs.Meeting.{Meeting, at, Next, went_on}
+use Rattle.host_world.specs.Meeting.{Meeting, at, Next, led, went_on}
 use Rattle.host_world.specs.Meets.{heard, Meets, opens, acts, gives, arrives, strays}
-use Rattle.host_world.specs.Pairing.{connection_at, with_connection, Does, Steps, TakesIn, MayCome, made, foreign, no_more, one_call_more, one_message_more, one_answer_more}
+use Rattle.host_world.specs.Pairing.{AreKept, connection_at, with_connection, Does, Steps, TakesIn, MayCome, made, foreign, no_more, one_call_more, one_message_more, one_answer_more}
 use Rattle.host_world.specs.declared.pair.Pair.{Pair}
 use Rattle.host_world.specs.declared.station.Station.{Station}
+use Rattle.host_world.proofs.Led.{kept_itself, kept_marked, kept_moved, kept_then, led_kept}
 
 -- ---- each connection of a meeting has its story
 
@@ -47,7 +50,7 @@ went_told m u A n l given k B = k B
 went_told m u B n l given k A = k A
 went_told m u B n l given k B = n.tells
 
-told : {a b : Station} {programs : List Program} {m : Meeting} → Meets a b programs m → AreTold m
+pub told : {a b : Station} {programs : List Program} {m : Meeting} → Meets a b programs m → AreTold m
 told (opens c d calls answers none empty) A = calls
 told (opens c d calls answers none empty) B = answers
 told (acts {m = m} before side {l = l} act n same) s = went_told m m.world side n l (at m side).given (told before) s
@@ -68,14 +71,14 @@ went_there : (m : Meeting) (u : World) (side : Side) {base : Story} (n : Next ba
 went_there m u A n l given = refl
 went_there m u B n l given = refl
 
-went_does : (m : Meeting) (u : World) (side : Side) {base : Story} (n : Next base) (did : Deeds → Deeds) (more : List (List ℕ)) → Does m (went_on m u side n (did (at m side).deeds) ((at m side).given ++ more)) side did more
-went_does m u A n did more = record { deeds = refl; given = refl; other = refl }
-went_does m u B n did more = record { deeds = refl; given = refl; other = refl }
+went_does : (m : Meeting) (u : World) (side : Side) {base : Story} (n : Next base) (did : Deeds → Deeds) (more : List (List ℕ)) → AreKept m.world.bag u.bag → Does m (went_on m u side n (did (at m side).deeds) ((at m side).given ++ more)) side did more
+went_does m u A n did more kept = record { deeds = refl; given = refl; other = refl; kept = kept_then m.world.bag u.bag (led u A n.on.path).bag kept (led_kept u A n.on.path) }
+went_does m u B n did more kept = record { deeds = refl; given = refl; other = refl; kept = kept_then m.world.bag u.bag (led u B n.on.path).bag kept (led_kept u B n.on.path) }
 
-went_idly : (m : Meeting) (u : World) (side : Side) {base : Story} (n : Next base) (did : Deeds → Deeds) → Does m (went_on m u side n (did (at m side).deeds) (at m side).given) side did []
-went_idly m u side n did = subst (λ (given : List (List ℕ)). Does m (went_on m u side n (did (at m side).deeds) given) side did []) (append-nil (at m side).given) (went_does m u side n did [])
+went_idly : (m : Meeting) (u : World) (side : Side) {base : Story} (n : Next base) (did : Deeds → Deeds) → AreKept m.world.bag u.bag → Does m (went_on m u side n (did (at m side).deeds) (at m side).given) side did []
+went_idly m u side n did kept = subst (λ (given : List (List ℕ)). Does m (went_on m u side n (did (at m side).deeds) given) side did []) (append-nil (at m side).given) (went_does m u side n did [] kept)
 
-acts_on : {a b : Station} {programs : List Program} (m : Meeting) → Meets a b programs m → (side : Side) (base : Story) (did : Deeds → Deeds) (d : Conversation) → Acts (at m side).conversation (at m side).story (at m side).deeds base (did (at m side).deeds)
+pub acts_on : {a b : Station} {programs : List Program} (m : Meeting) → Meets a b programs m → (side : Side) (base : Story) (did : Deeds → Deeds) (d : Conversation) → Acts (at m side).conversation (at m side).story (at m side).deeds base (did (at m side).deeds)
     → d.packets ≡ (at m side).conversation.packets → (n : Story) → Tells d n → GoesOn base n → Onward a b programs m side d did []
 acts_on m meets side base did d act same n tells on =
     let next : Next base = record { conversation = d; story = n; tells = tells; on = on } in
@@ -83,10 +86,10 @@ acts_on m meets side base did d act same n tells on =
       next = went_on m m.world side next (did (at m side).deeds) (at m side).given;
       meets = acts meets side act next same;
       conversation = went_there m m.world side next (did (at m side).deeds) (at m side).given;
-      does = went_idly m m.world side next did;
+      does = went_idly m m.world side next did (kept_itself m.world.bag);
     }
 
-gives_on : {a b : Station} {programs : List Program} (m : Meeting) → Meets a b programs m → (side : Side) (packet : Option (List ℕ)) (d : Conversation) → Gives (at m side).conversation d packet → Onward a b programs m side d no_more (option_to_list packet)
+pub gives_on : {a b : Station} {programs : List Program} (m : Meeting) → Meets a b programs m → (side : Side) (packet : Option (List ℕ)) (d : Conversation) → Gives (at m side).conversation d packet → Onward a b programs m side d no_more (option_to_list packet)
 gives_on m meets side packet d gave =
     let on = gave.on (at m side).story (told meets side) in
     let next : Next (at m side).story = record { conversation = d; story = on.0; tells = on.1; on = on.2 } in
@@ -94,10 +97,17 @@ gives_on m meets side packet d gave =
       next = went_on m m.world side next (at m side).deeds ((at m side).given ++ option_to_list packet);
       meets = gives meets side packet next on.3;
       conversation = went_there m m.world side next (at m side).deeds ((at m side).given ++ option_to_list packet);
-      does = went_does m m.world side next no_more (option_to_list packet);
+      does = went_does m m.world side next no_more (option_to_list packet) (kept_itself m.world.bag);
     }
 
-hears_on : {a b : Station} {programs : List Program} (m : Meeting) → Meets a b programs m → (side : Side) (bytes : List ℕ) (d : Conversation) → Hears (at m side).conversation d bytes → d.packets ≡ (at m side).conversation.packets → MayCome m side bytes
+kept_answered : (w : World) (k : ℕ) (x : Emitted) → slice_get w.bag k ≡ Some x → AreKept w.bag (answered w k x).bag
+kept_answered w k x is =
+    let u : World = marked w k x in
+    let side : Side = other x.side in
+    let bs = option_to_list (receive_answer (end_of u side) x.bytes).reply in
+    kept_then w.bag u.bag (answered w k x).bag (kept_marked w.bag k x is) (kept_moved u side (after_receive (end_of u side) x.bytes) bs)
+
+pub hears_on : {a b : Station} {programs : List Program} (m : Meeting) → Meets a b programs m → (side : Side) (bytes : List ℕ) (d : Conversation) → Hears (at m side).conversation d bytes → d.packets ≡ (at m side).conversation.packets → MayCome m side bytes
     → Onward a b programs m side d no_more []
 hears_on m meets side bytes d hears same (foreign strange) =
     let on = hears.on (at m side).story (told meets side) in
@@ -106,9 +116,9 @@ hears_on m meets side bytes d hears same (foreign strange) =
       next = went_on m m.world side next (at m side).deeds (at m side).given;
       meets = strays meets side bytes strange next same;
       conversation = went_there m m.world side next (at m side).deeds (at m side).given;
-      does = went_idly m m.world side next no_more;
+      does = went_idly m m.world side next no_more (kept_itself m.world.bag);
     }
-hears_on {a} {b} {programs} m meets side bytes d hears same (made k x is lives here alike) = subst (λ (s : Side). Hears (at m s).conversation d bytes → d.packets ≡ (at m s).conversation.packets → Onward a b programs m s d no_more []) here there hears same where
+hears_on {a} {b} {programs} m meets side bytes d hears same (made k x here_it_is lives here alike) = subst (λ (s : Side). Hears (at m s).conversation d bytes → d.packets ≡ (at m s).conversation.packets → Onward a b programs m s d no_more []) here there hears same where
   there : Hears (at m (other x.side)).conversation d bytes → d.packets ≡ (at m (other x.side)).conversation.packets → Onward a b programs m (other x.side) d no_more []
   there hears same =
       let on = subst (λ (bs : List ℕ). Hears (at m (other x.side)).conversation d bs) (sym alike) hears in
@@ -116,13 +126,13 @@ hears_on {a} {b} {programs} m meets side bytes d hears same (made k x is lives h
       let next : Next (heard (at m (other x.side)) x.bytes) = record { conversation = d; story = goes.0; tells = goes.1; on = goes.2 } in
       record {
         next = went_on m (answered m.world k x) (other x.side) next (at m (other x.side)).deeds (at m (other x.side)).given;
-        meets = arrives meets k x is lives next same;
+        meets = arrives meets k x here_it_is lives next same;
         conversation = went_there m (answered m.world k x) (other x.side) next (at m (other x.side)).deeds (at m (other x.side)).given;
-        does = went_idly m (answered m.world k x) (other x.side) next no_more;
+        does = went_idly m (answered m.world k x) (other x.side) next no_more (kept_answered m.world k x here_it_is);
       }
 
 -- one step after the other
-then_on : {a b : Station} {programs : List Program} {m : Meeting} {side : Side} {c d : Conversation} {given : List (List ℕ)} → (one : Onward a b programs m side c no_more []) → Onward a b programs one.next side d no_more given → Onward a b programs m side d no_more given
+pub then_on : {a b : Station} {programs : List Program} {m : Meeting} {side : Side} {c d : Conversation} {given : List (List ℕ)} → (one : Onward a b programs m side c no_more []) → Onward a b programs one.next side d no_more given → Onward a b programs m side d no_more given
 then_on {m = m} {side = side} {given = given} one two = record {
   next = two.next;
   meets = two.meets;
@@ -131,6 +141,7 @@ then_on {m = m} {side = side} {given = given} one two = record {
     deeds = two.does.deeds ∙ one.does.deeds;
     given = two.does.given ∙ ap (λ (l : List (List ℕ)). l ++ given) (one.does.given ∙ append-nil (at m side).given);
     other = two.does.other ∙ one.does.other;
+    kept = kept_then m.world.bag one.next.world.bag two.next.world.bag one.does.kept two.does.kept;
   };
 }
 
@@ -190,7 +201,7 @@ pair_hears p c d side bytes is same hears = record {
 
 -- where nothing is done, a meeting is as it was
 stays_so : (m : Meeting) (side : Side) → Does m m side no_more []
-stays_so m side = record { deeds = refl; given = sym (append-nil (at m side).given); other = refl }
+stays_so m side = record { deeds = refl; given = sym (append-nil (at m side).given); other = refl; kept = kept_itself m.world.bag }
 
 -- ---- what each call's clauses make of that
 

@@ -5,7 +5,7 @@ use Rattle.courier_messages.specs.RawCalls.{RawCall}
 use Rattle.courier_messages.specs.declared.message.Message.{Message}
 use Rattle.courier_sessions.specs.declared.program.Program.{Program}
 use Rattle.item_world.specs.Side.{other}
-use Rattle.item_world.specs.World.{has_passed}
+use Rattle.item_world.specs.World.{has_passed, sender_and_bytes}
 use Rattle.item_world.specs.declared.emitted.Emitted.{Emitted}
 use Rattle.item_world.specs.declared.side.Side.{Side}
 use Rattle.item_world.specs.declared.side.Side.TheVariants.{A, B}
@@ -46,6 +46,13 @@ one_message_more m l = record l { handed = l.handed ++ m ∷ [] }
 abbrev pub one_answer_more : Message → Deeds → Deeds
 one_answer_more m l = record l { gave = l.gave ++ m ∷ [] }
 
+-- ---- the packets that were made
+
+-- each packet of the one is in the other at its place, with its bytes and when it was made
+pub record AreKept (old new : List Emitted) : Type 0 where
+  pub each : (k : ℕ) (x : Emitted) → slice_get old k ≡ Some x
+      → (y : Emitted) × (slice_get new k ≡ Some y) × (y ≡ record x { delivered = y.delivered })
+
 -- ---- what the pair stands for, and goes on to stand for
 
 -- from two new ends at these stations steps led to this meeting, whose connections are those of the pair
@@ -55,11 +62,13 @@ pub record PairStandsFor (p : Pair) (a b : Station) (programs : List Program) (m
   pub meets : Meets a b programs m
   pub same : (side : Side) → (at m side).conversation ≡ (connection_at p side).conversation
 
--- between two meetings the program at this side did so, and the connection there gave these packets; the other side stayed as it was
+-- between two meetings the program at this side did so, and the connection there gave these packets; the other side stayed as it was, and
+-- each packet that was made is kept
 pub record Does (m n : Meeting) (side : Side) (did : Deeds → Deeds) (gave : List (List ℕ)) : Type 0 where
   pub deeds : (at n side).deeds ≡ did (at m side).deeds
   pub given : (at n side).given ≡ (at m side).given ++ gave
   pub other : at n (other side) ≡ at m (other side)
+  pub kept : AreKept m.world.bag n.world.bag
 
 -- whatever meeting the pair stood for, it stands for one to which that led; the connection at the other side stayed as it was
 pub record Steps (old new : Pair) (side : Side) (did : Deeds → Deeds) (gave : List (List ℕ)) : Type 0 where
@@ -72,6 +81,15 @@ pub data MayCome (m : Meeting) (side : Side) (bytes : List ℕ) : Type 0 where
   made : (k : ℕ) (x : Emitted) → slice_get m.world.bag k ≡ Some x → has_passed m.world x ≡ false → other x.side ≡ side → x.bytes ≡ bytes
       → MayCome m side bytes
   foreign : is_ours (at m side).story.state bytes ≡ false → MayCome m side bytes
+
+-- these bytes are a packet that this side made; wherever it is kept, it may come to the other side while it lives, which is counted from when
+-- it was made
+pub record WasMade (m : Meeting) (side : Side) (bytes : List ℕ) : Type 0 where
+  pub place : ℕ
+  pub packet : Emitted
+  pub there : slice_get m.world.bag place ≡ Some packet
+  pub is : sender_and_bytes packet ≡ (side, bytes)
+  pub comes : (n : Meeting) → AreKept m.world.bag n.world.bag → has_passed n.world packet ≡ false → MayCome n (other side) bytes
 
 -- the same after these bytes came, where they may come; the program did nothing, and no packet was given
 pub record TakesIn (old new : Pair) (side : Side) (bytes : List ℕ) : Type 0 where

@@ -1,16 +1,32 @@
 //! What the definitions imply, each as the contract of a function that does nothing.
 
-ghost use Rattle.std.specs.Prelude.{◌≤◌, ℕ, List, Contains, length};
+ghost use Rattle.std.specs.Prelude.{◌≡◌, ◌⊎◌, ◌≤◌, ◌∷◌, ◌++◌, [], ℕ, Bool, List, Option, Result, Some, None, Contains, length, slice_get, true};
+ghost use Rattle.courier_messages.specs.RawCalls.{RawCall};
+ghost use Rattle.courier_messages.specs.declared.message.Message.{Message};
+ghost use Rattle.courier_sessions.specs.Answering.{answer_message};
+ghost use Rattle.courier_sessions.specs.declared.answer.Answer.{Answer};
 ghost use Rattle.courier_sessions.specs.declared.program.Program.{Program};
 ghost use Rattle.item_world.specs.Side.{other};
 ghost use Rattle.item_world.specs.World.{lifetime};
 ghost use Rattle.item_world.specs.declared.side.Side.{Side};
+ghost use Rattle.host_world.specs.Dialogue.{Course, Dialogue, Happened, Happening, IsInOrder, IsOpening, IsUnheard, View, WasTold};
+ghost use Rattle.host_world.specs.Dialogue.{closes, free, goes, held, is_going, is_news, tells};
 ghost use Rattle.host_world.specs.Going.{CanFinish};
+ghost use Rattle.host_world.specs.Guests.{GoesOn, HearsOn, packets_in};
 ghost use Rattle.host_world.specs.Meeting.{Meeting, at};
 ghost use Rattle.host_world.specs.Meets.{Meets, IsMet};
-ghost use Rattle.host_world.specs.Pairing.{MayCome};
+ghost use Rattle.host_world.specs.Pairing.{MayCome, WasMade, no_more, one_answer_more, one_call_more, one_message_more};
+ghost use Rattle.host_world.specs.Seen.{HasHistory, Lives};
 ghost use Rattle.host_world.specs.Station.{IsStation};
 ghost use Rattle.host_world.specs.declared.station.Station.{Station};
+ghost use Rattle.xns_host.specs.Deeds as deeds;
+ghost use Rattle.xns_host.specs.Story.{asked_of, waiting_message};
+ghost use Rattle.xns_host.specs.Went.{GuestActs, GuestGives, GuestHears, GuestStep, GuestTells, GuestUnserved};
+ghost use Rattle.xns_host.specs.declared.guest.Guest.{Guest};
+ghost use Rattle.xns_host.specs.declared.host.Host.{Host};
+ghost use Rattle.xns_host.specs.declared.host_fault.HostFault.{HostFault};
+ghost use Rattle.xns_host.specs.declared.outgoing.Outgoing.{Outgoing};
+ghost use Rattle.xns_host.specs.declared.why.Why.{Why};
 
 /// Two connections over a network that loses, repeats and reorders packets, where packets that come to one were made by the other, or are
 /// no packets of the connection, and none comes once either end has taken more than 30,000 further items since it was made: what each end
@@ -41,6 +57,41 @@ pub fn a_given_packet_may_come()
     xns_host::laws::two_programs_agree();
 }
 
+/// Each packet that a connection gave was made at a moment that the world keeps with it. It may come to the other connection, now or in any
+/// meeting that the packet is kept in, once or again, as long as neither end has taken more than 30,000 further items since that moment,
+/// however many it took before.
+pub fn a_given_packet_may_come_while_it_lives()
+    ensures { (a b : Station) (programs : List Program) (m : Meeting) (side : Side) (bytes : List ℕ) → IsStation a → IsStation b
+        → Meets a b programs m → Contains (at m side).given bytes → WasMade m side bytes }
+{
+    item_world::laws::end_laws_are_given();
+    item_world::laws::each_step_keeps_the_order();
+    xns_host::laws::one_story_goes_on();
+    xns_host::laws::two_programs_agree();
+}
+
+/// Where the connection of a meeting is one that a host has in a place, what the host does at it is a step of the meeting, or are two: a call
+/// (`calls`), an answer (`answers`), a close, a message that is handed (`hands`) or the reason that is told (`tells`), what is due (`acts`), an
+/// Error packet about its opening (`not_served`), a packet that is given, or none (`gives`), and bytes that come to it and may come (`hears`).
+pub fn what_a_host_does_is_a_step_of_the_meeting()
+    ensures calls { (now : ℕ) (c : RawCall) (g h : Guest) → GuestStep now (deeds.made c) g h → GoesOn g h (one_call_more c) [] }
+    ensures answers { (now : ℕ) (kind : Answer) (k : ℕ) (words : List ℕ) (g h : Guest) → GuestStep now (deeds.gave kind words) g h
+        → asked_of g.connection.conversation.side ≡ Some k → GoesOn g h (one_answer_more (answer_message kind k words)) [] }
+    ensures closes { (now : ℕ) (g h : Guest) → GuestStep now deeds.asked g h → GoesOn g h no_more [] }
+    ensures hands { (now : ℕ) (m : Message) (g h : Guest) → GuestTells now g h → waiting_message g.connection.conversation.side ≡ Some m
+        → GoesOn g h (one_message_more m) [] }
+    ensures tells { (now : ℕ) (g h : Guest) → GuestTells now g h → waiting_message g.connection.conversation.side ≡ None
+        → GoesOn g h no_more [] }
+    ensures acts { (now : ℕ) (g h : Guest) → GuestActs now g h → GoesOn g h no_more [] }
+    ensures not_served { (now : ℕ) (g h : Guest) → GuestUnserved now g h → GoesOn g h no_more [] }
+    ensures gives { (now : ℕ) (result : Result (Option Outgoing) HostFault) (g h : Guest) → GuestGives now result g h
+        → GoesOn g h no_more (packets_in result) }
+    ensures hears { (now : ℕ) (bytes : List ℕ) (confirming : Bool) (g h : Guest) → GuestHears now bytes confirming g h
+        → HearsOn g h no_more bytes }
+{
+    xns_host::laws::a_step_keeps_its_promises();
+}
+
 /// From every meeting, whatever was lost, repeated and reordered, some further steps of the world that it goes through lead to one in which
 /// each item that either connection's end had accepted is handed up at the other and acknowledged. The steps are ticks and flushes of the
 /// two ends, packets sent from then on that come, and items handed up: at most twelve for each item that is pending, and twelve more.
@@ -56,3 +107,26 @@ pub fn the_ends_of_a_meeting_are_not_stuck()
     xns_host::laws::one_story_goes_on();
     xns_host::laws::two_programs_agree();
 }
+
+/// What every history of one number of a host comes to. The k-th answer is to the k-th call, and at most one call is not answered
+/// (`order`). The reason that the program is told is the one for which the connection was closed (`reason`), and nothing more of that
+/// connection is told behind it (`last`). The number becomes free after that, or where a peer opened the connection and nothing of it was
+/// told (`gone`). Nothing happens at a free number but that a connection gets it (`first`, `again`).
+pub fn a_number_keeps_its_order()
+    ensures order { (xs : List Happening) (d : Dialogue) → Course free xs (held d) → IsInOrder d }
+    ensures reason { (xs : List Happening) (why : Why) (ys : List Happening) (v : View) → Course free (xs ++ tells why ∷ ys) v
+        → Happened (closes why) is_going xs }
+    ensures last { (xs : List Happening) (why : Why) (ys : List Happening) (x : Happening) (zs : List Happening) (v : View)
+        → Course free (xs ++ tells why ∷ (ys ++ x ∷ zs)) v → is_news x ≡ true → Contains ys goes }
+    ensures gone { (xs ys : List Happening) (v : View) → Course free (xs ++ goes ∷ ys) v → WasTold xs ⊎ IsUnheard xs }
+    ensures first { (x : Happening) (xs : List Happening) (v : View) → Course free (x ∷ xs) v → IsOpening x }
+    ensures again { (v : View) (xs : List Happening) (x : Happening) (ys : List Happening) (w : View)
+        → Course v (xs ++ goes ∷ (x ∷ ys)) w → IsOpening x }
+{}
+
+/// Each number of a host has a history, whatever calls are made of the host from a new one on, in whatever order: what the program said and
+/// was told at the number is what is said in that history, which leads from the free number to what the number is now. So what
+/// [`a_number_keeps_its_order`] says of histories holds of what a program sees.
+pub fn each_number_of_a_host_has_a_history()
+    ensures { (h : Host) (said : ℕ → List Happening) → Lives h said → (k : ℕ) → HasHistory (slice_get h.guests.items k) (said k) }
+{}

@@ -16,7 +16,7 @@ use Rattle.xns_spp.specs.declared.field_numbers.FieldNumbers.{FieldNumbers}
 use Rattle.xns_spp.specs.declared.item.Item.{Item}
 use Rattle.item_world.specs.EndLaws.{EndLaws}
 use Rattle.item_world.proofs.Moves.{IsProper, Sends, sent_close, system_proper}
-use Rattle.item_world.specs.Invariant.{IsSound, IsSoundSpelling, WentOut, Stands}
+use Rattle.item_world.specs.Invariant.{IsSoundPacket, IsSoundSpelling, WentOut, Stands}
 use Rattle.xns_spp.specs.Fronts.{begins_more}
 use Rattle.item_world.specs.World.{moment, lifetime, is_past}
 use Rattle.item_world.specs.declared.emitted.Emitted.{Emitted}
@@ -29,7 +29,7 @@ neither true q h = absurd (cc)
 neither false true h = absurd (cc)
 neither false false h = (refl, refl)
 
--- both ends have taken no more items since than a lifetime
+-- since this moment both ends have taken no more items than a packet lives
 record IsYoung (at : Moment) (m n : ℕ) : Type 0 where
   sender : m ≤ at.sender + lifetime
   receiver : n ≤ at.receiver + lifetime
@@ -63,7 +63,7 @@ read_as_meant laws s peer x i k alive =
 
 -- ---- items in order
 
--- these items begin what went out at the peer
+-- the items begin what went out at the peer
 pub record IsFront (peer : State) (xs : List Item) : Type 0 where
   pub taken : Begins xs peer.accepted
   pub went_out : length xs ≤ peer.sent
@@ -71,7 +71,7 @@ pub record IsFront (peer : State) (xs : List Item) : Type 0 where
 front_more : (peer : State) (xs : List Item) (x : Item) → IsFront peer xs → WentOut peer (length xs) x → IsFront peer (xs ++ x ∷ [])
 front_more peer xs x f out = record { taken = begins_more xs peer.accepted x f.taken out.is; went_out = omega (arith, length-append xs (x ∷ []), out.sent) }
 
--- and go on with what went out there
+-- what begins what went out at the peer, with more items that went out there next, begins it too
 front_all : (peer : State) (xs items : List Item) → IsFront peer xs → ((i : ℕ) (x : Item) → slice_get items i ≡ Some x → WentOut peer (length xs + i) x) → IsFront peer (xs ++ items)
 front_all peer xs [] f h = subst (IsFront peer) (sym (append-nil xs)) f
 front_all peer xs (y ∷ ys) f h =
@@ -87,7 +87,7 @@ pub record Comes (s peer : State) (bytes : List ℕ) : Type 0 where
   pub packet : SppPacketModel
   pub meant : Meant
   pub read : spp_packet_of bytes ≡ Ok packet
-  pub sound : IsSound peer packet meant
+  pub sound : IsSoundPacket peer packet meant
   pub numbers : numbers_in s packet ≡ as_meant meant
 
 same_packet : (p q : SppPacketModel) (b : List ℕ) → spp_packet_of b ≡ Ok p → spp_packet_of b ≡ Ok q → p ≡ q

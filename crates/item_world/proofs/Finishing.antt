@@ -19,7 +19,7 @@ use Rattle.item_world.proofs.Onward.{Kept, longer}
 use Rattle.item_world.proofs.Sides.{each_end, same_marked, has_landed}
 use Rattle.item_world.specs.EndLaws.{EndLaws}
 use Rattle.item_world.specs.Events.{Step, IsStep, stepped, all_stepped, IsEvent, steps_of, happens, run}
-use Rattle.item_world.specs.Going.{Later}
+use Rattle.item_world.specs.Later.{Later}
 use Rattle.item_world.specs.Invariant.{Holds}
 use Rattle.item_world.specs.Landing.{answered, landing}
 use Rattle.item_world.specs.Progress.{IsDone, pending, Linked, IsFurther, FinishesByEvents}

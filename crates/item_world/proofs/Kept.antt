@@ -22,7 +22,7 @@ use Rattle.item_world.specs.declared.emitted.Emitted.{Emitted}
 use Rattle.item_world.specs.declared.setup.Setup.{Setup}
 use Rattle.item_world.specs.declared.side.Side.{Side}
 use Rattle.item_world.specs.declared.side.Side.TheVariants.{A, B}
-use Rattle.item_world.specs.Invariant.{IsSound, IsSoundSpelling, WentOut, Stands, Holds}
+use Rattle.item_world.specs.Invariant.{IsSoundPacket, IsSoundSpelling, WentOut, Stands, Holds}
 use Rattle.item_world.specs.Setup.{IsSetup, IsGood}
 use Rattle.item_world.specs.Side.{other}
 use Rattle.std.proofs.lemmas.List.Sums.{fold-append}
@@ -41,7 +41,7 @@ IsKeptIn w x = IsSoundSpelling (end_of w x.side) (end_of w (other x.side)) x
 still_out : (s t : State) (k : ℕ) (x : Item) → Grows s t → WentOut s k x → WentOut t k x
 still_out s t k x g was = record { is = begins_get s.accepted t.accepted k x g.accepted was.is; sent = omega (arith, was.sent, g.sent) }
 
--- its peer stands as before
+-- as an end grows, its peer stands as before
 peer_stands : (s t peer : State) → Grows s t → Stands t peer → Stands peer s → Stands peer t
 peer_stands s t peer g now k = record {
   fits = k.fits;
@@ -53,7 +53,7 @@ peer_stands s t peer g now k = record {
 }
 
 -- a packet of the bag stays sound as both ends go on, delivered or not
-spelled_on : (s t p q : State) (x : Emitted) (d : Bool) (i : IsSoundSpelling s p x) → IsSound t i.says.packet i.says.meant → length s.taken ≤ length t.taken → length p.taken ≤ length q.taken → IsSoundSpelling t q (record x { delivered = d })
+spelled_on : (s t p q : State) (x : Emitted) (d : Bool) (i : IsSoundSpelling s p x) → IsSoundPacket t i.says.packet i.says.meant → length s.taken ≤ length t.taken → length p.taken ≤ length q.taken → IsSoundSpelling t q (record x { delivered = d })
 spelled_on s t p q x d i sound sender receiver = record {
   says = i.says;
   sound = sound;
@@ -61,11 +61,11 @@ spelled_on s t p q x d i sound sender receiver = record {
   receiver = omega (arith, i.receiver, receiver);
 }
 
--- its own packets stay sound
+-- as an end grows, its own packets stay sound
 stays_spelled : (s t peer : State) (x : Emitted) → Grows s t → IsSoundSpelling s peer x → IsSoundSpelling t peer x
 stays_spelled s t peer x g i = spelled_on s t peer peer x x.delivered i (stays_sound s t i.says.packet i.says.meant g i.sound) (begins_length s.taken t.taken g.taken) (omega arith)
 
--- and those of its peer
+-- as an end grows, its peer's packets stay sound
 peer_spelled : (s t peer : State) (x : Emitted) → Grows s t → IsSoundSpelling peer s x → IsSoundSpelling peer t x
 peer_spelled s t peer x g i = spelled_on peer peer s t x x.delivered i i.sound (omega arith) (begins_length s.taken t.taken g.taken)
 
@@ -133,7 +133,7 @@ received_kept laws w side x i alive k =
     (receive_sends laws s peer x.bytes (record { packet = i.says.packet; meant = i.says.meant; read = read; sound = i.sound; numbers = read_as_meant laws s peer x i (k.ends side) alive })
     (laws.bounds.packet s x.bytes i.says.packet (k.ends side).fits read i.says.fits) (k.ends side))
 
--- that it comes from one side and goes to the other is kept where it is marked
+-- a packet is sound from one side to the other, and still lives: both are kept where the packet is marked
 abbrev GoesTo : World → Emitted → Side → Side → Type 0
 GoesTo v x from to = (IsSoundSpelling (end_of v from) (end_of v to) x) × (is_past x.at (length (end_of v from).taken) (length (end_of v to).taken) ≡ false)
 

@@ -15,7 +15,7 @@ use Rattle.item_world.specs.EndLaws.{EndLaws}
 use Rattle.item_world.specs.Events.{Step, arrival, noise, sending, taking, flushing, ticking, resending, telling, stepped, all_stepped, steps_of, happens, run}
 use Rattle.xns_spp.specs.Growth.{Begins, HearsNothing}
 use Rattle.item_world.specs.Landing.{answered, landed, landing, reached}
-use Rattle.item_world.specs.Going.{Later, as_sent}
+use Rattle.item_world.specs.Later.{Later, as_sent}
 use Rattle.item_world.specs.Network.{is_settled}
 use Rattle.item_world.specs.Side.{other}
 use Rattle.item_world.specs.World.{World, end_of, moment, emitted, moved, has_passed, lifetime, flushes, marked, sender_and_bytes, packets_of}

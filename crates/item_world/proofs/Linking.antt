@@ -32,7 +32,7 @@ use Rattle.item_world.specs.declared.side.Side.TheVariants.{A, B}
 
 -- ---- an end's own names stay
 
--- the same address, identifier and role; the peer's may be learned
+-- an end keeps its address, identifier and role; those of its peer may be learned
 pub record SameNames (e f : Ends) : Type 0 where
   pub own : f.own ≡ e.own
   pub id : f.id ≡ e.id

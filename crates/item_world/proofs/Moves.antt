@@ -13,7 +13,7 @@ use Rattle.xns_spp.specs.State.{State, IsState, window_top}
 use Rattle.xns_spp.specs.Telling.{told_packet, told_answer, resend_packet, resend_answer, after_resend}
 use Rattle.xns_spp.specs.declared.item.Item.{Item}
 use Rattle.item_world.specs.EndLaws.{EndLaws}
-use Rattle.item_world.specs.Invariant.{IsClose, IsCloseTo, IsSound, Stands}
+use Rattle.item_world.specs.Invariant.{IsClose, IsCloseTo, IsSoundPacket, Stands}
 use Rattle.item_world.specs.World.{moment}
 use Rattle.item_world.specs.declared.moment.Moment.{Moment}
 use Rattle.xns_spp.specs.Fronts.{begins_itself, begins_length}
@@ -25,14 +25,14 @@ pub record IsProper (at : Moment) (s : State) (p : SppPacketModel) : Type 0 wher
   pub fits : IsSppPacket p
   pub reduced : IsReduced p.header meant
   pub close : IsCloseTo at meant
-  pub sound : IsSound s p meant
+  pub sound : IsSoundPacket s p meant
 
--- and that says these numbers
+-- a packet of an end that says these numbers
 pub record IsProperAs (at : Moment) (s : State) (p : SppPacketModel) (meant : Meant) : Type 0 where
   pub fits : IsSppPacket p
   pub reduced : IsReduced p.header meant
   pub close : IsCloseTo at meant
-  pub sound : IsSound s p meant
+  pub sound : IsSoundPacket s p meant
 
 pub proper_as : (at : Moment) (s : State) (p : SppPacketModel) (m : Meant) → IsProperAs at s p m → IsProper at s p
 proper_as at s p m i = record { meant = m; fits = i.fits; reduced = i.reduced; close = i.close; sound = i.sound }
@@ -47,7 +47,7 @@ top_close laws s fits = record { least = omega (arith, laws.room.least s fits); 
 close_itself : (n : ℕ) → IsClose n n
 close_itself n = record { least = omega arith; most = omega arith }
 
-pub stays_sound : (s t : State) (p : SppPacketModel) (m : Meant) → Grows s t → IsSound s p m → IsSound t p m
+pub stays_sound : (s t : State) (p : SppPacketModel) (m : Meant) → Grows s t → IsSoundPacket s p m → IsSoundPacket t p m
 stays_sound s t p m g sound = record {
   carries = λ d. begins_get s.accepted t.accepted m.sequence (item_in p) g.accepted (sound.carries d);
   went_out = λ d. let before : m.sequence < s.sent = sound.went_out d in omega (arith, g.sent);
@@ -133,7 +133,7 @@ on_stands s t peer fits g h k = record {
   reached = omega (arith, k.reached, g.sent);
 }
 
--- and sends packets of its own
+-- an end that grows, hears nothing and sends packets of its own
 sends_own : EndLaws → (s t peer : State) (ps : List SppPacketModel) (bytes : List (List ℕ)) → bytes ≡ map spp_packet_spelling ps → IsState t → Grows s t → HearsNothing s t → All (IsOwnPacket s t) ps → Stands s peer → Sends s t peer bytes
 sends_own laws s t peer ps bytes spells fits grows hears own k =
     let now = on_stands s t peer fits grows hears k in

@@ -3,7 +3,7 @@ use Rattle.std.proofs.Common.{◌≡◌, ℕ, zero, suc, ◌+◌, ◌<◌, ◌�
 use Rattle.std.specs.Option.{option_to_list}
 use Rattle.xns_spp.specs.Held.{Held, StandsFor}
 use Rattle.xns_spp.specs.Receiving.{receive_answer, after_receive}
-use Rattle.item_world.specs.Going.{Lands}
+use Rattle.item_world.specs.Later.{Lands}
 use Rattle.std.proofs.lemmas.List.{take-append-le}
 use Rattle.std.proofs.lemmas.List.Elements.{All-set, All-more, All-head, All-tail, All-weaker}
 use Rattle.std.proofs.lemmas.Option.{get_or_from_slice_get, slice_get_within}
@@ -13,7 +13,7 @@ use Rattle.item_world.proofs.Later.{settled_later, moved_later, marked_later}
 use Rattle.item_world.proofs.Sides.{each_end, same_end, same_marked}
 use Rattle.item_world.specs.Network.{count_of, with_count, moment_of, is_settled, AreRested, unsettled, IsNetwork, IsEnd}
 use Rattle.item_world.specs.Side.{other}
-use Rattle.item_world.specs.World.{World, end_of, moment, emitted, joined, moved, marked}
+use Rattle.item_world.specs.World.{World, end_of, moment, emitted, with_packets, moved, marked}
 use Rattle.item_world.specs.declared.counts.Counts.{Counts}
 use Rattle.item_world.specs.declared.emitted.Emitted.{Emitted}
 use Rattle.item_world.specs.declared.moment.Moment.{Moment}
@@ -93,12 +93,12 @@ moments_are c w side s here there =
     ap (λ (m : ℕ). at m (count_of c (other side))) here ∙ ap (at (length s.taken)) there
 
 pub emits : (n m : Network) (w : World) (side : Side) (s : State) (at : Moment) (bs : List (List ℕ)) → IsNetwork n w → length s.taken ≡ length (end_of w side).taken → at ≡ moment_of n.taken side
-    → m.packets ≡ joined n.packets side at bs → m.taken ≡ n.taken → m.rested ≡ n.rested → IsNetwork m (moved w side s bs)
+    → m.packets ≡ with_packets n.packets side at bs → m.taken ≡ n.taken → m.rested ≡ n.rested → IsNetwork m (moved w side s bs)
 emits n m w side s at bs h is at_is joins taken rested =
     let v : World = moved w side s bs in
     let now : at ≡ moment s (end_of w (other side)) = at_is ∙ moments_are n.taken w side s (h.taken side ∙ sym is) (h.taken (other side)) in
     record {
-      bag = joins ∙ (ap (λ (l : List Emitted). joined l side at bs) h.bag ∙ ap (λ (a : Moment). joined w.bag side a bs) now);
+      bag = joins ∙ (ap (λ (l : List Emitted). with_packets l side at bs) h.bag ∙ ap (λ (a : Moment). with_packets w.bag side a bs) now);
       taken = subst (λ (c : Counts). AreCounts c v) (sym taken) (counted_on n.taken w side s bs is h.taken);
       rested = subst (λ (k : ℕ). AreRested k v) (sym rested) (rested_moved n.rested w side s bs (omega (arith, is)) h.rested);
     }
@@ -115,7 +115,7 @@ quiet n w side s h is = record {
 
 pub delivers_it : (n m : Network) (w : World) (side : Side) (k : ℕ) (x : Emitted) (s : State) (took : ℕ) (at : Moment) (counts : Counts) (bs : List (List ℕ)) → IsNetwork n w → slice_get w.bag k ≡ Some x → length (end_of w side).taken + took ≡ length s.taken
     → counts ≡ with_count n.taken side (length s.taken) → at ≡ moment_of counts side
-    → m.packets ≡ joined (slice_set w.bag k (record x { delivered = true })) side at bs → m.taken ≡ counts → m.rested ≡ n.rested → IsNetwork m (moved (marked w k x) side s bs)
+    → m.packets ≡ with_packets (slice_set w.bag k (record x { delivered = true })) side at bs → m.taken ≡ counts → m.rested ≡ n.rested → IsNetwork m (moved (marked w k x) side s bs)
 delivers_it n m w side k x s took at counts bs h is more counts_are at_is joins taken rested =
     let u : World = marked w k x in
     let v : World = moved u side s bs in
@@ -125,7 +125,7 @@ delivers_it n m w side k x s took at counts bs h is more counts_are at_is joins 
     at_is ∙ (ap (λ (d : Counts). moment_of d side) counts_are
     ∙ moments_are c u side s (counted_same n.taken side (length s.taken)) (counted_other n.taken side (length s.taken) ∙ before (other side))) in
     record {
-      bag = joins ∙ ap (λ (a : Moment). joined u.bag side a bs) now;
+      bag = joins ∙ ap (λ (a : Moment). with_packets u.bag side a bs) now;
       taken = subst (λ (d : Counts). AreCounts d v) (sym (taken ∙ counts_are)) (counted n.taken u side s bs (length s.taken) refl before);
       rested = subst (λ (j : ℕ). AreRested j v) (sym rested)
           (rested_moved n.rested u side s bs (omega (arith, more, ap (λ (q : State). length q.taken) (same_marked w k x side))) (rested_marked n.rested w k x is h.rested));

@@ -21,7 +21,7 @@ use Rattle.item_world.proofs.Moves.{IsProper, IsProperAs, as_proper, system_prop
 use Rattle.item_world.proofs.Sides.{same_end, same_other, same_marked, other_other}
 use Rattle.item_world.specs.EndLaws.{EndLaws}
 use Rattle.item_world.specs.Events.{Step, IsStep, arrival, ticking, stepped, flushing}
-use Rattle.item_world.specs.Going.{Later, as_sent}
+use Rattle.item_world.specs.Later.{Later, as_sent}
 use Rattle.item_world.specs.Invariant.{IsSoundSpelling, Stands, Holds}
 use Rattle.item_world.specs.Landing.{answered, landed, reached, landing}
 use Rattle.item_world.specs.Laws.{EachStepKeepsTheOrder}

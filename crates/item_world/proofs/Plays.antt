@@ -26,7 +26,7 @@ use Rattle.item_world.specs.declared.side.Side.TheVariants.{A, B}
 use Rattle.item_world.specs.EndLaws.{EndLaws}
 use Rattle.item_world.specs.Events.{happens, delivers, run, IsEvent, undelivered}
 use Rattle.xns_spp.specs.Growth.{Begins}
-use Rattle.item_world.specs.Going.{Continues, Later, StaysAway, does_land}
+use Rattle.item_world.specs.Later.{Continues, Later, StaysAway, does_land}
 use Rattle.item_world.specs.Landing.{landing, end_reached, answered, landed}
 use Rattle.item_world.specs.Laws.{ItemsComeInOrder}
 use Rattle.item_world.specs.Network.{IsNetwork, IsEnd, unsettled}
@@ -53,7 +53,7 @@ acts_quietly pair n w side p e t bs h is c end =
     let after = went_on p (end_of w side) t e before c (subst (λ (s : State). StandsFor e s) same end.stands) in
     acts pair n w (moved w side t bs) side (record p { endpoint = e }) h (same_other w side t bs) (subst (λ (s : State). IsParticipant (record p { endpoint = e }) s) (sym same) after) end.network
 
--- so an end of the play acts, where its endpoint and the network do
+-- an end of the play acts where its endpoint and the network do
 pub goes_quietly : (play : Play) (w : World) (side : Side) (p : Participant) (e : Held) (n : Network) (t : State) (bs : List (List ℕ)) → p ≡ at_side play.ends side → Continues (end_of w side) t
     → (IsEnd p.endpoint play.network w side → IsEnd e n (moved w side t bs) side) → IsPlaying play w → IsPlaying (record { ends = with_side play.ends side (record p { endpoint = e }); network = n }) (moved w side t bs)
 goes_quietly play w side p e n t bs is c act h =
@@ -141,7 +141,7 @@ pub begins_played : ItemsComeInOrder → (p : Play) (setup : Setup) (events : Li
 begins_played order p setup events side fits good played =
     begins_along _ _ _ _ (played.stands.ends side).handed (played.stands.ends (other side)).sent (order.begins setup events side fits good played.fits)
 
--- these packets stand in the bag from number i on
+-- the packets stand in the bag from number i on
 abbrev StandAt : World → ℕ → List Emitted → Type 0
 StandAt w i xs = (j : ℕ) (x : Emitted) → slice_get xs j ≡ Some x → slice_get w.bag (i + j) ≡ Some x
 

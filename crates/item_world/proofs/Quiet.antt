@@ -11,7 +11,7 @@ use Rattle.xns_spp.specs.Telling.{after_resend, told_answer, resend_answer}
 use Rattle.xns_spp.specs.declared.item.Item.{Item}
 use Rattle.xns_spp.specs.declared.send_fault.SendFault.{SendFault}
 use Rattle.item_world.specs.EndLaws.{EndLaws}
-use Rattle.item_world.specs.Going.{Continues}
+use Rattle.item_world.specs.Later.{Continues}
 use Rattle.item_world.specs.declared.participant.Participant.{Participant}
 use Rattle.xns_spp.specs.Fronts.{begins_itself, last_of}
 use Rattle.item_world.proofs.Fronts.{begins_same}

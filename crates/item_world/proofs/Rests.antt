@@ -22,7 +22,7 @@ use Rattle.item_world.proofs.Onward.{Kept}
 use Rattle.item_world.proofs.Sides.{each_end, same_marked, has_landed}
 use Rattle.item_world.specs.EndLaws.{EndLaws}
 use Rattle.item_world.specs.Events.{ticking, taking, delivery_steps, delivers, undelivered}
-use Rattle.item_world.specs.Going.{Later}
+use Rattle.item_world.specs.Later.{Later}
 use Rattle.item_world.specs.Invariant.{Holds}
 use Rattle.item_world.specs.Landing.{answered, landing}
 use Rattle.item_world.specs.Side.{other}

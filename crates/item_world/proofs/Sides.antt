@@ -6,7 +6,7 @@ use Rattle.xns_spp.specs.Receiving.{receive_answer, after_receive, is_ours}
 use Rattle.xns_spp.specs.State.{State}
 use Rattle.item_world.specs.EndLaws.{EndLaws}
 use Rattle.item_world.specs.Events.{noise, stepped, happens}
-use Rattle.item_world.specs.Going.{Lands}
+use Rattle.item_world.specs.Later.{Lands}
 use Rattle.item_world.specs.Landing.{answered, landed, landing}
 use Rattle.item_world.specs.declared.emitted.Emitted.{Emitted}
 use Rattle.item_world.specs.declared.event.Event.TheVariants.{Foreign}
@@ -41,7 +41,7 @@ each_side w A s bs R own theirs B = theirs
 each_side w B s bs R own theirs A = theirs
 each_side w B s bs R own theirs B = own
 
--- and what holds of it alone
+-- what holds of each end alone, where one end moved
 pub each_end : (w : World) (side : Side) (s : State) (bs : List (List ℕ)) (P : Side → State → Type 0) → P side s → (t : Side) → P t (end_of w t) → P t (end_of (moved w side s bs) t)
 each_end w A s bs P here A = λ h. here
 each_end w A s bs P here B = λ h. h
@@ -85,7 +85,7 @@ lands_as w k side v e =
           ∙ (ap (λ (l : Side × World). receives marks l.0 x.bytes) (sym i.leads) ∙ ap (λ (l : Side × World). l.1) i.leads);
     }
 
--- the other end stays
+-- where a packet lands, the end that sent it stays
 pub land_there : (w : World) (k : ℕ) (l : Side × World) → landing w k ≡ Some l → end_of l.1 (other l.0) ≡ end_of w (other l.0)
 land_there w k l e =
     let i = has_landed w k l e in

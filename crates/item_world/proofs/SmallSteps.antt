@@ -7,7 +7,7 @@ use Rattle.item_world.proofs.Onward.{Kept}
 use Rattle.item_world.specs.Events.{Step, IsStep, arrival, taking, flushing, ticking, stepped, all_stepped, steps_of, happens, run, arrival_steps}
 use Rattle.item_world.specs.Invariant.{Holds}
 use Rattle.item_world.specs.Landing.{landing}
-use Rattle.item_world.specs.Progress.{IsPlain, IsDone, pending, Finishes, Linked, IsFurther, FinishesByEvents}
+use Rattle.item_world.specs.Progress.{IsPlainStep, IsDone, pending, Finishes, Linked, IsFurther, FinishesByEvents}
 use Rattle.item_world.specs.World.{World, start}
 use Rattle.item_world.specs.declared.setup.Setup.{Setup}
 use Rattle.item_world.specs.declared.side.Side.{Side}
@@ -28,16 +28,16 @@ along_run w (e ∷ es) = fold-append stepped w (steps_of w e) (steps_along (happ
 
 -- an event is of two small steps at most
 record IsPair (n : ℕ) (ss : List Step) : Type 0 where
-  plain : All (IsPlain n) ss
+  plain : All (IsPlainStep n) ss
   few : length ss ≤ 2
 
-one_plain : (n : ℕ) (s : Step) → IsPlain n s → IsPair n (s ∷ [])
-one_plain n s h = record { plain = All-cons (IsPlain n) s [] h (All-nil (IsPlain n)); few = omega arith }
+one_plain : (n : ℕ) (s : Step) → IsPlainStep n s → IsPair n (s ∷ [])
+one_plain n s h = record { plain = All-cons (IsPlainStep n) s [] h (All-nil (IsPlainStep n)); few = omega arith }
 
 delivery_plain : (n k : ℕ) (o : Option (Side × World)) → n ≤ k → IsPair n (arrival_steps k o)
-delivery_plain n k None h = record { plain = All-nil (IsPlain n); few = omega arith }
+delivery_plain n k None h = record { plain = All-nil (IsPlainStep n); few = omega arith }
 delivery_plain n k (Some l) h = record {
-  plain = All-cons (IsPlain n) (arrival k) (flushing l.0 ∷ []) h (All-cons (IsPlain n) (flushing l.0) [] tt (All-nil (IsPlain n)));
+  plain = All-cons (IsPlainStep n) (arrival k) (flushing l.0 ∷ []) h (All-cons (IsPlainStep n) (flushing l.0) [] tt (All-nil (IsPlainStep n)));
   few = omega arith;
 }
 
@@ -50,17 +50,17 @@ event_plain n w (Send side x) h = absurd h
 event_plain n w (Take side) h = one_plain n (taking side) tt
 
 record AreFew (n : ℕ) (ss : List Step) (most : ℕ) : Type 0 where
-  plain : All (IsPlain n) ss
+  plain : All (IsPlainStep n) ss
   few : length ss ≤ 2 * most
 
 along_plain : (n : ℕ) (w : World) (es : List Event) → All (IsFurther n) es → AreFew n (steps_along w es) (length es)
 unfolding steps_along
-along_plain n w [] h = record { plain = All-nil (IsPlain n); few = omega arith }
+along_plain n w [] h = record { plain = All-nil (IsPlainStep n); few = omega arith }
 along_plain n w (e ∷ es) h =
     let first = event_plain n w e (All-head (IsFurther n) e es h) in
     let more = along_plain n (happens w e) es (All-tail (IsFurther n) e es h) in
     record {
-      plain = All-append (IsPlain n) (steps_of w e) (steps_along (happens w e) es) first.plain more.plain;
+      plain = All-append (IsPlainStep n) (steps_of w e) (steps_along (happens w e) es) first.plain more.plain;
       few = omega (arith, length-append (steps_of w e) (steps_along (happens w e) es), first.few, more.few);
     }
 

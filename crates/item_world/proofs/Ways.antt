@@ -74,7 +74,7 @@ young_alive at m n least_s least_p a b c d =
     let old_p : n - at.receiver ≤ lifetime = omega (arith, b, d) in
     ap (λ (x : Bool). x || nat_lt lifetime (n - at.receiver)) (le-ltb lifetime (m - at.sender) old_s) ∙ le-ltb lifetime (n - at.receiver) old_p
 
--- it comes
+-- a packet comes, and counts at the end that hears it
 pub record Comes (w : World) (side : Side) (s p : State) (k : ℕ) (q : SppPacketModel) (m : Meant) : Type 0 where
   pub new : IsNew w side s p k (spp_packet_spelling q)
   pub counts : Counts p (spp_packet_spelling q) q m
@@ -107,7 +107,7 @@ comes kept w side s p k q m least_s least_p x i young_s young_p =
     let new : IsNew w side s p k bytes = record { at = i.at; is = i.is; alive = alive } in
     record { new = new; counts = laws.counts p bytes q m heard; pair = delivered kept w side s p k bytes x new }
 
--- its reply is on its way then, and tells what the end has taken and has room for
+-- the end's reply is on its way, and tells what the end has taken and has room for
 pub record Replies (w : World) (side : Side) (o s p : State) (k : ℕ) : Type 0 where
   pub way : OnItsWay (delivers w k).bag (other side) (after_flush o) s (length w.bag) (system_packet o reply_control) (own_meant o o.sent)
       p.handed s.handed

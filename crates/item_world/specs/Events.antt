@@ -7,7 +7,7 @@ use Rattle.item_world.specs.declared.event.Event.{Event}
 use Rattle.item_world.specs.declared.event.Event.TheVariants.{Deliver, Rest, Tick, Foreign, Send, Take}
 use Rattle.item_world.specs.declared.side.Side.{Side}
 use Rattle.item_world.specs.Landing.{landing, reached}
-use Rattle.item_world.specs.Telling.{resends, tells}
+use Rattle.item_world.specs.UserSteps.{resends, sends_system_packet}
 use Rattle.item_world.specs.World.{World, flushes, ticks, overhears, sends, takes}
 
 -- packet k comes to an end, which answers it; bytes from elsewhere come to an end; an end is given an item, hands one up, flushes, ticks,
@@ -30,7 +30,7 @@ stepped w (taking side) = takes w side
 stepped w (flushing side) = flushes w side
 stepped w (ticking side) = ticks w side
 stepped w (resending side) = resends w side
-stepped w (telling side asks) = tells w side asks
+stepped w (telling side asks) = sends_system_packet w side asks
 
 -- the numbers of a step's item are within their types' bounds
 abbrev pub IsStep : Step → Type 0
@@ -59,7 +59,7 @@ delivery_steps w k = arrival_steps k (landing w k)
 abbrev pub delivers : World → ℕ → World
 delivers w k = all_stepped w (delivery_steps w k)
 
--- these packets are delivered in turn
+-- packets are delivered in turn
 abbrev pub delivery_steps_of : World → List ℕ → List Step
 delivery_steps_of w [] = []
 delivery_steps_of w (k ∷ ks) = delivery_steps w k ++ delivery_steps_of (delivers w k) ks

@@ -26,7 +26,7 @@ pub record IsCloseTo (at : Moment) (m : Meant) : Type 0 where
   pub allocation : IsClose m.allocation at.sender
 
 -- what a packet says is true of its sender now
-pub record IsSound (s : State) (p : SppPacketModel) (m : Meant) : Type 0 where
+pub record IsSoundPacket (s : State) (p : SppPacketModel) (m : Meant) : Type 0 where
   -- a data packet carries the item of its number, which went out
   pub carries : is_system p.header ≡ false → slice_get s.accepted m.sequence ≡ Some (item_in p)
   pub went_out : is_system p.header ≡ false → m.sequence < s.sent
@@ -46,8 +46,8 @@ pub record IsSpelling (bytes : List ℕ) (at : Moment) : Type 0 where
 -- the bytes of a packet from s to its peer spell a packet of which this is true
 pub record IsSoundSpelling (s peer : State) (x : Emitted) : Type 0 where
   pub says : IsSpelling x.bytes x.at
-  pub sound : IsSound s says.packet says.meant
-  -- both ends have taken no less since
+  pub sound : IsSoundPacket s says.packet says.meant
+  -- since it was sent, both ends have taken no less
   pub sender : x.at.sender ≤ length s.taken
   pub receiver : x.at.receiver ≤ length peer.taken
 

@@ -17,12 +17,12 @@ landed w k (Some x) = if has_passed w x then None else Some (other x.side, answe
 abbrev pub landing : World → ℕ → Option (Side × World)
 landing w k = landed w k (slice_get w.bag k)
 
--- the end alone
+-- the end that a landing is at
 abbrev pub end_reached : Option (Side × World) → Option Side
 end_reached None = None
 end_reached (Some l) = Some l.0
 
--- the world once it has answered
+-- the world after a landing, if there is one
 abbrev pub reached : World → Option (Side × World) → World
 reached w None = w
 reached w (Some l) = l.1

@@ -11,7 +11,7 @@ use Rattle.item_world.specs.declared.setup.Setup.{Setup}
 use Rattle.item_world.specs.declared.side.Side.{Side}
 use Rattle.item_world.specs.Side.{other}
 use Rattle.item_world.specs.Setup.{IsSetup, IsGood}
-use Rattle.item_world.specs.Going.{Continues, Later, Lands, StaysAway, does_land}
+use Rattle.item_world.specs.Later.{Continues, Later, Lands, StaysAway, does_land}
 use Rattle.item_world.specs.Channel.{Channel, IsQuiet, Accepts, HandsUp, Move, IsHistory}
 use Rattle.item_world.specs.Network.{IsNetwork, unsettled}
 use Rattle.item_world.specs.declared.network.Network.{Network}
@@ -95,7 +95,7 @@ pub record EachStepIsAMove : Type 0 where
 abbrev pub MovesKeepTheOrder : Type 0
 MovesKeepTheOrder = (c : ℕ → Channel) → IsHistory c → (n : ℕ) (side : Side) → Begins ((c n).handed side) ((c n).accepted (other side))
 
--- the end that moves goes on as it is told, and the other one stays
+-- the end that moves goes on as the state that is given, and the other one stays
 pub record AMoveIsOfOneEnd : Type 0 where
   pub here : (w : World) (side : Side) (s : State) (bs : List (List ℕ)) → end_of (moved w side s bs) side ≡ s
   pub there : (w : World) (side : Side) (s : State) (bs : List (List ℕ)) → end_of (moved w side s bs) (other side) ≡ end_of w (other side)
@@ -106,7 +106,7 @@ pub record ALandingHasAnEnd : Type 0 where
   pub some : (w : World) (k : ℕ) (side : Side) → Some side ≡ end_reached (landing w k) → (v : World) × (landing w k ≡ Some (side, v))
   pub none : (w : World) (k : ℕ) → None ≡ end_reached (landing w k) → landing w k ≡ None
 
--- what a play of its own over the network stands on
+-- the laws that a play of another crate over the network stands on
 pub record NetworkLaws : Type 0 where
   pub stays : WhatWasHandedUpStays
   pub goes_on : AWorldOnlyGoesOn
@@ -130,6 +130,6 @@ pub record NoWorldIsStuck : Type 0 where
       → Finishes (all_stepped (start setup) steps)
   pub by_events : (setup : Setup) (events : List Event) → IsSetup setup → IsGood setup → All IsEvent events
       → FinishesByEvents (run (start setup) events)
-  -- and by a fixed schedule, over a network that from now on delivers what is sent: old packets that come too do no harm
+  -- a fixed schedule finishes too, over a network that from now on delivers what is sent: old packets that come too do no harm
   pub by_rounds : (setup : Setup) (events : List Event) → IsSetup setup → IsGood setup → All IsEvent events
       → FinishesInRounds (run (start setup) events)

@@ -4,7 +4,7 @@ pub mod Setup
 pub mod World
 pub mod Landing
 pub mod Channel
-pub mod Going
+pub mod Later
 pub mod Events
 pub mod Trace
 pub mod Invariant
@@ -12,5 +12,5 @@ pub mod NetworkModel
 pub mod Network
 pub mod Play
 pub mod Laws
-pub mod Telling
+pub mod UserSteps
 pub mod Progress

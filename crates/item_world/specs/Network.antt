@@ -18,7 +18,7 @@ abbrev pub with_count : Counts → Side → ℕ → Counts
 with_count c A n = record c { a = n }
 with_count c B n = record c { b = n }
 
--- this moment, as the end at this side sends
+-- the moment at which the end at this side sends
 abbrev pub moment_of : Counts → Side → Moment
 moment_of c side = record { sender = count_of c side; receiver = count_of c (other side) }
 

@@ -17,12 +17,12 @@ use Rattle.item_world.specs.World.{World, end_of, ticks, flushes, sent_at, hande
 
 -- an end ticks, flushes, hands an item up, or answers one of the packets that are sent from number n on: no item is accepted, and nothing
 -- that was sent before is needed
-abbrev pub IsPlain : ℕ → Step → Type 0
-IsPlain n (arrival k) = n ≤ k
-IsPlain n (taking side) = Unit {0}
-IsPlain n (flushing side) = Unit {0}
-IsPlain n (ticking side) = Unit {0}
-IsPlain n _ = ⊥
+abbrev pub IsPlainStep : ℕ → Step → Type 0
+IsPlainStep n (arrival k) = n ≤ k
+IsPlainStep n (taking side) = Unit {0}
+IsPlainStep n (flushing side) = Unit {0}
+IsPlainStep n (ticking side) = Unit {0}
+IsPlainStep n _ = ⊥
 
 -- w goes on as v, in which each item that an end of w had accepted is handed up at the other and acknowledged, and nothing else was
 -- accepted; so neither end is full, unless the connection carries no more items that way
@@ -39,7 +39,7 @@ pending w side = length (sent_at w side) - (end_of w (other side)).handed
 -- plain steps after which all is done, with nothing needed of what was sent before: twelve for each item that is pending, and twelve more
 pub record Finishes (w : World) : Type 0 where
   pub more : List Step
-  pub plain : All (IsPlain (length w.bag)) more
+  pub plain : All (IsPlainStep (length w.bag)) more
   pub few : length more ≤ 12 * (pending w A + pending w B + 1)
   pub done : IsDone w (all_stepped w more)
 
@@ -50,20 +50,21 @@ IsWire n (flushing side) = Unit {0}
 IsWire n (ticking side) = Unit {0}
 IsWire n _ = ⊥
 
--- after some of these an item waits at the other end, or all that this one accepted is acknowledged
+-- after some such steps an item waits at the other end, or all that this one accepted is acknowledged
 pub record Stirs (w : World) (side : Side) : Type 0 where
   pub more : List Step
   pub wire : All (IsWire (length w.bag)) more
   pub comes : ((end_of (all_stepped w more) (other side)).handed < length (end_of (all_stepped w more) (other side)).taken)
       ⊎ (length (end_of (all_stepped w more) side).accepted ≤ (end_of (all_stepped w more) side).acknowledged)
 
--- the same with the events of a play: one of the packets that are sent from number n on is delivered, an end ticks, or hands an item up
+-- a plain event of a play: one of the packets that are sent from number n on is delivered, an end ticks, or hands an item up
 abbrev pub IsFurther : ℕ → Event → Type 0
 IsFurther n (Deliver k) = n ≤ k
 IsFurther n (Tick side) = Unit {0}
 IsFurther n (Take side) = Unit {0}
 IsFurther n _ = ⊥
 
+-- events of a play after which all is done, with nothing needed of what was sent before: six for each item that is pending, and six more
 pub record FinishesByEvents (w : World) : Type 0 where
   pub more : List Event
   pub further : All (IsFurther (length w.bag)) more
@@ -72,11 +73,11 @@ pub record FinishesByEvents (w : World) : Type 0 where
 
 -- ---- by a fixed schedule
 
--- both ends tick, each packet comes that was never delivered and is there then, and each end hands an item up
+-- a round: each end ticks, then each packet comes that was never delivered, and then each end hands an item up
 abbrev pub round : List Event
 round = Tick A ∷ Tick B ∷ Rest ∷ Take A ∷ Take B ∷ []
 
--- so many rounds
+-- the world after n rounds
 unfoldable pub rounds : ℕ → World → World
 rounds zero w = w
 rounds (suc n) w = rounds n (run w round)
@@ -108,8 +109,8 @@ knows_out w side = flushes (came_back w side) side
 abbrev pub came_next : World → Side → World
 came_next w side = stepped (ticked_out (knows_out w side) side) (arrival (length (knows_out w side).bag))
 
--- each of them comes; where no item waits after the first, and one is still to come, it waits after the third; where none is, all is
--- acknowledged after the second
+-- Each of the three packets comes. Where an item is still to come and none waits after the first packet, one waits after the third; where
+-- none is to come, all is acknowledged after the second.
 pub record StirsOut (w : World) (side : Side) : Type 0 where
   pub first : landing (ticked_out w side) (length w.bag) ≡ Some (other side, came_first w side)
   pub second : landing (answered_out w side) (length (ticked_out w side).bag) ≡ Some (side, came_back w side)
@@ -122,7 +123,7 @@ pub record StirsOut (w : World) (side : Side) : Type 0 where
 
 -- ---- what is known of the ends' addresses at every moment
 
--- the bytes, where they are a packet, are one from this end
+-- if the bytes are a packet, it is one from this end
 abbrev pub IsFrom : Ends → List ℕ → Type 0
 IsFrom e bytes = (p : SppPacketModel) → spp_packet_of bytes ≡ Ok p → (p.source ≡ e.own) × (p.header.source_id ≡ e.id)
 

@@ -13,7 +13,7 @@ use Rattle.item_world.specs.declared.side.Side.TheVariants.{A, B}
 use Rattle.item_world.specs.Channel.{Channel}
 use Rattle.item_world.specs.Side.{other}
 
--- both ends with all their history, and every packet ever sent
+-- a world: both ends with all their history, and every packet ever sent
 pub record World : Type 0 where
   pub a : State
   pub b : State
@@ -27,7 +27,7 @@ abbrev pub with_end : World → Side → State → World
 with_end w A s = record w { a = s }
 with_end w B s = record w { b = s }
 
--- both ends are there, the responder with the initiator's address and identifier, and nothing was sent
+-- the world at the start: the responder has the initiator's address and identifier, and nothing was sent
 abbrev pub start : Setup → World
 start s = record {
   a = initiator_state s.a s.a_id s.b s.window s.backlog;
@@ -45,13 +45,13 @@ moment s peer = record { sender = length s.taken; receiver = length peer.taken }
 abbrev pub emitted : Side → Moment → List ℕ → Emitted
 emitted side at bytes = record { side = side; bytes = bytes; at = at; delivered = false }
 
--- these bytes are sent
-abbrev pub joined : List Emitted → Side → Moment → List (List ℕ) → List Emitted
-joined bag side at packets = bag ++ map (emitted side at) packets
+-- the bag, once packets of these bytes are sent
+abbrev pub with_packets : List Emitted → Side → Moment → List (List ℕ) → List Emitted
+with_packets bag side at packets = bag ++ map (emitted side at) packets
 
--- an end goes on as s, and these bytes are sent
+-- an end goes on as s, and packets of these bytes are sent
 abbrev pub moved : World → Side → State → List (List ℕ) → World
-moved w side s packets = record (with_end w side s) { bag = joined w.bag side (moment s (end_of w (other side))) packets }
+moved w side s packets = record (with_end w side s) { bag = with_packets w.bag side (moment s (end_of w (other side))) packets }
 
 -- packet k was delivered
 abbrev pub marked : World → ℕ → Emitted → World
@@ -101,7 +101,7 @@ sent_at w side = (end_of w side).accepted
 abbrev pub handed_at : World → Side → List Item
 handed_at w side = take (end_of w side).handed (end_of w side).taken
 
--- both
+-- what both ends accepted, and what they handed up
 abbrev pub channel_of : World → Channel
 channel_of w = record { accepted = sent_at w; handed = handed_at w }
 

@@ -13,7 +13,7 @@ pub struct Counts {
 }
 
 impl Counts {
-    /// That of one end.
+    /// How many items one end has taken.
     pub fn of(self, side: Side) -> u64
         ensures { result ≡ count_of self side }
     {
@@ -23,7 +23,7 @@ impl Counts {
         }
     }
 
-    /// This moment, as an end sends a packet to the other one.
+    /// The moment at which an end sends a packet to the other one.
     pub fn moment(self, side: Side) -> Moment
         ensures { result ≡ moment_of self side }
     {

@@ -1,9 +1,9 @@
 ghost use Rattle.std.specs.Prelude.{◌≡◌};
 
-/// So many items more may both ends of a packet take while it lives.
+/// How many items more both ends of a packet may take while it lives.
 const LIFETIME: u64 = 30_000;
 
-/// How many items both ends had taken when a packet was sent.
+/// When a packet was sent: how many items both its ends had taken by then.
 #[derive(Clone, Copy)]
 pub struct Moment {
     /// By its sender.

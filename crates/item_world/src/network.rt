@@ -7,7 +7,7 @@ ghost use Rattle.xns_spp.specs.State.{State};
 ghost use Rattle.item_world.specs.declared.emitted.Emitted.{Emitted};
 ghost use Rattle.item_world.specs.Landing.{landing, end_reached};
 ghost use Rattle.item_world.specs.Network.{count_of, with_count, moment_of, is_settled, AreRested, unsettled, IsNetwork};
-ghost use Rattle.item_world.specs.World.{World, end_of, joined, moved, marked, has_passed, sender_and_bytes};
+ghost use Rattle.item_world.specs.World.{World, end_of, with_packets, moved, marked, has_passed, sender_and_bytes};
 
 use crate::bag::Bag;
 use crate::counts::Counts;
@@ -179,7 +179,7 @@ impl Network {
 /// Appends packets of one moment to those before, which have room for them.
 fn append_all(before: &mut Vec<Emitted>, side: Side, at: Moment, packets: Vec<Bytes>)
     requires { vec_len before.old + vec_len packets ≤ vec_capacity before.old }
-    ensures { before.new.items ≡ joined before.old.items side at packets.items }
+    ensures { before.new.items ≡ with_packets before.old.items side at packets.items }
 {
     for bytes in packets {
         before.push_reserved(Emitted::new(side, at, bytes));
@@ -193,7 +193,7 @@ fn append(
     at: Moment,
     reply: Option<Bytes>,
 ) -> Result<(), AllocError>
-    ensures items { OnOk result (before.new.items ≡ joined before.old.items side at (option_to_list reply)) }
+    ensures items { OnOk result (before.new.items ≡ with_packets before.old.items side at (option_to_list reply)) }
     ensures len { vec_len before.old ≤ vec_len before.new }
     ensures unchanged { OnErr result (before.new.items ≡ before.old.items) }
     ensures memory { OnErr result (IsSome reply) }

@@ -5,7 +5,7 @@ ghost use Rattle.item_world.specs.Play.{LendsSide, at_side};
 use crate::participant::Participant;
 use crate::side::Side;
 
-/// Both ends of a play.
+/// The two ends of a play.
 #[derive(Drop)]
 pub struct Pair {
     pub a: Participant,

@@ -28,7 +28,7 @@ pub struct Play {
 }
 
 impl Play {
-    /// Both ends, before anything has happened.
+    /// A play in which nothing has happened yet.
     fn new(alloc: Global, setup: &Setup) -> Result<Play, AllocError>
         requires { IsGood setup.now }
         ensures { IfOk result (λ p. IsPlaying p (start setup.now)) }
@@ -143,7 +143,7 @@ impl Play {
     }
 }
 
-/// Both ends after these events.
+/// A play after these events.
 fn played(alloc: Global, setup: &Setup, events: &[Event]) -> Result<Play, AllocError>
     requires { IsGood setup.now }
     ensures { IfOk result (λ p. IsPlayed p setup.now events.now) }

@@ -48,7 +48,7 @@ pub const SETUP: Setup = Setup {
     backlog: 16,
 };
 
-/// The same ends with the greatest window and backlog.
+/// The two ends with the greatest window and backlog.
 pub const WIDE_SETUP: Setup = Setup {
     window: 64,
     backlog: 64,

@@ -28,14 +28,15 @@ more_free line n most less all = record {
   by k up (inr other) = last_other line n k other ∙ all.each k (omega (arith, up, other))
 
 pub nobody_yet : (a : Plan) (most k : ℕ) → k < most → a.dues ≡ replicate most None → a.packets ≡ empty_line most
-    → a.closed ≡ replicate most None → a.strangers ≡ replicate most None → has_turn a.free k ≡ true → HasNobody a k
-nobody_yet a most k less dues packets closed strangers free = record {
+    → a.events ≡ empty_line most → a.closed ≡ replicate most None → a.strangers ≡ replicate most None → has_turn a.free k ≡ true → HasNobody a k
+nobody_yet a most k less dues packets events closed strangers free = record {
   facts = record {
     due = none dues;
     packet = idle packets;
     closed = none closed;
     stranger = none strangers;
   };
+  event = idle events;
   free = free;
 } where
   none : {xs : List (Option ℕ)} → xs ≡ replicate most None → slice_get xs k ≡ Some None

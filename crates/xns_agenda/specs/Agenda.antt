@@ -57,6 +57,7 @@ pub record IsNoted (a : Plan) (number : ℕ) (f : Facts) : Type 0 where
 -- no connection has this number, and nothing is to be done
 pub record HasNobody (a : Plan) (number : ℕ) : Type 0 where
   pub facts : IsNoted a number NONE
+  pub event : has_turn a.events number ≡ false
   pub free : has_turn a.free number ≡ true
 
 -- something is to be done at this time: at once where a packet may be there, else when something is due

@@ -2,7 +2,7 @@
 use Rattle.std.proofs.Common.{◌≡◌, ◌≢◌, ◌<◌, ◌≤◌, ℕ, List, [], ◌∷◌, length, max, slice_get, Option, Result, Ok, Err, OnErr, ◌⊎◌, false, IfOk, IfSome, Some, None, inl, inr, refl, sym, ap, ◌∙◌, subst, arith}
 use Rattle.std.proofs.lemmas.Bool.{cases_lt}
 use Rattle.xns_host.specs.Deeds.{Deed}
-use Rattle.xns_host.specs.Hosting.{IsNextEvent, IsNextPacket, has_guest}
+use Rattle.xns_host.specs.Hosting.{has_guest}
 use Rattle.xns_host.specs.Refusing.{Answers}
 use Rattle.xns_host.specs.Turn.{GivesOut, TellsNext, Turn}
 use Rattle.xns_host.specs.declared.conversation.Conversation.{Conversation}
@@ -15,7 +15,7 @@ use Rattle.xns_host.specs.declared.host.Host.{Host}
 use Rattle.xns_host.specs.declared.outgoing.Outgoing.{Outgoing}
 use Rattle.xns_c.specs.Events.{EventIsGiven}
 use Rattle.xns_c.specs.Given.{IsPut}
-use Rattle.xns_c.specs.Hosts.{FetchesEvent, FetchesPacket, GivesPacket, IsNextOut, Turns, answer_of, left_of}
+use Rattle.xns_c.specs.Hosts.{FetchesEvent, FetchesPacket, GivesPacket, Turns, answer_of, left_of}
 use Rattle.xns_c.specs.Results.{ok, nothing, no_memory, no_slot, short_buffer}
 use Rattle.xns_c.specs.declared.event.XnsEvent.{XnsEvent}
 use Rattle.xns_c.specs.declared.kept_host.KeptHost.{KeptHost}
@@ -23,13 +23,10 @@ use Rattle.xns_c.specs.declared.kept_host.KeptHost.{KeptHost}
 -- an event that was fetched, or was kept, is given
 pub event_fetched : (k n m : KeptHost) (e : Event) (before after : XnsEvent) (old new : List ℕ) (had count number : ℕ)
     → n.event ≡ Some e → ((x : Event) → k.event ≡ Some x → n ≡ k)
-    → ((x : Event) → k.event ≡ None → n.event ≡ Some x → IsNextEvent k.host.clock.latest k.host.guests.items n.host.guests.items x)
     → (k.event ≡ None → TellsNext n.event k.host n.host)
     → n.packet ≡ k.packet → EventIsGiven e after old new count number → m.host ≡ n.host → m.event ≡ left_of (Some e) number → m.packet ≡ n.packet → FetchesEvent k m before after old new had count number
-event_fetched k n m e before after old new had count number there kept told tells packet given host left same = record {
+event_fetched k n m e before after old new had count number there kept tells packet given host left same = record {
   found = Some e;
-  told = λ x no is. subst (λ (h : Host). IsNextEvent k.host.clock.latest k.host.guests.items h.guests.items x) (sym host) (told x no (there ∙ is));
-  none = λ no is. absurd cc;
   tells = λ no.
       subst (λ (h : Host). TellsNext (Some e) k.host h) (sym host) (subst (λ (x : Option Event). TellsNext x k.host n.host) there (tells no));
   kept = λ x is. (sym there ∙ (ap (λ (y : KeptHost). y.event) (kept x is) ∙ is), host ∙ ap (λ (y : KeptHost). y.host) (kept x is));
@@ -38,15 +35,7 @@ event_fetched k n m e before after old new had count number there kept told tell
   packet = same ∙ packet;
 }
 
--- where there is a packet, it is not said that there is none
-is_told : (p : Outgoing) (old new : List ℕ) (had written way via number : ℕ)
-    → GivesPacket (Some p) old new had written way via number → number ≡ nothing → ⊥
-is_told p old new had written way via number given is = elim (cases_lt (length old) (length p.packet)) [
-  | inl less ↦ absurd (omega (arith, is, (given.1 less).0))
-  | inr fits ↦ absurd (omega (arith, is, (given.0 fits).0))
-]
-
--- nor that memory was refused
+-- where there is a packet, it is not said that memory was refused
 is_put : (p : Outgoing) (old new : List ℕ) (had written way via number : ℕ)
     → GivesPacket (Some p) old new had written way via number → number ≡ no_memory → ⊥
 is_put p old new had written way via number given is = elim (cases_lt (length old) (length p.packet)) [
@@ -54,29 +43,12 @@ is_put p old new had written way via number given is = elim (cases_lt (length ol
   | inr fits ↦ absurd (omega (arith, is, (given.0 fits).0))
 ]
 
-out_of_same : (k n m : KeptHost) (x : Outgoing) → m.host ≡ n.host → IsNextOut k n x → IsNextOut k m x
-out_of_same k n m x host (inl stray) = inl stray
-out_of_same k n m x host (inr given) = inr (subst (λ (h : Host). IsNextPacket k.host.guests.items h.guests.items x) (sym host) given)
-
--- the host gave it
-pub gave_out : (k n : KeptHost) (r : Result (Option Outgoing) HostFault) (p : Outgoing)
-    → ((o : Outgoing) (os : List Outgoing) → k.host.strays.waiting ≡ o ∷ os → r ≡ Ok (Some o))
-    → (k.host.strays.waiting ≡ [] → IfOk r (λ made. IfSome made (IsNextPacket k.host.guests.items n.host.guests.items)))
-    → r ≡ Ok (Some p) → IsNextOut k n p
-gave_out k n r p stray given is = by k.host.strays.waiting refl where
-  by : (ws : List Outgoing) → k.host.strays.waiting ≡ ws → IsNextOut k n p
-  by [] none = inr (subst (λ (q : Result (Option Outgoing) HostFault). IfOk q (λ made. IfSome made (IsNextPacket k.host.guests.items n.host.guests.items))) is (given none))
-  by (o ∷ os) some =
-      let both : Ok (Some o) ≡ Ok (Some p) = sym (stray o os some) ∙ is in
-      let same : o ≡ p = cc in
-      inl (os, some ∙ ap (λ (x : Outgoing). x ∷ os) same)
-
 -- the same of a packet
 pub packet_fetched : (k n m : KeptHost) (now : ℕ) (p : Outgoing) (done : Result (Unit {0}) HostFault) (old new : List ℕ) (had written way via number : ℕ)
-    → n.packet ≡ Some p → ((x : Outgoing) → k.packet ≡ Some x → n ≡ k) → ((x : Outgoing) → k.packet ≡ None → n.packet ≡ Some x → IsNextOut k n x) → (k.packet ≡ None → GivesOut now (answer_of done n.packet) k.host n.host) → done ≡ Ok tt
+    → n.packet ≡ Some p → ((x : Outgoing) → k.packet ≡ Some x → n ≡ k) → (k.packet ≡ None → GivesOut now (answer_of done n.packet) k.host n.host) → done ≡ Ok tt
     → n.event ≡ k.event → GivesPacket (Some p) old new had written way via number
     → m.host ≡ n.host → m.packet ≡ left_of (Some p) number → m.event ≡ n.event → FetchesPacket k m now old new had written way via number
-packet_fetched k n m now p done old new had written way via number there kept told gives fine event given host left same = record {
+packet_fetched k n m now p done old new had written way via number there kept gives fine event given host left same = record {
   found = Some p;
   done = done;
   gives = λ no.
@@ -84,8 +56,6 @@ packet_fetched k n m now p done old new had written way via number there kept to
       (subst (λ (x : Option Outgoing). GivesOut now (answer_of done x) k.host n.host) there (gives no));
   starved = λ is. absurd (is_put p old new had written way via number given is);
   fetched = λ z. fine;
-  told = λ x no is. out_of_same k n m x host (told x no (there ∙ is));
-  rested = λ is. absurd (is_told p old new had written way via number given is);
   kept = λ x is. (sym there ∙ (ap (λ (y : KeptHost). y.packet) (kept x is) ∙ is), host ∙ ap (λ (y : KeptHost). y.host) (kept x is));
   given = given;
   left = left;

@@ -4,16 +4,11 @@ use Rattle.courier_messages.specs.RawCalls.{RawCall}
 use Rattle.courier_sessions.specs.declared.answer.Answer.{Answer}
 use Rattle.courier_sessions.specs.declared.program.Program.{Program}
 use Rattle.xns_idp.specs.declared.address.Address.{Address}
-use Rattle.xns_spp.specs.Packet.{SppPacketModel, spp_packet_of}
-use Rattle.xns_host.specs.Hosting as hosting
-use Rattle.xns_host.specs.Hosting.{HasHeard, IsNextPacket, IsOpened, IsPacketOf, confirms}
 use Rattle.xns_host.specs.Deeds.{Deed, asked, gave, made}
 use Rattle.xns_host.specs.Refusing.{Answers}
-use Rattle.xns_host.specs.Ours.{IsOpener, IsOurs}
 use Rattle.xns_host.specs.Standing.{IsNewHost}
 use Rattle.xns_host.specs.Turn.{ConnectsTo, GivesOut, ServesAt, ServesNot, TakesIn, TellsNext, Turn}
-use Rattle.xns_host.specs.Hosting.{IsAllInUse, IsApart, IsConnected, IsNextEvent, ChangesOne, HasNoEvent, HasNoPacket, HasNoRoom, Wants}
-use Rattle.xns_host.specs.Hosting.{has_guest, address_in}
+use Rattle.xns_host.specs.Hosting.{HasNoRoom, IsAllInUse, Wants, has_guest}
 use Rattle.xns_host.specs.Reasons.{call_fault_of, answer_fault_of}
 use Rattle.xns_host.specs.declared.conversation.Conversation.{Conversation}
 use Rattle.xns_host.specs.declared.event.Event.{Event}
@@ -93,7 +88,6 @@ pub record Serves (k n : KeptHost) (socket : ℕ) (programs : List Program) (res
   pub answer : Result (Unit {0}) HostFault
   pub told : result ≡ host_told answer
   pub serves : ServesAt socket programs answer k.host n.host
-  pub guests : n.host.guests ≡ k.host.guests
   pub refused : ServesNot k.host socket answer
   pub kept : StaysKept k n
 
@@ -102,21 +96,11 @@ abbrev pub whether : Bool → ℕ
 whether true = ok
 whether false = nothing
 
--- a packet that is not for the host changes no connection, and one that is changes one at most; what became of the connections by these
--- bytes, and one that they are for has heard them
+-- the host took the packet in, and says whether it was for it
 pub record Receives (k n : KeptHost) (now way : ℕ) (bytes : List ℕ) (result : ℕ) : Type 0 where
-  pub answer : (result ≡ ok) ⊎ (result ≡ nothing)
-  pub became : hosting.Receives (max k.host.clock.latest now) (IsOpened k.host.services.programs k.host.settings k.host.register.identifiers
-      k.host.network k.host.host way (max k.host.clock.latest now)) bytes k.host.guests.items n.host.guests.items
-  pub heard : (p : SppPacketModel) (i : ℕ) (g : Guest) (place : Option Guest) → spp_packet_of bytes ≡ Ok p → IsPacketOf k.host.host p g
-      → guest_at k i ≡ Some (Some g) → guest_at n i ≡ Some place → (result ≡ ok) × HasHeard bytes (confirms p) g place
-  pub one : ChangesOne k.host.guests.items n.host.guests.items
-  pub unchanged : result ≡ nothing → (i : ℕ) → guest_at n i ≡ guest_at k i
   pub ours : Bool
   pub told : result ≡ whether ours
   pub takes : TakesIn now way bytes ours k.host n.host
-  pub is_ours : ours ≡ true → IsOurs k.host bytes
-  pub opener : (p : SppPacketModel) → spp_packet_of bytes ≡ Ok p → IsOpener k.host p → ours ≡ true
   pub kept : StaysKept k n
 
 -- something of the host wants to be asked at this time
@@ -135,11 +119,8 @@ abbrev pub number_told : Result ℕ HostFault → ℕ
 number_told (Ok number) = ok
 number_told (Err fault) = host_fault_number fault
 
--- a new connection has this number, and all others are as they were; or none is made, and none is changed
+-- a new connection has this number; or none is made, and why
 pub record Connects (k n : KeptHost) (now socket : ℕ) (to : Address) (way number result : ℕ) : Type 0 where
-  pub connected : result ≡ ok → IsConnected n.host.guests.items number k.host.settings k.host.register.identifiers
-      (address_in k.host.network k.host.host socket) to way (max k.host.clock.latest now)
-  pub apart : result ≡ ok → IsApart k.host.guests.items n.host.guests.items number
   pub full : HasNoRoom k.host.guests.items → result ≡ no_slot
   pub used : IsAllInUse k.host.register.identifiers → result ≡ no_slot
   pub room : result ≡ no_slot → HasNoRoom k.host.guests.items ⊎ IsAllInUse k.host.register.identifiers
@@ -148,7 +129,6 @@ pub record Connects (k n : KeptHost) (now socket : ℕ) (to : Address) (way numb
   pub told : result ≡ number_told answer
   pub found : (i : ℕ) → answer ≡ Ok i → number ≡ i
   pub connects : ConnectsTo now way socket to answer k.host n.host
-  pub unchanged : result ≢ ok → (i : ℕ) → guest_at n i ≡ guest_at k i
   pub kept : StaysKept k n
 
 -- ---- what is fetched
@@ -162,12 +142,10 @@ abbrev pub GivesEvent : Option Event → XnsEvent → XnsEvent → List ℕ → 
 GivesEvent None before after old new had count result = (result ≡ nothing) × (after ≡ before) × (new ≡ old) × (count ≡ had)
 GivesEvent (Some e) before after old new had count result = EventIsGiven e after old new count result
 
--- an event that is kept is the next one; where none is kept it is what one of the connections had to tell, and there is none where none had
+-- an event that is kept is the next one; where none is kept it is the one that the host tells, if it tells one
 pub record FetchesEvent (k n : KeptHost) (before after : XnsEvent) (old new : List ℕ) (had count result : ℕ) : Type 0 where
   pub found : Option Event
   pub kept : (e : Event) → k.event ≡ Some e → (found ≡ Some e) × (n.host ≡ k.host)
-  pub told : (e : Event) → k.event ≡ None → found ≡ Some e → IsNextEvent k.host.clock.latest k.host.guests.items n.host.guests.items e
-  pub none : k.event ≡ None → found ≡ None → HasNoEvent k.host.guests.items
   pub tells : k.event ≡ None → TellsNext found k.host n.host
   pub given : GivesEvent found before after old new had count result
   pub left : n.event ≡ left_of found result
@@ -181,17 +159,12 @@ GivesPacket (Some p) old new had written way via result =
     (length p.packet ≤ length old → (result ≡ ok) × IsPut p.packet old new written × (via ≡ p.via))
     × (length old < length p.packet → (result ≡ short_buffer) × (written ≡ length p.packet) × (new ≡ old) × (via ≡ way))
 
--- the packet is the first of the stray replies, or one that a connection gave
-abbrev pub IsNextOut : (k n : KeptHost) → Outgoing → Type 0
-IsNextOut k n p = ((others : List Outgoing) × (k.host.strays.waiting ≡ p ∷ others)) ⊎ IsNextPacket k.host.guests.items n.host.guests.items p
-
 -- what a host answered of which this packet was fetched, if any, or that had no memory
 abbrev pub answer_of : Result (Unit {0}) HostFault → Option Outgoing → Result (Option Outgoing) HostFault
 answer_of (Ok u) found = Ok found
 answer_of (Err fault) found = Err fault
 
--- a packet that is kept is the next one; where none is kept it is one that the host gives, and where there is none, no connection has one
--- that may be to go out
+-- a packet that is kept is the next one; where none is kept it is the one that the host gives, if it gives one
 pub record FetchesPacket (k n : KeptHost) (now : ℕ) (old new : List ℕ) (had written way via result : ℕ) : Type 0 where
   pub found : Option Outgoing
   pub done : Result (Unit {0}) HostFault
@@ -199,8 +172,6 @@ pub record FetchesPacket (k n : KeptHost) (now : ℕ) (old new : List ℕ) (had 
   pub starved : result ≡ no_memory → done ≢ Ok tt
   pub fetched : result ≢ no_memory → done ≡ Ok tt
   pub kept : (p : Outgoing) → k.packet ≡ Some p → (found ≡ Some p) × (n.host ≡ k.host)
-  pub told : (p : Outgoing) → k.packet ≡ None → found ≡ Some p → IsNextOut k n p
-  pub rested : result ≡ nothing → HasNoPacket n.host.guests.items
   pub given : GivesPacket found old new had written way via result
   pub left : n.packet ≡ left_of found result
   pub event : n.event ≡ k.event

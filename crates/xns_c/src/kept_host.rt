@@ -2,7 +2,6 @@
 
 ghost use Rattle.std.specs.Prelude.{◌≡◌, ◌≢◌, IfOk, OnErr, Some, None, Ok, Err, length};
 ghost use Rattle.courier_messages.specs.RawCalls.{words_call};
-ghost use Rattle.xns_host.specs.Hosting.{HasNoEvent, HasNoPacket, IsNextEvent};
 ghost use Rattle.xns_host.specs.Settings.{wrong_setting};
 ghost use Rattle.xns_host.specs.Standing.{IsNewHost};
 ghost use Rattle.xns_host.specs.Turn.{GivesOut, TellsNext};
@@ -12,7 +11,7 @@ ghost use Rattle.xns_host.specs.declared.outgoing.Outgoing.{Outgoing};
 ghost use Rattle.xns_host.specs.declared.setting.Setting.{Setting};
 ghost use Rattle.xns_c.specs.Heads.{answer_in};
 ghost use Rattle.xns_c.specs.Hosts.{Calls, AnswersCall, Closes, Connects, Serves, Receives, Wakes, FetchesEvent, FetchesPacket};
-ghost use Rattle.xns_c.specs.Hosts.{IsNextOut, answer_of, kept_after};
+ghost use Rattle.xns_c.specs.Hosts.{answer_of, kept_after};
 ghost use Rattle.xns_c.specs.Results.{ok};
 ghost use Rattle.xns_c.specs.Structs.{address_in};
 
@@ -158,9 +157,6 @@ impl KeptHost {
     /// Fetches the next event, where none is kept.
     fn fetch_event(&mut self)
         ensures kept { (e : Event) → self.old.event ≡ Some e → self.new ≡ self.old }
-        ensures told { (e : Event) → self.old.event ≡ None → self.new.event ≡ Some e
-            → IsNextEvent self.old.host.clock.latest self.old.host.guests.items self.new.host.guests.items e }
-        ensures none { self.old.event ≡ None → self.new.event ≡ None → HasNoEvent self.old.host.guests.items }
         ensures tells { self.old.event ≡ None → TellsNext self.new.event self.old.host self.new.host }
         ensures packet { self.new.packet ≡ self.old.packet }
     {
@@ -189,8 +185,6 @@ impl KeptHost {
         ensures kept { (p : Outgoing) → self.old.packet ≡ Some p → (result ≡ Ok tt) × (self.new ≡ self.old) }
         ensures event { self.new.event ≡ self.old.event }
         ensures none { OnErr result (self.new.packet ≡ None) }
-        ensures told { (p : Outgoing) → self.old.packet ≡ None → self.new.packet ≡ Some p → IsNextOut self.old self.new p }
-        ensures rested { result ≡ Ok tt → self.new.packet ≡ None → HasNoPacket self.new.host.guests.items }
         ensures gives { self.old.packet ≡ None → GivesOut now (answer_of result self.new.packet) self.old.host self.new.host }
     {
         if self.packet.is_none() {

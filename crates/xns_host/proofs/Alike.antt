@@ -1,5 +1,5 @@
 -- Where memory was not refused a step has one end only.
-use Rattle.std.proofs.Common.{◌≡◌, ◌∙◌, ap, sym, ℕ, List, Bool, false, Option, Result}
+use Rattle.std.proofs.Common.{◌≡◌, ◌∙◌, ap, sym, ℕ, Bool, Option, Result}
 use Rattle.courier_sessions.specs.declared.feed_refusal.FeedRefusal.{FeedRefusal}
 use Rattle.xns_agenda.specs.Waiting.{Waiting}
 use Rattle.xns_spp.specs.Held.{Held, StandsFor, held}

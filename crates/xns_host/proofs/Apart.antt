@@ -1,18 +1,12 @@
 -- Connections that are as they were.
 use Rattle.std.proofs.Common.{◌≡◌, ◌∙◌, ℕ, List, Option, Some, slice_get, ap, ◌<◌, length}
 use Rattle.std.specs.Prelude.{slice_set}
-use Rattle.xns_host.specs.Hosting.{ChangesOne, IsApart}
+use Rattle.xns_host.specs.Hosting.{IsApart}
 use Rattle.xns_host.specs.declared.guest.Guest.{Guest}
 use Rattle.xns_host.proofs.Noting.{place_other, place_set}
 
 pub apart_then : (a b c : List (Option Guest)) (number : ℕ) → IsApart a b number → IsApart b c number → IsApart a c number
 apart_then a b c number first next = record { others = λ k other. next.others k other ∙ first.others k other }
-
-pub one_changed : (a b : List (Option Guest)) (number : ℕ) → IsApart a b number → ChangesOne a b
-one_changed a b n apart = record { number = n; others = apart }
-
-pub none_changed : (a b : List (Option Guest)) → ((k : ℕ) → slice_get b k ≡ slice_get a k) → ChangesOne a b
-none_changed a b same = record { number = 0; others = record { others = λ k other. same k } }
 
 pub set_apart : (a b : List (Option Guest)) (n : ℕ) (v : Option Guest) → b ≡ slice_set a n v → IsApart a b n
 set_apart a b n v is = record { others = λ k other. ap (λ (xs : List (Option Guest)). slice_get xs k) is ∙ place_other a n k v other }

@@ -1,23 +1,27 @@
 -- What comes of a packet at a host, from what its parts say.
-use Rattle.std.proofs.Common.{◌≡◌, ◌∙◌, ap, refl, subst, sym, ℕ, List, Bool, true, false, Option, Some, None, Ok}
+use Rattle.std.proofs.Common.{◌≡◌, ◌≢◌, ◌∙◌, ap, refl, subst, sym, ℕ, List, Bool, true, false, Some, None, Ok, slice_get}
 use Rattle.xns_idp.specs.Packet.{PacketModel}
 use Rattle.xns_idp.specs.Reading.{packet_of}
-use Rattle.xns_idp.specs.declared.packet_type.TheConstants.{ERROR}
-use Rattle.xns_small.specs.Echo.{IsAnswered, echo_reply}
-use Rattle.xns_spp.specs.Packet.{SppPacketModel, spp_packet_of}
-use Rattle.xns_host.specs.Coming.{Comes, Opens, Refuses, Whole, echoes, foreign, full, hears, opens, refuses}
-use Rattle.xns_host.specs.Hosting.{address_in, confirms}
+use Rattle.xns_small.specs.Echo.{echo_reply}
+use Rattle.xns_spp.specs.Packet.{SppPacketModel, opener_of, spp_packet_of}
+use Rattle.xns_host.specs.Coming.{Comes, Opens, echoes, foreign, full, hears, opens, refuses}
+use Rattle.xns_host.specs.Hosting.{IsThere, address_in, confirms}
 use Rattle.xns_host.specs.Identifiers.{StaysInOrder}
+use Rattle.xns_host.specs.Ours.{AsksEcho, IsOf, IsOurs, QuotesOurs}
 use Rattle.xns_host.specs.Places.{IsUnmoved, Places, Turns, same}
 use Rattle.xns_host.specs.Registered.{named_in}
+use Rattle.xns_host.specs.Services.{programs_at}
 use Rattle.xns_host.specs.Standing.{IsSameHost, StaysSetUp}
 use Rattle.xns_host.specs.Strays.{MayHaveStray, StrayQueue, echo_socket, stray_of}
 use Rattle.xns_host.specs.Turn.{places_of, whole_of}
-use Rattle.xns_host.specs.Went.{GuestHears}
+use Rattle.xns_host.specs.Went.{GuestHears, GuestUnserved}
+use Rattle.xns_host.specs.Whole.{Whole}
+use Rattle.xns_host.specs.declared.guest.Guest.{Guest}
 use Rattle.xns_host.specs.declared.host.Host.{Host}
 use Rattle.xns_host.specs.declared.register.Register.{Register}
 use Rattle.xns_host.specs.declared.services.Services.{Services}
 use Rattle.xns_host.specs.declared.settings.Settings.{Settings}
+use Rattle.xns_host.proofs.Foreign.{echo_not_ours, error_not_ours}
 
 whole : ℕ → List ℕ → Settings → Services → Register → StrayQueue → Places → Whole
 whole n h s v r q p = record { network = n; host = h; settings = s; services = v; register = r; strays = q; places = p }
@@ -41,43 +45,47 @@ pub whole_by : (old new : Host) (register : Register) (strays : StrayQueue) (pla
     → whole_of new ≡ record (whole_of old) { register = register; strays = strays; places = places }
 whole_by old new register strays places set_up r q p = whole_at old new register strays places set_up.0 set_up.1 r q p
 
-pub none_comes : (now way : ℕ) (b : List ℕ) (w v : Whole) → v ≡ w → Comes now way b w false v
-none_comes now way b w v is = subst (λ (x : Whole). Comes now way b w false x) (sym is) (foreign same)
+pub none_comes : (now way : ℕ) (b : List ℕ) (w v : Whole) → (IsOurs w b → ⊥) → v ≡ w → Comes now way b w false v
+none_comes now way b w v never is = subst (λ (x : Whole). Comes now way b w false x) (sym is) (foreign never same)
 
-pub comes_echo : (now way : ℕ) (b : List ℕ) (w v : Whole) (r : Bool) (p : PacketModel) (taken : ℕ) → packet_of b ≡ Ok (p, taken)
-    → (r ≡ true → IsAnswered (address_in w.network w.host echo_socket) p)
-    → (IsAnswered (address_in w.network w.host echo_socket) p → (r ≡ true)
-    × MayHaveStray w.strays v.strays (stray_of way (echo_reply (address_in w.network w.host echo_socket) p)))
-    → ((IsAnswered (address_in w.network w.host echo_socket) p → ⊥) → v.strays ≡ w.strays) → v ≡ record w { strays = v.strays } → Comes now way b w r v
-comes_echo now way b w v true p taken read ours answered rest is =
-    subst (λ (x : Whole). Comes now way b w true x) (sym is) (echoes p taken read (ours refl) (answered (ours refl)).1)
-comes_echo now way b w v false p taken read ours answered rest is =
-    none_comes now way b w v (is ∙ ap (λ (q : StrayQueue). let x : Whole = record w { strays = q } in x) (rest (λ asked. let yes = (answered asked).0 in absurd (cc))))
+pub comes_echo : (now way : ℕ) (b : List ℕ) (w v : Whole) (r : Bool) (p : PacketModel) (taken : ℕ) → packet_of b ≡ Ok (p, taken) → p.kind ≡ 2
+    → (r ≡ true → AsksEcho w p) → (r ≡ false → AsksEcho w p → ⊥)
+    → (r ≡ true → MayHaveStray w.strays v.strays (stray_of way (echo_reply (address_in w.network w.host echo_socket) p)))
+    → (r ≡ false → v.strays ≡ w.strays) → v ≡ record w { strays = v.strays } → Comes now way b w r v
+comes_echo now way b w v true p taken read kind asked never waits rest is =
+    subst (λ (x : Whole). Comes now way b w true x) (sym is) (echoes p taken read (asked refl) (waits refl))
+comes_echo now way b w v false p taken read kind asked never waits rest is =
+    none_comes now way b w v (echo_not_ours w b p taken read kind (never refl))
+    (is ∙ ap (λ (q : StrayQueue). let x : Whole = record w { strays = q } in x) (rest refl))
 
-pub comes_refused : (now way : ℕ) (b : List ℕ) (w v : Whole) (r : Bool) (p : PacketModel) (taken : ℕ) → packet_of b ≡ Ok (p, taken) → p.kind ≡ ERROR
-    → (r ≡ true → p.target.host ≡ w.host) → (r ≡ true → Refuses now p w.register.identifiers w.places v.places) → (r ≡ false → IsUnmoved w.places v.places)
-    → v ≡ record w { places = v.places } → Comes now way b w r v
-comes_refused now way b w v true p taken read kind here turn rest is =
-    subst (λ (x : Whole). Comes now way b w true x) (sym is) (refuses p taken read kind (here refl) (turn refl))
-comes_refused now way b w v false p taken read kind here turn rest is =
-    subst (λ (x : Whole). Comes now way b w false x) (sym is) (foreign (rest refl))
+pub comes_refused : (now way : ℕ) (b : List ℕ) (w v : Whole) (r : Bool) (p : PacketModel) (taken : ℕ) → packet_of b ≡ Ok (p, taken) → p.kind ≡ 3
+    → (r ≡ true → (q : QuotesOurs w p) × Turns (λ (g h : Guest). GuestUnserved now g h) q.number w.places v.places) → (r ≡ false → QuotesOurs w p → ⊥)
+    → (r ≡ false → IsUnmoved w.places v.places) → v ≡ record w { places = v.places } → Comes now way b w r v
+comes_refused now way b w v true p taken read kind turn never rest is =
+    subst (λ (x : Whole). Comes now way b w true x) (sym is) (refuses p taken read (turn refl).0 (turn refl).1)
+comes_refused now way b w v false p taken read kind turn never rest is =
+    subst (λ (x : Whole). Comes now way b w false x) (sym is) (foreign (error_not_ours w b p taken read kind (never refl)) (rest refl))
 
 pub comes_heard : (now way : ℕ) (b : List ℕ) (w v : Whole) (r : Bool) (p : SppPacketModel) (number : ℕ) → spp_packet_of b ≡ Ok p → p.target.host ≡ w.host
-    → named_in w.register p ≡ Some number → (r ≡ true → Turns (λ g h. GuestHears now b (confirms p) g h) number w.places v.places)
-    → (r ≡ false → IsUnmoved w.places v.places) → v ≡ record w { places = v.places } → Comes now way b w r v
-comes_heard now way b w v true p number is here named turn rest eq =
-    subst (λ (x : Whole). Comes now way b w true x) (sym eq) (hears p number is here named (turn refl))
-comes_heard now way b w v false p number is here named turn rest eq =
-    subst (λ (x : Whole). Comes now way b w false x) (sym eq) (foreign (rest refl))
+    → named_in w.register p ≡ Some number
+    → (r ≡ true → IsThere (IsOf p) (slice_get w.places.guests number) × Turns (λ (g h : Guest). GuestHears now b (confirms p) g h) number w.places v.places)
+    → (r ≡ false → IsOurs w b → ⊥) → (r ≡ false → IsUnmoved w.places v.places) → v ≡ record w { places = v.places } → Comes now way b w r v
+comes_heard now way b w v true p number is here named turn never rest eq =
+    subst (λ (x : Whole). Comes now way b w true x) (sym eq)
+    (hears p is (record { here = here; number = number; named = named; there = (turn refl).0 }) (turn refl).1)
+comes_heard now way b w v false p number is here named turn never rest eq =
+    subst (λ (x : Whole). Comes now way b w false x) (sym eq) (foreign (never refl) (rest refl))
 
 pub comes_opened : (now way : ℕ) (b : List ℕ) (w v : Whole) (r : Bool) (p : SppPacketModel) → spp_packet_of b ≡ Ok p → p.target.host ≡ w.host
     → named_in w.register p ≡ None → (r ≡ true → Opens now way b p w v.register v.places)
+    → (r ≡ true → (opener_of p ≢ None) × (programs_at w.services.programs p.target.socket ≢ None)) → (r ≡ false → IsOurs w b → ⊥)
     → (r ≡ false → (v.register ≡ w.register) × IsUnmoved w.places v.places) → v ≡ record w { register = v.register; places = v.places } → Comes now way b w r v
-comes_opened now way b w v true p is here named turn rest eq =
-    subst (λ (x : Whole). Comes now way b w true x) (sym eq) (opens p is here named (turn refl))
-comes_opened now way b w v false p is here named turn rest eq =
+comes_opened now way b w v true p is here named turn opener never rest eq =
+    subst (λ (x : Whole). Comes now way b w true x) (sym eq)
+    (opens p is (record { here = here; unnamed = named; opener = (opener refl).0; served = (opener refl).1 }) (turn refl))
+comes_opened now way b w v false p is here named turn opener never rest eq =
     subst (λ (x : Whole). Comes now way b w false x)
-    (sym (eq ∙ ap (λ (r : Register). let x : Whole = record w { register = r; places = v.places } in x) (rest refl).0)) (foreign (rest refl).1)
+    (sym (eq ∙ ap (λ (r : Register). let x : Whole = record w { register = r; places = v.places } in x) (rest refl).0)) (foreign (never refl) (rest refl).1)
 
 pub full_by : (now way : ℕ) (b : List ℕ) (p : SppPacketModel) (w : Whole) (r : Register) (q : Places) → q ≡ w.places
     → StaysInOrder w.register.identifiers r.identifiers → Opens now way b p w r q

@@ -1,5 +1,5 @@
 -- What is done at a connection, in what its scene says of a story.
-use Rattle.std.proofs.Common.{◌≡◌, ◌∙◌, ap, sym, refl, subst, ℕ, ◌≤◌, ◌-◌, ◌+◌, List, [], ◌∷◌, ◌++◌, append-nil, length-append, take, drop, length, Bool, true, false, Option, Some, None, arith}
+use Rattle.std.proofs.Common.{◌≡◌, ◌∙◌, ap, sym, refl, subst, ℕ, ◌≤◌, ◌+◌, List, [], ◌∷◌, ◌++◌, length-append, take, drop, length, Bool, true, false, Option, Some, None, arith}
 use Rattle.std.specs.Prelude.{◌||◌, if◌then◌else◌}
 use Rattle.std.specs.Option.{is_some}
 use Rattle.courier_messages.specs.RawCalls.{RawCall}
@@ -26,11 +26,9 @@ use Rattle.xns_host.specs.Closing.{drains, closing_items, Knows}
 use Rattle.xns_host.specs.Deeds.{Deed, nothing, asked, made, gave, took, heard, answered_for, done, handed_by, side_answered, side_called, side_taken, told_by, wanted_by, with_answer, with_taken}
 use Rattle.xns_host.specs.Moving.{Scene, scene}
 use Rattle.xns_host.specs.Refusing.{answer_fault, call_fault, side_answer_fault, side_call_fault}
-use Rattle.xns_host.specs.Reasons.{answer_fault_of, call_fault_of}
 use Rattle.xns_host.specs.Step.{May}
 use Rattle.xns_host.specs.Story.{Story, SideHas, CallerHas, ServerHas, asked_of, is_stopped, listed_call, waiting_message, with_handed}
 use Rattle.xns_host.specs.Telling.{Tells}
-use Rattle.xns_host.specs.declared.closing.Closing.{Closing}
 use Rattle.xns_host.specs.declared.conversation.Conversation.{Conversation}
 use Rattle.xns_host.specs.declared.host_fault.HostFault.{HostFault}
 use Rattle.xns_host.specs.declared.host_fault.HostFault.TheVariants as faults

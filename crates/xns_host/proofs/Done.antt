@@ -1,27 +1,23 @@
 -- What is due is done, once: it is then due later.
-use Rattle.std.proofs.Common.{◌≡◌, ◌≢◌, ◌∙◌, ◌⊎◌, inl, inr, ap, refl, subst, sym, ℕ, zero, suc, ◌+◌, ◌<◌, ◌≤◌, Bool, true, false, List, [], ◌∷◌, length, Option, Some, None, slice_get, get_or, arith}
-use Rattle.std.specs.Prelude.{◌&&◌, nat_le, slice_set, if◌then◌else◌}
+use Rattle.std.proofs.Common.{◌≡◌, ◌≢◌, ◌∙◌, ◌⊎◌, inl, inr, ap, refl, subst, sym, ℕ, zero, suc, ◌+◌, ◌<◌, ◌≤◌, Bool, true, false, List, [], ◌∷◌, length, Option, Some, None, slice_get, arith}
+use Rattle.std.specs.Prelude.{◌&&◌, nat_le, if◌then◌else◌}
 use Rattle.std.specs.Option.{is_none, is_some}
 use Rattle.std.proofs.lemmas.Bool.{le-leb, leb-false, lt-leb}
 use Rattle.xns_agenda.specs.Agenda.{Plan}
 use Rattle.xns_host.specs.Deeds.{Parts, acted_by}
 use Rattle.xns_host.specs.Deeds as deeds
 use Rattle.xns_host.specs.Step.{parts_of}
-use Rattle.xns_host.specs.Connecting.{owed_after}
-use Rattle.xns_host.specs.Hosting.{ActsIn, DoesDue, EachActs, EachSteps, StepsIn, HasActed, HasActedIn, HasNoneDone, IsAllNoted, IsApart, StaysIn, facts_in, forgotten, is_done, may_go, stays}
+use Rattle.xns_host.specs.Hosting.{ActsIn, EachActs, HasActed, HasActedIn, HasNoneDone, IsAllNoted, IsApart, StaysIn, facts_in, forgotten, is_done, may_go, stays}
 use Rattle.xns_agenda.specs.Times.{HasNoneBy, IsFirstBy}
 use Rattle.xns_agenda.specs.Waiting.{StepsAt, still, step, close, HearsAt, no_word, word, after_step, after_word, lingering}
-use Rattle.xns_agenda.specs.Waiting.{Waiting, IsDueAfter, act_at, act_by, after_act, after_by, due_time, last_time, unless_silent}
+use Rattle.xns_agenda.specs.Waiting.{Waiting, IsDueAfter, act_by, after_by, due_time, unless_silent}
 use Rattle.xns_agenda.specs.declared.act.Act.{Act}
 use Rattle.xns_agenda.specs.declared.act.Act.TheVariants.{Nothing, Again, Ask, Forget}
 use Rattle.xns_host.specs.declared.connection.Connection.{Connection}
 use Rattle.xns_agenda.specs.declared.due.Due.{Due}
 use Rattle.xns_agenda.specs.declared.due.Due.TheVariants.{Never, AgainAt, AskAt, ForgetAt}
 use Rattle.xns_host.specs.declared.guest.Guest.{Guest}
-use Rattle.xns_host.specs.declared.owed.Owed.{Owed}
-use Rattle.xns_host.proofs.Going.{settled}
-use Rattle.xns_host.proofs.Apart.{set_there}
-use Rattle.xns_host.proofs.Noting.{place_other, same_or_other, same_place}
+use Rattle.xns_host.proofs.Noting.{same_or_other}
 use Rattle.xns_host.proofs.Undone.{not_gone_yet}
 use Rattle.xns_host.proofs.Waking.{HasTime, has_time}
 
@@ -29,6 +25,13 @@ use Rattle.xns_host.proofs.Waking.{HasTime, has_time}
 
 abbrev Places : Type 0
 Places = List (Option Guest)
+
+-- the connection in a place is forgotten, if it is done
+settled : (a b : Places) (n : ℕ) (g : Guest) (done : Bool) → slice_get a n ≡ Some (Some g) → done ≡ may_go g.connection
+    → (done ≡ true → slice_get b n ≡ Some None) → (done ≡ false → b ≡ a) → StaysIn g.connection (slice_get b n)
+settled a b n g true there is gone kept = subst (λ (q : Option (Option Guest)). StaysIn g.connection q) (sym (gone refl)) (forgotten (sym is))
+settled a b n g false there is gone kept =
+    subst (λ (q : Option (Option Guest)). StaysIn g.connection q) (sym (ap (λ (xs : Places). slice_get xs n) (kept refl) ∙ there)) (stays g refl)
 
 -- the connection in a place acted, and is forgotten, if it is done
 pub act_settled : (a b : Places) (n now : ℕ) (c : Connection) (p : Option Guest) (done : Bool) → slice_get a n ≡ Some p → HasActedIn now c p
@@ -324,52 +327,3 @@ pub steps_then : (now : ℕ) (u w : Waiting) {v : Waiting} → StepsAt now u w �
 steps_then now u w first still = first
 steps_then now u w first (step next b) = step (steps_then now u w first next) b
 steps_then now u w first (close next) = close (steps_then now u w first next)
-
--- the connection in a place that was there before
-steps_same : (now : ℕ) (g : Guest) (place : Option (Option Guest)) → place ≡ Some (Some g) → StepsIn now g.connection place
-steps_same now g place is = subst (λ (q : Option (Option Guest)). StepsIn now g.connection q) (sym is) still
-
-pub each_still : (now : ℕ) (a b : Places) → ((k : ℕ) → slice_get b k ≡ slice_get a k) → EachSteps now a b
-each_still now a b same = λ k g there. steps_same now g (slice_get b k) (same k ∙ there)
-
-pub each_step : (now : ℕ) (a b : Places) (n : ℕ) (old p : Option Guest) → n < length a → old ≡ get_or a n old → b ≡ slice_set a n p
-    → ((g : Guest) → old ≡ Some g → StepsIn now g.connection (Some p)) → EachSteps now a b
-each_step now a b n old p less read is steps = λ k g there. by k g there (same_or_other k n) where
-  by : (k : ℕ) (g : Guest) → slice_get a k ≡ Some (Some g) → (k ≡ n) ⊎ (k ≢ n) → StepsIn now g.connection (slice_get b k)
-  by k g there (inl e) =
-      let at : slice_get a n ≡ Some (Some g) = subst (λ (m : ℕ). slice_get a m ≡ Some (Some g)) e there in
-      let here : slice_get b n ≡ Some p = set_there a b n p less is in
-      subst (λ (m : ℕ). StepsIn now g.connection (slice_get b m)) (sym e)
-      (subst (λ (q : Option (Option Guest)). StepsIn now g.connection q) (sym here) (steps g (same_place a n old (Some g) less read at)))
-  by k g there (inr other) =
-      steps_same now g (slice_get b k) (ap (λ (xs : Places). slice_get xs k) is ∙ place_other a n k p other ∙ there)
-
--- the same, where this time was told
-pub told_step : (told now : ℕ) (a b : Places) (n : ℕ) (old p : Option Guest) → told ≡ now → n < length a → old ≡ get_or a n old → b ≡ slice_set a n p
-    → ((g : Guest) → old ≡ Some g → StepsIn told g.connection (Some p)) → EachSteps now a b
-told_step told now a b n old p same less read is steps =
-    subst (λ (t : ℕ). EachSteps t a b) same (each_step told a b n old p less read is steps)
-
-steps_more : (now : ℕ) (a b : Places) (k : ℕ) (c : Connection) (q : Option (Option Guest)) → slice_get a k ≡ q → StepsIn now c q → EachSteps now a b
-    → StepsIn now c (slice_get b k)
-steps_more now a b k c None is steps each = absurd steps
-steps_more now a b k c (Some None) is steps each = absurd steps
-steps_more now a b k c (Some (Some g)) is steps each = on (slice_get b k) (each k g is) where
-  on : (q : Option (Option Guest)) → StepsIn now g.connection q → StepsIn now c q
-  on None more = absurd more
-  on (Some None) more = absurd more
-  on (Some (Some h)) more = steps_then now c.wait g.connection.wait steps more
-
-pub each_steps : (now : ℕ) (a b d : Places) → EachSteps now a b → EachSteps now b d → EachSteps now a d
-each_steps now a b d first next = λ k g there. steps_more now b d k g.connection (slice_get b k) refl (first k g there) next
-
--- what is due is done first
-pub due_first : (now : ℕ) (first gs : Places) → EachActs now first gs → DoesDue now first gs
-due_first now first gs acts = record { between = gs; acts = acts; steps = each_still now gs gs (λ k. refl) }
-
-pub due_then : (now : ℕ) (first gs hs : Places) → DoesDue now first gs → EachSteps now gs hs → DoesDue now first hs
-due_then now first gs hs due steps = record { between = due.between; acts = due.acts; steps = each_steps now due.between gs hs due.steps steps }
-
-pub at_time : (now told : ℕ) (first gs : Places) → now ≡ told → (now < last_time → DoesDue now first gs) → told < last_time → DoesDue told first gs
-at_time now told first gs same due more =
-    subst (λ (n : ℕ). DoesDue n first gs) same (due (subst (λ (n : ℕ). n < last_time) (sym same) more))

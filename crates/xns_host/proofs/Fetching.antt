@@ -4,15 +4,10 @@ use Rattle.std.specs.Prelude.{slice_set, count_by, cond, ◌||◌, if◌then◌e
 use Rattle.std.specs.Option.{is_some}
 use Rattle.std.proofs.lemmas.List.{length-set}
 use Rattle.std.proofs.lemmas.List.Sums.{sum_by-set}
-use Rattle.std.proofs.lemmas.Option.{slice_get-get_or}
 use Rattle.xns_agenda.specs.Agenda.{Plan}
-use Rattle.xns_host.specs.Events.{event_in}
-use Rattle.xns_host.specs.Hosting.{HasNoEvent, HasNoPacket, IsAllNoted, IsApart, IsNextEvent, TellsIn}
-use Rattle.xns_host.specs.Knowing.{news_of}
-use Rattle.xns_host.specs.Story.{waiting_message}
+use Rattle.xns_host.specs.Hosting.{HasNoEvent, HasNoPacket, IsAllNoted}
 use Rattle.xns_agenda.specs.Turns.{HasNoTurn, Line, has_turn, with_turn}
 use Rattle.xns_host.specs.declared.connection.Connection.{Connection}
-use Rattle.xns_host.specs.declared.event.Event.{Event}
 use Rattle.xns_host.specs.declared.guest.Guest.{Guest}
 use Rattle.xns_host.specs.declared.why.Why.{Why}
 use Rattle.xns_host.proofs.Noting.{within}
@@ -35,28 +30,6 @@ fewer line n has =
 pub no_event : (a : Plan) (old gs : Places) → IsAllNoted a gs → ((k : ℕ) → slice_get gs k ≡ slice_get old k) → HasNoTurn a.events → HasNoEvent old
 no_event a old gs all same none = λ k place there.
     (all.each k place (same k ∙ there)).event (none k)
-
--- what came of the connection in this place
-abbrev pub HasNews : Guest → Option (Option Guest) → Type 0
-HasNews g place = (next : Guest) → place ≡ Some (Some next)
-    → news_of next ≡ (g.confirmed, is_some (waiting_message g.connection.conversation.side) || g.heard_of)
-
-told_in : (now : ℕ) (old new : Places) (n : ℕ) (e : Event) (place : Option Guest) → slice_get old n ≡ Some place → Some e ≡ event_in n place
-    → ((g : Guest) → place ≡ Some g → TellsIn now g.connection (slice_get new n)) → ((g : Guest) → place ≡ Some g → HasNews g (slice_get new n))
-    → IsApart old new n → IsNextEvent now old new e
-told_in now old new n e None there told once news apart = absurd (cc)
-told_in now old new n e (Some g) there told once news apart =
-    record { number = n; guest = g; there = there; told = sym told; once = once g refl; news = news g refl; others = apart }
-
-pub next_told : (now : ℕ) (old mid new : Places) (n : ℕ) (e : Event) → ((k : ℕ) → slice_get mid k ≡ slice_get old k) → n < length mid
-    → ((place : Option Guest) → slice_get mid n ≡ Some place → Some e ≡ event_in n place)
-    → ((g : Guest) → slice_get mid n ≡ Some (Some g) → TellsIn now g.connection (slice_get new n))
-    → ((g : Guest) → slice_get mid n ≡ Some (Some g) → HasNews g (slice_get new n)) → IsApart mid new n → IsNextEvent now old new e
-next_told now old mid new n e same less told once news apart =
-    let there : slice_get mid n ≡ Some (get_or mid n None) = slice_get-get_or mid n None less in
-    told_in now old new n e (get_or mid n None) (sym (same n) ∙ there) (told (get_or mid n None) there) (λ g is. once g (there ∙ ap Some is))
-    (λ g is. news g (there ∙ ap Some is))
-    (record { others = λ k other. apart.others k other ∙ same k })
 
 -- ---- packets
 

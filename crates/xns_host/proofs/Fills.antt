@@ -1,21 +1,18 @@
 -- What the items that move do to the history of a side, from one history of its end to another.
-use Rattle.std.proofs.Common.{◌≡◌, ◌∙◌, ap, sym, refl, subst, List, [], ◌∷◌, ◌++◌, take, length-append, ◌+◌, false, Some, None, Result, Ok, Err, OnOk, IfErr, arith}
-use Rattle.courier_messages.specs.declared.message.Message.{Message}
-use Rattle.courier_sessions.specs.Answering.{Answering, transaction_in, why_unlisted, reject_message, after_reject}
+use Rattle.std.proofs.Common.{◌≡◌, ◌∙◌, ap, sym, refl, subst, List, [], ◌∷◌, ◌++◌, take, length-append, false, Result, Ok, Err, OnOk, IfErr, arith}
+use Rattle.courier_sessions.specs.Answering.{Answering, transaction_in, reject_message}
 use Rattle.courier_sessions.specs.Answerings.{HasAnswered}
-use Rattle.courier_sessions.specs.Pumping as pumping
-use Rattle.courier_sessions.specs.Pumping.{caller_side, server_side, one_step, Settles}
+use Rattle.courier_sessions.specs.Pumping.{caller_side, server_side, Settles}
 use Rattle.courier_sessions.specs.Talk.{Talk}
 use Rattle.courier_sessions.specs.Talks.{HasDone}
 use Rattle.courier_sessions.specs.declared.feed_refusal.FeedRefusal.{FeedRefusal}
 use Rattle.courier_sessions.specs.declared.feed_refusal.FeedRefusal.TheVariants.{NoMemory}
-use Rattle.courier_sessions.specs.declared.unlisted.Unlisted.{Unlisted}
 use Rattle.xns_spp.specs.Laws.{TheNextItemIsHandedUp}
 use Rattle.xns_spp.specs.Sending.{take_answer}
 use Rattle.xns_spp.specs.State.{State}
 use Rattle.xns_spp.specs.declared.item.Item.{Item}
 use Rattle.xns_host.specs.Moving.{Led, Pumps, Rejects, rejects, Rounds, once, again, Converses, calms, starves, refuses, refuses_on}
-use Rattle.xns_host.specs.Story.{Story, SideHas, CallerHas, ServerHas, GoesOn, start, IsMoved, IsListed, IsRefused, IsUnlisted, IsHeld, refused, unrejected, is_stopped}
+use Rattle.xns_host.specs.Story.{Story, SideHas, CallerHas, ServerHas, GoesOn, start, IsMoved, IsListed, IsRefused, IsHeld, refused, unrejected, is_stopped}
 use Rattle.xns_host.specs.declared.side.Side.{Side}
 use Rattle.xns_host.specs.declared.side.Side.TheVariants.{Calls, Answers}
 use Rattle.xns_host.proofs.Leading.{CallerGives, CallerFeeds, ServerGives, ServerFeeds, ServerRejects, caller_leads, server_leads, leads_run, same_messages, goes_on, going, gone, stopped_at, server_going, server_gone, server_stopped_at, ends_at, short_at}

@@ -1,9 +1,8 @@
 -- What became of connections by a packet.
-use Rattle.std.proofs.Common.{◌≡◌, ◌≢◌, ◌∙◌, ◌⊎◌, inl, inr, ap, refl, subst, sym, ℕ, ◌<◌, Bool, true, false, List, length, Option, Some, Result, Ok, Err, slice_get, get_or}
-use Rattle.std.specs.Prelude.{OnErr, OnOk, None, option_map, slice_set, not, ◌&&◌, ◌||◌, ◌==◌, if◌then◌else◌}
+use Rattle.std.proofs.Common.{◌≡◌, ◌≢◌, ◌∙◌, ap, refl, subst, sym, ℕ, ◌<◌, Bool, true, false, List, length, Option, Some, Result, Ok, Err, slice_get, get_or}
+use Rattle.std.specs.Prelude.{None, option_map, not, ◌&&◌, ◌||◌, ◌==◌, if◌then◌else◌}
 use Rattle.std.specs.Cmp.Lexicographic.{bytes_decides}
 use Rattle.std.specs.Str.{bytes_eq}
-use Rattle.std.specs.declared.alloc.AllocError.{AllocError}
 use Rattle.std.proofs.lemmas.Bool.{and_parts, eq-eqb, eqb-true}
 use Rattle.std.proofs.lemmas.Option.{slice_get_read}
 use Rattle.courier_sessions.specs.declared.program.Program.{Program}
@@ -13,101 +12,29 @@ use Rattle.xns_idp.specs.declared.address.Address.{Address}
 use Rattle.xns_spp.specs.Ends.{is_from, is_ours_at, to_responder}
 use Rattle.xns_spp.specs.Held.{StandsFor}
 use Rattle.xns_spp.specs.Packet.{SppPacketModel, carried_by, carried_in, opener_of, spp_packet_of, with_header}
-use Rattle.xns_spp.specs.Receiving.{StoresBytes, after_receive}
 use Rattle.xns_spp.specs.State.{State, responder_state}
 use Rattle.xns_idp.specs.declared.fault.IdpFault.{IdpFault}
 use Rattle.xns_idp.specs.declared.packet.Packet.{Packet}
 use Rattle.xns_spp.specs.Header.{header_of}
 use Rattle.xns_spp.specs.declared.dropped.Dropped.{Dropped}
 use Rattle.xns_spp.specs.declared.dropped.Dropped.TheVariants.{NotSpp}
-use Rattle.xns_host.specs.Step.{ClosesFrom, HasReplied}
-use Rattle.xns_host.specs.Hosting.{EachHears, HasHeard, HearsIn, IsPacketOf, IsThere, Receives, address_in, nothing, heard, goes, listens, loses}
+use Rattle.xns_host.specs.Hosting.{IsPacketOf, IsThere, address_in}
 use Rattle.xns_host.specs.Registered.{named_in}
 use Rattle.xns_host.specs.Register.{number_by, peer_at}
-use Rattle.xns_host.specs.Knowing.{all_known_of, known_of, news_of}
 use Rattle.xns_host.specs.Registered.{IsRegistered}
-use Rattle.xns_host.specs.Telling.{Hears}
-use Rattle.xns_agenda.specs.Waiting.{HearsAt}
 use Rattle.xns_host.specs.declared.guest.Guest.{Guest}
 use Rattle.xns_host.specs.declared.peer.Peer.{Peer}
 use Rattle.xns_host.specs.declared.register.Register.{Register}
-use Rattle.xns_host.proofs.Apart.{set_there}
-use Rattle.xns_host.proofs.Done.{each_still}
 use Rattle.xns_host.proofs.Ends.{leads_to}
-use Rattle.xns_host.proofs.Going.{each_same}
-use Rattle.xns_host.proofs.Known.{same_all}
-use Rattle.xns_host.proofs.Noting.{place_other, same_or_other}
 
 abbrev Places : Type 0
 Places = List (Option Guest)
-
-same_in : (now : ℕ) (bytes : List ℕ) (confirming : Bool) (p q : Option (Option Guest)) → q ≡ p → HearsIn now bytes confirming p q
-same_in now bytes confirming p q is = subst (λ (r : Option (Option Guest)). HearsIn now bytes confirming p r) (sym is) nothing
-
-pub hears_not : (now : ℕ) (bytes : List ℕ) (confirming : Bool) (a b : Places) → b ≡ a → EachHears now bytes confirming a b
-hears_not now bytes confirming a b is = λ k.
-    same_in now bytes confirming (slice_get a k) (slice_get b k) (ap (λ (xs : Places). slice_get xs k) is)
-
--- where memory was refused they came to nothing
-pub heard_or_not : (now : ℕ) (bytes : List ℕ) (m : SppPacketModel) (confirming : Bool) (place : Option Guest) (g h : Guest)
-    (r : Result (Unit {0}) AllocError) → spp_packet_of bytes ≡ Ok m → place ≡ Some g
-    → OnOk r ((b : List ℕ) → spp_packet_of b ≡ Ok m → Hears g.connection.conversation h.connection.conversation b)
-    → OnOk r (HearsAt now g.connection.wait h.connection.wait) → known_of h ≡ known_of g
-    → OnOk r (news_of h ≡ (confirming || g.confirmed, g.heard_of)) → OnErr r (h ≡ g) → HearsIn now bytes confirming (Some place) (Some (Some h))
-heard_or_not now bytes m confirming place g h (Ok u) read is ok steps known news err =
-    subst (λ (p : Option Guest). HearsIn now bytes confirming (Some p) (Some (Some h))) (sym is) (heard (ok bytes read) steps known news)
-heard_or_not now bytes m confirming place g h (Err e) read is ok steps known news err =
-    subst (λ (p : Option Guest). HearsIn now bytes confirming (Some p) (Some (Some h))) (sym is)
-    (subst (λ (x : Guest). HearsIn now bytes confirming (Some (Some g)) (Some (Some x))) (sym err) nothing)
-
-pub has_heard : (bytes : List ℕ) (m : SppPacketModel) (confirming : Bool) (g h : Guest) (r : Result (Unit {0}) AllocError)
-    → spp_packet_of bytes ≡ Ok m
-    → OnOk r ((b : List ℕ) → spp_packet_of b ≡ Ok m → Hears g.connection.conversation h.connection.conversation b) → OnErr r (h ≡ g)
-    → OnOk r (HasReplied g.connection h.connection)
-    → OnOk r ((b : List ℕ) → spp_packet_of b ≡ Ok m → ClosesFrom g.connection h.connection (λ s. record s { state = after_receive s.state b }))
-    → OnOk r (news_of h ≡ (confirming || g.confirmed, g.heard_of))
-    → OnErr r ((s : State) (b : List ℕ) → StandsFor g.connection.conversation.endpoint s → spp_packet_of b ≡ Ok m → StoresBytes s b)
-    → HasHeard bytes confirming g (Some h)
-has_heard bytes m confirming g h (Ok u) read ok err replied closes news memory = listens h (ok bytes read) replied (closes bytes read) news
-has_heard bytes m confirming g h (Err e) read ok err replied closes news memory =
-    subst (λ (x : Guest). HasHeard bytes confirming g (Some x)) (sym err) (loses (λ s stands. memory s bytes stands read))
-
--- the connection in one place heard them
-pub hears_set : (now : ℕ) (bytes : List ℕ) (confirming : Bool) (a b : Places) (n : ℕ) (old p : Option Guest) → n < length a
-    → old ≡ get_or a n old → b ≡ slice_set a n p → HearsIn now bytes confirming (Some old) (Some p) → EachHears now bytes confirming a b
-hears_set now bytes confirming a b n old p less read is step = λ k. by k (same_or_other k n) where
-  at : HearsIn now bytes confirming (slice_get a n) (slice_get b n)
-  at = subst (λ (q : Option (Option Guest)). HearsIn now bytes confirming q (slice_get b n)) (sym (slice_get_read a (length a) n old refl less read))
-      (subst (λ (q : Option (Option Guest)). HearsIn now bytes confirming (Some old) q) (sym (set_there a b n p less is)) step)
-
-  by : (k : ℕ) → (k ≡ n) ⊎ (k ≢ n) → HearsIn now bytes confirming (slice_get a k) (slice_get b k)
-  by k (inl e) = subst (λ (m : ℕ). HearsIn now bytes confirming (slice_get a m) (slice_get b m)) (sym e) at
-  by k (inr other) = same_in now bytes confirming (slice_get a k) (slice_get b k) (ap (λ (xs : Places). slice_get xs k) is ∙ place_other a n k p other)
 
 -- such a one was read from a place
 pub there_in : (P : Guest → Type 0) (a : Places) (n : ℕ) (old : Option Guest) → n < length a → old ≡ get_or a n old → IsThere P (Some old)
     → IsThere P (slice_get a n)
 there_in P a n old less read one =
     record { guest = one.guest; there = slice_get_read a (length a) n old refl less read ∙ one.there; is = one.is }
-
--- what is said of what was put into a place is said of what is there
-pub put_there : (P : Option Guest → Type 0) (a : Places) (n : ℕ) (p place : Option Guest) → n < length a → slice_get (slice_set a n p) n ≡ Some place
-    → P p → P place
-put_there P a n p place less here said =
-    let both : Some p ≡ Some place = sym (set_there a (slice_set a n p) n p less refl) ∙ here in
-    let same : p ≡ place = cc in
-    subst P same said
-
--- what was read from a place where there is a connection is that one
-pub guest_in : (a : Places) (n : ℕ) (old : Option Guest) (g : Guest) → n < length a → old ≡ get_or a n old → slice_get a n ≡ Some (Some g) → old ≡ Some g
-guest_in a n old g less read here =
-    let both : Some old ≡ Some (Some g) = sym (slice_get_read a (length a) n old refl less read) ∙ here in
-    cc
-
--- nothing came of them
-pub nothing_came : (now : ℕ) (opened : Guest → Type 0) (bytes : List ℕ) (a b : Places) → ((k : ℕ) → slice_get b k ≡ slice_get a k)
-    → Receives now opened bytes a b
-nothing_came now opened bytes a b same = goes (each_same a b same) (each_still now a b same) (same_all all_known_of a b same)
 
 -- ---- the packet that opens a connection
 

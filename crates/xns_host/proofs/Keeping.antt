@@ -1,5 +1,5 @@
 -- A step keeps its promises.
-use Rattle.std.proofs.Common.{◌≡◌, ◌≢◌, ◌∙◌, ap, sym, refl, subst, ℕ, ◌<◌, ◌≤◌, List, [], Bool, true, false, ◌||◌, Option, Some, None, Result, Ok, Err, IfErr, arith}
+use Rattle.std.proofs.Common.{◌≡◌, ◌≢◌, ◌∙◌, ap, sym, refl, subst, ℕ, ◌<◌, [], Bool, true, false, ◌||◌, Option, Some, None, Result, Ok, Err, IfErr, arith}
 use Rattle.std.specs.Prelude.{◌&&◌, ◌==◌, ◌-◌, nat_lt, is_ok}
 use Rattle.std.proofs.lemmas.Bool.{lt-ltb}
 use Rattle.courier_sessions.specs.declared.feed_refusal.FeedRefusal.{FeedRefusal}
@@ -14,9 +14,9 @@ use Rattle.xns_spp.specs.declared.item.Item.{Item}
 use Rattle.xns_host.specs.Closing.{closing_item, closing_items, drains, end_reply_stream, end_stream}
 use Rattle.xns_host.specs.Connecting.{why_after}
 use Rattle.xns_host.specs.Deeds.{Deed, Moved, closed_moved, done, is_starved, owed_by, shut, told_by, wait_by}
-use Rattle.xns_host.specs.Moving.{IsAt, Scene, Settles, deafened, may_end, may_reply, scene}
+use Rattle.xns_host.specs.Moving.{IsAt, Scene, may_end, may_reply, scene}
 use Rattle.xns_host.specs.Step.{AStepKeepsItsPromises, Promises, Step}
-use Rattle.xns_host.specs.Story.{GoesOn, IsListed, IsMoved, Runs, Story, is_stopped}
+use Rattle.xns_host.specs.Story.{GoesOn, IsListed, IsMoved, Runs, Story}
 use Rattle.xns_host.specs.Telling.{GoesUntil, IsUnrefused, Tells, is_over, owes_end, owes_reply}
 use Rattle.xns_host.specs.declared.closing.Closing.{Closing}
 use Rattle.xns_host.specs.declared.connection.Connection.{Connection}
@@ -26,10 +26,10 @@ use Rattle.xns_host.specs.declared.why.Why.{Why}
 use Rattle.xns_host.proofs.Closes.{deaf_or_not}
 use Rattle.xns_host.proofs.Doing.{Underneath, did, done_drains, done_waits, done_wanted, told_state}
 use Rattle.xns_host.proofs.Fills.{Below, at_end}
-use Rattle.xns_host.proofs.Says.{Follows, IsSaid, Says, deaf_follows, follows_not, tells_by}
+use Rattle.xns_host.proofs.Says.{Follows, deaf_follows, follows_not, tells_by}
 use Rattle.xns_host.proofs.Scenes.{scene_at}
 use Rattle.xns_host.proofs.Settled.{HasSettled, How, IsSettled, Refusal, goes_follow, has_settled, how, is_settled}
-use Rattle.xns_host.proofs.Tellings.{if_err, undrained, deafened as deafens}
+use Rattle.xns_host.proofs.Tellings.{undrained}
 use Rattle.xns_host.proofs.Waits.{same_waiting}
 
 -- ---- what an endpoint knows of its end's history

@@ -10,12 +10,12 @@ mod Dues
 mod Ends
 mod Fetching
 mod Fills
+mod Follows
+mod Foreign
 mod Giving
-mod Going
 mod Handing
 mod Hearing
 mod Keeping
-mod Known
 mod Leading
 mod Listing
 mod Lives

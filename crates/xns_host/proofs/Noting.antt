@@ -193,10 +193,6 @@ filled a gs n most g for_most less within all = record {
       turn_same a.free n false (omega (arith, for_most.free, less)) ∙ ap is_none here;
 }
 
--- the same connections
-pub same_noted : (a : Plan) (gs hs : Places) → IsAllNoted a gs → ((k : ℕ) → slice_get hs k ≡ slice_get gs k) → IsAllNoted a hs
-same_noted a gs hs all same = record { each = λ k p is. all.each k p (sym (same k) ∙ is) }
-
 -- one that has nothing to tell needs no turn
 pub quiet_noted : (a : Plan) (gs : Places) (n most : ℕ) → IsFor a most → n < most → ((p : Option Guest) → slice_get gs n ≡ Some p → event_in n p ≡ None)
     → IsAllNoted a gs → IsAllNoted (record a { events = with_turn a.events n false }) gs

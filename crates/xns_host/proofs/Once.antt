@@ -1,7 +1,5 @@
 -- Where memory is not refused, what can move moves to one end only.
-use Rattle.std.proofs.Common.{◌≡◌, ◌≢◌, ◌⊎◌, ◌∙◌, inl, inr, ap, refl, sym, subst, List, [], ◌∷◌, true, false, Option, Some, None, Result, Ok, Err}
-use Rattle.courier_messages.specs.Refusal.{Stops}
-use Rattle.courier_messages.specs.declared.fault.SessionFault.{SessionFault}
+use Rattle.std.proofs.Common.{◌≡◌, ◌≢◌, ◌⊎◌, ◌∙◌, inl, inr, ap, refl, sym, subst, List, false, Option, Some, None, Result, Ok, Err}
 use Rattle.courier_messages.specs.declared.message.Message.{Message}
 use Rattle.courier_sessions.specs.Answering.{Answering, after_reject, why_unlisted}
 use Rattle.courier_sessions.specs.Pumping.{Side as PumpSide, Leads, here, on, one_step, Step, moving, feeds, feeding, caller_side, server_side, Settles, Refuses}
@@ -11,7 +9,6 @@ use Rattle.courier_sessions.specs.declared.unlisted.Unlisted.{Unlisted}
 use Rattle.xns_spp.specs.Sending.{after_take, take_answer}
 use Rattle.xns_spp.specs.State.{State}
 use Rattle.xns_spp.specs.declared.item.Item.{Item}
-use Rattle.xns_host.specs.Closing.{drains}
 use Rattle.xns_host.specs.Moving.{Led, Pumps, Rejects, rejects, Rounds, once, again, Converses, calms, starves, refuses, refuses_on, Moves, drains_only, converses, Scene}
 use Rattle.xns_host.specs.Story.{IsListed, is_stopped}
 use Rattle.xns_host.specs.declared.side.Side.{Side}

@@ -1,12 +1,12 @@
 -- What becomes of the connection in a place, and of all of them.
-use Rattle.std.proofs.Common.{◌≡◌, ◌≢◌, ◌∙◌, ◌<◌, ◌≤◌, ap, arith, refl, subst, sym, ℕ, List, Bool, true, false, Option, Some, None, Result, Ok, Err, OnOk, OnErr, get_or, length, slice_get, slice_set}
+use Rattle.std.proofs.Common.{◌≡◌, ◌∙◌, ◌<◌, ◌≤◌, ap, arith, refl, subst, sym, ℕ, List, Bool, true, false, Option, Some, None, Result, Ok, Err, OnOk, OnErr, get_or, length, slice_get, slice_set}
 use Rattle.std.specs.Prelude.{◌||◌, [], ◌∷◌, ◌++◌}
 use Rattle.std.specs.Option.{is_some, option_to_list}
 use Rattle.std.proofs.lemmas.List.{set-get_or}
 use Rattle.std.proofs.lemmas.Option.{slice_get-get_or, slice_get_read, slice_get_within}
 use Rattle.std.specs.declared.alloc.AllocError.{AllocError}
 use Rattle.courier_messages.specs.declared.message.Message.{Message}
-use Rattle.xns_agenda.specs.Agenda.{Plan, noted, released}
+use Rattle.xns_agenda.specs.Agenda.{Plan, noted}
 use Rattle.xns_agenda.specs.Times.{IsFirstBy}
 use Rattle.xns_agenda.specs.Turns.{has_turn, with_turn}
 use Rattle.xns_agenda.specs.declared.clock.Clock.{Clock}
@@ -15,11 +15,11 @@ use Rattle.xns_spp.specs.Receiving.{StoresBytes}
 use Rattle.xns_spp.specs.State.{State}
 use Rattle.xns_host.specs.Events.{event_in}
 use Rattle.xns_host.specs.Hosting.{IsAllNoted, IsThere, facts_in, is_done}
-use Rattle.xns_host.specs.Places.{ActsAll, ActsAt, AsksEvent, AsksInVain, AsksPacket, GivesNone, IsUnmoved, NextPacket, Places, Turns, became, nobody, noted_again, taken_by, vacated, event_passed, packet_passed, places_with, seated, vacated_if, quiet, tells}
+use Rattle.xns_host.specs.Places.{ActsAll, ActsAt, AsksEvent, AsksInVain, AsksPacket, GivesNone, IsUnmoved, NextPacket, Places, Turns, became, nobody, noted_again, taken_by, vacated, event_passed, places_with, vacated_if, quiet, tells}
 use Rattle.xns_host.specs.Step.{GivesNext, Hands}
 use Rattle.xns_host.specs.Story.{waiting_message}
 use Rattle.xns_host.specs.Strays.{StrayQueue}
-use Rattle.xns_host.specs.Went.{GuestActs, GuestGives, GuestHeard, GuestHears, GuestTells, InPlace, as_fault, given_by, hears, lost}
+use Rattle.xns_host.specs.Went.{GuestActs, GuestGives, GuestHeard, GuestHears, GuestTells, InPlace, given_by, hears, lost}
 use Rattle.xns_host.specs.declared.connection.Connection.{Connection}
 use Rattle.xns_host.specs.declared.event.Event.{Event}
 use Rattle.xns_host.specs.declared.guest.Guest.{Guest}

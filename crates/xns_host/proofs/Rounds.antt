@@ -1,5 +1,5 @@
 -- How far items move between a side and its end, as often as a call is rejected.
-use Rattle.std.proofs.Common.{◌≡◌, refl, sym, subst, ℕ, Bool, true, false, Option, Some, None, Result, Ok, Err, OnOk, OnErr}
+use Rattle.std.proofs.Common.{◌≡◌, refl, sym, subst, Bool, true, false, Option, Some, None, Result, Ok, Err}
 use Rattle.std.specs.declared.alloc.AllocError.{AllocError}
 use Rattle.courier_messages.specs.declared.message.Message.{Message}
 use Rattle.courier_sessions.specs.Answering.{Answering, why_unlisted, after_reject}
@@ -11,7 +11,7 @@ use Rattle.courier_sessions.specs.Pumping as pumping
 use Rattle.xns_host.specs.Moving.{Led, Pumps, Rejects, rejects, Rounds, again, Converses, refuses_on}
 use Rattle.xns_host.specs.Story.{is_stopped}
 use Rattle.xns_host.specs.declared.side.Side.{Side}
-use Rattle.xns_host.specs.declared.side.Side.TheVariants.{Calls, Answers}
+use Rattle.xns_host.specs.declared.side.Side.TheVariants.{Answers}
 
 pub rejects_one : (a n : Answering) (r : Result Bool AllocError)
     → ((m : Message) (u : Unlisted) → a.call ≡ Some m → why_unlisted a.programs m ≡ Some u → r ≡ Ok true → n ≡ after_reject a m u)

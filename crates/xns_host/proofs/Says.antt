@@ -1,24 +1,22 @@
 -- What a scene says of a story, and what the closing exchange does to that.
-use Rattle.std.proofs.Common.{◌≡◌, ◌∙◌, ap, sym, refl, subst, ℕ, zero, suc, ◌≤◌, ◌-◌, List, [], ◌∷◌, ◌++◌, append-nil, append_assoc, take, drop, length, Bool, true, false, Option, Some, None, Result, Ok, Err, arith}
+use Rattle.std.proofs.Common.{◌≡◌, ◌∙◌, ap, sym, refl, subst, ℕ, zero, suc, ◌≤◌, ◌-◌, List, [], ◌∷◌, ◌++◌, append-nil, append_assoc, take, drop, length, Bool, true, false, Option, Some, None, arith}
 use Rattle.std.specs.Prelude.{◌&&◌, ◌||◌, if◌then◌else◌, is_ok, not}
 use Rattle.courier_sessions.specs.Answering.{has_items}
-use Rattle.std.proofs.Math.Seq.{drop-length}
 use Rattle.xns_spp.specs.Fronts.{begins_then}
 use Rattle.xns_spp.specs.Growth.{Begins}
-use Rattle.xns_spp.specs.Held.{Held, StandsFor}
 use Rattle.xns_spp.specs.Laws.{TheNextItemIsHandedUp, ItemsAreAcceptedOrChangeNothing}
 use Rattle.xns_spp.specs.Sending.{send_answer, after_send, take_answer, after_take, waiting_count}
 use Rattle.xns_spp.specs.State.{State}
 use Rattle.xns_spp.specs.declared.item.Item.{Item}
 use Rattle.xns_host.specs.Closing.{drains, closing_items, closing_item, put_if, end_stream, end_reply_stream, noted, Knows}
-use Rattle.xns_host.specs.Moving.{Scene, scene, IsAt, noting, taken_one, taken_many, drained_out, may_end, may_reply, ended, replied, closed_up, deafened}
+use Rattle.xns_host.specs.Moving.{Scene, scene, IsAt, noting, taken_many, drained_out, may_end, may_reply, ended, replied, closed_up, deafened}
 use Rattle.xns_host.specs.Story.{Story, SideHas, Runs, start, sends, takes, is_stopped, out_of, has_call}
 use Rattle.xns_host.specs.Telling.{Tells}
 use Rattle.xns_host.specs.declared.closing.Closing.{Closing}
 use Rattle.xns_host.specs.declared.conversation.Conversation.{Conversation}
 use Rattle.xns_host.specs.declared.side.Side.{Side}
 use Rattle.xns_host.proofs.Leading.{runs_on}
-use Rattle.xns_host.proofs.Tellings.{has_at, after_taken, knows_taken, knows_still, KnowsToo, beside, same_closing, same_drains, nothing_said, never_false, never_free, deafened as deafens}
+use Rattle.xns_host.proofs.Tellings.{has_at, after_taken, knows_taken, knows_still, KnowsToo, beside, same_closing, same_drains, nothing_said, never_false, deafened as deafens}
 use Rattle.xns_host.proofs.Waits.{one_fewer, stays_true}
 
 -- a story, but for the history of its end, is one of this scene

@@ -1,10 +1,10 @@
 -- A conversation at its scene, step after step.
-use Rattle.std.proofs.Common.{◌≡◌, ◌≢◌, ◌∙◌, ap, refl, sym, subst, ℕ, zero, suc, ◌+◌, Bool, true, false, Option, Some, None, Result, Ok, Err, arith}
+use Rattle.std.proofs.Common.{◌≡◌, ◌≢◌, ◌∙◌, ap, refl, sym, subst, ℕ, suc, ◌+◌, Bool, true, false, Result, Ok, Err, arith}
 use Rattle.std.specs.Prelude.{◌&&◌, if◌then◌else◌, is_ok}
 use Rattle.courier_sessions.specs.declared.feed_refusal.FeedRefusal.{FeedRefusal}
 use Rattle.courier_sessions.specs.declared.feed_refusal.FeedRefusal.TheVariants.{Stopped, Busy, TooLong, Attention, Fault, NoMemory}
-use Rattle.xns_spp.specs.Held.{Held, StandsFor}
-use Rattle.xns_spp.specs.Sending.{waiting_count, send_answer}
+use Rattle.xns_spp.specs.Held.{StandsFor}
+use Rattle.xns_spp.specs.Sending.{send_answer}
 use Rattle.xns_spp.specs.State.{State}
 use Rattle.xns_host.specs.Closing.{closing_item, end_stream, end_reply_stream}
 use Rattle.xns_host.specs.Moving.{Scene, scene, IsAt, Moves, Settles, taken_one, taken_many, may_end, may_reply, ended, replied, closed_up, deafened}

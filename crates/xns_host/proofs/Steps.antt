@@ -1,5 +1,5 @@
 -- A step of a connection, from what moved.
-use Rattle.std.proofs.Common.{◌≡◌, ◌≢◌, ◌∙◌, ap, refl, sym, subst, ℕ, List, [], ◌∷◌, ◌++◌, Bool, true, false, Option, Some, None, Result, Ok, Err}
+use Rattle.std.proofs.Common.{◌≡◌, ◌≢◌, ◌∙◌, ap, refl, sym, subst, ℕ, List, [], ◌∷◌, ◌++◌, Bool, true, false, Option, Some, None, Result, Ok}
 use Rattle.std.specs.Prelude.{◌&&◌, ◌||◌, nat_lt, if◌then◌else◌}
 use Rattle.courier_sessions.specs.Answering.{answer_message, answer_refusal}
 use Rattle.courier_sessions.specs.declared.answer.Answer.{Answer}
@@ -13,10 +13,10 @@ use Rattle.xns_spp.specs.Sending.{waiting_count}
 use Rattle.xns_spp.specs.Telling.{unacknowledged_count}
 use Rattle.xns_spp.specs.declared.input.Input.{Input}
 use Rattle.xns_spp.specs.State.{State}
-use Rattle.xns_host.specs.Connecting.{goes_again, is_foreign, owed_after, owed_heard, wait_heard, why_after, why_given_up}
-use Rattle.xns_host.specs.Moving.{Scene, scene, IsAt, Settles, deafened}
+use Rattle.xns_host.specs.Connecting.{goes_again, is_foreign, owed_after, owed_heard, wait_heard, why_after}
+use Rattle.xns_host.specs.Moving.{Scene, scene, IsAt, Settles}
 use Rattle.xns_host.specs.Step.{HandsBy, HasReplied, May, Promises, Step, WaitsBy}
-use Rattle.xns_host.specs.Deeds.{Deed, Parts, acted, acted_by, gave, given_up, heard, Moved, GoesOnBy, closed_moved, done, is_starved, owed_by, owed_moved, shut, told_by, took, wait_by, wait_moved, wanted_by, with_answer}
+use Rattle.xns_host.specs.Deeds.{Deed, Parts, acted, acted_by, gave, heard, Moved, GoesOnBy, closed_moved, done, is_starved, owed_by, owed_moved, shut, told_by, took, wait_by, wait_moved, wanted_by, with_answer}
 use Rattle.xns_host.specs.Reasons.{answer_fault_of}
 use Rattle.xns_host.specs.Refusing.{Answers, answer_fault, side_answer_fault}
 use Rattle.xns_host.specs.Closed.{ClosesBy}
@@ -241,18 +241,6 @@ acts_by p a w o now is after owes stay =
     ap (λ (x : Waiting). let q : Parts = record p { wait = x; owed = o } in q) after
     ∙ (ap (λ (x : Owed). let q : Parts = record p { wait = after_act p.wait now; owed = x } in q) (owes ∙ ap (λ (b : Act). owed_after p.owed b) is)
     ∙ done_by p (act_at p.wait now) now (λ z. stay (is ∙ z)))
-
-pub gives_up_by : (p : Parts) (a : Act) (w : Waiting) (o : Owed) (why : Why) (now : ℕ) → a ≡ act_at p.wait now → w ≡ after_act p.wait now
-    → o ≡ owed_after p.owed a → a ≡ GiveUp → why ≡ why_given_up p.conversation.closing
-    → (let q : Parts = record p { conversation = given_up p.conversation; wait = w; owed = o; closed = Some why } in q) ≡ acted p now
-gives_up_by p a w o why now is after owes gives reason =
-    let act : act_at p.wait now ≡ GiveUp = sym is ∙ gives in
-    ap (λ (x : Waiting). let q : Parts = record p { conversation = given_up p.conversation; wait = x; owed = o; closed = Some why } in q)
-    (after ∙ ap (λ (b : Act). after_by p.wait b now) act)
-    ∙ (ap (λ (x : Owed). let q : Parts = record p { conversation = given_up p.conversation; wait = after_by p.wait GiveUp now; owed = x; closed = Some why } in q)
-    (owes ∙ ap (λ (b : Act). owed_after p.owed b) gives)
-    ∙ (ap (λ (x : Why). let q : Parts = record p { conversation = given_up p.conversation; wait = after_by p.wait GiveUp now; closed = Some x } in q) reason
-    ∙ ap (λ (b : Act). acted_by p b now) (sym act)))
 
 -- ---- a message that is handed
 

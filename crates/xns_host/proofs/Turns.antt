@@ -1,8 +1,8 @@
 -- A step of a host from one of the connection in a place.
-use Rattle.std.proofs.Common.{◌≡◌, ◌≢◌, ◌<◌, ◌∙◌, ap, refl, sym, subst, ℕ, List, Option, Some, None, Result, Ok, Err, OnOk, OnErr, get_or, slice_get, slice_set, length, true}
+use Rattle.std.proofs.Common.{◌≡◌, ◌<◌, ◌∙◌, ap, refl, sym, subst, ℕ, List, Option, Some, None, Result, Ok, Err, OnOk, OnErr, get_or, slice_get, slice_set, length, true}
 use Rattle.std.proofs.lemmas.Option.{slice_get_read}
-use Rattle.xns_host.specs.Deeds.{Deed, asked, gave, made, told_by, with_answer}
-use Rattle.xns_host.specs.Hosting.{HasNoneDone, IsApart, IsNotDone, IsNotDoneIn, has_guest}
+use Rattle.xns_host.specs.Deeds.{Deed, gave, told_by, with_answer}
+use Rattle.xns_host.specs.Hosting.{HasNoneDone, IsApart, IsNotDoneIn, has_guest}
 use Rattle.xns_host.specs.Knowing.{known_in, known_of}
 use Rattle.xns_host.specs.Registered.{FitsEnd, FitsEndIn, IsAllRegistered}
 use Rattle.xns_host.specs.Story.{Story, asked_of}
@@ -90,15 +90,6 @@ went_set t u deed gs n old v same less read w =
 
 pub in_place : (now : ℕ) (deed : Deed) (old : Option Guest) (g h : Guest) → old ≡ Some g → GuestStep now deed g h → Went now deed (Some old) (Some (Some h))
 in_place now deed old g h is step = subst (λ (p : Option Guest). Went now deed (Some p) (Some (Some h))) (sym is) step
-
-pub in_place_if : (now : ℕ) (deed : Deed) (r : Result (Unit {0}) HostFault) (old : Option Guest) (g h : Guest) → old ≡ Some g → OnOk r (GuestStep now deed g h)
-    → OnOk r (Went now deed (Some old) (Some (Some h)))
-in_place_if now deed (Ok u) old g h is step = in_place now deed old g h is step
-in_place_if now deed (Err e) old g h is step = tt
-
-pub stays_if : (r : Result (Unit {0}) HostFault) (old : Option Guest) (g h : Guest) → old ≡ Some g → OnErr r (h ≡ g) → OnErr r (Some h ≡ old)
-stays_if (Ok u) old g h is same = tt
-stays_if (Err e) old g h is same = ap Some same ∙ sym is
 
 pub is_there : (gs : Places) (n : ℕ) (old : Option Guest) (g : Guest) → n < length gs → old ≡ get_or gs n old → old ≡ Some g
     → slice_get gs n ≡ Some (Some g)

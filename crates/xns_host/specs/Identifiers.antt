@@ -62,10 +62,6 @@ pub record TurnsOver (old new : Ids) (id : ℕ) : Type 0 where
 abbrev pub StaysInOrder : (old new : Ids) → Type 0
 StaysInOrder old new = new.ahead ≡ old.ahead
 
--- at most one was given
-abbrev pub GivesOneAtMost : (old new : Ids) → Type 0
-GivesOneAtMost old new = StaysInOrder old new ⊎ ((id : ℕ) × TurnsOver old new id)
-
 -- an identifier was given, and who had which one then
 pub record Turn : Type 0 where
   pub given : ℕ

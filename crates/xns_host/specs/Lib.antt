@@ -6,6 +6,7 @@ pub mod Coming
 pub mod Connecting
 pub mod Deeds
 pub mod Events
+pub mod Following
 pub mod Giving
 pub mod Hosting
 pub mod Identifiers
@@ -28,3 +29,4 @@ pub mod Strays
 pub mod Telling
 pub mod Turn
 pub mod Went
+pub mod Whole

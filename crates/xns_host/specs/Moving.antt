@@ -4,7 +4,6 @@ use Rattle.courier_messages.specs.declared.message.Message.{Message}
 use Rattle.courier_sessions.specs.Answering.{Answering, has_items, why_unlisted, after_reject}
 use Rattle.courier_sessions.specs.Pumping as pumping
 use Rattle.courier_sessions.specs.Pumping.{caller_side, server_side}
-use Rattle.courier_sessions.specs.Talk.{Talk}
 use Rattle.courier_sessions.specs.declared.feed_refusal.FeedRefusal.{FeedRefusal}
 use Rattle.courier_sessions.specs.declared.feed_refusal.FeedRefusal.TheVariants.{Stopped, Busy, TooLong, Attention, Fault, NoMemory}
 use Rattle.courier_sessions.specs.declared.unlisted.Unlisted.{Unlisted}

@@ -1,5 +1,5 @@
 -- Which packets are a host's.
-use Rattle.std.specs.Prelude.{◌≡◌, ◌≢◌, ℕ, List, true, Option, Some, None, Ok, slice_get}
+use Rattle.std.specs.Prelude.{◌≡◌, ◌≢◌, ℕ, List, true, Some, None, Ok, slice_get}
 use Rattle.xns_idp.specs.Packet.{PacketModel}
 use Rattle.xns_idp.specs.Reading.{packet_of}
 use Rattle.xns_idp.specs.declared.packet_type.TheConstants.{ERROR}
@@ -14,8 +14,8 @@ use Rattle.xns_host.specs.Register.{owner_in}
 use Rattle.xns_host.specs.Registered.{named_in}
 use Rattle.xns_host.specs.Services.{programs_at}
 use Rattle.xns_host.specs.Strays.{echo_socket}
+use Rattle.xns_host.specs.Whole.{Whole}
 use Rattle.xns_host.specs.declared.guest.Guest.{Guest}
-use Rattle.xns_host.specs.declared.host.Host.{Host}
 use Rattle.xns_host.specs.declared.opening_quote.OpeningQuote.{OpeningQuote}
 
 -- the packet is one of this connection
@@ -27,33 +27,36 @@ abbrev pub IsToOpen : OpeningQuote → Guest → Type 0
 IsToOpen q g = (s : State) → StandsFor g.connection.conversation.endpoint s → is_opened_by g s q ≡ true
 
 -- a packet to this host names a connection of it, and is one of that
-pub record Names (h : Host) (p : SppPacketModel) : Type 0 where
-  pub here : p.target.host ≡ h.host
+pub record Names (w : Whole) (p : SppPacketModel) : Type 0 where
+  pub here : p.target.host ≡ w.host
   pub number : ℕ
-  pub named : named_in h.register p ≡ Some number
-  pub there : IsThere (IsOf p) (slice_get h.guests.items number)
+  pub named : named_in w.register p ≡ Some number
+  pub there : IsThere (IsOf p) (slice_get w.places.guests number)
 
 -- a packet to this host opens a connection, where there is room: it names none, its sender has an identifier, and its socket is served
-pub record IsOpener (h : Host) (p : SppPacketModel) : Type 0 where
-  pub here : p.target.host ≡ h.host
-  pub unnamed : named_in h.register p ≡ None
+pub record IsOpener (w : Whole) (p : SppPacketModel) : Type 0 where
+  pub here : p.target.host ≡ w.host
+  pub unnamed : named_in w.register p ≡ None
   pub opener : opener_of p ≢ None
-  pub served : programs_at h.services.programs p.target.socket ≢ None
+  pub served : programs_at w.services.programs p.target.socket ≢ None
 
 -- an Error packet to this host quotes the packet that was to open a connection of it, which is not open yet
-pub record QuotesOurs (h : Host) (p : PacketModel) : Type 0 where
+pub record QuotesOurs (w : Whole) (p : PacketModel) : Type 0 where
   pub kind : p.kind ≡ ERROR
-  pub here : p.target.host ≡ h.host
+  pub here : p.target.host ≡ w.host
   pub quote : OpeningQuote
   pub quoted : quoted_opening p.body ≡ Some quote
   pub number : ℕ
-  pub owner : owner_in h.register.identifiers quote.id ≡ Some number
-  pub there : IsThere (IsToOpen quote) (slice_get h.guests.items number)
+  pub owner : owner_in w.register.identifiers quote.id ≡ Some number
+  pub there : IsThere (IsToOpen quote) (slice_get w.places.guests number)
+
+-- a packet asks this host for an Echo reply
+abbrev pub AsksEcho : Whole → PacketModel → Type 0
+AsksEcho w p = IsAnswered (address_in w.network w.host echo_socket) p
 
 -- these bytes are a packet that is the host's: an Echo request to it, or one of those
-pub data IsOurs (h : Host) (bytes : List ℕ) : Type 0 where
-  asks : (p : PacketModel) (taken : ℕ) → packet_of bytes ≡ Ok (p, taken) → IsAnswered (address_in h.network h.host echo_socket) p
-      → IsOurs h bytes
-  quotes : (p : PacketModel) (taken : ℕ) → packet_of bytes ≡ Ok (p, taken) → QuotesOurs h p → IsOurs h bytes
-  names : (p : SppPacketModel) → spp_packet_of bytes ≡ Ok p → Names h p → IsOurs h bytes
-  opens : (p : SppPacketModel) → spp_packet_of bytes ≡ Ok p → IsOpener h p → IsOurs h bytes
+pub data IsOurs (w : Whole) (bytes : List ℕ) : Type 0 where
+  asks : (p : PacketModel) (taken : ℕ) → packet_of bytes ≡ Ok (p, taken) → AsksEcho w p → IsOurs w bytes
+  quotes : (p : PacketModel) (taken : ℕ) → packet_of bytes ≡ Ok (p, taken) → QuotesOurs w p → IsOurs w bytes
+  names : (p : SppPacketModel) → spp_packet_of bytes ≡ Ok p → Names w p → IsOurs w bytes
+  opens : (p : SppPacketModel) → spp_packet_of bytes ≡ Ok p → IsOpener w p → IsOurs w bytes

@@ -10,6 +10,7 @@ use Rattle.xns_host.specs.Went.{GuestActs, GuestGives, GuestTells}
 use Rattle.xns_host.specs.declared.event.Event.{Event}
 use Rattle.xns_host.specs.declared.guest.Guest.{Guest}
 use Rattle.xns_host.specs.declared.host_fault.HostFault.{HostFault}
+use Rattle.xns_host.specs.declared.host_fault.HostFault.TheVariants.{NoMemory}
 use Rattle.xns_host.specs.declared.outgoing.Outgoing.{Outgoing}
 
 -- ---- places
@@ -122,5 +123,5 @@ pub data NextPacket (now : ℕ) (p : Places) : Result (Option Outgoing) HostFaul
   nothing : {q : Places} → GivesNone now p q → HasNoTurn q.agenda.packets → NextPacket now p (Ok None) q
   gives : {q r : Places} {packet : Outgoing} (number : ℕ) → GivesNone now p q → IsFirst q.agenda.packets number
       → AsksPacket now number (Ok (Some packet)) q r → NextPacket now p (Ok (Some packet)) r
-  starves : {q r : Places} {fault : HostFault} (number : ℕ) → GivesNone now p q → IsFirst q.agenda.packets number
-      → AsksPacket now number (Err fault) q r → NextPacket now p (Err fault) r
+  starves : {q r : Places} (number : ℕ) → GivesNone now p q → IsFirst q.agenda.packets number → AsksPacket now number (Err NoMemory) q r
+      → NextPacket now p (Err NoMemory) r

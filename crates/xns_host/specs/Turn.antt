@@ -4,7 +4,7 @@ use Rattle.std.specs.BTreeMap.{btree_map_len}
 use Rattle.courier_sessions.specs.declared.program.Program.{Program}
 use Rattle.xns_idp.specs.declared.address.Address.{Address}
 use Rattle.xns_agenda.specs.Agenda.{noted}
-use Rattle.xns_host.specs.Coming.{Comes, Whole}
+use Rattle.xns_host.specs.Coming.{Comes}
 use Rattle.xns_host.specs.Deeds.{Deed}
 use Rattle.xns_host.specs.Hosting.{IsApart, IsConnected, IsPlace, address_in, facts_in}
 use Rattle.xns_host.specs.Identifiers.{StaysInOrder, TurnsOver}
@@ -12,6 +12,7 @@ use Rattle.xns_host.specs.Places.{ActsAll, NextEvent, NextPacket, Places, places
 use Rattle.xns_host.specs.Services.{Serves, most_services, programs_at}
 use Rattle.xns_host.specs.Standing.{StaysSetUpAt}
 use Rattle.xns_host.specs.Went.{Went}
+use Rattle.xns_host.specs.Whole.{Whole}
 use Rattle.xns_host.specs.declared.event.Event.{Event}
 use Rattle.xns_host.specs.declared.guest.Guest.{Guest}
 use Rattle.xns_host.specs.declared.host.Host.{Host}

@@ -1,11 +1,10 @@
 //! A connection in its place at a host.
 
-ghost use Rattle.std.specs.Prelude.{◌≡◌, ℕ, List, ◌||◌, OnErr, OnOk, Ok, None, Some, true, false};
+ghost use Rattle.std.specs.Prelude.{◌≡◌, ℕ, List, OnErr, OnOk, Ok, None, Some, true};
 ghost use Rattle.xns_host.specs.Hosting.{IsNotDone, facts_of, lingers_since, may_go, stranger_since};
-ghost use Rattle.xns_spp.specs.Ends.{is_open};
 ghost use Rattle.xns_spp.specs.Held.{StandsFor};
 ghost use Rattle.xns_spp.specs.Packet.{IsSppPacket, spp_packet_of};
-ghost use Rattle.xns_spp.specs.Receiving.{StoresBytes, after_receive};
+ghost use Rattle.xns_spp.specs.Receiving.{StoresBytes};
 ghost use Rattle.xns_spp.specs.State.{State};
 ghost use Rattle.courier_messages.specs.RawCalls.{words_call};
 ghost use Rattle.xns_host.specs.Deeds.{asked, gave, made};
@@ -13,11 +12,8 @@ ghost use Rattle.xns_host.specs.Quotes.{is_opened_by};
 ghost use Rattle.xns_host.specs.Reasons.{call_fault_of, answer_fault_of};
 ghost use Rattle.xns_host.specs.Refusing.{Answers};
 ghost use Rattle.xns_host.specs.Went.{GuestHeard, GuestStep, GuestUnserved};
-ghost use Rattle.xns_host.specs.Step.{ClosesFrom, HasReplied};
-ghost use Rattle.xns_host.specs.Knowing.{known_of, news_of};
+ghost use Rattle.xns_host.specs.Knowing.{known_of};
 ghost use Rattle.xns_host.specs.Telling.{Goes, Hears};
-ghost use Rattle.xns_agenda.specs.Waiting.{HearsAt, StepsAt, lingering};
-ghost use Rattle.xns_host.specs.declared.why.Why.TheVariants.{NotServed};
 
 use crate::connection::Connection;
 use crate::host_fault::HostFault;
@@ -62,12 +58,7 @@ impl Guest {
         ensures unchanged { OnErr result (self.new ≡ self.old) }
         ensures memory { OnErr result ((s : State) (b : List ℕ) → StandsFor self.old.connection.conversation.endpoint s
             → spp_packet_of b ≡ Ok packet.now → StoresBytes s b) }
-        ensures replied { OnOk result (HasReplied self.old.connection self.new.connection) }
-        ensures closes { OnOk result ((b : List ℕ) → spp_packet_of b ≡ Ok packet.now
-            → ClosesFrom self.old.connection self.new.connection (λ h. record h { state = after_receive h.state b })) }
-        ensures steps { OnOk result (HearsAt now self.old.connection.wait self.new.connection.wait) }
         ensures known { known_of self.new ≡ known_of self.old }
-        ensures news { OnOk result (news_of self.new ≡ (confirms || self.old.confirmed, self.old.heard_of)) }
         ensures not_done { IsNotDone self.old.connection → IsNotDone self.new.connection }
         ensures heard { OnOk result ((b : List ℕ) → spp_packet_of b ≡ Ok packet.now → GuestHeard now b confirms self.old self.new) }
     {
@@ -121,12 +112,7 @@ impl Guest {
     /// Nobody hears the packet that was to open the connection: it is closed, unless it is open or closed.
     pub fn not_served(&mut self, now: u64)
         ensures goes { Goes self.old.connection.conversation self.new.connection.conversation }
-        ensures not_served { (s : State) → StandsFor self.old.connection.conversation.endpoint s → is_open s.ends ≡ false
-            → self.old.connection.closed ≡ None → (self.new.connection.closed ≡ Some NotServed)
-            × (self.new.connection.wait ≡ lingering self.old.connection.wait now) }
-        ensures steps { StepsAt now self.old.connection.wait self.new.connection.wait }
         ensures known { known_of self.new ≡ known_of self.old }
-        ensures news { news_of self.new ≡ news_of self.old }
         ensures not_done { IsNotDone self.old.connection → IsNotDone self.new.connection }
         ensures unserved { GuestUnserved now self.old self.new }
     {

@@ -11,6 +11,7 @@ ghost use Rattle.xns_spp.specs.declared.item.Item.{Item};
 ghost use Rattle.xns_host.specs.Acting.{Acts, IsTold};
 ghost use Rattle.xns_host.specs.Agreeing.{handed_up, HasCalled, HasServed, ArePeers, IsClosing, Agree};
 ghost use Rattle.xns_host.specs.Closing.{drains};
+ghost use Rattle.xns_host.specs.Following.{AConnectionHearsItsPackets, AQuotedOpeningIsNotServed, ASilentHostHasNothingToTell, AnIdleHostHasNoPacket};
 ghost use Rattle.xns_host.specs.Identifiers.{IsOrder, Ids, Turn, Given, HadTurn, most_id};
 ghost use Rattle.xns_host.specs.Living.{Deeds, no_deeds, Lives, IsLived, ProgramsAgree};
 ghost use Rattle.xns_host.specs.Step.{AStepHasOneEnd, AStepKeepsItsPromises};
@@ -119,3 +120,16 @@ pub fn peers_refuse_nothing()
     courier_messages::laws::message_items_can_be_sent();
     courier_sessions::laws::sessions_agree();
 }
+
+/// Where a host tells no event, no connection has anything to tell; where it gives no packet, none of a connection may be to go out.
+pub fn nothing_is_left()
+    ensures event { ASilentHostHasNothingToTell }
+    ensures packet { AnIdleHostHasNoPacket }
+{}
+
+/// Each connection hears the packets that are its own, and an Error packet that quotes what was to open it closes it as not served,
+/// unless it is open or closed: both are the host's.
+pub fn packets_come_to_their_connections()
+    ensures sequenced { AConnectionHearsItsPackets }
+    ensures error { AQuotedOpeningIsNotServed }
+{}

@@ -1,35 +1,28 @@
 //! What is done of one of a host's connections, in its place.
 
-ghost use Rattle.std.specs.Prelude.{◌≡◌, ◌≢◌, ◌<◌, ◌∷◌, ◌++◌, ◌||◌, ℕ, List, [], Option, length, false, IfOk, IfSome, OnErr, OnOk, Some, None, Ok, Err};
+ghost use Rattle.std.specs.Prelude.{◌≡◌, ◌≢◌, ◌<◌, ℕ, List, Option, length, false, IfOk, Some, None, Ok, Err};
 ghost use Rattle.std.specs.Prelude.{count_by, replicate, slice_get, slice_set, true};
 ghost use Rattle.std.specs.Option.{is_some};
-ghost use Rattle.courier_messages.specs.RawCalls.{words_call};
 ghost use Rattle.xns_spp.specs.Ends.{is_ours_at};
 ghost use Rattle.xns_spp.specs.Packet.{IsSppPacket, spp_packet_of};
 ghost use Rattle.xns_host.specs.Events.{event_in, event_of};
-ghost use Rattle.xns_host.specs.Hosting.{HasHeard, HasToldIn, HearsIn, IsAllNoted, IsApart, IsAsked, IsGiven, IsNotServed, IsNotedBut};
-ghost use Rattle.xns_host.specs.Hosting.{IsNotDoneIn, IsThere, LedTo, WentOn, facts_in, is_done};
+ghost use Rattle.xns_host.specs.Hosting.{IsAllNoted, IsApart, IsNotedBut};
+ghost use Rattle.xns_host.specs.Hosting.{IsNotDoneIn, IsThere, facts_in, is_done};
 ghost use Rattle.xns_spp.specs.Held.{StandsFor};
 ghost use Rattle.xns_spp.specs.State.{State};
 ghost use Rattle.xns_host.specs.Ours.{IsOf, IsToOpen};
 ghost use Rattle.xns_host.specs.Quotes.{is_opened_by};
 ghost use Rattle.xns_host.specs.Identifiers.{StaysInOrder};
-ghost use Rattle.xns_host.specs.Knowing.{known_in, news_in};
+ghost use Rattle.xns_host.specs.Knowing.{known_in};
 ghost use Rattle.xns_host.specs.Registered.{FitsEnd, FitsEndIn, HasLeft, HasRegistered, IsAllRegistered};
-ghost use Rattle.xns_host.specs.Story.{asked_of, waiting_message};
-ghost use Rattle.xns_host.specs.Telling.{Goes, Keeps};
-ghost use Rattle.courier_sessions.specs.Answering.{answer_message};
-ghost use Rattle.xns_host.specs.Reasons.{call_fault_of, answer_fault_of};
-ghost use Rattle.xns_host.specs.Refusing.{Answers};
 ghost use Rattle.xns_agenda.specs.Agenda.{noted, released};
 ghost use Rattle.xns_agenda.specs.Turns.{with_turn};
-ghost use Rattle.xns_host.specs.Hosting.{HasActedIn, StepsIn};
+ghost use Rattle.xns_host.specs.Hosting.{HasActedIn};
 ghost use Rattle.xns_agenda.specs.Waiting.{last_time};
 ghost use Rattle.xns_host.specs.Places.{places_with, taken_by, vacated, vacated_if};
 ghost use Rattle.xns_host.specs.Went.{GuestActs, GuestGives, GuestHears, GuestTells, GuestUnserved, InPlace, as_fault};
 ghost use Rattle.xns_host.specs.declared.guest.Guest.{Guest};
 ghost use Rattle.xns_host.specs.declared.outgoing.Outgoing.{Outgoing};
-ghost use Rattle.xns_host.specs.declared.host_fault.HostFault.TheVariants.{NoConnection};
 
 use crate::event::Event;
 use crate::guest::Guest;
@@ -210,10 +203,7 @@ pub fn put_in(
 /// Does what is due of the connection of a place; whether it may be forgotten then.
 pub fn act_in(slot: &mut Option<Guest>, now: u64) -> bool
     ensures done { result ≡ is_done slot.new }
-    ensures goes { (g : Guest) → slot.old ≡ Some g → LedTo Goes g.connection slot.new }
-    ensures keeps { (g : Guest) → slot.old ≡ Some g → LedTo Keeps g.connection slot.new }
     ensures known { known_in slot.new ≡ known_in slot.old }
-    ensures news { news_in slot.new ≡ news_in slot.old }
     ensures fits { (g : Guest) → slot.old ≡ Some g → FitsEnd g → FitsEndIn slot.new }
     ensures not_done { is_done slot.new ≡ false → IsNotDoneIn slot.old → IsNotDoneIn slot.new }
     ensures acts { now < last_time → (g : Guest) → slot.old ≡ Some g → HasActedIn now g.connection slot.new }
@@ -228,17 +218,13 @@ pub fn act_in(slot: &mut Option<Guest>, now: u64) -> bool
 
 /// Closes the connection of a place, if it is the one that a quoted packet was to open; whether it is.
 pub fn not_served_in(slot: &mut Option<Guest>, now: u64, quote: &OpeningQuote) -> bool
-    ensures closed { (g : Guest) (s : State) → slot.old ≡ Some g → StandsFor g.connection.conversation.endpoint s
-        → is_opened_by g s quote.now ≡ true → g.connection.closed ≡ None → (result ≡ true) × IsNotServed now g.connection slot.new }
-    ensures ours { result ≡ true → IsThere (IsToOpen quote.now) (Some slot.old) }
-    ensures goes { (g : Guest) → slot.old ≡ Some g → LedTo Goes g.connection slot.new }
-    ensures steps { (g : Guest) → slot.old ≡ Some g → StepsIn now g.connection (Some slot.new) }
+    ensures turn { result ≡ true → IsThere (IsToOpen quote.now) (Some slot.old) × InPlace (GuestUnserved now) slot.old slot.new }
+    ensures foreign { result ≡ false → (g : Guest) (s : State) → slot.old ≡ Some g → StandsFor g.connection.conversation.endpoint s
+        → is_opened_by g s quote.now ≡ false }
     ensures unchanged { result ≡ false → slot.new ≡ slot.old }
     ensures known { known_in slot.new ≡ known_in slot.old }
-    ensures news { news_in slot.new ≡ news_in slot.old }
     ensures fits { (g : Guest) → slot.old ≡ Some g → FitsEnd g → FitsEndIn slot.new }
     ensures not_done { IsNotDoneIn slot.old → IsNotDoneIn slot.new }
-    ensures turn { result ≡ true → InPlace (GuestUnserved now) slot.old slot.new }
 {
     let Some(guest) = slot else {
         return false;
@@ -259,18 +245,14 @@ pub fn hear_in(
     packet: &SppPacket,
 ) -> bool
     requires { IsSppPacket packet.now }
-    ensures hears { (b : List ℕ) → spp_packet_of b ≡ Ok packet.now → HearsIn now b confirms (Some slot.old) (Some slot.new) }
-    ensures heard { (b : List ℕ) (g : Guest) (s : State) → spp_packet_of b ≡ Ok packet.now → slot.old ≡ Some g
-        → StandsFor g.connection.conversation.endpoint s → is_ours_at s.ends packet.now ≡ true
-        → (result ≡ true) × HasHeard b confirms g slot.new }
-    ensures ours { result ≡ true → IsThere (IsOf packet.now) (Some slot.old) }
+    ensures turn { result ≡ true → IsThere (IsOf packet.now) (Some slot.old)
+        × ((b : List ℕ) → spp_packet_of b ≡ Ok packet.now → InPlace (GuestHears now b confirms) slot.old slot.new) }
+    ensures foreign { result ≡ false → (g : Guest) (s : State) → slot.old ≡ Some g → StandsFor g.connection.conversation.endpoint s
+        → is_ours_at s.ends packet.now ≡ false }
     ensures unchanged { result ≡ false → slot.new ≡ slot.old }
     ensures known { known_in slot.new ≡ known_in slot.old }
     ensures fits { (g : Guest) → slot.old ≡ Some g → FitsEnd g → FitsEndIn slot.new }
     ensures not_done { IsNotDoneIn slot.old → IsNotDoneIn slot.new }
-    ensures turn { result ≡ true → (b : List ℕ) → spp_packet_of b ≡ Ok packet.now → InPlace (GuestHears now b confirms) slot.old slot.new }
-    ensures foreign { result ≡ false → (g : Guest) (s : State) → slot.old ≡ Some g → StandsFor g.connection.conversation.endpoint s
-        → is_ours_at s.ends packet.now ≡ false }
 {
     let Some(guest) = slot else {
         return false;
@@ -286,9 +268,6 @@ pub fn hear_in(
 /// What the connection of a place, with this number, has to tell, once. `None`: nothing.
 pub fn event_in(slot: &mut Option<Guest>, alloc: Global, now: u64, number: usize) -> Option<Event>
     ensures event { result ≡ event_in number slot.old }
-    ensures told { (g : Guest) → slot.old ≡ Some g → result ≢ None → HasToldIn now g.connection slot.new }
-    ensures news { (g : Guest) → slot.old ≡ Some g → result ≢ None
-        → news_in slot.new ≡ Some (g.confirmed, is_some (waiting_message g.connection.conversation.side) || g.heard_of) }
     ensures none { result ≡ None → slot.new ≡ slot.old }
     ensures known { known_in slot.new ≡ known_in slot.old }
     ensures fits { (g : Guest) → slot.old ≡ Some g → FitsEnd g → FitsEndIn slot.new }
@@ -324,14 +303,9 @@ pub fn packet_in(
     now: u64,
 ) -> Result<Option<Outgoing>, AllocError>
     ensures rested { result ≡ Ok None → (facts_in slot.new).has_packet ≡ false }
-    ensures given { IfOk result (λ made. IfSome made (λ o. IsGiven (Some slot.old) (Some slot.new) o)) }
-    ensures goes { (g : Guest) → slot.old ≡ Some g → LedTo Goes g.connection slot.new }
-    ensures keeps { ((o : Outgoing) → result ≢ Ok (Some o)) → (g : Guest) → slot.old ≡ Some g → LedTo Keeps g.connection slot.new }
     ensures known { known_in slot.new ≡ known_in slot.old }
-    ensures news { news_in slot.new ≡ news_in slot.old }
     ensures fits { (g : Guest) → slot.old ≡ Some g → FitsEnd g → FitsEndIn slot.new }
     ensures not_done { IsNotDoneIn slot.old → IsNotDoneIn slot.new }
-    ensures steps { (g : Guest) → slot.old ≡ Some g → StepsIn now g.connection (Some slot.new) }
     ensures turn { InPlace (GuestGives now (as_fault result)) slot.old slot.new }
 {
     let Some(guest) = slot else {

@@ -6,7 +6,7 @@ use Rattle.std.proofs.lemmas.Grind.{flat_map-append}
 use Rattle.courier_calls.specs.Calls.{CallModel}
 use Rattle.item_world.specs.declared.event.Event.{Event}
 use Rattle.xns_script.specs.Command.{CommandModel, calls, command_of, happens, skips}
-use Rattle.xns_script.specs.Script.{command_call, calls_in, command_event, events_in, first_refused, refused_from, refused_or}
+use Rattle.xns_script.specs.Script.{command_call, script_calls, command_event, script_events, first_refused, refused_from, refused_or}
 
 abbrev or_later : Option ℕ → Option ℕ → Option ℕ
 or_later None later = later
@@ -25,7 +25,7 @@ refused_from-append n (x ∷ lines) line =
 
 -- what a script stands for
 abbrev pub Read : Option ℕ → List CallModel → List Event → List (List ℕ) → Type 0
-Read refused made events lines = (refused ≡ first_refused lines) × IfNone refused ((made ≡ calls_in lines) × (events ≡ events_in lines))
+Read refused made events lines = (refused ≡ first_refused lines) × IfNone refused ((made ≡ script_calls lines) × (events ≡ script_events lines))
 
 -- after a refused line nothing is read
 pub stays : (refused : Option ℕ) (made : List CallModel) (events : List Event) (lines : List (List ℕ)) (line : List ℕ) → true ≡ is_some refused → Read refused made events lines → Read refused made events (lines ++ line ∷ [])
@@ -53,8 +53,8 @@ reads (Some n) made events lines line command e c h = absurd cc
 reads None made events lines line command e c h = (
   ap (λ o. refused_or (1 + length lines) o None) c ∙ ap (λ r. or_later r (refused_or (1 + length lines) (command_of line) None)) h.0 ∙ sym (refused_from-append 1 lines line),
   (
-    ap (λ cs. cs ++ command_call (Some command)) h.1.0 ∙ ap (λ cs. calls_in lines ++ cs) (sym (one_call line (Some command) c)) ∙ sym (flat_map-append (λ l. command_call (command_of l)) lines (line ∷ [])),
-    ap (λ es. es ++ command_event (Some command)) h.1.1 ∙ ap (λ es. events_in lines ++ es) (sym (one_event line (Some command) c)) ∙ sym (flat_map-append (λ l. command_event (command_of l)) lines (line ∷ [])),
+    ap (λ cs. cs ++ command_call (Some command)) h.1.0 ∙ ap (λ cs. script_calls lines ++ cs) (sym (one_call line (Some command) c)) ∙ sym (flat_map-append (λ l. command_call (command_of l)) lines (line ∷ [])),
+    ap (λ es. es ++ command_event (Some command)) h.1.1 ∙ ap (λ es. script_events lines ++ es) (sym (one_event line (Some command) c)) ∙ sym (flat_map-append (λ l. command_event (command_of l)) lines (line ∷ [])),
   ),
 )
 

@@ -1,4 +1,4 @@
--- Calls that a line can make may be made of the tally.
+-- The calls that a line can say: each may be made of the tally.
 use Rattle.std.specs.Prelude.{◌==◌, ◌&&◌, Bool, true, false, if◌then◌else◌, nat_le, nat_lt, List, length}
 use Rattle.std.specs.List.{list_all}
 use Rattle.courier_messages.specs.RawCalls.{most_call_words}

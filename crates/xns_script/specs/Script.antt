@@ -17,19 +17,19 @@ command_event (Some (calls c)) = []
 command_event (Some skips) = []
 command_event None = []
 
--- the calls in order, wherever their lines stand
-abbrev pub calls_in : List (List ℕ) → List CallModel
-calls_in lines = flat_map (λ line. command_call (command_of line)) lines
+-- the calls of a script in order, wherever their lines stand
+abbrev pub script_calls : List (List ℕ) → List CallModel
+script_calls lines = flat_map (λ line. command_call (command_of line)) lines
 
--- the events in order
-abbrev pub events_in : List (List ℕ) → List Event
-events_in lines = flat_map (λ line. command_event (command_of line)) lines
+-- the events of a script in order
+abbrev pub script_events : List (List ℕ) → List Event
+script_events lines = flat_map (λ line. command_event (command_of line)) lines
 
 abbrev pub refused_or : ℕ → Option CommandModel → Option ℕ → Option ℕ
 refused_or n None later = Some n
 refused_or n (Some c) later = later
 
--- the number of the first line that is refused, where the first of these has number n
+-- the number of the first line that is refused; the first of the lines has number n
 abbrev pub refused_from : ℕ → List (List ℕ) → Option ℕ
 refused_from n [] = None
 refused_from n (line ∷ lines) = refused_or n (command_of line) (refused_from (n + 1) lines)

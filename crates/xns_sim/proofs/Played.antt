@@ -11,7 +11,7 @@ use Rattle.courier_calls.specs.declared.call.Call.{Call}
 use Rattle.courier_calls.specs.declared.call.Seen.{Seen}
 use Rattle.xns_lines.specs.Report.{ReportModel, whole}
 use Rattle.xns_script.specs.Reading.{HasRead}
-use Rattle.xns_script.specs.Script.{calls_in, events_in}
+use Rattle.xns_script.specs.Script.{script_calls, script_events}
 use Rattle.xns_script.specs.declared.script.Script.{Script}
 use Rattle.xns_world.specs.CallPlay.{IsCallTrace, parties}
 use Rattle.xns_world.specs.CallWorld.{CallWorld, Parties, carried_at, run_calls, seen_at, service_at}
@@ -78,10 +78,10 @@ pub refusal_said : (s : Script) (lines : List (List ℕ)) (o : Option ℕ) (n : 
 unfolding script_text
 refusal_said s lines o n text before is some empty said h =
     said ∙ ap (λ t. t ++ (decimal n ++ codes " refused\n")) empty
-    ∙ sym (ap (λ (r : Option ℕ). refusal_or_play r (calls_in lines) (events_in lines)) (sym h.refused ∙ sym is ∙ some))
+    ∙ sym (ap (λ (r : Option ℕ). refusal_or_play r (script_calls lines) (script_events lines)) (sym h.refused ∙ sym is ∙ some))
 
 abbrev Kept : Script → List (List ℕ) → Option ℕ → Type 0
-Kept s lines o = IfNone o ((map call_model s.calls.items ≡ calls_in lines) × (s.events.items ≡ events_in lines))
+Kept s lines o = IfNone o ((map call_model s.calls.items ≡ script_calls lines) × (s.events.items ≡ script_events lines))
 
 pub play_said : (s : Script) (lines : List (List ℕ)) (o : Option ℕ) (calls : List Call) (events : List Event) (text before : List ℕ) → o ≡ s.refused → o ≡ None → before ≡ [] → calls ≡ s.calls.items → events ≡ s.events.items
     → text ≡ before ++ play_text (map call_model calls) events → HasRead s lines → text ≡ script_text lines
@@ -91,5 +91,5 @@ play_said s lines o calls events text before is none empty calls_are events_are 
     let kept : Kept s lines None = subst (Kept s lines) fine h.kept in
     said ∙ ap (λ t. t ++ play_text (map call_model calls) events) empty
     ∙ ap (λ (cs : List CallModel). play_text cs events) (ap (map call_model) calls_are ∙ kept.0)
-    ∙ ap (λ (es : List Event). play_text (calls_in lines) es) (events_are ∙ kept.1)
-    ∙ sym (ap (λ (r : Option ℕ). refusal_or_play r (calls_in lines) (events_in lines)) (sym h.refused ∙ fine))
+    ∙ ap (λ (es : List Event). play_text (script_calls lines) es) (events_are ∙ kept.1)
+    ∙ sym (ap (λ (r : Option ℕ). refusal_or_play r (script_calls lines) (script_events lines)) (sym h.refused ∙ fine))

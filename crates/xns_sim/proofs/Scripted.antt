@@ -9,7 +9,7 @@ use Rattle.xns_lines.specs.Faults.{AppendsPart, IsJustified}
 use Rattle.xns_lines.specs.Lines.{lines_of, most_lines}
 use Rattle.xns_lines.specs.Lines.Cutter.{StandsAfter, StopsShort}
 use Rattle.xns_sim.specs.Sim.{HasLeft, SimStopsIn, script_lines, script_text, sim_text}
-use Rattle.xns_sim.specs.Sim.Script.{HasReadAll, never, stands_for}
+use Rattle.xns_sim.specs.Sim.Script.{HasReadAll, never_fails, stands_for}
 use Rattle.xns_lines.specs.declared.fault.RunFault.{RunFault}
 use Rattle.xns_lines.specs.declared.fault.RunFault.TheVariants as fault
 
@@ -19,12 +19,12 @@ if_some P X (Some input) p f = f input p
 
 -- ---- reading
 
--- or up to a fault
+-- the script has read the input up to a fault
 abbrev pub TakesSome : Option (List ℕ) → Option (List ℕ) → Option (List ℕ) → ScriptTaker → ScriptTaker → RunFault → List ℕ → Type 0
 TakesSome left first mid t0 t f input = (read : List ℕ) × Consumes (Some input) left read
-    × ((before : Option (List ℕ)) → stands_for t0 before first [] → StopsShort most_lines f read (StandsAfter f (stands_for t before mid) (never t before mid)))
+    × ((before : Option (List ℕ)) → stands_for t0 before first [] → StopsShort most_lines f read (StandsAfter f (stands_for t before mid) (never_fails t before mid)))
 
-nothing_left : (f : RunFault) (t : ScriptTaker) (input : List ℕ) (first mid : Option (List ℕ)) (lines : List (List ℕ)) → StandsAfter f (stands_for t first mid) (never t first mid) lines → HasLeft f input first mid
+nothing_left : (f : RunFault) (t : ScriptTaker) (input : List ℕ) (first mid : Option (List ℕ)) (lines : List (List ℕ)) → StandsAfter f (stands_for t first mid) (never_fails t first mid) lines → HasLeft f input first mid
 nothing_left fault.Read t input first mid lines h = h.1
 nothing_left fault.Write t input first mid lines h = absurd h
 nothing_left fault.LineTooLong t input first mid lines h = h.1

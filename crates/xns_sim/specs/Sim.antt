@@ -6,7 +6,7 @@ use Rattle.std.specs.Prelude.{◌≡◌, ℕ, Bool, List, ◌++◌, codes, is_so
 use Rattle.std.specs.Fmt.{decimal}
 use Rattle.std.specs.Io.KnownBytes.{Consumes}
 use Rattle.courier_calls.specs.Calls.{CallModel}
-use Rattle.xns_script.specs.Script.{calls_in, events_in, first_refused}
+use Rattle.xns_script.specs.Script.{script_calls, script_events, first_refused}
 use Rattle.item_world.specs.declared.event.Event.{Event}
 use Rattle.xns_lines.specs.Faults.{AppendsPart, IsJustified}
 use Rattle.xns_lines.specs.Lines.{AreWithinLimits, lines_of, most_lines, without_return}
@@ -20,7 +20,7 @@ refusal_or_play (Some n) calls events = decimal n ++ codes " refused\n"
 refusal_or_play None calls events = play_text calls events
 
 unfoldable pub script_text : List (List ℕ) → List ℕ
-script_text lines = refusal_or_play (first_refused lines) (calls_in lines) (events_in lines)
+script_text lines = refusal_or_play (first_refused lines) (script_calls lines) (script_events lines)
 
 -- the lines of a script, each without one carriage return at its end
 abbrev pub script_lines : List ℕ → List (List ℕ)
@@ -41,7 +41,7 @@ abbrev pub HasLeft : RunFault → List ℕ → Option (List ℕ) → Option (Lis
 HasLeft fault.Write input before after = AppendsPart before after (sim_text input)
 HasLeft _ input before after = after ≡ before
 
--- what was read is the front of the input that is no longer left; of its lines these are good and those come next, which shows the fault
+-- what was read is the front of the input that is no longer left; its lines are the good ones and then the next, which show the fault
 pub record SimStopsIn (input : List ℕ) (left before after : Option (List ℕ)) (f : RunFault) : Type 0 where
   pub read : List ℕ
   pub consumed : Consumes (Some input) left read

@@ -26,14 +26,14 @@ impl ScriptTaker {
 }
 
 impl LineTaker for ScriptTaker {
-    ghost use Rattle.xns_sim.specs.Sim.Script.{stands_for, never};
+    ghost use Rattle.xns_sim.specs.Sim.Script.{stands_for, never_fails};
     ghost use Rattle.xns_lines.specs.Lines.{most_lines};
 
     ghost limit = { most_lines };
 
     ghost stands = { stands_for };
 
-    ghost fails = { never };
+    ghost fails = { never_fails };
 
     fn take_line<W: Write>(
         &mut self,

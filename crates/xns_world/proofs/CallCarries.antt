@@ -24,9 +24,9 @@ use Rattle.item_world.specs.Channel.{IsQuiet, Accepts, HandsUp}
 use Rattle.item_world.specs.Events as events
 use Rattle.item_world.specs.Invariant.{Holds}
 use Rattle.item_world.specs.World.{World, end_of, sends, takes, channel_of, sent_at, handed_at}
-use Rattle.xns_world.specs.CallLaws.{Given}
-use Rattle.xns_world.specs.CallOrder.{CallsHold, AllListed, IsBetween, Settles}
-use Rattle.xns_world.specs.CallWorld.{Parties, CallWorld, calls_made, put_out, next_out, outcomes_read, in_world, sends_next, feeds, lists, makes, has_outcome, may_call, step}
+use Rattle.xns_world.specs.CallLaws.{PartiesLaws}
+use Rattle.xns_world.specs.CallOrder.{CallsHold, AllListed, IsBetween, SideSettles}
+use Rattle.xns_world.specs.CallWorld.{Parties, CallWorld, calls_made, put_out, next_out, outcomes_read, in_world, sends_next, feeds_session, lists_outcome, makes, has_outcome, may_call, step}
 use Rattle.xns_world.specs.Settling.{most_steps, steps}
 use Rattle.xns_world.proofs.Stepping.{by_step, steps_are, GoesOn, IfGoesOn, steps_keep, steps_end}
 
@@ -46,7 +46,7 @@ element_at xs k less = elim (slice_get_cases xs k).1 [ inl there ↦ (there.0, t
 pub not_refused : EndLaws → (s : State) (x : Item) → IsSendableItem x → is_full s ≡ false → is_ok (send_answer s x) ≡ true
 not_refused laws s x p full = laws.accepts.fits s x p.short p.plain full
 
-pub faces : {S : Type 0} (p : Parties S) (w : CallWorld) → Given p → CallsHold p w → SidesAgree p.serving p.service (calls_made p w) (handed_at w.world B) (handed_at w.world A)
+pub faces : {S : Type 0} (p : Parties S) (w : CallWorld) → PartiesLaws p → CallsHold p w → SidesAgree p.serving p.service (calls_made p w) (handed_at w.world B) (handed_at w.world A)
 faces p w g h =
     g.agree (calls_made p w) (handed_at w.world B) (handed_at w.world A) (All-take IsFitting w.made p.calls g.fitting)
     (begins_then (handed_at w.world B) (sent_at w.world A) (put_out p w A) (g.world.order w.world B h.holds) (h.out A))
@@ -80,7 +80,7 @@ pub begun_items : (xs ys : List Item) → Begins xs ys → All IsShortItem ys �
 begun_items xs ys b h =
     All-weaker IsShortItem IsItem (λ x i. i.fits) xs (subst (All IsShortItem) (front_of xs ys b) (All-take IsShortItem (length xs) ys h))
 
-out_pieces : {S : Type 0} (p : Parties S) (w : CallWorld) (side : Side) → Given p → CallsHold p w → All IsSendableItem (put_out p w side)
+out_pieces : {S : Type 0} (p : Parties S) (w : CallWorld) (side : Side) → PartiesLaws p → CallsHold p w → All IsSendableItem (put_out p w side)
 out_pieces p w A g h = g.pieces (calls_made p w) (All-take IsFitting w.made p.calls g.fitting)
 out_pieces p w B g h =
     g.answering.pieces.server (handed_at w.world B)
@@ -89,7 +89,7 @@ out_pieces p w B g h =
 pub at_place : (xs : List Item) (k : ℕ) (x : Item) → slice_get xs k ≡ Some x → All IsSendableItem xs → IsSendableItem x
 at_place xs k x is h = subst IsSendableItem (get_or_from_slice_get xs k x x is) (h k x (slice_get_within xs k x is))
 
-pub next_piece : {S : Type 0} (p : Parties S) (w : CallWorld) (side : Side) (x : Item) → Given p → CallsHold p w → next_out p w side ≡ Some x → IsSendableItem x
+pub next_piece : {S : Type 0} (p : Parties S) (w : CallWorld) (side : Side) (x : Item) → PartiesLaws p → CallsHold p w → next_out p w side ≡ Some x → IsSendableItem x
 next_piece p w side x g h is = at_place (put_out p w side) (length (sent_at w.world side)) x is (out_pieces p w side g h)
 
 sent_out : {S : Type 0} (p : Parties S) (w : CallWorld) (side : Side) (x : Item) → next_out p w side ≡ Some x → Accepts (channel_of w.world) (channel_of (sends w.world side x)) side x → CallsHold p w → (t : Side) → Begins (sent_at (sends w.world side x) t) (put_out p w t)
@@ -98,7 +98,7 @@ sent_out p w A x is a h B = subst (λ (l : List Item). Begins l (put_out p w B))
 sent_out p w B x is a h A = subst (λ (l : List Item). Begins l (put_out p w A)) (sym a.there) (h.out A)
 sent_out p w B x is a h B = subst (λ (l : List Item). Begins l (put_out p w B)) (sym a.here) (begins_more (sent_at w.world B) (put_out p w B) x (h.out B) is)
 
-pub sends_hold : {S : Type 0} (p : Parties S) (w : CallWorld) (side : Side) (x : Item) → Given p → CallsHold p w → next_out p w side ≡ Some x → is_ok (send_answer (end_of w.world side) x) ≡ true → CallsHold p (sends_next w side x)
+pub sends_hold : {S : Type 0} (p : Parties S) (w : CallWorld) (side : Side) (x : Item) → PartiesLaws p → CallsHold p w → next_out p w side ≡ Some x → is_ok (send_answer (end_of w.world side) x) ≡ true → CallsHold p (sends_next w side x)
 sends_hold p w side x g h is ok =
     let a = g.answering.network.items.send w.world side x ok in
     let piece = next_piece p w side x g h is in
@@ -106,35 +106,35 @@ sends_hold p w side x g h is ok =
 
 -- ---- an item that waits is fed
 
-pub read_more : {S : Type 0} (p : Parties S) (w : CallWorld) (side : Side) (x : Item) → Given p → HandsUp (channel_of w.world) (channel_of (takes w.world side)) side x → Begins (outcomes_read p w) (outcomes_read p (feeds w side))
+pub read_more : {S : Type 0} (p : Parties S) (w : CallWorld) (side : Side) (x : Item) → PartiesLaws p → HandsUp (channel_of w.world) (channel_of (takes w.world side)) side x → Begins (outcomes_read p w) (outcomes_read p (feeds_session w side))
 read_more p w A x g t = g.heard.caller p.serving.table (calls_made p w) (handed_at w.world A) (handed_at (takes w.world A) A) (x ∷ [], sym t.here)
 read_more p w B x g t = subst (λ (l : List Item). Begins (outcomes_read p w) (answers p.serving.table (calls_made p w) l)) (sym t.there) (begins_itself (outcomes_read p w))
 
-fed_out : {S : Type 0} (p : Parties S) (w : CallWorld) (side : Side) (x : Item) → Given p → HandsUp (channel_of w.world) (channel_of (takes w.world side)) side x → CallsHold p w → (t : Side) → Begins (sent_at (takes w.world side) t) (put_out p (feeds w side) t)
+fed_out : {S : Type 0} (p : Parties S) (w : CallWorld) (side : Side) (x : Item) → PartiesLaws p → HandsUp (channel_of w.world) (channel_of (takes w.world side)) side x → CallsHold p w → (t : Side) → Begins (sent_at (takes w.world side) t) (put_out p (feeds_session w side) t)
 fed_out p w A x g u h A = subst (λ (l : List Item). Begins l (put_out p w A)) (sym (u.accepted A)) (h.out A)
 fed_out p w A x g u h B =
-    subst (λ (l : List Item). Begins l (put_out p (feeds w A) B)) (sym (u.accepted B))
+    subst (λ (l : List Item). Begins l (put_out p (feeds_session w A) B)) (sym (u.accepted B))
     (subst (λ (l : List Item). Begins (sent_at w.world B) (server_items p.serving p.service l)) (sym u.there) (h.out B))
 fed_out p w B x g u h A = subst (λ (l : List Item). Begins l (put_out p w A)) (sym (u.accepted A)) (h.out A)
 fed_out p w B x g u h B =
-    subst (λ (l : List Item). Begins l (put_out p (feeds w B) B)) (sym (u.accepted B))
-    (begins_then (sent_at w.world B) (put_out p w B) (put_out p (feeds w B) B) (h.out B)
+    subst (λ (l : List Item). Begins l (put_out p (feeds_session w B) B)) (sym (u.accepted B))
+    (begins_then (sent_at w.world B) (put_out p w B) (put_out p (feeds_session w B) B) (h.out B)
     (g.heard.server p.service (handed_at w.world B) (handed_at (takes w.world B) B) (x ∷ [], sym u.here)))
 
-pub feeds_hold : {S : Type 0} (p : Parties S) (w : CallWorld) (side : Side) (x : Item) → Given p → CallsHold p w → take_answer (end_of w.world side) ≡ Some x → CallsHold p (feeds w side)
+pub feeds_hold : {S : Type 0} (p : Parties S) (w : CallWorld) (side : Side) (x : Item) → PartiesLaws p → CallsHold p w → take_answer (end_of w.world side) ≡ Some x → CallsHold p (feeds_session w side)
 feeds_hold p w side x g h is =
     let u = g.answering.network.items.take w.world side x h.holds is in
-    let more = begins_length (outcomes_read p w) (outcomes_read p (feeds w side)) (read_more p w side x g u) in
+    let more = begins_length (outcomes_read p w) (outcomes_read p (feeds_session w side)) (read_more p w side x g u) in
     record { holds = g.world.each w.world (events.taking side) tt h.holds; out = fed_out p w side x g u h; made = h.made; listed = omega (arith, more, h.listed) }
 
 -- ---- an outcome is listed, a call is made
 
-pub lists_hold : {S : Type 0} (p : Parties S) (w : CallWorld) → CallsHold p w → has_outcome p w ≡ true → CallsHold p (lists w)
+pub lists_hold : {S : Type 0} (p : Parties S) (w : CallWorld) → CallsHold p w → has_outcome p w ≡ true → CallsHold p (lists_outcome w)
 lists_hold p w h is =
     let less = ltb-true w.listed (length (outcomes_read p w)) is in
     record {
       holds = h.holds;
-      out = λ t. elim t as (λ t. Begins (sent_at w.world t) (put_out p (lists w) t)) [ A ↦ h.out A | B ↦ h.out B ];
+      out = λ t. elim t as (λ t. Begins (sent_at w.world t) (put_out p (lists_outcome w) t)) [ A ↦ h.out A | B ↦ h.out B ];
       made = h.made;
       listed = omega (arith, less);
     }
@@ -146,7 +146,7 @@ pub record Calls {S : Type 0} (p : Parties S) (w : CallWorld) : Type 0 where
   pub more : calls_made p (makes w) ≡ calls_made p w ++ call ∷ []
   pub same : outcomes_read p (makes w) ≡ outcomes_read p w
 
-pub calls : {S : Type 0} (p : Parties S) (w : CallWorld) → Given p → CallsHold p w → may_call p w ≡ true → Calls p w
+pub calls : {S : Type 0} (p : Parties S) (w : CallWorld) → PartiesLaws p → CallsHold p w → may_call p w ≡ true → Calls p w
 calls p w g h is =
     let parts = and_parts (length (outcomes_read p w) == w.made) (nat_lt w.made (length p.calls)) is in
     let e = element_at p.calls w.made (ltb-true w.made (length p.calls) parts.1) in
@@ -158,7 +158,7 @@ calls p w g h is =
       same = ap (λ (cs : List RawCall). answers p.serving.table cs (handed_at w.world A)) more ∙ (faces p w g h).later e.0;
     }
 
-pub makes_hold : {S : Type 0} (p : Parties S) (w : CallWorld) → Given p → CallsHold p w → may_call p w ≡ true → CallsHold p (makes w)
+pub makes_hold : {S : Type 0} (p : Parties S) (w : CallWorld) → PartiesLaws p → CallsHold p w → may_call p w ≡ true → CallsHold p (makes w)
 makes_hold p w g h is =
     let c = calls p w g h is in
     let parts = and_parts (length (outcomes_read p w) == w.made) (nat_lt w.made (length p.calls)) is in
@@ -225,7 +225,7 @@ unfolding caller_left
 same_left p w v A h = ap (λ (rs : List SeenModel). (length rs - w.listed) + one_if (length rs == w.made)) (same_read p w v h)
 same_left p w v B h = refl
 
-sends_go : {S : Type 0} (p : Parties S) (w : CallWorld) (side : Side) (x : Item) → Given p → CallsHold p w → next_out p w side ≡ Some x → is_full (end_of w.world side) ≡ false → GoesOn (CallsHold p) (left p side) w (sends_next w side x)
+sends_go : {S : Type 0} (p : Parties S) (w : CallWorld) (side : Side) (x : Item) → PartiesLaws p → CallsHold p w → next_out p w side ≡ Some x → is_full (end_of w.world side) ≡ false → GoesOn (CallsHold p) (left p side) w (sends_next w side x)
 unfolding left
 sends_go p w side x g h is full =
     let s : State = end_of w.world side in
@@ -238,17 +238,17 @@ sends_go p w side x g h is full =
       fewer = omega (arith, falls.0, falls.1, caller, ap room_of same, ap waiting_count same);
     }
 
-fed_left : {S : Type 0} (p : Parties S) (w : CallWorld) (side : Side) (x : Item) → Given p → CallsHold p w → take_answer (end_of w.world side) ≡ Some x → caller_left p (feeds w side) side ≤ caller_left p w side + 2
+fed_left : {S : Type 0} (p : Parties S) (w : CallWorld) (side : Side) (x : Item) → PartiesLaws p → CallsHold p w → take_answer (end_of w.world side) ≡ Some x → caller_left p (feeds_session w side) side ≤ caller_left p w side + 2
 unfolding caller_left
 fed_left p w A x g h is =
     let more = (g.answering.network.items.take w.world A x h.holds is).here in
     let one = g.heard.single p.serving.table (calls_made p w) (handed_at w.world A) x in
-    let read : length (outcomes_read p (feeds w A)) ≤ length (outcomes_read p w) + 1 = subst (λ (l : List Item). length (answers p.serving.table (calls_made p w) l) ≤ length (outcomes_read p w) + 1) (sym more) one in
-    let last = one_if_most (length (outcomes_read p (feeds w A)) == w.made) in
+    let read : length (outcomes_read p (feeds_session w A)) ≤ length (outcomes_read p w) + 1 = subst (λ (l : List Item). length (answers p.serving.table (calls_made p w) l) ≤ length (outcomes_read p w) + 1) (sym more) one in
+    let last = one_if_most (length (outcomes_read p (feeds_session w A)) == w.made) in
     omega (arith, read, last, h.listed)
 fed_left p w B x g h is = omega arith
 
-feeds_go : {S : Type 0} (p : Parties S) (w : CallWorld) (side : Side) → Given p → CallsHold p w → nat_lt 0 (waiting_count (end_of w.world side)) ≡ true → GoesOn (CallsHold p) (left p side) w (feeds w side)
+feeds_go : {S : Type 0} (p : Parties S) (w : CallWorld) (side : Side) → PartiesLaws p → CallsHold p w → nat_lt 0 (waiting_count (end_of w.world side)) ≡ true → GoesOn (CallsHold p) (left p side) w (feeds_session w side)
 unfolding left
 feeds_go p w side g h is =
     let s : State = end_of w.world side in
@@ -261,13 +261,13 @@ feeds_go p w side g h is =
       fewer = omega (arith, falls.0, falls.1, caller, ap room_of same, ap waiting_count same);
     }
 
-lists_go : {S : Type 0} (p : Parties S) (w : CallWorld) → CallsHold p w → has_outcome p w ≡ true → GoesOn (CallsHold p) (left p A) w (lists w)
+lists_go : {S : Type 0} (p : Parties S) (w : CallWorld) → CallsHold p w → has_outcome p w ≡ true → GoesOn (CallsHold p) (left p A) w (lists_outcome w)
 unfolding left caller_left
 lists_go p w h is =
     let less = ltb-true w.listed (length (outcomes_read p w)) is in
     record { keeps = lists_hold p w h is; fewer = omega (arith, less) }
 
-makes_go : {S : Type 0} (p : Parties S) (w : CallWorld) → Given p → CallsHold p w → may_call p w ≡ true → GoesOn (CallsHold p) (left p A) w (makes w)
+makes_go : {S : Type 0} (p : Parties S) (w : CallWorld) → PartiesLaws p → CallsHold p w → may_call p w ≡ true → GoesOn (CallsHold p) (left p A) w (makes w)
 unfolding left caller_left one_if
 makes_go p w g h is =
     let c = calls p w g h is in
@@ -279,7 +279,7 @@ makes_go p w g h is =
 
 -- ---- one step
 
-pub step_goes : {S : Type 0} (p : Parties S) (w : CallWorld) (side : Side) → Given p → CallsHold p w → IfGoesOn (CallsHold p) (left p side) w (step p side w)
+pub step_goes : {S : Type 0} (p : Parties S) (w : CallWorld) (side : Side) → PartiesLaws p → CallsHold p w → IfGoesOn (CallsHold p) (left p side) w (step p side w)
 unfolding IfGoesOn
 step_goes p w side g h = by_step p w (λ t o. IfGoesOn (CallsHold p) (left p t) w o) (record {
   sent = λ t x is full. sends_go p w t x g h is full;
@@ -292,7 +292,7 @@ step_goes p w side g h = by_step p w (λ t o. IfGoesOn (CallsHold p) (left p t) 
 
 -- ---- many steps
 
-pub steps_hold : {S : Type 0} (p : Parties S) (side : Side) (w : CallWorld) (n : ℕ) → Given p → CallsHold p w → CallsHold p (steps (step p side) w n)
+pub steps_hold : {S : Type 0} (p : Parties S) (side : Side) (w : CallWorld) (n : ℕ) → PartiesLaws p → CallsHold p w → CallsHold p (steps (step p side) w n)
 steps_hold p side w n g = steps_keep (step p side) (CallsHold p) (left p side) (λ v h. step_goes p v side g h) w n
 
 first_left : {S : Type 0} (p : Parties S) (w : CallWorld) (side : Side) → AllListed p w → caller_left p w side ≤ 1
@@ -301,7 +301,7 @@ first_left p w A h = let one = one_if_most (length (outcomes_read p w) == w.made
 first_left p w B h = omega arith
 
 -- a side that settles comes to its end
-pub settles_end : {S : Type 0} (p : Parties S) (side : Side) (w : CallWorld) → Given p → IsBetween p w → Settles p side w
+pub settles_end : {S : Type 0} (p : Parties S) (side : Side) (w : CallWorld) → PartiesLaws p → IsBetween p w → SideSettles p side w
 unfolding left room_of
 settles_end p side w g b =
     let fits = (b.holds.holds.ends side).fits in

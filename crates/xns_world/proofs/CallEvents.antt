@@ -27,10 +27,10 @@ use Rattle.xns_world.proofs.CallMoves.{total, quiet_total, other_on, all_go_on}
 use Rattle.xns_world.proofs.CallStirs.{resting, next_same, not_full, not_both_out, sends_room, all_answered, none_left, none_past, same_items, handed_count, server_front, caller_front}
 use Rattle.xns_world.proofs.CallProgress.{within_bound, bound, all_done, starts}
 use Rattle.xns_world.proofs.CallRuns.{settles_is, arrived, settles_between}
-use Rattle.xns_world.specs.CallLaws.{Given}
+use Rattle.xns_world.specs.CallLaws.{PartiesLaws}
 use Rattle.xns_world.specs.CallOrder.{CallsHold, IsBetween}
-use Rattle.xns_world.specs.CallProgress.{GoesOn, HasRoom, IsAllDone, CompletesByEvents}
-use Rattle.xns_world.specs.CallWorld.{Parties, CallWorld, call_start, begun, run_calls, put_out, next_out, in_world, or_caller, step_with, step, settling_steps, settles, call_happens, feeds}
+use Rattle.xns_world.specs.CallProgress.{CallsGoOn, CarriesAll, IsAllDone, CompletesByEvents}
+use Rattle.xns_world.specs.CallWorld.{Parties, CallWorld, call_start, both_settled, run_calls, put_out, next_out, in_world, or_caller, step_with, step, settling_steps, settles, call_happens, feeds_session}
 use Rattle.xns_world.specs.Settling.{most_steps, stepped_out}
 use Rattle.xns_world.proofs.CallRests.{still_rests, flush_side, tick_side, settle_flush, settle_rises, AtRest, settled_rest, events_rest, events_longer}
 
@@ -47,21 +47,21 @@ quiet_then u v w q r = record { accepted = λ side. r.accepted side ∙ q.accept
 
 -- what goes on, with the channel as it was in w
 pub record On {S : Type 0} (p : Parties S) (w : CallWorld) (v : World) : Type 0 where
-  on : GoesOn p (in_world w v)
+  on : CallsGoOn p (in_world w v)
   quiet : IsQuiet (channel_of w.world) (channel_of v)
 
 on_then : {S : Type 0} (p : Parties S) (w : CallWorld) (v : World) (s : events.Step) → events.IsStep s → events.IsOther s
-    → Given p → NoWorldIsStuck → On p w v → On p w (events.stepped v s)
+    → PartiesLaws p → NoWorldIsStuck → On p w v → On p w (events.stepped v s)
 on_then p w v s fits other g stuck o = record {
   on = other_on p (in_world w v) s fits other g stuck o.on;
   quiet = quiet_then w.world v (events.stepped v s) o.quiet (g.answering.network.items.quiet v s other o.on.holds.holds);
 }
 
-tick_out : {S : Type 0} (p : Parties S) (v : CallWorld) (side : Side) → Given p → CallsHold p v → step p side v ≡ None
+tick_out : {S : Type 0} (p : Parties S) (v : CallWorld) (side : Side) → PartiesLaws p → CallsHold p v → step p side v ≡ None
     → call_happens p v (Tick side) ≡ in_world v (ticked_out v.world side)
 tick_out p v side g h none = settle_flush p side (in_world v (ticks v.world side)) (still_rests p v (in_world v (ticks v.world side)) side (tick_side p v side g h) none)
 
-deliver_rises : {S : Type 0} (p : Parties S) (v : CallWorld) (k : ℕ) (side : Side) (l : World) (u : CallWorld) → Given p
+deliver_rises : {S : Type 0} (p : Parties S) (v : CallWorld) (k : ℕ) (side : Side) (l : World) (u : CallWorld) → PartiesLaws p
     → CallsHold p (in_world v l) → landing v.world k ≡ Some (side, l) → step p side (in_world v l) ≡ Some u
     → total (in_world v l) < total (call_happens p v (Deliver k))
 deliver_rises p v k side l u g h lands is = omega (arith, settle_rises p side (in_world v l) u g h is, ap total (arrived p v k (side, l) lands))
@@ -76,13 +76,13 @@ takes_then : {S : Type 0} (p : Parties S) (w : CallWorld) (v : World) (side : Si
     → (end_of v side).handed < length (end_of v side).taken → (u : CallWorld) × (step p side (in_world w v) ≡ Some u)
 takes_then p w v side o none waits =
     let e : State = end_of v side in (
-      feeds (in_world w v) side,
+      feeds_session (in_world w v) side,
       ap (λ (i : Option Item). step_with p (in_world w v) side i) (next_same p w v side o.quiet ∙ none)
           ∙ ap (λ (b : Bool). or_caller p (in_world w v) side (if b then Some (after_take e) else None)) (lt-ltb 0 (waiting_count e) (omega (arith, waits))),
     )
 
 -- the last two of five events
-last_rises : {S : Type 0} (p : Parties S) (w : CallWorld) (u v : World) (k : ℕ) (side : Side) → Given p → On p w u
+last_rises : {S : Type 0} (p : Parties S) (w : CallWorld) (u v : World) (k : ℕ) (side : Side) → PartiesLaws p → On p w u
     → On p w v → step p side (in_world w u) ≡ None → next_out p w (other side) ≡ None
     → landing (ticked_out u side) k ≡ Some (other side, v)
     → (end_of v (other side)).handed < length (end_of v (other side)).taken
@@ -98,11 +98,11 @@ IsLess p w side = StirsOut w.world side → On p w (came_back w.world side) → 
     → IsQuiet (channel_of w.world) (channel_of (came_first w.world side)) → Holds (came_first w.world side)
     → length (end_of (came_first w.world side) (other side)).taken < length (end_of w.world side).accepted
 
-bag_up : {S : Type 0} (p : Parties S) (w v : CallWorld) (es : List Event) → Given p → fold (call_happens p) w es ≡ v
+bag_up : {S : Type 0} (p : Parties S) (w v : CallWorld) (es : List Event) → PartiesLaws p → fold (call_happens p) w es ≡ v
     → length w.world.bag ≤ length v.world.bag
 bag_up p w v es g e = subst (λ (z : CallWorld). length w.world.bag ≤ length z.world.bag) e (events_longer p w es g)
 
-stir_second : {S : Type 0} (p : Parties S) (w : CallWorld) (side : Side) → Given p → NoWorldIsStuck → AtRest p w
+stir_second : {S : Type 0} (p : Parties S) (w : CallWorld) (side : Side) → PartiesLaws p → NoWorldIsStuck → AtRest p w
     → next_out p w (other side) ≡ None → StirsOut w.world side → IsLess p w side
     → On p w (came_first w.world side) → On p w (came_back w.world side)
     → (call_happens p w (Tick side) ≡ in_world w (ticked_out w.world side))
@@ -154,7 +154,7 @@ stir_second p w side g stuck r out so less o2 o3 e1 e2 none None is =
       rises = subst (λ (z : CallWorld). total w < total (fold (call_happens p) z s4)) (sym all) up;
     }
 
-stir_first : {S : Type 0} (p : Parties S) (w : CallWorld) (side : Side) → Given p → NoWorldIsStuck → AtRest p w
+stir_first : {S : Type 0} (p : Parties S) (w : CallWorld) (side : Side) → PartiesLaws p → NoWorldIsStuck → AtRest p w
     → next_out p w (other side) ≡ None → StirsOut w.world side → IsLess p w side
     → On p w (came_first w.world side) → On p w (came_back w.world side)
     → (call_happens p w (Tick side) ≡ in_world w (ticked_out w.world side))
@@ -173,7 +173,7 @@ stir_first p w side g stuck r out so less o2 o3 e1 None is =
     let e2 = deliver_flush p (in_world w (ticked_out w.world side)) (length w.world.bag) (other side) (came_first w.world side) so.first is in
     stir_second p w side g stuck r out so less o2 o3 e1 e2 is (step p side (in_world w (came_back w.world side))) refl
 
-pub stir_by : {S : Type 0} (p : Parties S) (w : CallWorld) (side : Side) → Given p → NoWorldIsStuck → AtRest p w
+pub stir_by : {S : Type 0} (p : Parties S) (w : CallWorld) (side : Side) → PartiesLaws p → NoWorldIsStuck → AtRest p w
     → next_out p w (other side) ≡ None → (end_of w.world side).acknowledged < length (end_of w.world side).accepted
     → IsLess p w side → AdvancesBy p w
 stir_by p w side g stuck r out left less =
@@ -195,7 +195,7 @@ full_left s fits full less = by_test (nat_lt s.acknowledged (length s.accepted))
     by_test true h = ltb-true s.acknowledged (length s.accepted) h
     by_test false h = let free = not_full s fits (ltb-false s.acknowledged (length s.accepted) h) less in absurd (cc (full, free))
 
-sending_by : {S : Type 0} (p : Parties S) (w : CallWorld) (side : Side) (x : Item) → Given p → NoWorldIsStuck → AtRest p w
+sending_by : {S : Type 0} (p : Parties S) (w : CallWorld) (side : Side) (x : Item) → PartiesLaws p → NoWorldIsStuck → AtRest p w
     → next_out p w side ≡ Some x → length (sent_at w.world side) < most_items → next_out p w (other side) ≡ None
     → AdvancesBy p w
 sending_by p w side x g stuck r out room none =
@@ -214,7 +214,7 @@ sending_by p w side x g stuck r out room none =
         let full = (resting p (in_world w v) side rests).full x (next_same p w v side o.quiet ∙ out) in
         absurd (cc (full, free))
 
-waiting_by : {S : Type 0} (p : Parties S) (w : CallWorld) (side : Side) → Given p → NoWorldIsStuck → AtRest p w
+waiting_by : {S : Type 0} (p : Parties S) (w : CallWorld) (side : Side) → PartiesLaws p → NoWorldIsStuck → AtRest p w
     → next_out p w (other side) ≡ None → (end_of w.world side).acknowledged ≤ length (end_of w.world (other side)).taken
     → length (handed_at w.world (other side)) < length (sent_at w.world side) → AdvancesBy p w
 waiting_by p w side g stuck r none most left =
@@ -223,7 +223,7 @@ waiting_by p w side g stuck r none most left =
     (λ so o rests taken q h.
     omega (arith, taken, handed_count (came_first w.world side) h (other side), ap length (q.handed (other side)), left))
 
-idle_by : {S : Type 0} (p : Parties S) (w : CallWorld) → Given p → NoWorldIsStuck → AllIsAnswered p.serving p.service
+idle_by : {S : Type 0} (p : Parties S) (w : CallWorld) → PartiesLaws p → NoWorldIsStuck → AllIsAnswered p.serving p.service
     → AtRest p w → w.listed < length p.calls → next_out p w A ≡ None → next_out p w B ≡ None
     → (b c : Bool) → nat_lt (length (handed_at w.world B)) (length (sent_at w.world A)) ≡ b
     → nat_lt (length (handed_at w.world A)) (length (sent_at w.world B)) ≡ c → AdvancesBy p w
@@ -241,8 +241,8 @@ idle_by p w g stuck sessions r left a b false false is that =
     let back : handed_at w.world A ≡ put_out p w B = same_items (handed_at w.world A) (put_out p w B) (caller_front p w g h) (omega (arith, out_b, all_a)) in
     absurd (none_left p w g h (resting p w A (r.rests A)).caller (all_answered p w g sessions h to back) left)
 
-further_by_events : {S : Type 0} (p : Parties S) (w : CallWorld) → Given p → NoWorldIsStuck
-    → AllIsAnswered p.serving p.service → HasRoom p → AtRest p w → w.listed < length p.calls
+further_by_events : {S : Type 0} (p : Parties S) (w : CallWorld) → PartiesLaws p → NoWorldIsStuck
+    → AllIsAnswered p.serving p.service → CarriesAll p → AtRest p w → w.listed < length p.calls
     → (a b : Option Item) → next_out p w A ≡ a → next_out p w B ≡ b → AdvancesBy p w
 further_by_events p w g stuck sessions room r left (Some x) (Some y) a b = absurd (not_both_out p w x y g sessions r.on a b ((resting p w B (r.rests B)).full y b))
 further_by_events p w g stuck sessions room r left (Some x) None a b = sending_by p w A x g stuck r a (sends_room p w A x g r.on.holds room a) b
@@ -260,8 +260,8 @@ further_before m n (Foreign side bytes) le h = absurd h
 further_before m n (Send side x) le h = absurd h
 further_before m n (Take side) le h = tt
 
-ends_by : {S : Type 0} (p : Parties S) (d : ℕ) (w : CallWorld) (b : Bool) → nat_lt w.listed (length p.calls) ≡ b → Given p
-    → NoWorldIsStuck → AllIsAnswered p.serving p.service → HasRoom p → AtRest p w → bound p ≤ total w + d
+ends_by : {S : Type 0} (p : Parties S) (d : ℕ) (w : CallWorld) (b : Bool) → nat_lt w.listed (length p.calls) ≡ b → PartiesLaws p
+    → NoWorldIsStuck → AllIsAnswered p.serving p.service → CarriesAll p → AtRest p w → bound p ≤ total w + d
     → CompletesByEvents p w
 ends_by p d w false is g stuck sessions room r le =
     record { more = []; further = All-nil (IsFurther (length w.world.bag)); done = all_done p w g r.on.holds (ltb-false w.listed (length p.calls) is) }
@@ -283,28 +283,28 @@ ends_by p (suc d) w true is g stuck sessions room r le =
       done = subst (IsAllDone p) (sym (fold-append (call_happens p) w a.more c.more)) c.done;
     }
 
-pub finishes_by : {S : Type 0} (p : Parties S) (w : CallWorld) → Given p → NoWorldIsStuck → AllIsAnswered p.serving p.service
-    → HasRoom p → AtRest p w → CompletesByEvents p w
+pub finishes_by : {S : Type 0} (p : Parties S) (w : CallWorld) → PartiesLaws p → NoWorldIsStuck → AllIsAnswered p.serving p.service
+    → CarriesAll p → AtRest p w → CompletesByEvents p w
 finishes_by p w g stuck sessions room r = ends_by p (bound p) w (nat_lt w.listed (length p.calls)) refl g stuck sessions room r (omega arith)
 
 -- the play begins at rest
-settled_here : {S : Type 0} (p : Parties S) (side : Side) (w : CallWorld) → Given p → IsBetween p w
+settled_here : {S : Type 0} (p : Parties S) (side : Side) (w : CallWorld) → PartiesLaws p → IsBetween p w
     → step p side (settles p side w) ≡ None
 settled_here p side w g b =
     let v : CallWorld = stepped_out (step p side) w in
     let h : CallsHold p v = steps_hold p side w most_steps g b.holds in
     subst (λ (x : CallWorld). step p side x ≡ None) (sym (settles_is p side w)) (still_rests p v (in_world v (flushes v.world side)) side (flush_side p v side g h) (settles_end p side w g b))
 
-begun_rests : {S : Type 0} (p : Parties S) (setup : Setup) → Given p → NoWorldIsStuck → IsBetween p (call_start setup)
-    → AtRest p (begun p setup)
+begun_rests : {S : Type 0} (p : Parties S) (setup : Setup) → PartiesLaws p → NoWorldIsStuck → IsBetween p (call_start setup)
+    → AtRest p (both_settled p setup)
 begun_rests p setup g stuck b =
     let w : CallWorld = call_start setup in
     let v : CallWorld = settles p A w in
-    let on : GoesOn p v = all_go_on p w (settling_steps A) g stuck (starts p setup stuck b) in
+    let on : CallsGoOn p v = all_go_on p w (settling_steps A) g stuck (starts p setup stuck b) in
     settled_rest p B v g stuck on (settles_between p A w g b) (settled_here p A w g b)
 
-pub completes_by_events : {S : Type 0} (p : Parties S) (setup : Setup) (es : List Event) → Given p → NoWorldIsStuck
-    → AllIsAnswered p.serving p.service → HasRoom p → IsBetween p (call_start setup)
+pub completes_by_events : {S : Type 0} (p : Parties S) (setup : Setup) (es : List Event) → PartiesLaws p → NoWorldIsStuck
+    → AllIsAnswered p.serving p.service → CarriesAll p → IsBetween p (call_start setup)
     → CompletesByEvents p (run_calls p setup es)
 completes_by_events p setup es g stuck sessions room b =
-    finishes_by p (run_calls p setup es) g stuck sessions room (events_rest p (begun p setup) es g stuck (begun_rests p setup g stuck b))
+    finishes_by p (run_calls p setup es) g stuck sessions room (events_rest p (both_settled p setup) es g stuck (begun_rests p setup g stuck b))

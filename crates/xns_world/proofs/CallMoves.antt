@@ -16,10 +16,10 @@ use Rattle.item_world.specs.declared.side.Side.TheVariants.{A, B}
 use Rattle.xns_world.proofs.CallCarries.{same_read, quiet_holds, not_refused, next_piece, read_more, calls, waiting_item}
 use Rattle.xns_world.proofs.CallRuns.{step_holds}
 use Rattle.xns_world.proofs.Stepping.{by_step}
-use Rattle.xns_world.specs.CallLaws.{Given}
+use Rattle.xns_world.specs.CallLaws.{PartiesLaws}
 use Rattle.xns_world.specs.CallOrder.{CallsHold}
-use Rattle.xns_world.specs.CallProgress.{GoesOn}
-use Rattle.xns_world.specs.CallWorld.{Parties, CallWorld, CallStep, arrival, noise, ticking, acting, flushing, resending, telling, call_stepped, all_call_stepped, outcomes_read, in_world, sends_next, feeds, lists, makes, step}
+use Rattle.xns_world.specs.CallProgress.{CallsGoOn}
+use Rattle.xns_world.specs.CallWorld.{Parties, CallWorld, CallStep, arrival, noise, ticking, acting, flushing, resending, telling, call_stepped, all_call_stepped, outcomes_read, in_world, sends_next, feeds_session, lists_outcome, makes, step}
 use Rattle.xns_world.specs.Settling.{onward}
 
 -- ---- how far a play has come
@@ -38,12 +38,12 @@ sent_rises w A x a = omega (arith, ap length a.here, ap length a.there, ap lengt
 sent_rises w B x a = omega (arith, ap length a.here, ap length a.there, ap length (a.handed A), ap length (a.handed B), length-append (sent_at w.world B) (x ∷ []))
 
 pub fed_rises : (w : CallWorld) (side : Side) (x : Item)
-    → HandsUp (channel_of w.world) (channel_of (takes w.world side)) side x → total w < total (feeds w side)
+    → HandsUp (channel_of w.world) (channel_of (takes w.world side)) side x → total w < total (feeds_session w side)
 unfolding total
 fed_rises w A x a = omega (arith, ap length a.here, ap length a.there, ap length (a.accepted A), ap length (a.accepted B), length-append (handed_at w.world A) (x ∷ []))
 fed_rises w B x a = omega (arith, ap length a.here, ap length a.there, ap length (a.accepted A), ap length (a.accepted B), length-append (handed_at w.world B) (x ∷ []))
 
-pub lists_rises : (w : CallWorld) → total w < total (lists w)
+pub lists_rises : (w : CallWorld) → total w < total (lists_outcome w)
 unfolding total
 lists_rises w = omega arith
 
@@ -55,7 +55,7 @@ pub quiet_total : (w : CallWorld) (v : World) → IsQuiet (channel_of w.world) (
 unfolding total
 quiet_total w v q = omega (arith, ap length (q.accepted A), ap length (q.accepted B), ap length (q.handed A), ap length (q.handed B))
 
-pub step_rises : {S : Type 0} (p : Parties S) (w : CallWorld) (side : Side) → Given p → CallsHold p w
+pub step_rises : {S : Type 0} (p : Parties S) (w : CallWorld) (side : Side) → PartiesLaws p → CallsHold p w
     → Rises w (step p side w)
 step_rises p w side g h = by_step p w (λ t o. Rises w o) (record {
   sent = λ t x is full. sent_rises w t x (g.answering.network.items.send w.world t x (not_refused g.answering.ends (end_of w.world t) x (next_piece p w t x g h is) full));
@@ -72,7 +72,7 @@ abbrev pub IfGoesOn : {S : Type 0} → Parties S → Option CallWorld → Type 0
 IfGoesOn p None = Unit {0}
 IfGoesOn p (Some v) = Linked v.world × (v.made ≤ length (outcomes_read p v) + 1)
 
-pub step_on : {S : Type 0} (p : Parties S) (w : CallWorld) (side : Side) → Given p → NoWorldIsStuck → GoesOn p w
+pub step_on : {S : Type 0} (p : Parties S) (w : CallWorld) (side : Side) → PartiesLaws p → NoWorldIsStuck → CallsGoOn p w
     → IfGoesOn p (step p side w)
 step_on p w side g stuck h = by_step p w (λ t o. IfGoesOn p o) (record {
   sent = λ t x is full.
@@ -82,7 +82,7 @@ step_on p w side g stuck h = by_step p w (λ t o. IfGoesOn p o) (record {
   fed = λ t is.
       let e = waiting_item g.answering.ends (end_of w.world t) is in
       let u = g.answering.network.items.take w.world t e.0 h.holds.holds e.1 in
-      (stuck.each w.world (events.taking t) tt h.holds.holds h.linked, omega (arith, begins_length (outcomes_read p w) (outcomes_read p (feeds w t)) (read_more p w t e.0 g u), h.waits));
+      (stuck.each w.world (events.taking t) tt h.holds.holds h.linked, omega (arith, begins_length (outcomes_read p w) (outcomes_read p (feeds_session w t)) (read_more p w t e.0 g u), h.waits));
   listed = λ is. (h.linked, h.waits);
   made = λ may.
       let c = calls p w g h.holds may in
@@ -92,13 +92,13 @@ step_on p w side g stuck h = by_step p w (λ t o. IfGoesOn p o) (record {
   stays = tt;
 }) side
 
-pub onward_on : {S : Type 0} (p : Parties S) (w : CallWorld) (o : Option CallWorld) → GoesOn p w → IfGoesOn p o
+pub onward_on : {S : Type 0} (p : Parties S) (w : CallWorld) (o : Option CallWorld) → CallsGoOn p w → IfGoesOn p o
     → Linked (onward w o).world × ((onward w o).made ≤ length (outcomes_read p (onward w o)) + 1)
 onward_on p w None h k = (h.linked, h.waits)
 onward_on p w (Some v) h k = k
 
 pub other_on : {S : Type 0} (p : Parties S) (w : CallWorld) (s : events.Step) → events.IsStep s → events.IsOther s
-    → Given p → NoWorldIsStuck → GoesOn p w → GoesOn p (in_world w (events.stepped w.world s))
+    → PartiesLaws p → NoWorldIsStuck → CallsGoOn p w → CallsGoOn p (in_world w (events.stepped w.world s))
 other_on p w s fits other g stuck h =
     let q = g.answering.network.items.quiet w.world s other h.holds.holds in
     record {
@@ -107,8 +107,8 @@ other_on p w s fits other g stuck h =
       waits = omega (arith, ap (length {A = SeenModel}) (same_read p w (events.stepped w.world s) (q.handed A)), h.waits);
     }
 
-pub step_goes_on : {S : Type 0} (p : Parties S) (w : CallWorld) (s : CallStep) → Given p → NoWorldIsStuck → GoesOn p w
-    → GoesOn p (call_stepped p w s)
+pub step_goes_on : {S : Type 0} (p : Parties S) (w : CallWorld) (s : CallStep) → PartiesLaws p → NoWorldIsStuck → CallsGoOn p w
+    → CallsGoOn p (call_stepped p w s)
 step_goes_on p w (arrival k) g stuck h = other_on p w (events.arrival k) tt tt g stuck h
 step_goes_on p w (noise side bytes) g stuck h = other_on p w (events.noise side bytes) tt tt g stuck h
 step_goes_on p w (ticking side) g stuck h = other_on p w (events.ticking side) tt tt g stuck h
@@ -119,7 +119,7 @@ step_goes_on p w (flushing side) g stuck h = other_on p w (events.flushing side)
 step_goes_on p w (resending side) g stuck h = other_on p w (events.resending side) tt tt g stuck h
 step_goes_on p w (telling side asks) g stuck h = other_on p w (events.telling side asks) tt tt g stuck h
 
-pub all_go_on : {S : Type 0} (p : Parties S) (w : CallWorld) (ss : List CallStep) → Given p → NoWorldIsStuck → GoesOn p w
-    → GoesOn p (all_call_stepped p w ss)
+pub all_go_on : {S : Type 0} (p : Parties S) (w : CallWorld) (ss : List CallStep) → PartiesLaws p → NoWorldIsStuck → CallsGoOn p w
+    → CallsGoOn p (all_call_stepped p w ss)
 all_go_on p w [] g stuck h = h
 all_go_on p w (s ∷ ss) g stuck h = all_go_on p (call_stepped p w s) ss g stuck (step_goes_on p w s g stuck h)

@@ -26,19 +26,19 @@ use Rattle.item_world.specs.declared.side.Side.TheVariants.{A, B}
 use Rattle.xns_spp.specs.Growth.{Begins}
 use Rattle.item_world.specs.Invariant.{Holds}
 use Rattle.item_world.specs.Channel.{IsQuiet}
-use Rattle.item_world.specs.Going.{Later, StaysAway, does_land}
+use Rattle.item_world.specs.Later.{Later, StaysAway, does_land}
 use Rattle.item_world.specs.Landing.{landing}
 use Rattle.item_world.specs.declared.event.Event.TheVariants.{Rest}
 use Rattle.item_world.specs.Events as events
 use Rattle.item_world.specs.Events.{undelivered}
 use Rattle.item_world.specs.Network.{IsNetwork, IsEnd, unsettled}
 use Rattle.item_world.specs.Side.{other}
-use Rattle.xns_world.specs.CallLaws.{ServerLaws, Given}
+use Rattle.xns_world.specs.CallLaws.{ServerLaws, PartiesLaws}
 use Rattle.xns_spp.specs.Fronts.{begins_then}
 use Rattle.xns_world.specs.CallOrder.{decides, ledger_of, IsBetween}
 use Rattle.xns_world.specs.Ledger.{Ledger, IsInOrder}
-use Rattle.xns_world.specs.CallPlay.{endpoint_at, with_endpoint, Acts, IsCalling, caller_history, IsServing, IsAtSide, IsCallPair, IsCallPlaying, IsReady, IsCallTrace, ledger_in, IsOnceInOrder, parties}
-use Rattle.xns_world.specs.CallWorld.{Parties, CallWorld, calls_made, in_world, carried_at, step, settles, delivers, call_happens}
+use Rattle.xns_world.specs.CallPlay.{endpoint_at, with_endpoint, EndpointActs, IsCalling, caller_history, IsServing, IsAtSide, IsCallPair, IsCallPlaying, IsReady, IsCallTrace, ledger_in, IsOnceInOrder, parties}
+use Rattle.xns_world.specs.CallWorld.{Parties, CallWorld, calls_made, in_world, carried_at, step, settles, call_delivers, call_happens}
 use Rattle.xns_world.specs.Settling.{most_steps, stepped_out}
 use Rattle.xns_world.specs.ServeEnd.{IsServed}
 use Rattle.item_world.specs.World.{World, end_of, flushes, ticks, channel_of, handed_at, sent_at}
@@ -106,17 +106,17 @@ stands_at p e w B h = (h B).stands
 
 -- the endpoint at a side acts
 pub acts_at : {S : Type 0} (leads : Side → World → World → Type 0) (e : CallPair S) (side t : Side) (endpoint : Held) (n m : Network) → side ≡ t
-    → (EndLaws → (w v : World) → leads t w v → IsEnd (endpoint_at e t) n w t → IsEnd endpoint m v t) → Acts e (with_endpoint e t endpoint) n m side (leads side)
-acts_at leads e side A endpoint n m is h = subst (λ (s : Side). Acts e (with_endpoint e A endpoint) n m s (leads s)) (sym is) (record { pair = refl; stands = h })
-acts_at leads e side B endpoint n m is h = subst (λ (s : Side). Acts e (with_endpoint e B endpoint) n m s (leads s)) (sym is) (record { pair = refl; stands = h })
+    → (EndLaws → (w v : World) → leads t w v → IsEnd (endpoint_at e t) n w t → IsEnd endpoint m v t) → EndpointActs e (with_endpoint e t endpoint) n m side (leads side)
+acts_at leads e side A endpoint n m is h = subst (λ (s : Side). EndpointActs e (with_endpoint e A endpoint) n m s (leads s)) (sym is) (record { pair = refl; stands = h })
+acts_at leads e side B endpoint n m is h = subst (λ (s : Side). EndpointActs e (with_endpoint e B endpoint) n m s (leads s)) (sym is) (record { pair = refl; stands = h })
 
--- and takes a step of its own, as it flushes or ticks
+-- the endpoint at a side takes a step of its own, as it flushes or ticks
 pub moves_at : {S : Type 0} (moves : World → Side → World) (e : CallPair S) (side t : Side) (endpoint : Held) (n m : Network) → side ≡ t
-    → (EndLaws → (w : World) → IsEnd (endpoint_at e t) n w t → IsEnd endpoint m (moves w t) t) → Acts e (with_endpoint e t endpoint) n m side (λ w v. moves w side ≡ v)
+    → (EndLaws → (w : World) → IsEnd (endpoint_at e t) n w t → IsEnd endpoint m (moves w t) t) → EndpointActs e (with_endpoint e t endpoint) n m side (λ w v. moves w side ≡ v)
 moves_at moves e side t endpoint n m is h = acts_at (λ (s : Side) (w v : World). moves w s ≡ v) e side t endpoint n m is (λ laws w v to i. subst (λ (u : World). IsEnd endpoint m u t) to (h laws w i))
 
--- it accepts and hands up nothing
-acted : {S : Type 0} → EndLaws → (p : Parties S) (e f : CallPair S) (n m : Network) (w : CallWorld) (u : World) (side : Side) (leads : World → World → Type 0) → Acts e f n m side leads → leads w.world u → IsQuiet (channel_of w.world) (channel_of u)
+-- the endpoint that acts accepts and hands up nothing
+acted : {S : Type 0} → EndLaws → (p : Parties S) (e f : CallPair S) (n m : Network) (w : CallWorld) (u : World) (side : Side) (leads : World → World → Type 0) → EndpointActs e f n m side leads → leads w.world u → IsQuiet (channel_of w.world) (channel_of u)
     → end_of u (other side) ≡ end_of w.world (other side) → IsCallPair p e w → IsNetwork n w.world → IsCallPlaying p (record { ends = f; network = m }) (in_world w u)
 acted {S} laws p e f n m w u side leads a led q same h network =
     let end = a.stands laws w.world u led (record { stands = stands_at p e w side h; network = network }) in
@@ -127,8 +127,8 @@ acted {S} laws p e f n m w u side leads a led q same h network =
 
 -- ---- a side settles
 
-pub settled : {S : Type 0} (p : Parties S) (e f : CallPair S) (n m : Network) (w : CallWorld) (side : Side) → Given p → IsBetween p w → IsCallPair p e (stepped_out (step p side) w) → IsNetwork n w.world
-    → Acts e f n m side (λ v u. flushes v side ≡ u) → IsCallPlaying p (record { ends = f; network = m }) (settles p side w)
+pub settled : {S : Type 0} (p : Parties S) (e f : CallPair S) (n m : Network) (w : CallWorld) (side : Side) → PartiesLaws p → IsBetween p w → IsCallPair p e (stepped_out (step p side) w) → IsNetwork n w.world
+    → EndpointActs e f n m side (λ v u. flushes v side ≡ u) → IsCallPlaying p (record { ends = f; network = m }) (settles p side w)
 settled p e f n m w side g b h network a =
     let laws = g.answering.ends in
     let v = stepped_out (step p side) w in
@@ -145,14 +145,14 @@ pub record Heard {S : Type 0} (serving : Serving S) (cs : List Call) (p : Partie
   pub playing : IsCallPlaying p play w
 
 heard : {S : Type 0} (serving : Serving S) (cs : List Call) (p : Parties S) (e f : CallPair S) (n m : Network) (w : CallWorld) (u : World) (side : Side) (leads : World → World → Type 0) → IsReady serving cs p w → IsCallPlaying p (record { ends = e; network = n }) w
-    → Acts e f n m side leads → leads w.world u → Holds u → IsQuiet (channel_of w.world) (channel_of u) → end_of u (other side) ≡ end_of w.world (other side) → Heard serving cs p (record { ends = f; network = m }) (in_world w u)
+    → EndpointActs e f n m side leads → leads w.world u → Holds u → IsQuiet (channel_of w.world) (channel_of u) → end_of u (other side) ≡ end_of w.world (other side) → Heard serving cs p (record { ends = f; network = m }) (in_world w u)
 heard serving cs p e f n m w u side leads r h a led holds q same = record {
   ready = record { given = r.given; between = quiet_between p w u r.between holds q; serving_is = r.serving_is; calls_are = r.calls_are };
   playing = acted r.given.answering.ends p e f n m w u side leads a led q same h.ends h.network;
 }
 
 pub landed : {S : Type 0} (serving : Serving S) (cs : List Call) (p : Parties S) (e f : CallPair S) (n m : Network) (w : CallWorld) (k : ℕ) (u : World) (side : Side) → IsReady serving cs p w → IsCallPlaying p (record { ends = e; network = n }) w
-    → landing w.world k ≡ Some (side, u) → Acts e f n m side (λ w v. landing w k ≡ Some (side, v)) → Heard serving cs p (record { ends = f; network = m }) (in_world w u)
+    → landing w.world k ≡ Some (side, u) → EndpointActs e f n m side (λ w v. landing w k ≡ Some (side, v)) → Heard serving cs p (record { ends = f; network = m }) (in_world w u)
 landed serving cs p e f n m w k u side r h came a =
     let holds = r.between.holds.holds in
     heard serving cs p e f n m w u side (λ w v. landing w k ≡ Some (side, v)) r h a came (r.given.world.land w.world k (side, u) holds came) (r.given.answering.network.items.land w.world k (side, u) holds came) (r.given.answering.network.moves.land w.world k (side, u) came)
@@ -160,7 +160,7 @@ landed serving cs p e f n m w k u side r h came a =
 -- ---- time passes
 
 pub ticked : {S : Type 0} (serving : Serving S) (cs : List Call) (p : Parties S) (e f : CallPair S) (n m : Network) (w : CallWorld) (side : Side) → IsReady serving cs p w → IsCallPlaying p (record { ends = e; network = n }) w
-    → Acts e f n m side (λ w v. ticks w side ≡ v) → Heard serving cs p (record { ends = f; network = m }) (in_world w (ticks w.world side))
+    → EndpointActs e f n m side (λ w v. ticks w side ≡ v) → Heard serving cs p (record { ends = f; network = m }) (in_world w (ticks w.world side))
 ticked serving cs p e f n m w side r h a =
     let holds = r.between.holds.holds in
     let s : State = end_of w.world side in
@@ -174,7 +174,7 @@ settles_later p laws side w =
     subst (λ (u : CallWorld). Later w.world u.world) (sym (settles_is p side w))
     (laws.network.goes_on.further w.world v.world (flushes v.world side) (steps_leave p laws side w most_steps).later (laws.network.goes_on.flush v.world side))
 
-delivers_later : {S : Type 0} (p : Parties S) → ServerLaws p.serving p.service → (w : CallWorld) (k : ℕ) (o : Option (Side × World)) → landing w.world k ≡ o → Later w.world (delivers p w k).world
+delivers_later : {S : Type 0} (p : Parties S) → ServerLaws p.serving p.service → (w : CallWorld) (k : ℕ) (o : Option (Side × World)) → landing w.world k ≡ o → Later w.world (call_delivers p w k).world
 delivers_later p laws w k None is = subst (λ (u : CallWorld). Later w.world u.world) (sym (arrived_nowhere p w k is)) (laws.network.goes_on.itself w.world)
 delivers_later p laws w k (Some l) is =
     let v = settles p l.0 (in_world w l.1) in
@@ -182,24 +182,24 @@ delivers_later p laws w k (Some l) is =
     (laws.network.goes_on.further w.world l.1 v.world (laws.network.goes_on.land w.world k l is) (settles_later p laws l.0 (in_world w l.1)))
 
 one_passed : {S : Type 0} (p : Parties S) (w : World) (v : CallWorld) (k : ℕ) (ks : List ℕ) (o : Option (Side × World)) → landing w k ≡ o → StaysAway w k → Later w v.world
-    → fold (delivers p) (delivers p v k) ks ≡ fold (delivers p) (delivers p v k) (filter (does_land w) ks) → fold (delivers p) v ks ≡ fold (delivers p) v (filter (does_land w) ks)
-    → fold (delivers p) (delivers p v k) ks ≡ fold (delivers p) v (if is_some o then k ∷ filter (does_land w) ks else filter (does_land w) ks)
+    → fold (call_delivers p) (call_delivers p v k) ks ≡ fold (call_delivers p) (call_delivers p v k) (filter (does_land w) ks) → fold (call_delivers p) v ks ≡ fold (call_delivers p) v (filter (does_land w) ks)
+    → fold (call_delivers p) (call_delivers p v k) ks ≡ fold (call_delivers p) v (if is_some o then k ∷ filter (does_land w) ks else filter (does_land w) ks)
 one_passed p w v k ks (Some l) is away later next same = next
-one_passed p w v k ks None is away later next same = ap (λ (u : CallWorld). fold (delivers p) u ks) (arrived_nowhere p v k (away is v.world later)) ∙ same
+one_passed p w v k ks None is away later next same = ap (λ (u : CallWorld). fold (call_delivers p) u ks) (arrived_nowhere p v k (away is v.world later)) ∙ same
 
 -- what lands nowhere as they begin is passed over
-pass_over : {S : Type 0} (p : Parties S) → ServerLaws p.serving p.service → (w : World) (v : CallWorld) (ks : List ℕ) → All (StaysAway w) ks → Later w v.world → fold (delivers p) v ks ≡ fold (delivers p) v (filter (does_land w) ks)
+pass_over : {S : Type 0} (p : Parties S) → ServerLaws p.serving p.service → (w : World) (v : CallWorld) (ks : List ℕ) → All (StaysAway w) ks → Later w v.world → fold (call_delivers p) v ks ≡ fold (call_delivers p) v (filter (does_land w) ks)
 pass_over p laws w v [] stay later = refl
 pass_over p laws w v (k ∷ ks) stay later =
     let rest = All-tail (StaysAway w) k ks stay in
-    let on = laws.network.goes_on.further w v.world (delivers p v k).world later (delivers_later p laws v k (landing v.world k) refl) in
-    one_passed p w v k ks (landing w k) refl (All-head (StaysAway w) k ks stay) later (pass_over p laws w (delivers p v k) ks rest on) (pass_over p laws w v ks rest later)
+    let on = laws.network.goes_on.further w v.world (call_delivers p v k).world later (delivers_later p laws v k (landing v.world k) refl) in
+    one_passed p w v k ks (landing w k) refl (All-head (StaysAway w) k ks stay) later (pass_over p laws w (call_delivers p v k) ks rest on) (pass_over p laws w v ks rest later)
 
-pub unsettled_is_enough : {S : Type 0} (p : Parties S) → ServerLaws p.serving p.service → (w : CallWorld) → call_happens p w Rest ≡ fold (delivers p) w (unsettled w.world 0 w.world.bag)
+pub unsettled_is_enough : {S : Type 0} (p : Parties S) → ServerLaws p.serving p.service → (w : CallWorld) → call_happens p w Rest ≡ fold (call_delivers p) w (unsettled w.world 0 w.world.bag)
 unsettled_is_enough p laws w =
     deliveries_all p w (undelivered 0 w.world.bag)
     ∙ pass_over p laws w.world w (undelivered 0 w.world.bag) (laws.network.rest.away w.world) (laws.network.goes_on.itself w.world)
-    ∙ ap (fold (delivers p) w) (sym (laws.network.rest.left_out w.world))
+    ∙ ap (fold (call_delivers p) w) (sym (laws.network.rest.left_out w.world))
 
 -- ---- the headline, of what the play hands over
 

@@ -2,7 +2,7 @@
 use Rattle.std.proofs.Common.{◌≡◌, ℕ, zero, suc, ◌+◌, ◌≤◌, List, [], ◌∷◌, length, map, sym, ◌∙◌, subst, arith}
 use Rattle.std.proofs.lemmas.List.{length-map, take_all}
 use Rattle.item_world.proofs.Later.{all_later}
-use Rattle.item_world.specs.Going.{Later, as_sent}
+use Rattle.item_world.specs.Later.{Later, as_sent}
 use Rattle.courier_messages.specs.RawCalls.{RawCall, caller_items}
 use Rattle.courier_calls.specs.Calls.{outcomes}
 use Rattle.courier_calls.specs.Server.{server_items}
@@ -15,9 +15,9 @@ use Rattle.item_world.specs.declared.side.Side.TheVariants.{A, B}
 use Rattle.xns_world.proofs.CallCarries.{faces}
 use Rattle.xns_world.proofs.CallRuns.{steps_leave}
 use Rattle.xns_world.proofs.CallEntries.{outcomes_length}
-use Rattle.xns_world.specs.CallLaws.{Given}
+use Rattle.xns_world.specs.CallLaws.{PartiesLaws}
 use Rattle.xns_world.specs.CallOrder.{CallsHold, IsBetween}
-use Rattle.xns_world.specs.CallProgress.{IsAllDone, GoesOn}
+use Rattle.xns_world.specs.CallProgress.{IsAllDone, CallsGoOn}
 use Rattle.item_world.specs.declared.setup.Setup.{Setup}
 use Rattle.xns_world.specs.CallWorld.{Parties, CallWorld, CallStep, arrival, noise, ticking, acting, flushing, resending, telling, call_start, call_stepped, all_call_stepped, carried_at, calls_made, put_out, outcomes_read}
 use Rattle.xns_world.proofs.CallMoves.{total}
@@ -29,7 +29,7 @@ pub bound : {S : Type 0} → Parties S → ℕ
 bound p = length p.calls + length p.calls + (length (caller_items p.calls) + length (server_items p.serving p.service (caller_items p.calls)))
     + (length (server_items p.serving p.service (caller_items p.calls)) + length (caller_items p.calls))
 
-pub within_bound : {S : Type 0} (p : Parties S) (w : CallWorld) → Given p → CallsHold p w → total w ≤ bound p
+pub within_bound : {S : Type 0} (p : Parties S) (w : CallWorld) → PartiesLaws p → CallsHold p w → total w ≤ bound p
 unfolding total bound
 within_bound p w g h =
     let few = read_few p w g h in
@@ -42,7 +42,7 @@ within_bound p w g h =
     omega (arith, few, a, b, c, d, e, f, h.made, h.listed)
 
 -- all calls were listed
-pub all_done : {S : Type 0} (p : Parties S) (w : CallWorld) → Given p → CallsHold p w → length p.calls ≤ w.listed
+pub all_done : {S : Type 0} (p : Parties S) (w : CallWorld) → PartiesLaws p → CallsHold p w → length p.calls ≤ w.listed
     → IsAllDone p w
 all_done p w g h all =
     let f = faces p w g h in
@@ -65,7 +65,7 @@ all_done p w g h all =
 pub later_bag : (u v : World) → Later u v → length u.bag ≤ length v.bag
 later_bag u v l = omega (arith, begins_length (map as_sent u.bag) (map as_sent v.bag) l.bag, length-map u.bag as_sent, length-map v.bag as_sent)
 
-step_longer : {S : Type 0} (p : Parties S) (w : CallWorld) (s : CallStep) → Given p
+step_longer : {S : Type 0} (p : Parties S) (w : CallWorld) (s : CallStep) → PartiesLaws p
     → length w.world.bag ≤ length (call_stepped p w s).world.bag
 step_longer p w (arrival k) g = later_bag w.world (events.stepped w.world (events.arrival k)) (all_later g.answering.ends w.world (events.arrival k ∷ []))
 step_longer p w (noise side bytes) g = later_bag w.world (events.stepped w.world (events.noise side bytes)) (all_later g.answering.ends w.world (events.noise side bytes ∷ []))
@@ -75,7 +75,7 @@ step_longer p w (flushing side) g = later_bag w.world (events.stepped w.world (e
 step_longer p w (resending side) g = later_bag w.world (events.stepped w.world (events.resending side)) (all_later g.answering.ends w.world (events.resending side ∷ []))
 step_longer p w (telling side asks) g = later_bag w.world (events.stepped w.world (events.telling side asks)) (all_later g.answering.ends w.world (events.telling side asks ∷ []))
 
-pub bag_longer : {S : Type 0} (p : Parties S) (w : CallWorld) (ss : List CallStep) → Given p
+pub bag_longer : {S : Type 0} (p : Parties S) (w : CallWorld) (ss : List CallStep) → PartiesLaws p
     → length w.world.bag ≤ length (all_call_stepped p w ss).world.bag
 bag_longer p w [] g = omega arith
 bag_longer p w (s ∷ ss) g = omega (arith, step_longer p w s g, bag_longer p (call_stepped p w s) ss g)
@@ -83,5 +83,5 @@ bag_longer p w (s ∷ ss) g = omega (arith, step_longer p w s g, bag_longer p (c
 -- ---- as it begins
 
 pub starts : {S : Type 0} (p : Parties S) (setup : Setup) → NoWorldIsStuck → IsBetween p (call_start setup)
-    → GoesOn p (call_start setup)
+    → CallsGoOn p (call_start setup)
 starts p setup stuck b = record { holds = b.holds; linked = stuck.starts setup; waits = omega arith }

@@ -25,10 +25,10 @@ use Rattle.xns_world.proofs.CallStirs.{Resting, resting, next_same, quiet_caller
 use Rattle.xns_world.proofs.CallProgress.{bag_longer}
 use Rattle.xns_world.proofs.CallRuns.{settles_is, arrived, arrived_nowhere, deliveries_all, steps_leave, settles_between, quiet_between}
 use Rattle.xns_world.proofs.Stepping.{steps_are}
-use Rattle.xns_world.specs.CallLaws.{Given}
+use Rattle.xns_world.specs.CallLaws.{PartiesLaws}
 use Rattle.xns_world.specs.CallOrder.{CallsHold, IsBetween}
-use Rattle.xns_world.specs.CallProgress.{GoesOn}
-use Rattle.xns_world.specs.CallWorld.{Parties, CallWorld, next_out, outcomes_read, in_world, has_outcome, may_call, caller_step, or_caller, step_with, step, lists, makes, settling_steps, settles, delivers, call_steps_of, call_happens}
+use Rattle.xns_world.specs.CallProgress.{CallsGoOn}
+use Rattle.xns_world.specs.CallWorld.{Parties, CallWorld, next_out, outcomes_read, in_world, has_outcome, may_call, caller_step, or_caller, step_with, step, lists_outcome, makes, settling_steps, settles, call_delivers, call_steps_of, call_happens}
 use Rattle.xns_world.specs.Settling.{onward, steps, most_steps, stepped_out}
 
 -- ---- a side that is as it was rests as it did
@@ -59,14 +59,14 @@ pub caller_same : {S : Type 0} (p : Parties S) (w v : CallWorld) (side : Side) �
     → may_call p v ≡ may_call p w → caller_step p w side ≡ None → caller_step p v side ≡ None
 caller_same p w v A h m none =
     let q = quiet_caller p w (has_outcome p w) (may_call p w) none in
-    ap (λ (b : Bool). if b then Some (lists v) else if may_call p v then Some (makes v) else None) (h ∙ q.0) ∙ ap (λ (b : Bool). if b then Some (makes v) else None) (m ∙ q.1)
+    ap (λ (b : Bool). if b then Some (lists_outcome v) else if may_call p v then Some (makes v) else None) (h ∙ q.0) ∙ ap (λ (b : Bool). if b then Some (makes v) else None) (m ∙ q.1)
 caller_same p w v B h m none = refl
 
 -- whether a call may be made, by how many outcomes were read
 abbrev pub may_with : {S : Type 0} → Parties S → CallWorld → ℕ → Bool
 may_with p w n = n == w.made && nat_lt w.made (length p.calls)
 
--- the network alone moved
+-- where the network alone moved, a side is the same
 pub quiet_side : {S : Type 0} (p : Parties S) (w : CallWorld) (v : World) (side : Side)
     → IsQuiet (channel_of w.world) (channel_of v) → is_full (end_of v side) ≡ is_full (end_of w.world side)
     → waiting_count (end_of v side) ≡ waiting_count (end_of w.world side)
@@ -81,7 +81,7 @@ quiet_side p w v side q full waiting =
           (ap (λ (l : List SeenModel). may_with p w (length l)) read);
     }
 
--- the other side moved, and this one's end stayed
+-- where the other side moved and this one's end stayed, this side is the same
 pub same_a : {S : Type 0} (p : Parties S) (w v : CallWorld) → v.world.a ≡ w.world.a → v.made ≡ w.made → v.listed ≡ w.listed
     → SameSide p w v A
 same_a p w v e m l =
@@ -107,7 +107,7 @@ pub sent_full : (s : State) (n : ℕ) (b : Bool)
 sent_full s n true = (refl, refl)
 sent_full s n false = (refl, refl)
 
-pub flush_side : {S : Type 0} (p : Parties S) (w : CallWorld) (side : Side) → Given p → CallsHold p w
+pub flush_side : {S : Type 0} (p : Parties S) (w : CallWorld) (side : Side) → PartiesLaws p → CallsHold p w
     → SameSide p w (in_world w (flushes w.world side)) side
 flush_side p w side g h =
     let s : State = end_of w.world side in
@@ -115,7 +115,7 @@ flush_side p w side g h =
     let l = sent_full s (send_limit s) (is_open s.ends) in
     quiet_side p w (flushes w.world side) side (g.answering.network.items.quiet w.world (events.flushing side) tt h.holds) (ap is_full e ∙ l.0) (ap waiting_count e ∙ l.1)
 
-pub tick_side : {S : Type 0} (p : Parties S) (w : CallWorld) (side : Side) → Given p → CallsHold p w
+pub tick_side : {S : Type 0} (p : Parties S) (w : CallWorld) (side : Side) → PartiesLaws p → CallsHold p w
     → SameSide p w (in_world w (ticks w.world side)) side
 tick_side p w side g h =
     let s : State = end_of w.world side in
@@ -137,14 +137,14 @@ pub no_less : (v : CallWorld) (o : Option CallWorld) → Rises v o → total v �
 no_less v None h = omega arith
 no_less v (Some u) h = omega (arith, h)
 
-pub rises_first : {S : Type 0} (p : Parties S) (side : Side) (w u : CallWorld) (n : ℕ) → Given p → CallsHold p w
+pub rises_first : {S : Type 0} (p : Parties S) (side : Side) (w u : CallWorld) (n : ℕ) → PartiesLaws p → CallsHold p w
     → step p side w ≡ Some u → total w < total (steps (step p side) w (suc n))
 rises_first p side w u zero g h is = subst (λ (o : Option CallWorld). total w < total (onward w o)) (sym is) (subst (λ (o : Option CallWorld). Rises w o) is (step_rises p w side g h))
 rises_first p side w u (suc n) g h is =
     let v : CallWorld = steps (step p side) w (suc n) in
     omega (arith, rises_first p side w u n g h is, no_less v (step p side v) (step_rises p v side g (steps_hold p side w (suc n) g h)))
 
-pub settle_rises : {S : Type 0} (p : Parties S) (side : Side) (w u : CallWorld) → Given p → CallsHold p w
+pub settle_rises : {S : Type 0} (p : Parties S) (side : Side) (w u : CallWorld) → PartiesLaws p → CallsHold p w
     → step p side w ≡ Some u → total w < total (settles p side w)
 settle_rises p side w u g h is =
     let v : CallWorld = stepped_out (step p side) w in
@@ -156,7 +156,7 @@ settle_rises p side w u g h is =
 -- ---- between events no side can take a step
 
 pub record AtRest {S : Type 0} (p : Parties S) (w : CallWorld) : Type 0 where
-  pub on : GoesOn p w
+  pub on : CallsGoOn p w
   pub between : IsBetween p w
   pub rests : (side : Side) → step p side w ≡ None
 
@@ -166,13 +166,13 @@ two_sides P A here there B = there
 two_sides P B here there A = there
 two_sides P B here there B = here
 
--- the other side rests still as this one takes its steps
-pub left_resting : {S : Type 0} (p : Parties S) (side : Side) (w : CallWorld) → Given p → step p (other side) w ≡ None
+-- a side that rests still rests as the other one takes its steps
+pub left_resting : {S : Type 0} (p : Parties S) (side : Side) (w : CallWorld) → PartiesLaws p → step p (other side) w ≡ None
     → step p (other side) (stepped_out (step p side) w) ≡ None
 left_resting p A w g none = let l = steps_leave p g.answering A w most_steps in still_rests p w (stepped_out (step p A) w) B (same_b p w (stepped_out (step p A) w) l.there) none
 left_resting p B w g none = let l = steps_leave p g.answering B w most_steps in still_rests p w (stepped_out (step p B) w) A (same_a p w (stepped_out (step p B) w) l.there (l.made refl) (l.listed refl)) none
 
-pub settled_rest : {S : Type 0} (p : Parties S) (side : Side) (w : CallWorld) → Given p → NoWorldIsStuck → GoesOn p w
+pub settled_rest : {S : Type 0} (p : Parties S) (side : Side) (w : CallWorld) → PartiesLaws p → NoWorldIsStuck → CallsGoOn p w
     → IsBetween p w → step p (other side) w ≡ None → AtRest p (settles p side w)
 settled_rest p side w g stuck on b none =
     let v : CallWorld = stepped_out (step p side) w in
@@ -190,23 +190,23 @@ settled_rest p side w g stuck on b none =
     }
 
 pub delivered_rest : {S : Type 0} (p : Parties S) (w : CallWorld) (k : ℕ) (o : Option (Side × World)) → landing w.world k ≡ o
-    → Given p → NoWorldIsStuck → AtRest p w → AtRest p (delivers p w k)
+    → PartiesLaws p → NoWorldIsStuck → AtRest p w → AtRest p (call_delivers p w k)
 delivered_rest p w k None is g stuck r = subst (AtRest p) (sym (arrived_nowhere p w k is)) r
 delivered_rest p w k (Some l) is g stuck r =
     let h = r.between.holds.holds in
     let q = g.answering.network.items.land w.world k l h is in
     let e = g.answering.network.moves.land w.world k l is in
     let v : CallWorld = in_world w l.1 in
-    let on : GoesOn p v = subst (λ (o : Option (Side × World)). GoesOn p (in_world w (reached w.world o))) is (other_on p w (events.arrival k) tt tt g stuck r.on) in
+    let on : CallsGoOn p v = subst (λ (o : Option (Side × World)). CallsGoOn p (in_world w (reached w.world o))) is (other_on p w (events.arrival k) tt tt g stuck r.on) in
     let none : step p (other l.0) v ≡ None = still_rests p w v (other l.0) (quiet_side p w l.1 (other l.0) q (ap is_full e) (ap waiting_count e)) (r.rests (other l.0)) in
     subst (AtRest p) (sym (arrived p w k l is)) (settled_rest p l.0 v g stuck on (quiet_between p w l.1 r.between (g.world.land w.world k l h is) q) none)
 
-pub all_rest : {S : Type 0} (p : Parties S) (w : CallWorld) (ks : List ℕ) → Given p → NoWorldIsStuck → AtRest p w
-    → AtRest p (fold (delivers p) w ks)
+pub all_rest : {S : Type 0} (p : Parties S) (w : CallWorld) (ks : List ℕ) → PartiesLaws p → NoWorldIsStuck → AtRest p w
+    → AtRest p (fold (call_delivers p) w ks)
 all_rest p w [] g stuck r = r
-all_rest p w (k ∷ ks) g stuck r = all_rest p (delivers p w k) ks g stuck (delivered_rest p w k (landing w.world k) refl g stuck r)
+all_rest p w (k ∷ ks) g stuck r = all_rest p (call_delivers p w k) ks g stuck (delivered_rest p w k (landing w.world k) refl g stuck r)
 
-pub event_rests : {S : Type 0} (p : Parties S) (w : CallWorld) (e : Event) → Given p → NoWorldIsStuck → AtRest p w
+pub event_rests : {S : Type 0} (p : Parties S) (w : CallWorld) (e : Event) → PartiesLaws p → NoWorldIsStuck → AtRest p w
     → AtRest p (call_happens p w e)
 event_rests p w (Deliver k) g stuck r = delivered_rest p w k (landing w.world k) refl g stuck r
 event_rests p w Rest g stuck r = subst (AtRest p) (sym (deliveries_all p w (undelivered 0 w.world.bag))) (all_rest p w (undelivered 0 w.world.bag) g stuck r)
@@ -222,14 +222,14 @@ event_rests p w (Foreign side bytes) g stuck r = subst (λ (v : World). AtRest p
 event_rests p w (Send side x) g stuck r = r
 event_rests p w (Take side) g stuck r = r
 
-pub events_rest : {S : Type 0} (p : Parties S) (w : CallWorld) (es : List Event) → Given p → NoWorldIsStuck → AtRest p w
+pub events_rest : {S : Type 0} (p : Parties S) (w : CallWorld) (es : List Event) → PartiesLaws p → NoWorldIsStuck → AtRest p w
     → AtRest p (fold (call_happens p) w es)
 events_rest p w [] g stuck r = r
 events_rest p w (e ∷ es) g stuck r = events_rest p (call_happens p w e) es g stuck (event_rests p w e g stuck r)
 
 -- ---- the bag only grows
 
-pub events_longer : {S : Type 0} (p : Parties S) (w : CallWorld) (es : List Event) → Given p
+pub events_longer : {S : Type 0} (p : Parties S) (w : CallWorld) (es : List Event) → PartiesLaws p
     → length w.world.bag ≤ length (fold (call_happens p) w es).world.bag
 events_longer p w [] g = omega arith
 events_longer p w (e ∷ es) g = omega (arith, bag_longer p w (call_steps_of p w e) g, events_longer p (call_happens p w e) es g)

@@ -6,16 +6,16 @@ use Rattle.item_world.specs.Events as events
 use Rattle.item_world.specs.Landing.{landing, reached}
 use Rattle.item_world.specs.World.{World, flushes, start, end_of, moved, ticks, channel_of, sent_at, handed_at}
 use Rattle.xns_world.proofs.CallCarries.{quiet_holds, faces, same_read, steps_hold, settles_end}
-use Rattle.xns_world.specs.CallLaws.{Given, ServerLaws}
+use Rattle.xns_world.specs.CallLaws.{PartiesLaws, ServerLaws}
 use Rattle.xns_world.specs.CallOrder.{CallsHold, AllListed, IsBetween, MeetNoFault}
-use Rattle.xns_world.specs.CallWorld.{Parties, CallWorld, in_world, step, CallStep, arrival, noise, ticking, acting, flushing, resending, telling, call_stepped, all_call_stepped, acting_steps, call_arrival_steps, call_deliveries, settles, delivers, calls_made, put_out, outcomes_read, call_start, call_happens, begun, run_calls}
+use Rattle.xns_world.specs.CallWorld.{Parties, CallWorld, in_world, step, CallStep, arrival, noise, ticking, acting, flushing, resending, telling, call_stepped, all_call_stepped, acting_steps, call_arrival_steps, call_deliveries, settles, call_delivers, calls_made, put_out, outcomes_read, call_start, call_happens, both_settled, run_calls}
 use Rattle.xns_world.specs.Settling.{most_steps, onward, steps, stepped_out}
 use Rattle.std.proofs.lemmas.Bool.{ltb-false}
 use Rattle.std.proofs.lemmas.List.Elements.{All-nil}
 use Rattle.courier_messages.specs.RawCalls.{RawCall}
 use Rattle.courier_calls.specs.Calls.{SeenModel, Serving, decision, after_decision, outcomes, IsFitting}
 use Rattle.courier_calls.specs.Caller.{answers}
-use Rattle.courier_calls.specs.Server.{decided}
+use Rattle.courier_calls.specs.Server.{decided_calls}
 use Rattle.xns_spp.specs.Sending.{after_send, after_take}
 use Rattle.xns_spp.specs.State.{State}
 use Rattle.xns_spp.specs.Fronts.{begins_length}
@@ -26,7 +26,7 @@ use Rattle.item_world.specs.declared.side.Side.TheVariants.{A, B}
 use Rattle.xns_spp.specs.Growth.{Begins}
 use Rattle.item_world.specs.Invariant.{Holds}
 use Rattle.item_world.specs.Events.{undelivered}
-use Rattle.item_world.specs.Going.{Later}
+use Rattle.item_world.specs.Later.{Later}
 use Rattle.item_world.specs.Laws.{NetworkLaws}
 use Rattle.item_world.specs.Network.{IsNetwork}
 use Rattle.item_world.specs.Side.{other}
@@ -56,27 +56,27 @@ settles_is p side w =
     ∙ ap (λ (v : CallWorld). in_world v (flushes v.world side)) (acting_all p w side most_steps)
 
 -- packet k came to an end, which answered it and then settles
-pub arrived : {S : Type 0} (p : Parties S) (w : CallWorld) (k : ℕ) (l : Side × World) → landing w.world k ≡ Some l → delivers p w k ≡ settles p l.0 (in_world w l.1)
+pub arrived : {S : Type 0} (p : Parties S) (w : CallWorld) (k : ℕ) (l : Side × World) → landing w.world k ≡ Some l → call_delivers p w k ≡ settles p l.0 (in_world w l.1)
 arrived p w k l is =
     ap (λ (o : Option (Side × World)). all_call_stepped p w (call_arrival_steps k o)) is
     ∙ ap (λ (o : Option (Side × World)). settles p l.0 (in_world w (reached w.world o))) is
 
-pub arrived_nowhere : {S : Type 0} (p : Parties S) (w : CallWorld) (k : ℕ) → landing w.world k ≡ None → delivers p w k ≡ w
+pub arrived_nowhere : {S : Type 0} (p : Parties S) (w : CallWorld) (k : ℕ) → landing w.world k ≡ None → call_delivers p w k ≡ w
 arrived_nowhere p w k none = ap (λ (o : Option (Side × World)). all_call_stepped p w (call_arrival_steps k o)) none
 
-pub deliveries_all : {S : Type 0} (p : Parties S) (w : CallWorld) (ks : List ℕ) → all_call_stepped p w (call_deliveries p w ks) ≡ fold (delivers p) w ks
+pub deliveries_all : {S : Type 0} (p : Parties S) (w : CallWorld) (ks : List ℕ) → all_call_stepped p w (call_deliveries p w ks) ≡ fold (call_delivers p) w ks
 deliveries_all p w [] = refl
 deliveries_all p w (k ∷ ks) =
-    fold-append (call_stepped p) w (call_arrival_steps k (landing w.world k)) (call_deliveries p (delivers p w k) ks)
-    ∙ deliveries_all p (delivers p w k) ks
+    fold-append (call_stepped p) w (call_arrival_steps k (landing w.world k)) (call_deliveries p (call_delivers p w k) ks)
+    ∙ deliveries_all p (call_delivers p w k) ks
 
 -- ---- each of them keeps what is always true
 
 -- a small step of the network alone
-other_holds : {S : Type 0} (p : Parties S) (w : CallWorld) (s : events.Step) → events.IsStep s → events.IsOther s → Given p → CallsHold p w → CallsHold p (in_world w (events.stepped w.world s))
+other_holds : {S : Type 0} (p : Parties S) (w : CallWorld) (s : events.Step) → events.IsStep s → events.IsOther s → PartiesLaws p → CallsHold p w → CallsHold p (in_world w (events.stepped w.world s))
 other_holds p w s fits other g h = quiet_holds p w (events.stepped w.world s) h (g.world.each w.world s fits h.holds) (g.answering.network.items.quiet w.world s other h.holds)
 
-pub step_holds : {S : Type 0} (p : Parties S) (w : CallWorld) (s : CallStep) → Given p → CallsHold p w → CallsHold p (call_stepped p w s)
+pub step_holds : {S : Type 0} (p : Parties S) (w : CallWorld) (s : CallStep) → PartiesLaws p → CallsHold p w → CallsHold p (call_stepped p w s)
 step_holds p w (arrival k) g h = other_holds p w (events.arrival k) tt tt g h
 step_holds p w (noise side bytes) g h = other_holds p w (events.noise side bytes) tt tt g h
 step_holds p w (ticking side) g h = other_holds p w (events.ticking side) tt tt g h
@@ -85,13 +85,13 @@ step_holds p w (flushing side) g h = other_holds p w (events.flushing side) tt t
 step_holds p w (resending side) g h = other_holds p w (events.resending side) tt tt g h
 step_holds p w (telling side asks) g h = other_holds p w (events.telling side asks) tt tt g h
 
-pub all_hold : {S : Type 0} (p : Parties S) (w : CallWorld) (ss : List CallStep) → Given p → CallsHold p w → CallsHold p (all_call_stepped p w ss)
+pub all_hold : {S : Type 0} (p : Parties S) (w : CallWorld) (ss : List CallStep) → PartiesLaws p → CallsHold p w → CallsHold p (all_call_stepped p w ss)
 all_hold p w [] g h = h
 all_hold p w (s ∷ ss) g h = all_hold p (call_stepped p w s) ss g (step_holds p w s g h)
 
 -- ---- what the steps of a side leave
 
--- the other end, and the network; a server's side, the calls made and listed
+-- a side's steps leave the other end and the network; those of a server's side also the calls made and listed
 pub record Leaves (side : Side) (w v : CallWorld) : Type 0 where
   pub there : end_of v.world (other side) ≡ end_of w.world (other side)
   pub network : (n : Network) → IsNetwork n w.world → IsNetwork n v.world
@@ -160,7 +160,7 @@ left_listed p w v l h =
 quiet_listed : {S : Type 0} (p : Parties S) (w : CallWorld) (v : World) → IsQuiet (channel_of w.world) (channel_of v) → AllListed p w → AllListed p (in_world w v)
 quiet_listed p w v q h = subst (λ (rs : List SeenModel). length rs ≤ w.listed) (sym (same_read p w v (q.handed A))) h
 
-stepped_listed : {S : Type 0} (p : Parties S) (side : Side) (w : CallWorld) → Given p → IsBetween p w → AllListed p (stepped_out (step p side) w)
+stepped_listed : {S : Type 0} (p : Parties S) (side : Side) (w : CallWorld) → PartiesLaws p → IsBetween p w → AllListed p (stepped_out (step p side) w)
 stepped_listed p A w g b = step_none p (stepped_out (step p A) w) A (settles_end p A w g b) refl
 stepped_listed p B w g b = left_listed p w (stepped_out (step p B) w) (steps_leave p g.answering B w most_steps) b.listed
 
@@ -169,27 +169,27 @@ stepped_listed p B w g b = left_listed p w (stepped_out (step p B) w) (steps_lea
 pub quiet_between : {S : Type 0} (p : Parties S) (w : CallWorld) (v : World) → IsBetween p w → Holds v → IsQuiet (channel_of w.world) (channel_of v) → IsBetween p (in_world w v)
 quiet_between p w v b holds q = record { holds = quiet_holds p w v b.holds holds q; listed = quiet_listed p w v q b.listed }
 
-pub settles_between : {S : Type 0} (p : Parties S) (side : Side) (w : CallWorld) → Given p → IsBetween p w → IsBetween p (settles p side w)
+pub settles_between : {S : Type 0} (p : Parties S) (side : Side) (w : CallWorld) → PartiesLaws p → IsBetween p w → IsBetween p (settles p side w)
 settles_between p side w g b =
     let v = stepped_out (step p side) w in
     let h = steps_hold p side w most_steps g b.holds in
     let flushed = quiet_between p v (flushes v.world side) (record { holds = h; listed = stepped_listed p side w g b }) (g.world.each v.world (events.flushing side) tt h.holds) (g.answering.network.items.quiet v.world (events.flushing side) tt h.holds) in
     subst (IsBetween p) (sym (settles_is p side w)) flushed
 
-delivered_between : {S : Type 0} (p : Parties S) (w : CallWorld) (k : ℕ) (o : Option (Side × World)) → landing w.world k ≡ o → Given p → IsBetween p w → IsBetween p (delivers p w k)
+delivered_between : {S : Type 0} (p : Parties S) (w : CallWorld) (k : ℕ) (o : Option (Side × World)) → landing w.world k ≡ o → PartiesLaws p → IsBetween p w → IsBetween p (call_delivers p w k)
 delivered_between p w k None is g b = subst (IsBetween p) (sym (arrived_nowhere p w k is)) b
 delivered_between p w k (Some l) is g b =
     let landed = quiet_between p w l.1 b (g.world.land w.world k l b.holds.holds is) (g.answering.network.items.land w.world k l b.holds.holds is) in
     subst (IsBetween p) (sym (arrived p w k l is)) (settles_between p l.0 (in_world w l.1) g landed)
 
-pub all_between : {S : Type 0} (p : Parties S) (w : CallWorld) (ks : List ℕ) → Given p → IsBetween p w → IsBetween p (fold (delivers p) w ks)
+pub all_between : {S : Type 0} (p : Parties S) (w : CallWorld) (ks : List ℕ) → PartiesLaws p → IsBetween p w → IsBetween p (fold (call_delivers p) w ks)
 all_between p w [] g b = b
-all_between p w (k ∷ ks) g b = all_between p (delivers p w k) ks g (delivered_between p w k (landing w.world k) refl g b)
+all_between p w (k ∷ ks) g b = all_between p (call_delivers p w k) ks g (delivered_between p w k (landing w.world k) refl g b)
 
-pub tick_between : {S : Type 0} (p : Parties S) (w : CallWorld) (side : Side) → Given p → IsBetween p w → IsBetween p (in_world w (ticks w.world side))
+pub tick_between : {S : Type 0} (p : Parties S) (w : CallWorld) (side : Side) → PartiesLaws p → IsBetween p w → IsBetween p (in_world w (ticks w.world side))
 tick_between p w side g b = quiet_between p w (ticks w.world side) b (g.world.each w.world (events.ticking side) tt b.holds.holds) (g.answering.network.items.quiet w.world (events.ticking side) tt b.holds.holds)
 
-pub happens_between : {S : Type 0} (p : Parties S) (w : CallWorld) (e : Event) → Given p → IsBetween p w → IsBetween p (call_happens p w e)
+pub happens_between : {S : Type 0} (p : Parties S) (w : CallWorld) (e : Event) → PartiesLaws p → IsBetween p w → IsBetween p (call_happens p w e)
 happens_between p w (Deliver k) g b = delivered_between p w k (landing w.world k) refl g b
 happens_between p w Rest g b = subst (IsBetween p) (sym (deliveries_all p w (undelivered 0 w.world.bag))) (all_between p w (undelivered 0 w.world.bag) g b)
 happens_between p w (Tick side) g b = settles_between p side (in_world w (ticks w.world side)) g (tick_between p w side g b)
@@ -197,19 +197,19 @@ happens_between p w (Foreign side bytes) g b = subst (λ (v : World). IsBetween 
 happens_between p w (Send side x) g b = b
 happens_between p w (Take side) g b = b
 
-pub run_between : {S : Type 0} (p : Parties S) (w : CallWorld) (es : List Event) → Given p → IsBetween p w → IsBetween p (fold (call_happens p) w es)
+pub run_between : {S : Type 0} (p : Parties S) (w : CallWorld) (es : List Event) → PartiesLaws p → IsBetween p w → IsBetween p (fold (call_happens p) w es)
 run_between p w [] g b = b
 run_between p w (e ∷ es) g b = run_between p (call_happens p w e) es g (happens_between p w e g b)
 
 -- ---- the start
 
-none_read : {S : Type 0} (p : Parties S) (setup : Setup) → Given p → length (outcomes_read p (call_start setup)) ≡ 0
+none_read : {S : Type 0} (p : Parties S) (setup : Setup) → PartiesLaws p → length (outcomes_read p (call_start setup)) ≡ 0
 none_read p setup g =
     let f = g.agree [] [] [] (All-nil IsFitting) (put_out p (call_start setup) A, refl) (put_out p (call_start setup) B, refl) in
-    let none = begins_length (decided []) [] f.once in
+    let none = begins_length (decided_calls []) [] f.once in
     omega (arith, f.fewer, none)
 
-pub start_between : {S : Type 0} (p : Parties S) (setup : Setup) → Given p → IsSetup setup → IsGood setup → IsBetween p (call_start setup)
+pub start_between : {S : Type 0} (p : Parties S) (setup : Setup) → PartiesLaws p → IsSetup setup → IsGood setup → IsBetween p (call_start setup)
 start_between p setup g fits good = record {
   holds = record {
     holds = g.world.start setup fits good;
@@ -220,11 +220,11 @@ start_between p setup g fits good = record {
   listed = omega (arith, none_read p setup g);
 }
 
-pub begun_between : {S : Type 0} (p : Parties S) (setup : Setup) → Given p → IsSetup setup → IsGood setup → IsBetween p (begun p setup)
+pub begun_between : {S : Type 0} (p : Parties S) (setup : Setup) → PartiesLaws p → IsSetup setup → IsGood setup → IsBetween p (both_settled p setup)
 begun_between p setup g fits good = settles_between p B (settles p A (call_start setup)) g (settles_between p A (call_start setup) g (start_between p setup g fits good))
 
-pub always_between : {S : Type 0} (p : Parties S) (setup : Setup) (events : List Event) → Given p → IsSetup setup → IsGood setup → IsBetween p (run_calls p setup events)
-always_between p setup events g fits good = run_between p (begun p setup) events g (begun_between p setup g fits good)
+pub always_between : {S : Type 0} (p : Parties S) (setup : Setup) (events : List Event) → PartiesLaws p → IsSetup setup → IsGood setup → IsBetween p (run_calls p setup events)
+always_between p setup events g fits good = run_between p (both_settled p setup) events g (begun_between p setup g fits good)
 
 -- ---- what the headline needs
 
@@ -238,5 +238,5 @@ outcomes_more serving s (c ∷ cs) more =
 pub outcomes_begin : {S : Type 0} (serving : Serving S) (s : S) (xs ys : List RawCall) → Begins xs ys → Begins (outcomes serving s xs) (outcomes serving s ys)
 outcomes_begin serving s xs ys b = subst (λ (l : List RawCall). Begins (outcomes serving s xs) (outcomes serving s l)) b.1 (outcomes_more serving s xs b.0)
 
-pub meet_no_fault : {S : Type 0} (p : Parties S) (w : CallWorld) → Given p → CallsHold p w → MeetNoFault p w
+pub meet_no_fault : {S : Type 0} (p : Parties S) (w : CallWorld) → PartiesLaws p → CallsHold p w → MeetNoFault p w
 meet_no_fault p w g h = let f = faces p w g h in record { server = f.server; caller = f.caller }

@@ -18,8 +18,8 @@ use Rattle.xns_world.proofs.CallMoves.{total, Rises, step_rises, step_goes_on, a
 use Rattle.xns_world.proofs.CallProgress.{bound, within_bound, bag_longer}
 use Rattle.xns_world.proofs.CallRests.{AtRest, two_sides}
 use Rattle.xns_world.proofs.CallStirs.{resting, quiet_caller}
-use Rattle.xns_world.specs.CallLaws.{Given}
-use Rattle.xns_world.specs.CallProgress.{IsPlainCall, IsAllDone, HasRoom, GoesOn, Completes, CompletesByEvents}
+use Rattle.xns_world.specs.CallLaws.{PartiesLaws}
+use Rattle.xns_world.specs.CallProgress.{IsPlainCall, IsAllDone, CarriesAll, CallsGoOn, Completes, CompletesByEvents}
 use Rattle.xns_world.specs.CallWorld.{Parties, CallWorld, CallStep, ticking, acting, flushing, arrival, acting_steps, settling_steps, call_arrival_steps, call_steps_of, call_happens, call_stepped, all_call_stepped, outcomes_read, has_outcome, may_call, step}
 use Rattle.xns_world.specs.Settling.{onward, most_steps}
 
@@ -31,7 +31,7 @@ record ComesToRest {S : Type 0} (p : Parties S) (w : CallWorld) : Type 0 where
   rests : AtRest p (all_call_stepped p w more)
 
 -- where the caller takes no step each outcome is listed
-at_rest : {S : Type 0} (p : Parties S) (w : CallWorld) → GoesOn p w → step p A w ≡ None → step p B w ≡ None → AtRest p w
+at_rest : {S : Type 0} (p : Parties S) (w : CallWorld) → CallsGoOn p w → step p A w ≡ None → step p B w ≡ None → AtRest p w
 at_rest p w on a b =
     let q = quiet_caller p w (has_outcome p w) (may_call p w) (resting p w A a).caller in
     record {
@@ -48,15 +48,15 @@ acts_first p w v side is c = record {
   rests = subst (λ (o : Option CallWorld). AtRest p (all_call_stepped p (onward w o) c.more)) (sym is) c.rests;
 }
 
-acted : {S : Type 0} (p : Parties S) (w v : CallWorld) (side : Side) → Given p → NoWorldIsStuck → GoesOn p w
-    → step p side w ≡ Some v → GoesOn p v × (total w < total v)
+acted : {S : Type 0} (p : Parties S) (w v : CallWorld) (side : Side) → PartiesLaws p → NoWorldIsStuck → CallsGoOn p w
+    → step p side w ≡ Some v → CallsGoOn p v × (total w < total v)
 acted p w v side g stuck on is = (
-  subst (λ (o : Option CallWorld). GoesOn p (onward w o)) is (step_goes_on p w (acting side) g stuck on),
+  subst (λ (o : Option CallWorld). CallsGoOn p (onward w o)) is (step_goes_on p w (acting side) g stuck on),
   subst (λ (o : Option CallWorld). Rises w o) is (step_rises p w side g on.holds),
 )
 
 come_to_rest : {S : Type 0} (p : Parties S) (d : ℕ) (w : CallWorld) (a b : Option CallWorld) → step p A w ≡ a → step p B w ≡ b
-    → Given p → NoWorldIsStuck → GoesOn p w → bound p ≤ total w + d → ComesToRest p w
+    → PartiesLaws p → NoWorldIsStuck → CallsGoOn p w → bound p ≤ total w + d → ComesToRest p w
 come_to_rest p d w None None a b g stuck on le = record { more = []; plain = λ n. All-nil (IsPlainCall n); rests = at_rest p w on a b }
 come_to_rest p zero w (Some v) o a b g stuck on le =
     let s = acted p w v A g stuck on a in absurd (omega (arith, s.1, within_bound p v g s.0.holds, le))
@@ -71,7 +71,7 @@ come_to_rest p (suc d) w None (Some v) a b g stuck on le =
 
 -- ---- the small steps of events
 
--- those of each event, in the world that the events before it lead to
+-- the small steps of each event, in the world that the events before it lead to
 steps_along : {S : Type 0} → Parties S → CallWorld → List Event → List CallStep
 steps_along p w [] = []
 steps_along p w (e ∷ es) = call_steps_of p w e ++ steps_along p (call_happens p w e) es
@@ -115,8 +115,8 @@ along_plain p n w (e ∷ es) h =
 
 -- ---- from every state of a play some plain steps carry out all calls
 
-pub completes : {S : Type 0} (p : Parties S) (w : CallWorld) → Given p → NoWorldIsStuck
-    → AllIsAnswered p.serving p.service → HasRoom p → GoesOn p w → Completes p w
+pub completes : {S : Type 0} (p : Parties S) (w : CallWorld) → PartiesLaws p → NoWorldIsStuck
+    → AllIsAnswered p.serving p.service → CarriesAll p → CallsGoOn p w → Completes p w
 completes p w g stuck sessions room on =
     let c : ComesToRest p w = come_to_rest p (bound p) w (step p A w) (step p B w) refl refl g stuck on (omega arith) in
     let v : CallWorld = all_call_stepped p w c.more in
@@ -132,6 +132,6 @@ completes p w g stuck sessions room on =
       done = subst (IsAllDone p) (sym (fold-append (call_stepped p) w c.more last ∙ along_run p v f.more)) f.done;
     }
 
-pub always_completes : {S : Type 0} (p : Parties S) (w : CallWorld) (steps : List CallStep) → Given p → NoWorldIsStuck
-    → AllIsAnswered p.serving p.service → HasRoom p → GoesOn p w → Completes p (all_call_stepped p w steps)
+pub always_completes : {S : Type 0} (p : Parties S) (w : CallWorld) (steps : List CallStep) → PartiesLaws p → NoWorldIsStuck
+    → AllIsAnswered p.serving p.service → CarriesAll p → CallsGoOn p w → Completes p (all_call_stepped p w steps)
 always_completes p w steps g stuck sessions room on = completes p (all_call_stepped p w steps) g stuck sessions room (all_go_on p w steps g stuck on)

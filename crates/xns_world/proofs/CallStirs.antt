@@ -22,11 +22,11 @@ use Rattle.item_world.specs.World.{World, end_of, channel_of, sent_at, handed_at
 use Rattle.item_world.specs.declared.side.Side.{Side}
 use Rattle.item_world.specs.declared.side.Side.TheVariants.{A, B}
 use Rattle.xns_world.proofs.CallCarries.{element_at, faces}
-use Rattle.xns_world.specs.CallLaws.{Given}
+use Rattle.xns_world.specs.CallLaws.{PartiesLaws}
 use Rattle.xns_world.specs.CallOrder.{CallsHold}
-use Rattle.xns_world.specs.CallProgress.{HasRoom, GoesOn}
+use Rattle.xns_world.specs.CallProgress.{CarriesAll, CallsGoOn}
 use Rattle.courier_calls.specs.Laws.{AllIsAnswered}
-use Rattle.xns_world.specs.CallWorld.{Parties, CallWorld, calls_made, put_out, next_out, outcomes_read, in_world, lists, makes, has_outcome, may_call, caller_step, or_caller, step_with, step}
+use Rattle.xns_world.specs.CallWorld.{Parties, CallWorld, calls_made, put_out, next_out, outcomes_read, in_world, lists_outcome, makes, has_outcome, may_call, caller_step, or_caller, step_with, step}
 
 -- ---- what is so where no side takes a step
 
@@ -101,20 +101,20 @@ empty_full s fits none full =
 pub all_made : {S : Type 0} (p : Parties S) (w : CallWorld) → CallsHold p w → length (calls_made p w) ≡ w.made
 all_made p w h = omega (arith, length-take w.made p.calls, h.made)
 
-pub made_fit : {S : Type 0} (p : Parties S) (w : CallWorld) → Given p → All IsFitting (calls_made p w)
+pub made_fit : {S : Type 0} (p : Parties S) (w : CallWorld) → PartiesLaws p → All IsFitting (calls_made p w)
 made_fit p w g = All-take IsFitting w.made p.calls g.fitting
 
-pub server_front : {S : Type 0} (p : Parties S) (w : CallWorld) → Given p → CallsHold p w
+pub server_front : {S : Type 0} (p : Parties S) (w : CallWorld) → PartiesLaws p → CallsHold p w
     → Begins (handed_at w.world B) (caller_items (calls_made p w))
 server_front p w g h = begins_then (handed_at w.world B) (sent_at w.world A) (put_out p w A) (g.world.order w.world B h.holds) (h.out A)
 
-pub caller_front : {S : Type 0} (p : Parties S) (w : CallWorld) → Given p → CallsHold p w
+pub caller_front : {S : Type 0} (p : Parties S) (w : CallWorld) → PartiesLaws p → CallsHold p w
     → Begins (handed_at w.world A) (put_out p w B)
 caller_front p w g h = begins_then (handed_at w.world A) (sent_at w.world B) (put_out p w B) (g.world.order w.world A h.holds) (h.out B)
 
 -- while the caller has an item out the server has none that its full end would hold back
-pub not_both_out : {S : Type 0} (p : Parties S) (w : CallWorld) (x y : Item) → Given p → AllIsAnswered p.serving p.service
-    → GoesOn p w → next_out p w A ≡ Some x → next_out p w B ≡ Some y → is_full (end_of w.world B) ≡ true → ⊥
+pub not_both_out : {S : Type 0} (p : Parties S) (w : CallWorld) (x y : Item) → PartiesLaws p → AllIsAnswered p.serving p.service
+    → CallsGoOn p w → next_out p w A ≡ Some x → next_out p w B ≡ Some y → is_full (end_of w.world B) ≡ true → ⊥
 not_both_out p w x y g sessions on out back full =
     let h = on.holds in
     let here = slice_get_within (put_out p w A) (length (sent_at w.world A)) x out in
@@ -130,27 +130,27 @@ not_both_out p w x y g sessions on out back full =
 
 -- how much goes out at most
 
-pub caller_most : {S : Type 0} (p : Parties S) (w : CallWorld) → Given p → Begins (put_out p w A) (caller_items p.calls)
+pub caller_most : {S : Type 0} (p : Parties S) (w : CallWorld) → PartiesLaws p → Begins (put_out p w A) (caller_items p.calls)
 caller_most p w g = g.heard.calls (calls_made p w) p.calls (front_begins w.made p.calls)
 
-pub server_most : {S : Type 0} (p : Parties S) (w : CallWorld) → Given p → CallsHold p w
+pub server_most : {S : Type 0} (p : Parties S) (w : CallWorld) → PartiesLaws p → CallsHold p w
     → Begins (put_out p w B) (server_items p.serving p.service (caller_items p.calls))
 server_most p w g h =
     g.heard.server p.service (handed_at w.world B) (caller_items p.calls) (begins_then (handed_at w.world B) (put_out p w A) (caller_items p.calls) (server_front p w g h) (caller_most p w g))
 
-pub most_out : {S : Type 0} (p : Parties S) (w : CallWorld) (side : Side) → Given p → CallsHold p w → HasRoom p
+pub most_out : {S : Type 0} (p : Parties S) (w : CallWorld) (side : Side) → PartiesLaws p → CallsHold p w → CarriesAll p
     → length (put_out p w side) ≤ most_items
 most_out p w A g h room = omega (arith, room.calls, begins_length (put_out p w A) (caller_items p.calls) (caller_most p w g))
 most_out p w B g h room = omega (arith, room.answers, begins_length (put_out p w B) (server_items p.serving p.service (caller_items p.calls)) (server_most p w g h))
 
-pub sends_room : {S : Type 0} (p : Parties S) (w : CallWorld) (side : Side) (x : Item) → Given p → CallsHold p w
-    → HasRoom p → next_out p w side ≡ Some x → length (sent_at w.world side) < most_items
+pub sends_room : {S : Type 0} (p : Parties S) (w : CallWorld) (side : Side) (x : Item) → PartiesLaws p → CallsHold p w
+    → CarriesAll p → next_out p w side ≡ Some x → length (sent_at w.world side) < most_items
 sends_room p w side x g h room out = omega (arith, slice_get_within (put_out p w side) (length (sent_at w.world side)) x out, most_out p w side g h room)
 
 -- ---- nothing is left
 
 pub quiet_caller : {S : Type 0} (p : Parties S) (w : CallWorld) (b c : Bool)
-    → (if b then Some (lists w) else if c then Some (makes w) else None) ≡ None → (b ≡ false) × (c ≡ false)
+    → (if b then Some (lists_outcome w) else if c then Some (makes w) else None) ≡ None → (b ≡ false) × (c ≡ false)
 quiet_caller p w true c h = absurd (cc)
 quiet_caller p w false true h = absurd (cc)
 quiet_caller p w false false h = (refl, refl)
@@ -158,7 +158,7 @@ quiet_caller p w false false h = (refl, refl)
 pub same_items : (xs ys : List Item) → Begins xs ys → length ys ≤ length xs → xs ≡ ys
 same_items xs ys b le = sym (front_of xs ys b) ∙ take_all (length xs) ys le
 
-pub all_answered : {S : Type 0} (p : Parties S) (w : CallWorld) → Given p → AllIsAnswered p.serving p.service
+pub all_answered : {S : Type 0} (p : Parties S) (w : CallWorld) → PartiesLaws p → AllIsAnswered p.serving p.service
     → CallsHold p w → handed_at w.world B ≡ put_out p w A → handed_at w.world A ≡ put_out p w B
     → w.made ≤ length (outcomes_read p w)
 all_answered p w g sessions h to back =
@@ -166,11 +166,11 @@ all_answered p w g sessions h to back =
     let same : handed_at w.world A ≡ server_items p.serving p.service (caller_items (calls_made p w)) = back ∙ ap (λ (l : List Item). server_items p.serving p.service l) to in
     omega (arith, whole, all_made p w h, ap (λ (l : List Item). length (answers p.serving.table (calls_made p w) l)) same)
 
-pub read_few : {S : Type 0} (p : Parties S) (w : CallWorld) → Given p → CallsHold p w → length (outcomes_read p w) ≤ w.made
+pub read_few : {S : Type 0} (p : Parties S) (w : CallWorld) → PartiesLaws p → CallsHold p w → length (outcomes_read p w) ≤ w.made
 read_few p w g h = let f = faces p w g h in omega (arith, f.fewer, begins_length _ _ f.once, all_made p w h)
 
 -- where all is handed up both ways, and the caller rests, all calls are done
-pub none_left : {S : Type 0} (p : Parties S) (w : CallWorld) → Given p → CallsHold p w → caller_step p w A ≡ None
+pub none_left : {S : Type 0} (p : Parties S) (w : CallWorld) → PartiesLaws p → CallsHold p w → caller_step p w A ≡ None
     → w.made ≤ length (outcomes_read p w) → w.listed < length p.calls → ⊥
 none_left p w g h rests all left =
     let few = read_few p w g h in

@@ -19,11 +19,11 @@ use Rattle.xns_world.proofs.CallCarries.{next_piece, calls, read_more, not_refus
 use Rattle.xns_spp.specs.Fronts.{one_more}
 use Rattle.xns_world.specs.declared.calling.CallingEnd.{CallingEnd}
 use Rattle.item_world.specs.declared.side.Side.TheVariants.{A, B}
-use Rattle.xns_world.specs.CallLaws.{Given, ServerLaws}
+use Rattle.xns_world.specs.CallLaws.{PartiesLaws, ServerLaws}
 use Rattle.xns_world.specs.CallOrder.{CallsHold}
 use Rattle.xns_world.specs.CallPlay.{IsCalling, caller_history, IsServing}
-use Rattle.xns_world.specs.CallWorld.{Parties, CallWorld, or_caller, calls_made, next_out, outcomes_read, sends_next, feeds, lists, makes, has_outcome, may_call, caller_step, step_with, step, seen_at}
-use Rattle.xns_world.specs.Settling.{Stepped, handed_by, end_step_with, serve_step, onward, most_steps, steps, stepped_out}
+use Rattle.xns_world.specs.CallWorld.{Parties, CallWorld, or_caller, calls_made, next_out, outcomes_read, sends_next, feeds_session, lists_outcome, makes, has_outcome, may_call, caller_step, step_with, step, seen_at}
+use Rattle.xns_world.specs.Settling.{Stepped, handed_up_by, end_step_with, serve_step, onward, most_steps, steps, stepped_out}
 use Rattle.item_world.specs.World.{World, sends, takes, sent_at, handed_at}
 use Rattle.item_world.specs.EndLaws.{EndLaws}
 use Rattle.std.proofs.lemmas.List.Elements.{All-nil, All-push}
@@ -31,13 +31,13 @@ use Rattle.courier_messages.specs.Conversation.{Phase, conversation, conversatio
 use Rattle.courier_calls.specs.Laws.{FirstFaultStays}
 use Rattle.courier_messages.specs.Laws.{IsSendableItem}
 use Rattle.courier_calls.specs.Server as server
-use Rattle.courier_calls.specs.Server.{decided, server_items, ServerFeeds, call_of}
+use Rattle.courier_calls.specs.Server.{decided_calls, server_items, ServerFeeds, call_of}
 use Rattle.courier_messages.specs.declared.fault.SessionFault.{SessionFault}
 use Rattle.courier_messages.specs.declared.fault.SessionFault.TheVariants.{NoCommonVersion, BadVersions, BadMessage, WrongTransaction, BadReply, Stream, NoMemory, Failed}
 use Rattle.courier_messages.specs.Called.{server_ending, calls_of, all_calls}
 use Rattle.xns_spp.specs.Item.{IsItem}
-use Rattle.xns_world.specs.Serve.{first_fault, fault_in, Served, settles_from, serve_receives, IsServeTrace, IsHeard}
-use Rattle.xns_world.specs.ServeEnd.{next_of, server_history, IsHearing, IsServed, noted, IsServePlaying, IsWithin}
+use Rattle.xns_world.specs.Serve.{first_fault, fault_of_ending, Served, settles_from, serve_receives, IsServeTrace, IsOfConversation}
+use Rattle.xns_world.specs.ServeEnd.{next_item_out, server_history, IsHearing, IsServed, fault_noted, IsServePlaying, HasBoundedEnd}
 use Rattle.xns_world.specs.declared.serving.ServingEnd.{ServingEnd}
 use Rattle.std.specs.declared.alloc.Global.{Global}
 use Rattle.std.specs.declared.vec.Vec.{Vec}
@@ -61,7 +61,7 @@ calling_next p e w h =
 
 record Listed {S : Type 0} (p : Parties S) (w : CallWorld) (r : SeenModel) : Type 0 where
   there : has_outcome p w ≡ true
-  more : seen_at p (lists w) ≡ seen_at p w ++ r ∷ []
+  more : seen_at p (lists_outcome w) ≡ seen_at p w ++ r ∷ []
 
 some_lists : {S : Type 0} (p : Parties S) (w : CallWorld) (o : Option SeenModel) (r : SeenModel) → w.listed ≤ length (outcomes_read p w) → seen_at p w ++ option_to_list o ≡ outcomes_read p w → Some r ≡ o → Listed p w r
 some_lists p w o r within all is =
@@ -75,7 +75,7 @@ some_lists p w o r within all is =
 pub list_some : {S : Type 0} (p : Parties S) (e f : CallingEnd) (w : CallWorld) (x : Seen) → CallsHold p w → IsCalling p e w → Some x ≡ e.caller.outcome
     → f.endpoint ≡ e.endpoint → f.made ≡ e.made → f.seen.items ≡ e.seen.items ++ x ∷ []
     → caller.CallerStandsFor p.serving.table f.caller (record (caller_history p w) { handed = seen_at p w ++ seen_model x ∷ [] })
-    → (true ≡ has_outcome p w) × IsCalling p f (lists w)
+    → (true ≡ has_outcome p w) × IsCalling p f (lists_outcome w)
 list_some p e f w x holds h is endpoint made seen session =
     let l = some_lists p w (option_map seen_model e.caller.outcome) (seen_model x) holds.listed h.session.outcomes (ap (option_map seen_model) is) in (
       sym l.there,
@@ -89,7 +89,7 @@ list_some p e f w x holds h is endpoint made seen session =
 
 -- ---- an item is sent
 
-pub calling_sends : {S : Type 0} (p : Parties S) (e : CallingEnd) (w : CallWorld) (x : Item) (endpoint : Held) (new : caller.CallerState) → Given p → CallsHold p w → IsCalling p e w → next_out p w A ≡ Some x → is_full w.world.a ≡ false
+pub calling_sends : {S : Type 0} (p : Parties S) (e : CallingEnd) (w : CallWorld) (x : Item) (endpoint : Held) (new : caller.CallerState) → PartiesLaws p → CallsHold p w → IsCalling p e w → next_out p w A ≡ Some x → is_full w.world.a ≡ false
     → StandsFor endpoint (after_send w.world.a x)
     → caller.CallerStandsFor p.serving.table new (record (caller_history p w) { fetched = sent_at w.world A ++ x ∷ [] })
     → IsCalling p (record e { endpoint = endpoint; caller = new }) (sends_next w A x)
@@ -110,19 +110,19 @@ calling_sends p e w x endpoint new g holds h is full stands session =
 waits : EndLaws → (s : State) (o : Option Item) → o ≡ take_answer s → nat_lt 0 (waiting_count s) ≡ is_some o
 waits laws s o is = laws.hands_up.waits s ∙ ap is_some (sym is)
 
-pub calling_none : {S : Type 0} (p : Parties S) (e : CallingEnd) (w : CallWorld) (endpoint : Held) → Given p → IsCalling p e w → None ≡ take_answer w.world.a → StandsFor endpoint (after_take w.world.a)
+pub calling_none : {S : Type 0} (p : Parties S) (e : CallingEnd) (w : CallWorld) (endpoint : Held) → PartiesLaws p → IsCalling p e w → None ≡ take_answer w.world.a → StandsFor endpoint (after_take w.world.a)
     → (false ≡ nat_lt 0 (waiting_count w.world.a)) × IsCalling p (record e { endpoint = endpoint }) w
 calling_none p e w endpoint g h is stands =
     (sym (waits g.answering.ends w.world.a None is), record { stands = subst (λ (s : State). StandsFor endpoint s) (g.answering.ends.hands_up.none w.world.a (sym is)) stands; session = h.session; made = h.made; seen = h.seen })
 
-pub calling_feeds : {S : Type 0} (p : Parties S) (e : CallingEnd) (w : CallWorld) (x : Item) (endpoint : Held) (new : caller.CallerState) → Given p → CallsHold p w → IsCalling p e w → Some x ≡ take_answer w.world.a
+pub calling_feeds : {S : Type 0} (p : Parties S) (e : CallingEnd) (w : CallWorld) (x : Item) (endpoint : Held) (new : caller.CallerState) → PartiesLaws p → CallsHold p w → IsCalling p e w → Some x ≡ take_answer w.world.a
     → StandsFor endpoint (after_take w.world.a)
     → caller.CallerStandsFor p.serving.table new (caller.caller_with_item (caller_history p w) x)
-    → (true ≡ nat_lt 0 (waiting_count w.world.a)) × IsCalling p (record e { endpoint = endpoint; caller = new }) (feeds w A)
+    → (true ≡ nat_lt 0 (waiting_count w.world.a)) × IsCalling p (record e { endpoint = endpoint; caller = new }) (feeds_session w A)
 calling_feeds p e w x endpoint new g holds h is stands session =
     let u = g.answering.network.items.take w.world A x holds.holds (sym is) in
     let v : World = takes w.world A in
-    let same : seen_at p (feeds w A) ≡ seen_at p w = front_stays w.listed (outcomes_read p w) (outcomes_read p (feeds w A)) (read_more p w A x g u) holds.listed in
+    let same : seen_at p (feeds_session w A) ≡ seen_at p w = front_stays w.listed (outcomes_read p w) (outcomes_read p (feeds_session w A)) (read_more p w A x g u) holds.listed in
     let fed : caller.CallerStandsFor p.serving.table new (record (caller_history p w) { fed = handed_at v A }) =
     subst (λ (l : List Item). caller.CallerStandsFor p.serving.table new (record (caller_history p w) { fed = l })) (sym u.here) session in
     let put : caller.CallerStandsFor p.serving.table new (record (caller_history p w) { fed = handed_at v A; fetched = sent_at v A }) =
@@ -158,7 +158,7 @@ none_remain p e w cs h is most =
     not_second (length (outcomes_read p w) == w.made) (nat_lt w.made (length p.calls))
     (le-ltb w.made (length p.calls) (omega (arith, most, h.made, ap (length {A = RawCall}) is, length-map cs raw_call)))
 
-pub calling_makes : {S : Type 0} (p : Parties S) (e f : CallingEnd) (w : CallWorld) (cs : List Call) (call : Call) → Given p → CallsHold p w → IsCalling p e w → p.calls ≡ map raw_call cs → has_outcome p w ≡ false
+pub calling_makes : {S : Type 0} (p : Parties S) (e f : CallingEnd) (w : CallWorld) (cs : List Call) (call : Call) → PartiesLaws p → CallsHold p w → IsCalling p e w → p.calls ≡ map raw_call cs → has_outcome p w ≡ false
     → length e.seen.items ≡ e.made → e.made < length cs → slice_get cs e.made ≡ Some call
     → f.endpoint ≡ e.endpoint → f.made ≡ e.made + 1 → f.seen ≡ e.seen
     → caller.CallerStandsFor p.serving.table f.caller (record (caller_history p w) { made = calls_made p w ++ raw_call call ∷ [] })
@@ -185,7 +185,7 @@ calling_makes p e f w cs call g holds h are none all less there endpoint made se
 
 -- ---- which step applies
 
-fed_or_not : {S : Type 0} (p : Parties S) (w : CallWorld) (b c : Bool) (P : CallWorld → Type 0) → Stepped b w (if c then Some (feeds w A) else caller_step p w A) P → Stepped b w (or_caller p w A (if c then Some (after_take w.world.a) else None)) P
+fed_or_not : {S : Type 0} (p : Parties S) (w : CallWorld) (b c : Bool) (P : CallWorld → Type 0) → Stepped b w (if c then Some (feeds_session w A) else caller_step p w A) P → Stepped b w (or_caller p w A (if c then Some (after_take w.world.a) else None)) P
 fed_or_not p w b true P h = h
 fed_or_not p w b false P h = h
 
@@ -193,7 +193,7 @@ pub stepped_if : {X : Type 0} (x y : X) (o : Option X) (b c : Bool) (P : X → T
 stepped_if {X} x y o b c P is h = subst (λ (d : Bool). Stepped true x (if d then Some y else o) P) (sym is ∙ h.0) (subst (λ (d : Bool). P (if d then y else x)) is h.1)
 
 pub stepped_none : {S : Type 0} (p : Parties S) (w : CallWorld) (b : Bool) (P : CallWorld → Type 0) → next_out p w A ≡ None
-    → Stepped b w (if nat_lt 0 (waiting_count w.world.a) then Some (feeds w A) else caller_step p w A) P → Stepped b w (step p A w) P
+    → Stepped b w (if nat_lt 0 (waiting_count w.world.a) then Some (feeds_session w A) else caller_step p w A) P → Stepped b w (step p A w) P
 stepped_none p w b P is h = subst (λ (o : Option Item). Stepped b w (step_with p w A o) P) (sym is) (fed_or_not p w b (nat_lt 0 (waiting_count w.world.a)) P h)
 
 pub stepped_full : {S : Type 0} (p : Parties S) (w : CallWorld) (x : Item) (b : Bool) (P : CallWorld → Type 0) → next_out p w A ≡ Some x → is_full w.world.a ≡ true → Stepped b w (caller_step p w A) P → Stepped b w (step p A w) P
@@ -212,21 +212,21 @@ something_out (x ∷ out) h = (x, refl)
 
 -- ---- an end that accepts and hands up nothing
 
-pub served_on : {S : Type 0} (serving : Serving S) (s : S) (e : ServingEnd S) (v u : State) (endpoint : Held) → IsServed serving s e v → StandsFor endpoint u → u.accepted ≡ v.accepted → handed_by u ≡ handed_by v
+pub served_on : {S : Type 0} (serving : Serving S) (s : S) (e : ServingEnd S) (v u : State) (endpoint : Held) → IsServed serving s e v → StandsFor endpoint u → u.accepted ≡ v.accepted → handed_up_by u ≡ handed_up_by v
     → IsServed serving s (record e { endpoint = endpoint }) u
 served_on {S = S} serving s e v u endpoint h stands accepted handed =
     let f : ServingEnd S = record e { endpoint = endpoint } in
-    let kept : IsHearing serving s f (handed_by v) v.accepted = record { session = h.hearing.session; carried = h.hearing.carried; fault = h.hearing.fault } in
+    let kept : IsHearing serving s f (handed_up_by v) v.accepted = record { session = h.hearing.session; carried = h.hearing.carried; fault = h.hearing.fault } in
     record {
       stands = stands;
-      hearing = subst (λ (l : List Item). IsHearing serving s f l u.accepted) (sym handed) (subst (λ (l : List Item). IsHearing serving s f (handed_by v) l) (sym accepted) kept);
+      hearing = subst (λ (l : List Item). IsHearing serving s f l u.accepted) (sym handed) (subst (λ (l : List Item). IsHearing serving s f (handed_up_by v) l) (sym accepted) kept);
       listed = h.listed ∙ sym handed;
       items = subst (All IsItem) (sym handed) h.items;
     }
 
 -- ---- a new end
 
-none_decided : decided [] ≡ []
+none_decided : decided_calls [] ≡ []
 unfolding conversation calls_of
 none_decided = refl
 
@@ -235,7 +235,7 @@ unfolding conversation conversation_fault ending all_calls
 none_wrong = refl
 
 pub served_first : {S : Type 0} (serving : Serving S) (s : S) (e : ServingEnd S) (v : State) → StandsFor e.endpoint v → server.ServerStandsFor serving e.server (server.empty_server_history s) → e.carried.items ≡ [] → e.fault ≡ None → e.handed ≡ []
-    → handed_by v ≡ [] → v.accepted ≡ [] → IsServed serving s e v
+    → handed_up_by v ≡ [] → v.accepted ≡ [] → IsServed serving s e v
 served_first serving s e v stands session carried fault listed handed accepted =
     let first : IsHearing serving s e [] [] = record { session = session; carried = carried ∙ sym (ap (map call_of) none_decided); fault = fault ∙ sym none_wrong } in
     record {
@@ -250,15 +250,15 @@ served_of {S = S} serving t service s e v is same h = subst (λ (u : Serving S).
 
 -- ---- an item is sent
 
-pub serving_next : {S : Type 0} (serving : Serving S) (s : S) (e : ServingEnd S) (v : State) → IsServed serving s e v → next_of serving s v ≡ slice_get e.server.out 0
+pub serving_next : {S : Type 0} (serving : Serving S) (s : S) (e : ServingEnd S) (v : State) → IsServed serving s e v → next_item_out serving s v ≡ slice_get e.server.out 0
 serving_next serving s e v h =
     ap (λ (l : List Item). slice_get l (length v.accepted)) (sym h.hearing.session.items)
     ∙ out_first v.accepted e.server.out
 
-pub serving_sends : {S : Type 0} (serving : Serving S) (s : S) (e : ServingEnd S) (v : State) (x : Item) (endpoint : Held) (new : server.ServerState S) → ServerLaws serving s → IsServed serving s e v → next_of serving s v ≡ Some x → is_full v ≡ false
-    → StandsFor endpoint (after_send v x) → server.ServerStandsFor serving new (server_history s (handed_by v) (v.accepted ++ x ∷ [])) → IsServed serving s (record e { endpoint = endpoint; server = new }) (after_send v x)
+pub serving_sends : {S : Type 0} (serving : Serving S) (s : S) (e : ServingEnd S) (v : State) (x : Item) (endpoint : Held) (new : server.ServerState S) → ServerLaws serving s → IsServed serving s e v → next_item_out serving s v ≡ Some x → is_full v ≡ false
+    → StandsFor endpoint (after_send v x) → server.ServerStandsFor serving new (server_history s (handed_up_by v) (v.accepted ++ x ∷ [])) → IsServed serving s (record e { endpoint = endpoint; server = new }) (after_send v x)
 serving_sends {S = S} serving s e v x endpoint new a h is full stands session =
-    let piece : IsSendableItem x = at_place (server_items serving s (handed_by v)) (length v.accepted) x is (a.pieces.server (handed_by v) h.items) in
+    let piece : IsSendableItem x = at_place (server_items serving s (handed_up_by v)) (length v.accepted) x is (a.pieces.server (handed_up_by v) h.items) in
     let one = a.ends.accepts.accepted v x (not_refused a.ends v x piece full) in
     let f : ServingEnd S = record e { endpoint = endpoint; server = new } in
     let here : IsServed serving s f (record v { accepted = v.accepted ++ x ∷ [] }) = record {
@@ -272,12 +272,12 @@ serving_sends {S = S} serving s e v x endpoint new a h is full stands session =
 -- ---- an item is fed
 
 -- where no fault came, none was there
-fault_none : (F : List Item) (x : Item) (p : Phase) (r : Result Phase SessionFault) → FirstFaultStays → server_ending F ≡ r → server_ending (F ++ x ∷ []) ≡ Ok p → fault_in r ≡ first_fault (F ++ x ∷ [])
-fault_none F x p (Ok q) f was is = sym (ap fault_in is)
+fault_none : (F : List Item) (x : Item) (p : Phase) (r : Result Phase SessionFault) → FirstFaultStays → server_ending F ≡ r → server_ending (F ++ x ∷ []) ≡ Ok p → fault_of_ending r ≡ first_fault (F ++ x ∷ [])
+fault_none F x p (Ok q) f was is = sym (ap fault_of_ending is)
 fault_none F x p (Err e) f was is = absurd (let stays = f.stays F x e was in cc)
 
 pub hears_well : {S : Type 0} (serving : Serving S) (s : S) (e f : ServingEnd S) (F P : List Item) (x : Item) (o : Option Call) → FirstFaultStays → IsHearing serving s e F P → ServerFeeds serving f.server (server_history s F P) x (Ok o)
-    → map call_of (decided (F ++ x ∷ [])) ≡ map call_of (decided F) ++ option_to_list o → f.carried.items ≡ e.carried.items ++ option_to_list o → f.fault ≡ e.fault → IsHearing serving s f (F ++ x ∷ []) P
+    → map call_of (decided_calls (F ++ x ∷ [])) ≡ map call_of (decided_calls F) ++ option_to_list o → f.carried.items ≡ e.carried.items ++ option_to_list o → f.fault ≡ e.fault → IsHearing serving s f (F ++ x ∷ []) P
 hears_well serving s e f F P x o faults h fed more carried fault = record {
   session = fed.0;
   carried = carried ∙ (ap (λ (l : List Call). l ++ option_to_list o) h.carried ∙ sym more);
@@ -294,14 +294,14 @@ refused : {S : Type 0} (serving : Serving S) (s : S) (e f : ServingEnd S) (F P :
 refused serving s e f F P x fault faults h carried r = record {
   session = r.session;
   carried = carried ∙ (h.carried ∙ ap (map call_of) (sym (faults.calls F x fault r.ends)));
-  fault = r.fault ∙ sym (ap fault_in r.ends);
+  fault = r.fault ∙ sym (ap fault_of_ending r.ends);
 }
 
 pub hears_badly : {S : Type 0} (serving : Serving S) (s : S) (e f : ServingEnd S) (F P : List Item) (x : Item) (fault : SessionFault) → FirstFaultStays → IsHearing serving s e F P → ServerFeeds serving f.server (server_history s F P) x (Err fault)
-    → f.carried.items ≡ e.carried.items → noted fault e.fault f.fault → IsHearing serving s f (F ++ x ∷ []) P
+    → f.carried.items ≡ e.carried.items → fault_noted fault e.fault f.fault → IsHearing serving s f (F ++ x ∷ []) P
 hears_badly serving s e f F P x NoMemory faults h fed carried n = absurd n
 hears_badly serving s e f F P x Failed faults h fed carried n =
-    refused serving s e f F P x fed.1.0 faults h carried (record { session = fed.0; ends = faults.stays F x fed.1.0 fed.1.1; fault = n ∙ (h.fault ∙ ap fault_in fed.1.1) })
+    refused serving s e f F P x fed.1.0 faults h carried (record { session = fed.0; ends = faults.stays F x fed.1.0 fed.1.1; fault = n ∙ (h.fault ∙ ap fault_of_ending fed.1.1) })
 hears_badly serving s e f F P x NoCommonVersion faults h fed carried n = refused serving s e f F P x NoCommonVersion faults h carried (record { session = fed.0; ends = fed.1; fault = n })
 hears_badly serving s e f F P x BadVersions faults h fed carried n = refused serving s e f F P x BadVersions faults h carried (record { session = fed.0; ends = fed.1; fault = n })
 hears_badly serving s e f F P x (BadMessage m) faults h fed carried n = refused serving s e f F P x (BadMessage m) faults h carried (record { session = fed.0; ends = fed.1; fault = n })
@@ -315,7 +315,7 @@ serving_none serving s e v endpoint laws h is stands =
     (sym (waits laws v None is), served_on serving s e v v endpoint h (subst (λ (u : State). StandsFor endpoint u) (laws.hands_up.none v (sym is)) stands) refl refl)
 
 pub serving_feeds : {S : Type 0} (serving : Serving S) (s : S) (e f : ServingEnd S) (v : State) (x : Item) → EndLaws → IsServed serving s e v → Some x ≡ take_answer v → IsItem x → StandsFor f.endpoint (after_take v)
-    → IsHearing serving s f (handed_by v ++ x ∷ []) v.accepted → f.handed ≡ handed_by v ++ x ∷ []
+    → IsHearing serving s f (handed_up_by v ++ x ∷ []) v.accepted → f.handed ≡ handed_up_by v ++ x ∷ []
     → (true ≡ nat_lt 0 (waiting_count v)) × IsServed serving s f (after_take v)
 serving_feeds serving s e f v x laws h is item stands hearing listed =
     let one = laws.hands_up.some v x (sym is) in
@@ -324,7 +324,7 @@ serving_feeds serving s e f v x laws h is item stands hearing listed =
       stands = subst (λ (u : State). StandsFor f.endpoint u) one stands;
       hearing = subst (λ (l : List Item). IsHearing serving s f l v.accepted) (sym up) hearing;
       listed = listed ∙ sym up;
-      items = subst (All IsItem) (sym up) (All-push IsItem (handed_by v) x h.items item);
+      items = subst (All IsItem) (sym up) (All-push IsItem (handed_up_by v) x h.items item);
     } in
     (sym (waits laws v (Some x) is), subst (λ (u : State). IsServed serving s f u) (sym one) here)
 
@@ -334,17 +334,17 @@ taken_or_not : (v : State) (P : State → Type 0) (b : Bool) → P (if b then af
 taken_or_not v P true h = h
 taken_or_not v P false h = h
 
-pub served_none : {S : Type 0} (serving : Serving S) (s : S) (v : State) (b : Bool) (P : State → Type 0) → next_of serving s v ≡ None → b ≡ nat_lt 0 (waiting_count v) → P (if b then after_take v else v) → Stepped b v (serve_step serving s v) P
+pub served_none : {S : Type 0} (serving : Serving S) (s : S) (v : State) (b : Bool) (P : State → Type 0) → next_item_out serving s v ≡ None → b ≡ nat_lt 0 (waiting_count v) → P (if b then after_take v else v) → Stepped b v (serve_step serving s v) P
 served_none serving s v b P is waits h =
     subst (λ (o : Option Item). Stepped b v (end_step_with v o) P) (sym is)
     (subst (λ (c : Bool). Stepped b v (if c then Some (after_take v) else None) P) waits (taken_or_not v P b h))
 
-pub served_full : {S : Type 0} (serving : Serving S) (s : S) (v : State) (x : Item) (P : State → Type 0) → next_of serving s v ≡ Some x → is_full v ≡ true → P v → Stepped false v (serve_step serving s v) P
+pub served_full : {S : Type 0} (serving : Serving S) (s : S) (v : State) (x : Item) (P : State → Type 0) → next_item_out serving s v ≡ Some x → is_full v ≡ true → P v → Stepped false v (serve_step serving s v) P
 served_full serving s v x P is full h =
     subst (λ (o : Option Item). Stepped false v (end_step_with v o) P) (sym is)
     (subst (λ (c : Bool). Stepped false v (if c then None else Some (after_send v x)) P) (sym full) h)
 
-pub served_send : {S : Type 0} (serving : Serving S) (s : S) (v : State) (x : Item) (P : State → Type 0) → next_of serving s v ≡ Some x → is_full v ≡ false → P (after_send v x) → Stepped true v (serve_step serving s v) P
+pub served_send : {S : Type 0} (serving : Serving S) (s : S) (v : State) (x : Item) (P : State → Type 0) → next_item_out serving s v ≡ Some x → is_full v ≡ false → P (after_send v x) → Stepped true v (serve_step serving s v) P
 served_send serving s v x P is full h =
     subst (λ (o : Option Item). Stepped true v (end_step_with v o) P) (sym is)
     (subst (λ (c : Bool). Stepped true v (if c then None else Some (after_send v x)) P) (sym full) h)
@@ -392,14 +392,14 @@ pub raw_again : (cs : List RawCall) → map raw_call (map call_of cs) ≡ cs
 raw_again [] = refl
 raw_again (c ∷ cs) = ap (λ (l : List RawCall). c ∷ l) (raw_again cs)
 
-pub heard_along : {S : Type 0} (serving : Serving S) (s : S) (t : ServeTrace S) (w : Served) → IsServeTrace serving s t w → IsHeard serving s t
+pub heard_along : {S : Type 0} (serving : Serving S) (s : S) (t : ServeTrace S) (w : Served) → IsServeTrace serving s t w → IsOfConversation serving s t
 heard_along serving s t w h = record {
-  carried = h.carried ∙ ap (λ l. map call_of (decided l)) (sym h.handed);
-  service = h.service ∙ ap (λ (l : List RawCall). last_state serving s l) (sym (ap (map raw_call) h.carried ∙ raw_again (decided (take w.end.handed w.end.taken))));
+  carried = h.carried ∙ ap (λ l. map call_of (decided_calls l)) (sym h.handed);
+  service = h.service ∙ ap (λ (l : List RawCall). last_state serving s l) (sym (ap (map raw_call) h.carried ∙ raw_again (decided_calls (take w.end.handed w.end.taken))));
   fault = h.fault ∙ ap (λ l. first_fault l) (sym h.handed);
 }
 
-pub within : {S : Type 0} (serving : Serving S) (s : S) (t : ServeTrace S) (w : Served) → IsServeTrace serving s t w → IsState w.end → IsWithin t w
+pub within : {S : Type 0} (serving : Serving S) (s : S) (t : ServeTrace S) (w : Served) → IsServeTrace serving s t w → IsState w.end → HasBoundedEnd t w
 within serving s t w h fits = record {
   end = fits;
   handed = omega (arith, ap length h.handed, length-take-le w.end.handed w.end.taken fits.bounds.handed_taken, fits.bounds.handed_taken, fits.bounds.taken_most);

@@ -12,8 +12,8 @@ use Rattle.xns_spp.specs.declared.item.Item.{Item}
 use Rattle.xns_world.proofs.CallCarries.{at_place, not_refused, room_of, room_most, send_room, take_waiting, waiting_item}
 use Rattle.xns_world.proofs.Stepping.{by_end, steps_are, GoesOn, IfGoesOn, steps_keep, steps_end}
 use Rattle.xns_world.specs.CallLaws.{ServerLaws}
-use Rattle.xns_world.specs.ServeEnd.{next_of}
-use Rattle.xns_world.specs.Settling.{handed_by, most_steps, serve_step, stepped_out, steps}
+use Rattle.xns_world.specs.ServeEnd.{next_item_out}
+use Rattle.xns_world.specs.Settling.{handed_up_by, most_steps, serve_step, stepped_out, steps}
 use Rattle.courier_messages.specs.Conversation.{conversation, Phase, ending}
 use Rattle.courier_messages.specs.Bounds.{bytes_in}
 use Rattle.courier_messages.specs.Called.{calls_of, all_calls, server_ending}
@@ -36,10 +36,10 @@ pub record Keeps (v : State) : Type 0 where
 pub left_of : State → ℕ
 left_of v = room_of v + waiting_count v
 
-sends_go : {S : Type 0} (serving : Serving S) (s : S) (v : State) (x : Item) → ServerLaws serving s → Keeps v → next_of serving s v ≡ Some x → is_full v ≡ false → GoesOn Keeps left_of v (after_send v x)
+sends_go : {S : Type 0} (serving : Serving S) (s : S) (v : State) (x : Item) → ServerLaws serving s → Keeps v → next_item_out serving s v ≡ Some x → is_full v ≡ false → GoesOn Keeps left_of v (after_send v x)
 unfolding left_of
 sends_go serving s v x a k is full =
-    let piece : IsSendableItem x = at_place (server_items serving s (handed_by v)) (length v.accepted) x is (a.pieces.server (handed_by v) (All-take IsItem v.handed v.taken k.items)) in
+    let piece : IsSendableItem x = at_place (server_items serving s (handed_up_by v)) (length v.accepted) x is (a.pieces.server (handed_up_by v) (All-take IsItem v.handed v.taken k.items)) in
     let ok = not_refused a.ends v x piece full in
     let falls = send_room a.ends v x k.fits full ok in
     record {
@@ -59,7 +59,7 @@ takes_go serving s v a k is =
 
 pub step_goes : {S : Type 0} (serving : Serving S) (s : S) (v : State) → ServerLaws serving s → Keeps v → IfGoesOn Keeps left_of v (serve_step serving s v)
 unfolding IfGoesOn
-step_goes serving s v a k = by_end v (next_of serving s v) (λ o. IfGoesOn Keeps left_of v o) (λ x is full. sends_go serving s v x a k is full) (λ none is. takes_go serving s v a k is) tt
+step_goes serving s v a k = by_end v (next_item_out serving s v) (λ o. IfGoesOn Keeps left_of v o) (λ x is full. sends_go serving s v x a k is full) (λ none is. takes_go serving s v a k is) tt
 
 pub settled : {S : Type 0} (serving : Serving S) (s : S) (v : State) → ServerLaws serving s → Keeps v → serve_step serving s (stepped_out (serve_step serving s) v) ≡ None
 unfolding left_of
@@ -92,9 +92,9 @@ none_at (x ∷ xs) (suc k) h = let more = none_at xs k h in omega (arith, more)
 
 -- ---- an end that accepts and hands up nothing
 
-pub out_same : {S : Type 0} (serving : Serving S) (s : S) (v u : State) → u.accepted ≡ v.accepted → handed_by u ≡ handed_by v → IsOutShort serving s v → IsOutShort serving s u
+pub out_same : {S : Type 0} (serving : Serving S) (s : S) (v u : State) → u.accepted ≡ v.accepted → handed_up_by u ≡ handed_up_by v → IsOutShort serving s v → IsOutShort serving s u
 out_same serving s v u accepted handed h =
-    subst (λ (l : List Item). length (bytes_in (drop (length l) (server_items serving s (handed_by u)))) ≤ 131072) (sym accepted)
+    subst (λ (l : List Item). length (bytes_in (drop (length l) (server_items serving s (handed_up_by u)))) ≤ 131072) (sym accepted)
     (subst (λ (l : List Item). length (bytes_in (drop (length v.accepted) (server_items serving s l))) ≤ 131072) (sym handed) h)
 
 -- ---- a new end has the versions out
@@ -103,9 +103,9 @@ versions_short : {S : Type 0} (serving : Serving S) (s : S) → length (bytes_in
 unfolding conversation calls_of answer_items
 versions_short serving s = omega arith
 
-pub out_first : {S : Type 0} (serving : Serving S) (s : S) (v : State) → v.accepted ≡ [] → handed_by v ≡ [] → IsOutShort serving s v
+pub out_first : {S : Type 0} (serving : Serving S) (s : S) (v : State) → v.accepted ≡ [] → handed_up_by v ≡ [] → IsOutShort serving s v
 out_first serving s v accepted handed =
-    subst (λ (l : List Item). length (bytes_in (drop (length l) (server_items serving s (handed_by v)))) ≤ 131072) (sym accepted)
+    subst (λ (l : List Item). length (bytes_in (drop (length l) (server_items serving s (handed_up_by v)))) ≤ 131072) (sym accepted)
     (subst (λ (l : List Item). length (bytes_in (server_items serving s l)) ≤ 131072) (sym handed) (versions_short serving s))
 
 -- ---- one step
@@ -124,33 +124,33 @@ out_after serving s F x k past (inr one) =
     let answer = next_answer serving s F one.transaction one.call in
     subst (λ (l : List Item). length (bytes_in (drop k l)) ≤ 131072) (sym one.out) (omega (arith, bytes_past k (server_items serving s F) answer past, one.size))
 
-sends_out : {S : Type 0} (serving : Serving S) (s : S) (v : State) (x : Item) → ServerLaws serving s → Keeps v → next_of serving s v ≡ Some x → is_full v ≡ false → IsOutShort serving s v → IsOutShort serving s (after_send v x)
+sends_out : {S : Type 0} (serving : Serving S) (s : S) (v : State) (x : Item) → ServerLaws serving s → Keeps v → next_item_out serving s v ≡ Some x → is_full v ≡ false → IsOutShort serving s v → IsOutShort serving s (after_send v x)
 sends_out serving s v x a k is full h =
-    let out = server_items serving s (handed_by v) in
-    let piece : IsSendableItem x = at_place out (length v.accepted) x is (a.pieces.server (handed_by v) (All-take IsItem v.handed v.taken k.items)) in
+    let out = server_items serving s (handed_up_by v) in
+    let piece : IsSendableItem x = at_place out (length v.accepted) x is (a.pieces.server (handed_up_by v) (All-take IsItem v.handed v.taken k.items)) in
     let one = a.ends.accepts.accepted v x (not_refused a.ends v x piece full) in
     let longer : length (v.accepted ++ x ∷ []) ≡ suc (length v.accepted) = omega (arith, length-append v.accepted (x ∷ [])) in
     let fewer : length (bytes_in (drop (suc (length v.accepted)) out)) ≤ 131072 = omega (arith, bytes_further (length v.accepted) out, h) in
     subst (λ (u : State). IsOutShort serving s u) (sym one) (subst (λ (n : ℕ). length (bytes_in (drop n out)) ≤ 131072) (sym longer) fewer)
 
-takes_out : {S : Type 0} (serving : Serving S) (s : S) (v : State) → ServerLaws serving s → AnItemBringsAtMostOneAnswer serving s → Keeps v → next_of serving s v ≡ None → nat_lt 0 (waiting_count v) ≡ true → IsOutShort serving s (after_take v)
+takes_out : {S : Type 0} (serving : Serving S) (s : S) (v : State) → ServerLaws serving s → AnItemBringsAtMostOneAnswer serving s → Keeps v → next_item_out serving s v ≡ None → nat_lt 0 (waiting_count v) ≡ true → IsOutShort serving s (after_take v)
 takes_out serving s v a brings k none waits =
     let e = waiting_item a.ends v waits in
     let one = a.ends.hands_up.some v e.0 e.1 in
     let up = a.ends.hands_up.more v e.0 e.1 in
-    let items : All IsItem (handed_by v ++ e.0 ∷ []) = subst (All IsItem) up (All-take IsItem (v.handed + 1) v.taken k.items) in
-    let there = out_after serving s (handed_by v) e.0 (length v.accepted) (none_at (server_items serving s (handed_by v)) (length v.accepted) none) (brings (handed_by v) e.0 items) in
+    let items : All IsItem (handed_up_by v ++ e.0 ∷ []) = subst (All IsItem) up (All-take IsItem (v.handed + 1) v.taken k.items) in
+    let there = out_after serving s (handed_up_by v) e.0 (length v.accepted) (none_at (server_items serving s (handed_up_by v)) (length v.accepted) none) (brings (handed_up_by v) e.0 items) in
     subst (λ (u : State). IsOutShort serving s u) (sym one)
     (subst (λ (l : List Item). length (bytes_in (drop (length v.accepted) (server_items serving s l))) ≤ 131072) (sym up) there)
 
 pub step_out : {S : Type 0} (serving : Serving S) (s : S) (v : State) → ServerLaws serving s → AnItemBringsAtMostOneAnswer serving s → Keeps v → IsOutShort serving s v → IfOut serving s (serve_step serving s v)
 step_out serving s v a brings k h =
-    by_end v (next_of serving s v) (λ o. IfOut serving s o) (λ x is full. sends_out serving s v x a k is full h) (λ none waits. takes_out serving s v a brings k none waits) tt
+    by_end v (next_item_out serving s v) (λ o. IfOut serving s o) (λ x is full. sends_out serving s v x a k is full h) (λ none waits. takes_out serving s v a brings k none waits) tt
 
 keeps_of : (v : State) → IsState v → Keeps v
 keeps_of v fits = record { fits = fits; items = All-weaker IsShortItem IsItem (λ x i. i.fits) v.taken fits.taken_items }
 
-pub handed_items : (v : State) → IsState v → All IsItem (handed_by v)
+pub handed_items : (v : State) → IsState v → All IsItem (handed_up_by v)
 handed_items v fits = let k = keeps_of v fits in All-take IsItem v.handed v.taken k.items
 
 -- an end and what its session has put out are within their bounds
@@ -197,19 +197,19 @@ hears_all_within serving s w (b ∷ bs) a brings h bytes =
 
 -- ---- while an item is out
 
-send_hands_up_nothing : EndLaws → (v : State) (x : Item) → handed_by (after_send v x) ≡ handed_by v
+send_hands_up_nothing : EndLaws → (v : State) (x : Item) → handed_up_by (after_send v x) ≡ handed_up_by v
 send_hands_up_nothing laws v x =
     let ok : Bool = is_ok (send_answer v x) in
-    elim ok as (λ b. ok ≡ b → handed_by (after_send v x) ≡ handed_by v) [
-      | true ↦ λ h. ap (λ (u : State). handed_by u) (laws.accepts.accepted v x h)
-      | false ↦ λ h. ap (λ (u : State). handed_by u) (laws.accepts.refused v x h)
+    elim ok as (λ b. ok ≡ b → handed_up_by (after_send v x) ≡ handed_up_by v) [
+      | true ↦ λ h. ap (λ (u : State). handed_up_by u) (laws.accepts.accepted v x h)
+      | false ↦ λ h. ap (λ (u : State). handed_up_by u) (laws.accepts.refused v x h)
     ] refl
 
-pub still_handed : EndLaws → (v u : State) (x : Item) (full : Bool) → (if full then None else Some (after_send v x)) ≡ Some u → handed_by u ≡ handed_by v
+pub still_handed : EndLaws → (v u : State) (x : Item) (full : Bool) → (if full then None else Some (after_send v x)) ≡ Some u → handed_up_by u ≡ handed_up_by v
 still_handed laws v u x true is = absurd (cc)
 still_handed laws v u x false is =
     let same : after_send v x ≡ u = cc in
-    ap (λ (q : State). handed_by q) (sym same) ∙ send_hands_up_nothing laws v x
+    ap (λ (q : State). handed_up_by q) (sym same) ∙ send_hands_up_nothing laws v x
 
 -- ---- what the session keeps
 

@@ -8,7 +8,7 @@ use Rattle.xns_spp.specs.declared.item.Item.{Item}
 use Rattle.item_world.specs.World.{end_of}
 use Rattle.item_world.specs.declared.side.Side.{Side}
 use Rattle.item_world.specs.declared.side.Side.TheVariants.{A, B}
-use Rattle.xns_world.specs.CallWorld.{Parties, CallWorld, or_caller, next_out, sends_next, feeds, lists, makes, has_outcome, may_call, caller_step, step}
+use Rattle.xns_world.specs.CallWorld.{Parties, CallWorld, or_caller, next_out, sends_next, feeds_session, lists_outcome, makes, has_outcome, may_call, caller_step, step}
 
 -- the number itself
 pub steps_are : most_steps ≡ 257
@@ -149,13 +149,13 @@ by_end v None P send take none = if_waiting v P (nat_lt 0 (waiting_count v)) (ta
 -- what a side can do, and that it does nothing
 pub record Cases {S : Type 0} (p : Parties S) (w : CallWorld) (P : Side → Option CallWorld → Type 0) : Type 0 where
   pub sent : (side : Side) (x : Item) → next_out p w side ≡ Some x → is_full (end_of w.world side) ≡ false → P side (Some (sends_next w side x))
-  pub fed : (side : Side) → nat_lt 0 (waiting_count (end_of w.world side)) ≡ true → P side (Some (feeds w side))
-  pub listed : has_outcome p w ≡ true → P A (Some (lists w))
+  pub fed : (side : Side) → nat_lt 0 (waiting_count (end_of w.world side)) ≡ true → P side (Some (feeds_session w side))
+  pub listed : has_outcome p w ≡ true → P A (Some (lists_outcome w))
   pub made : may_call p w ≡ true → P A (Some (makes w))
   pub rests : has_outcome p w ≡ false → P A None
   pub stays : P B None
 
-by_caller : {S : Type 0} (p : Parties S) (w : CallWorld) (P : Side → Option CallWorld → Type 0) → Cases p w P → (b c : Bool) → has_outcome p w ≡ b → may_call p w ≡ c → P A (if b then Some (lists w) else if c then Some (makes w) else None)
+by_caller : {S : Type 0} (p : Parties S) (w : CallWorld) (P : Side → Option CallWorld → Type 0) → Cases p w P → (b c : Bool) → has_outcome p w ≡ b → may_call p w ≡ c → P A (if b then Some (lists_outcome w) else if c then Some (makes w) else None)
 by_caller p w P h true c is may = h.listed is
 by_caller p w P h false true is may = h.made may
 by_caller p w P h false false is may = h.rests is

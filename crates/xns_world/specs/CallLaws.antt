@@ -16,7 +16,7 @@ pub record ServerLaws {S : Type 0} (serving : Serving S) (s : S) : Type 0 where
   pub faults : FirstFaultStays
 
 -- of each moment of the network and of these parties' sessions
-pub record Given {S : Type 0} (p : Parties S) : Type 0 where
+pub record PartiesLaws {S : Type 0} (p : Parties S) : Type 0 where
   pub world : EachStepKeepsTheOrder
   pub foreign : ForeignBytesChangeNothing
   pub heard : WhatIsHeardStays p.serving
@@ -31,4 +31,4 @@ abbrev pub ServerLawsAreGiven : {S : Type 0} → Serving S → (S → Type 0) �
 ServerLawsAreGiven {S} serving IsServiceState = (s : S) → IsServiceState s → ServerLaws serving s
 
 abbrev pub LawsAreGiven : {S : Type 0} → Serving S → (S → Type 0) → Type 0
-LawsAreGiven {S} serving IsServiceState = (p : Parties S) → AreParties serving IsServiceState p → Given p
+LawsAreGiven {S} serving IsServiceState = (p : Parties S) → AreParties serving IsServiceState p → PartiesLaws p

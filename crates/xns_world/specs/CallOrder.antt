@@ -28,7 +28,7 @@ ledger_of p w = record {
   state = service_at p w;
 }
 
--- neither session meets a fault
+-- no session meets a fault
 pub record MeetNoFault {S : Type 0} (p : Parties S) (w : CallWorld) : Type 0 where
   pub server : IsFaultless (server_ending (handed_at w.world B))
   pub caller : IsFaultless (caller_ending p.serving.table (calls_made p w) (handed_at w.world A))
@@ -50,5 +50,5 @@ pub record IsBetween {S : Type 0} (p : Parties S) (w : CallWorld) : Type 0 where
   pub listed : AllListed p w
 
 -- a side that settles comes to where no step applies
-abbrev pub Settles : {S : Type 0} → Parties S → Side → CallWorld → Type 0
-Settles p side w = step p side (stepped_out (step p side) w) ≡ None
+abbrev pub SideSettles : {S : Type 0} → Parties S → Side → CallWorld → Type 0
+SideSettles p side w = step p side (stepped_out (step p side) w) ≡ None

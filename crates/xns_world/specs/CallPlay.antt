@@ -6,7 +6,7 @@ use Rattle.courier_calls.specs.declared.call.Call.{Call}
 use Rattle.courier_calls.specs.Caller as caller
 use Rattle.courier_calls.specs.Server.{call_of}
 use Rattle.xns_spp.specs.Held.{Held, StandsFor}
-use Rattle.xns_world.specs.CallLaws.{Given}
+use Rattle.xns_world.specs.CallLaws.{PartiesLaws}
 use Rattle.xns_world.specs.CallOrder.{decides, IsBetween}
 use Rattle.xns_world.specs.Ledger.{Ledger, IsInOrder}
 use Rattle.item_world.specs.EndLaws.{EndLaws}
@@ -38,7 +38,7 @@ pub record IsCalling {S : Type 0} (p : Parties S) (e : CallingEnd) (w : CallWorl
 abbrev pub IsServing : {S : Type 0} → Parties S → ServingEnd S → CallWorld → Type 0
 IsServing p e w = IsServed p.serving p.service e w.world.b
 
--- what the play hands over is what the world came to
+-- the trace that a play hands over is what the world came to
 pub record IsCallTrace {S : Type 0} (p : Parties S) (t : CallTrace S) (w : CallWorld) : Type 0 where
   pub carried : t.carried.items ≡ map call_of (carried_at w)
   pub seen : map seen_model t.seen.items ≡ seen_at p w
@@ -55,7 +55,7 @@ with_endpoint e B x = record e { b = record e.b { endpoint = x } }
 
 -- an endpoint of the pair acts on the network, and nothing else of the pair changes; under the laws of an end: where both stood for w,
 -- they then stand for what w leads to
-pub record Acts {S : Type 0} (e f : CallPair S) (n m : Network) (side : Side) (leads : World → World → Type 0) : Type 0 where
+pub record EndpointActs {S : Type 0} (e f : CallPair S) (n m : Network) (side : Side) (leads : World → World → Type 0) : Type 0 where
   pub pair : f ≡ with_endpoint e side (endpoint_at f side)
   pub stands : EndLaws → (w v : World) → leads w v → IsEnd (endpoint_at e side) n w side → IsEnd (endpoint_at f side) m v side
 
@@ -72,14 +72,14 @@ pub record IsCallPlaying {S : Type 0} (p : Parties S) (play : CallPlay S) (w : C
   pub ends : IsCallPair p play.ends w
   pub network : IsNetwork play.network w.world
 
--- these are the parties of the play, and the world is one between events
+-- p are the parties of the play, and the world is one between events
 pub record IsReady {S : Type 0} (serving : Serving S) (calls : List Call) (p : Parties S) (w : CallWorld) : Type 0 where
-  pub given : Given p
+  pub given : PartiesLaws p
   pub between : IsBetween p w
   pub serving_is : p.serving ≡ serving
   pub calls_are : p.calls ≡ map raw_call calls
 
--- where it stood for w, it then stands for what f makes of w
+-- where a play stood for w, it then stands for what f makes of w
 abbrev pub CallStepsBy : {S : Type 0} → Serving S → List Call → CallPlay S → CallPlay S → (Parties S → CallWorld → CallWorld) → Type 0
 CallStepsBy {S} serving calls before after f = (p : Parties S) (w : CallWorld) → IsReady serving calls p w → IsCallPlaying p before w
     → IsCallPlaying p after (f p w)
@@ -87,7 +87,7 @@ CallStepsBy {S} serving calls before after f = (p : Parties S) (w : CallWorld) �
 abbrev pub parties : {S : Type 0} → Serving S → S → List Call → Parties S
 parties serving service calls = record { serving = serving; service = service; calls = map raw_call calls }
 
--- what was handed over as a ledger, in which all of these calls were made
+-- a trace as a ledger, in which all of these calls were made
 abbrev pub ledger_in : {S : Type 0} → Serving S → S → List Call → CallTrace S → Ledger S RawCall SeenModel
 ledger_in serving service calls t = record {
   made = map raw_call calls;

@@ -28,12 +28,12 @@ pub record IsAllDone {S : Type 0} (p : Parties S) (w : CallWorld) : Type 0 where
   pub seen : seen_at p w ≡ outcomes p.serving p.service p.calls
 
 -- a connection carries all that the calls and their answers take
-pub record HasRoom {S : Type 0} (p : Parties S) : Type 0 where
+pub record CarriesAll {S : Type 0} (p : Parties S) : Type 0 where
   pub calls : length (caller_items p.calls) ≤ most_items
   pub answers : length (server_items p.serving p.service (caller_items p.calls)) ≤ most_items
 
 -- what is true at every moment: the ends know each other, and at most one call is unanswered
-pub record GoesOn {S : Type 0} (p : Parties S) (w : CallWorld) : Type 0 where
+pub record CallsGoOn {S : Type 0} (p : Parties S) (w : CallWorld) : Type 0 where
   pub holds : CallsHold p w
   pub linked : Linked w.world
   pub waits : w.made ≤ length (outcomes_read p w) + 1
@@ -44,7 +44,7 @@ pub record Completes {S : Type 0} (p : Parties S) (w : CallWorld) : Type 0 where
   pub plain : All (IsPlainCall (length w.world.bag)) more
   pub done : IsAllDone p (all_call_stepped p w more)
 
--- the same with events of a play, in which the sides take their own steps: only ticks and packets that are sent from then on
+-- events of a play after which all calls are done: ticks, and deliveries of packets that are sent from then on; the sides take their own steps
 pub record CompletesByEvents {S : Type 0} (p : Parties S) (w : CallWorld) : Type 0 where
   pub more : List Event
   pub further : All (IsFurther (length w.world.bag)) more
@@ -54,11 +54,11 @@ pub record CompletesByEvents {S : Type 0} (p : Parties S) (w : CallWorld) : Type
 -- outcomes
 pub record NoPlayIsStuck {S : Type 0} (serving : Serving S) (IsServiceState : S → Type 0) : Type 0 where
   pub starts : (p : Parties S) (setup : Setup) → AreParties serving IsServiceState p → IsSetup setup → IsGood setup
-      → GoesOn p (call_start setup)
-  pub each : (p : Parties S) (w : CallWorld) (step : CallStep) → AreParties serving IsServiceState p → GoesOn p w
-      → GoesOn p (call_stepped p w step)
-  pub world : (p : Parties S) (w : CallWorld) → AreParties serving IsServiceState p → HasRoom p → GoesOn p w → Completes p w
+      → CallsGoOn p (call_start setup)
+  pub each : (p : Parties S) (w : CallWorld) (step : CallStep) → AreParties serving IsServiceState p → CallsGoOn p w
+      → CallsGoOn p (call_stepped p w step)
+  pub world : (p : Parties S) (w : CallWorld) → AreParties serving IsServiceState p → CarriesAll p → CallsGoOn p w → Completes p w
   pub always : (p : Parties S) (setup : Setup) (steps : List CallStep) → AreParties serving IsServiceState p → IsSetup setup → IsGood setup
-      → HasRoom p → Completes p (all_call_stepped p (call_start setup) steps)
+      → CarriesAll p → Completes p (all_call_stepped p (call_start setup) steps)
   pub by_events : (p : Parties S) (setup : Setup) (events : List Event) → AreParties serving IsServiceState p → IsSetup setup → IsGood setup
-      → HasRoom p → CompletesByEvents p (run_calls p setup events)
+      → CarriesAll p → CompletesByEvents p (run_calls p setup events)

@@ -9,7 +9,7 @@ use Rattle.item_world.specs.Landing.{landing}
 use Rattle.item_world.specs.World.{World, ticks}
 use Rattle.xns_world.specs.CallWorld.{Parties, CallWorld, call_start, in_world, CallStep, call_stepped, all_call_stepped, settles}
 use Rattle.xns_world.specs.CallWorld.{run_calls}
-use Rattle.xns_world.specs.CallOrder.{decides, ledger_of, CallsHold, MeetNoFault, IsBetween, Settles}
+use Rattle.xns_world.specs.CallOrder.{decides, ledger_of, CallsHold, MeetNoFault, IsBetween, SideSettles}
 use Rattle.xns_world.specs.Ledger.{Ledger, Entry, IsHistory, IsInOrder}
 
 -- the service is this one, in a state that it can be in, and each call can be made
@@ -35,7 +35,7 @@ pub record CallsComeInOrder {S : Type 0} (serving : Serving S) (IsServiceState :
   pub order : (p : Parties S) (w : CallWorld) → AreParties serving IsServiceState p → CallsHold p w →
       IsInOrder (decides p.serving) p.service (ledger_of p w)
   pub well : (p : Parties S) (w : CallWorld) → AreParties serving IsServiceState p → CallsHold p w → MeetNoFault p w
-  -- it is so at the start, and is kept by each small step, in whatever order they are taken; it is one entry of the ledger
+  -- the invariant holds at the start; each small step, in whatever order they are taken, keeps it and is one entry of the ledger
   pub starts : (p : Parties S) (setup : Setup) → AreParties serving IsServiceState p → IsSetup setup → IsGood setup
       → IsBetween p (call_start setup)
   pub entry : (p : Parties S) (w : CallWorld) (step : CallStep) → AreParties serving IsServiceState p → CallsHold p w →
@@ -46,7 +46,7 @@ pub record CallsComeInOrder {S : Type 0} (serving : Serving S) (IsServiceState :
   pub between : (p : Parties S) (setup : Setup) (events : List Event) → AreParties serving IsServiceState p → IsSetup setup → IsGood setup
       → IsBetween p (run_calls p setup events)
   -- a side settles wherever it is let
-  pub ends : (p : Parties S) (side : Side) (w : CallWorld) → AreParties serving IsServiceState p → IsBetween p w → Settles p side w
+  pub ends : (p : Parties S) (side : Side) (w : CallWorld) → AreParties serving IsServiceState p → IsBetween p w → SideSettles p side w
   -- where sides settle in a run: at the start, behind the other side, behind a packet that came, and behind a tick
   pub settled : (p : Parties S) (side : Side) (w : CallWorld) → AreParties serving IsServiceState p → IsBetween p w
       → IsBetween p (settles p side w)

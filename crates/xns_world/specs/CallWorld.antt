@@ -4,7 +4,7 @@ use Rattle.std.specs.Prelude.{slice_get, Option, Some, None}
 use Rattle.courier_messages.specs.RawCalls.{RawCall, caller_items}
 use Rattle.courier_calls.specs.Calls.{SeenModel, Serving}
 use Rattle.courier_calls.specs.Caller.{answers}
-use Rattle.courier_calls.specs.Server.{server_items, server_state, decided}
+use Rattle.courier_calls.specs.Server.{server_items, server_state, decided_calls}
 use Rattle.xns_spp.specs.State.{State}
 use Rattle.xns_spp.specs.declared.item.Item.{Item}
 use Rattle.item_world.specs.declared.event.Event.{Event}
@@ -14,7 +14,7 @@ use Rattle.item_world.specs.declared.side.Side.{Side}
 use Rattle.item_world.specs.declared.side.Side.TheVariants.{A, B}
 use Rattle.item_world.specs.Events.{undelivered}
 use Rattle.item_world.specs.Landing.{landing, reached}
-use Rattle.item_world.specs.Telling.{resends, tells}
+use Rattle.item_world.specs.UserSteps.{resends, sends_system_packet}
 use Rattle.xns_world.specs.Settling.{end_step_with, most_steps, onward}
 use Rattle.item_world.specs.World.{World, start, end_of, moved, flushes, ticks, overhears, sends, takes, sent_at, handed_at}
 
@@ -40,7 +40,7 @@ abbrev pub put_out : {S : Type 0} → Parties S → CallWorld → Side → List 
 put_out p w A = caller_items (calls_made p w)
 put_out p w B = server_items p.serving p.service (handed_at w.world B)
 
--- the first of these that the side's end has not yet accepted
+-- the first item that a side's session has put out and its end has not yet accepted
 abbrev pub next_out : {S : Type 0} → Parties S → CallWorld → Side → Option Item
 next_out p w side = slice_get (put_out p w side) (length (sent_at w.world side))
 
@@ -58,12 +58,12 @@ abbrev pub sends_next : CallWorld → Side → Item → CallWorld
 sends_next w side x = in_world w (sends w.world side x)
 
 -- the session is fed the next item that waits
-abbrev pub feeds : CallWorld → Side → CallWorld
-feeds w side = in_world w (takes w.world side)
+abbrev pub feeds_session : CallWorld → Side → CallWorld
+feeds_session w side = in_world w (takes w.world side)
 
 -- an outcome is listed
-abbrev pub lists : CallWorld → CallWorld
-lists w = record w { listed = w.listed + 1 }
+abbrev pub lists_outcome : CallWorld → CallWorld
+lists_outcome w = record w { listed = w.listed + 1 }
 
 -- the next call is made
 abbrev pub makes : CallWorld → CallWorld
@@ -79,7 +79,7 @@ may_call p w = length (outcomes_read p w) == w.made && nat_lt w.made (length p.c
 
 -- the third and fourth step, which the caller alone takes
 abbrev pub caller_step : {S : Type 0} → Parties S → CallWorld → Side → Option CallWorld
-caller_step p w A = if has_outcome p w then Some (lists w) else if may_call p w then Some (makes w) else None
+caller_step p w A = if has_outcome p w then Some (lists_outcome w) else if may_call p w then Some (makes w) else None
 caller_step p w B = None
 
 abbrev pub or_caller : {S : Type 0} → Parties S → CallWorld → Side → Option State → Option CallWorld
@@ -115,7 +115,7 @@ call_stepped p w (ticking side) = in_world w (ticks w.world side)
 call_stepped p w (acting side) = onward w (step p side w)
 call_stepped p w (flushing side) = in_world w (flushes w.world side)
 call_stepped p w (resending side) = in_world w (resends w.world side)
-call_stepped p w (telling side asks) = in_world w (tells w.world side asks)
+call_stepped p w (telling side asks) = in_world w (sends_system_packet w.world side asks)
 
 abbrev pub all_call_stepped : {S : Type 0} → Parties S → CallWorld → List CallStep → CallWorld
 all_call_stepped p w steps = fold (call_stepped p) w steps
@@ -138,13 +138,13 @@ abbrev pub call_arrival_steps : ℕ → Option (Side × World) → List CallStep
 call_arrival_steps k None = []
 call_arrival_steps k (Some l) = arrival k ∷ settling_steps l.0
 
-abbrev pub delivers : {S : Type 0} → Parties S → CallWorld → ℕ → CallWorld
-delivers p w k = all_call_stepped p w (call_arrival_steps k (landing w.world k))
+abbrev pub call_delivers : {S : Type 0} → Parties S → CallWorld → ℕ → CallWorld
+call_delivers p w k = all_call_stepped p w (call_arrival_steps k (landing w.world k))
 
--- these packets are delivered in turn
+-- packets are delivered in turn
 abbrev pub call_deliveries : {S : Type 0} → Parties S → CallWorld → List ℕ → List CallStep
 call_deliveries p w [] = []
-call_deliveries p w (k ∷ ks) = call_arrival_steps k (landing w.world k) ++ call_deliveries p (delivers p w k) ks
+call_deliveries p w (k ∷ ks) = call_arrival_steps k (landing w.world k) ++ call_deliveries p (call_delivers p w k) ks
 
 -- items are sent and taken by the sessions alone
 abbrev pub call_steps_of : {S : Type 0} → Parties S → CallWorld → Event → List CallStep
@@ -161,18 +161,18 @@ call_happens p w e = all_call_stepped p w (call_steps_of p w e)
 abbrev pub call_start : Setup → CallWorld
 call_start setup = record { world = start setup; made = 0; listed = 0 }
 
--- both sides settle before the first event
-abbrev pub begun : {S : Type 0} → Parties S → Setup → CallWorld
-begun p setup = settles p B (settles p A (call_start setup))
+-- the world before the first event: each side has settled
+abbrev pub both_settled : {S : Type 0} → Parties S → Setup → CallWorld
+both_settled p setup = settles p B (settles p A (call_start setup))
 
 abbrev pub run_calls : {S : Type 0} → Parties S → Setup → List Event → CallWorld
-run_calls p setup events = fold (call_happens p) (begun p setup) events
+run_calls p setup events = fold (call_happens p) (both_settled p setup) events
 
 -- ---- what it comes to
 
 -- the calls that the server decided
 abbrev pub carried_at : CallWorld → List RawCall
-carried_at w = decided (handed_at w.world B)
+carried_at w = decided_calls (handed_at w.world B)
 
 -- the outcomes that the caller saw
 abbrev pub seen_at : {S : Type 0} → Parties S → CallWorld → List SeenModel

@@ -12,8 +12,8 @@ use Rattle.courier_calls.specs.Server.{server_items, server_state}
 use Rattle.xns_spp.specs.State.{State, IsState}
 use Rattle.xns_spp.specs.declared.item.Item.{Item}
 use Rattle.xns_world.specs.Serve.{Served, serve}
-use Rattle.xns_world.specs.ServeEnd.{next_of}
-use Rattle.xns_world.specs.Settling.{handed_by, serve_step, steps, stepped_out}
+use Rattle.xns_world.specs.ServeEnd.{next_item_out}
+use Rattle.xns_world.specs.Settling.{handed_up_by, serve_step, steps, stepped_out}
 use Rattle.item_world.specs.Setup.{IsSetup, IsGood}
 use Rattle.item_world.specs.declared.setup.Setup.{Setup}
 use Rattle.xns_idp.specs.Packet.{AreBytes}
@@ -21,9 +21,9 @@ use Rattle.xns_spp.specs.Item.{IsItem}
 
 -- the items that the session has put out and its end has not accepted yet
 abbrev pub items_out : {S : Type 0} → Serving S → S → State → List Item
-items_out serving s v = drop (length v.accepted) (server_items serving s (handed_by v))
+items_out serving s v = drop (length v.accepted) (server_items serving s (handed_up_by v))
 
--- their bodies have at most 131,072 bytes, all together
+-- the bodies of the items that are out have at most 131,072 bytes, all together
 abbrev pub IsOutShort : {S : Type 0} → Serving S → S → State → Type 0
 IsOutShort serving s v = length (bytes_in (items_out serving s v)) ≤ most_bytes
 
@@ -31,13 +31,13 @@ pub record IsServedWithin {S : Type 0} (serving : Serving S) (s : S) (w : Served
   -- at most window items wait or are early, and at most backlog are unacknowledged
   pub end : IsState w.end
   -- where its session has met no fault, it keeps fewer than four bytes of the versions, or at most 131,072 bytes of an incoming message
-  pub kept : (p : Phase) → server_ending (handed_by w.end) ≡ Ok p → IsBounded p
+  pub kept : (p : Phase) → server_ending (handed_up_by w.end) ≡ Ok p → IsBounded p
   -- the answer to whatever call it decides next has at most 131,072 bytes
   pub answer : (transaction : ℕ) (call : RawCall) → HasWords call
-      → IsShort (answer_message transaction (decision serving (server_state serving s (handed_by w.end)) call))
+      → IsShort (answer_message transaction (decision serving (server_state serving s (handed_up_by w.end)) call))
   -- while an item is out, a step of the end hands no other up to the session, so no call is decided
-  pub alone : (x : Item) (v : State) → next_of serving s w.end ≡ Some x → serve_step serving s w.end ≡ Some v
-      → handed_by v ≡ handed_by w.end
+  pub alone : (x : Item) (v : State) → next_item_out serving s w.end ≡ Some x → serve_step serving s w.end ≡ Some v
+      → handed_up_by v ≡ handed_up_by w.end
   -- all that is out has at most 131,072 bytes
   pub out : IsOutShort serving s w.end
 
@@ -50,6 +50,6 @@ pub record ServedEndsStayWithinBounds {S : Type 0} (serving : Serving S) (IsServ
   -- after whatever packets
   pub ends : (s : S) (setup : Setup) (packets : List (List ℕ)) → IsServiceState s → IsSetup setup → IsGood setup → All AreBytes packets
       → IsServedWithin serving s (serve serving s setup packets)
-  -- and after each of the steps by which an end settles
+  -- also after each of the steps by which an end settles
   pub settling : (s : S) (v : State) (n : ℕ) → IsServiceState s → IsState v → IsOutShort serving s v
       → IsState (steps (serve_step serving s) v n) × IsOutShort serving s (steps (serve_step serving s) v n)

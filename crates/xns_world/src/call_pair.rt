@@ -1,7 +1,7 @@
 ghost use Rattle.std.specs.Prelude.{◌≡◌, ◌<◌, length, map, OnOk, Some};
 ghost use Rattle.courier_calls.specs.Calls.{seen_model};
 ghost use Rattle.courier_calls.specs.Server.{call_of};
-ghost use Rattle.xns_world.specs.CallPlay.{Acts, IsCallPair, IsReady};
+ghost use Rattle.xns_world.specs.CallPlay.{EndpointActs, IsCallPair, IsReady};
 ghost use Rattle.xns_world.specs.CallWorld.{Parties, CallWorld, carried_at, seen_at, service_at, step};
 ghost use Rattle.item_world.specs.Landing.{landing};
 ghost use Rattle.xns_world.specs.Settling.{stepped_out};
@@ -13,9 +13,9 @@ use courier_calls::{Call, Seen, Service};
 use item_world::{Network, Side, flush_end, land, tick_end};
 use std::alloc::{AllocError, Global};
 
-/// Both ends of a play of calls, the caller at A and the server at B.
+/// The two ends of a play of calls, the caller at A and the server at B.
 ///
-/// They are of two types, so each method here chooses between them; what uses these is written once for either side.
+/// The ends are of two types, so each method here chooses between them; code that uses these methods is written once for either side.
 #[derive(Drop)]
 pub struct CallPair<'a, S: Service> {
     pub a: CallingEnd<'a>,
@@ -41,7 +41,7 @@ impl<'a, S: Service> CallPair<'a, S> {
         side: Side,
         network: &mut Network,
     ) -> Result<(), AllocError>
-        ensures { OnOk result (Acts self.old self.new network.old network.new side (λ w v. flushes w side ≡ v)) }
+        ensures { OnOk result (EndpointActs self.old self.new network.old network.new side (λ w v. flushes w side ≡ v)) }
     {
         match side {
             Side::A => flush_end(alloc, Side::A, &mut self.a.endpoint, network),
@@ -56,7 +56,7 @@ impl<'a, S: Service> CallPair<'a, S> {
         side: Side,
         network: &mut Network,
     ) -> Result<(), AllocError>
-        ensures { OnOk result (Acts self.old self.new network.old network.new side (λ w v. ticks w side ≡ v)) }
+        ensures { OnOk result (EndpointActs self.old self.new network.old network.new side (λ w v. ticks w side ≡ v)) }
     {
         match side {
             Side::A => tick_end(alloc, Side::A, &mut self.a.endpoint, network),
@@ -73,7 +73,7 @@ impl<'a, S: Service> CallPair<'a, S> {
         number: usize,
     ) -> Result<(), AllocError>
         requires { number < length network.old.packets }
-        ensures { OnOk result (Acts self.old self.new network.old network.new side (λ w v. landing w number ≡ Some (side, v))) }
+        ensures { OnOk result (EndpointActs self.old self.new network.old network.new side (λ w v. landing w number ≡ Some (side, v))) }
     {
         match side {
             Side::A => land(alloc, Side::A, &mut self.a.endpoint, network, number),

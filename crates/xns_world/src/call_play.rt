@@ -5,8 +5,8 @@ ghost use Rattle.item_world.specs.declared.side.Side.{Side};
 ghost use Rattle.item_world.specs.declared.side.Side.TheVariants.{A, B};
 ghost use Rattle.item_world.specs.declared.event.Event.TheVariants.{Deliver, Rest, Tick, Foreign, Send, Take};
 ghost use Rattle.xns_world.specs.CallPlay.{IsCallPlaying, IsReady, CallStepsBy, IsCallTrace, IsOnceInOrder, parties};
-ghost use Rattle.xns_world.specs.CallProgress.{HasRoom, CompletesByEvents};
-ghost use Rattle.xns_world.specs.CallWorld.{Parties, CallWorld, call_start, call_happens, run_calls, delivers, settles};
+ghost use Rattle.xns_world.specs.CallProgress.{CarriesAll, CompletesByEvents};
+ghost use Rattle.xns_world.specs.CallWorld.{Parties, CallWorld, call_start, call_happens, run_calls, call_delivers, settles};
 ghost use Rattle.item_world.specs.Setup.{IsGood};
 ghost use Rattle.xns_spp.specs.Growth.{Begins};
 
@@ -27,7 +27,7 @@ pub struct CallPlay<'a, S: Service> {
 }
 
 impl<'a, S: Service> CallPlay<'a, S> {
-    /// Both ends, before anything has happened; neither has settled.
+    /// A play in which nothing has happened; no side has settled yet.
     fn new(
         alloc: Global,
         setup: &Setup,
@@ -59,7 +59,7 @@ impl<'a, S: Service> CallPlay<'a, S> {
 
     /// Delivers the packet of this number, where there is one that still lives.
     fn deliver(&mut self, alloc: Global, calls: &[Call], number: usize) -> Result<(), AllocError>
-        ensures { OnOk result (CallStepsBy S.serving calls.now self.old self.new (λ p w. delivers p w number)) }
+        ensures { OnOk result (CallStepsBy S.serving calls.now self.old self.new (λ p w. call_delivers p w number)) }
     {
         let Some(side) = self.network.lands_at(number) else {
             return Ok(());
@@ -116,7 +116,7 @@ impl<'a, S: Service> CallPlay<'a, S> {
         Ok(())
     }
 
-    /// Both ends settle, and then all these events happen in turn.
+    /// Lets each side settle, and then lets all these events happen in turn.
     fn run(&mut self, alloc: Global, calls: &[Call], events: &[Event]) -> Result<(), AllocError>
         ensures { OnOk result (CallStepsBy S.serving calls.now self.old self.new
             (λ p w. fold (call_happens p) (settles p B (settles p A w)) events.now)) }
@@ -175,7 +175,7 @@ pub fn play_calls<S: Service>(
     ensures once { IfOk result (λ t. IsOnceInOrder S.serving service calls.now t) }
     ensures seen { IfOk result (λ t. Begins (map seen_model t.seen.items) (outcomes S.serving service (map raw_call calls.now))) }
     ensures fewer { IfOk result (λ t. length t.seen.items ≤ length t.carried.items) }
-    ensures finishes { HasRoom (parties S.serving service calls.now) → CompletesByEvents (parties S.serving service calls.now)
+    ensures finishes { CarriesAll (parties S.serving service calls.now) → CompletesByEvents (parties S.serving service calls.now)
         (run_calls (parties S.serving service calls.now) setup.now events.now) }
 {
     setup.known();

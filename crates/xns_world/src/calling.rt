@@ -6,10 +6,10 @@ ghost use Rattle.item_world.specs.Setup.{IsGood};
 ghost use Rattle.xns_spp.specs.Sending.{is_full, waiting_count};
 ghost use Rattle.xns_spp.specs.declared.item.Item.{Item};
 ghost use Rattle.item_world.specs.declared.side.Side.TheVariants.{A};
-ghost use Rattle.xns_world.specs.CallLaws.{Given};
+ghost use Rattle.xns_world.specs.CallLaws.{PartiesLaws};
 ghost use Rattle.xns_world.specs.CallOrder.{CallsHold};
 ghost use Rattle.xns_world.specs.CallPlay.{IsCalling};
-ghost use Rattle.xns_world.specs.CallWorld.{Parties, CallWorld, next_out, sends_next, feeds, lists, makes, has_outcome, may_call};
+ghost use Rattle.xns_world.specs.CallWorld.{Parties, CallWorld, next_out, sends_next, feeds_session, lists_outcome, makes, has_outcome, may_call};
 ghost use Rattle.xns_world.specs.CallWorld.{caller_step, step, call_start};
 ghost use Rattle.xns_world.specs.Settling.{stepped_out, Stepped};
 
@@ -55,7 +55,7 @@ impl<'a> CallingEnd<'a> {
 
     /// Sends the first item that is out.
     fn send<S: Service>(&mut self)
-        ensures { (p : Parties S) (w : CallWorld) (x : Item) → Given p → CallsHold p w → IsCalling p self.old w → next_out p w A ≡ Some x
+        ensures { (p : Parties S) (w : CallWorld) (x : Item) → PartiesLaws p → CallsHold p w → IsCalling p self.old w → next_out p w A ≡ Some x
             → is_full w.world.a ≡ false →
             IsCalling p self.new (sends_next w A x) }
     {
@@ -67,8 +67,8 @@ impl<'a> CallingEnd<'a> {
     /// Feeds the next item that waits to the session; whether there was one.
     fn feed<S: Service>(&mut self, alloc: Global) -> Result<bool, AllocError>
         requires { self.old.caller.out ≡ [] }
-        ensures { IfOk result (λ b. (p : Parties S) (w : CallWorld) → Given p → CallsHold p w → IsCalling p self.old w →
-            (b ≡ nat_lt 0 (waiting_count w.world.a)) × IsCalling p self.new (if b then feeds w A else w)) }
+        ensures { IfOk result (λ b. (p : Parties S) (w : CallWorld) → PartiesLaws p → CallsHold p w → IsCalling p self.old w →
+            (b ≡ nat_lt 0 (waiting_count w.world.a)) × IsCalling p self.new (if b then feeds_session w A else w)) }
     {
         let Some(item) = self.endpoint.take() else {
             return Ok(false);
@@ -82,7 +82,7 @@ impl<'a> CallingEnd<'a> {
     /// Lists the outcome that is there; whether there was one.
     fn list<S: Service>(&mut self) -> Result<bool, AllocError>
         ensures { IfOk result (λ b. (p : Parties S) (w : CallWorld) → CallsHold p w → IsCalling p self.old w →
-            (b ≡ has_outcome p w) × IsCalling p self.new (if b then lists w else w)) }
+            (b ≡ has_outcome p w) × IsCalling p self.new (if b then lists_outcome w else w)) }
     {
         let Some(seen) = self.caller.outcome() else {
             return Ok(false);
@@ -93,7 +93,7 @@ impl<'a> CallingEnd<'a> {
 
     /// Makes the next call, where none is unanswered and calls remain; whether it did.
     fn call<S: Service>(&mut self, alloc: Global, calls: &[Call]) -> Result<bool, AllocError>
-        ensures { IfOk result (λ b. (p : Parties S) (w : CallWorld) → Given p → CallsHold p w → p.calls ≡ map raw_call calls.now
+        ensures { IfOk result (λ b. (p : Parties S) (w : CallWorld) → PartiesLaws p → CallsHold p w → p.calls ≡ map raw_call calls.now
             → has_outcome p w ≡ false → IsCalling p self.old w →
             (b ≡ may_call p w) × IsCalling p self.new (if b then makes w else w)) }
     {
@@ -111,7 +111,7 @@ impl<'a> CallingEnd<'a> {
 
     /// Lists an outcome, or else makes a call.
     fn act<S: Service>(&mut self, alloc: Global, calls: &[Call]) -> Result<bool, AllocError>
-        ensures { IfOk result (λ b. (p : Parties S) (w : CallWorld) → Given p → CallsHold p w → p.calls ≡ map raw_call calls.now
+        ensures { IfOk result (λ b. (p : Parties S) (w : CallWorld) → PartiesLaws p → CallsHold p w → p.calls ≡ map raw_call calls.now
             → IsCalling p self.old w →
             Stepped b w (caller_step p w A) (IsCalling p self.new)) }
     {
@@ -124,9 +124,9 @@ impl<'a> CallingEnd<'a> {
     /// Feeds an item, or else lists an outcome, or else makes a call.
     fn feed_or_act<S: Service>(&mut self, alloc: Global, calls: &[Call]) -> Result<bool, AllocError>
         requires { self.old.caller.out ≡ [] }
-        ensures { IfOk result (λ b. (p : Parties S) (w : CallWorld) → Given p → CallsHold p w → p.calls ≡ map raw_call calls.now
+        ensures { IfOk result (λ b. (p : Parties S) (w : CallWorld) → PartiesLaws p → CallsHold p w → p.calls ≡ map raw_call calls.now
             → IsCalling p self.old w →
-            Stepped b w (if nat_lt 0 (waiting_count w.world.a) then Some (feeds w A) else caller_step p w A) (IsCalling p self.new)) }
+            Stepped b w (if nat_lt 0 (waiting_count w.world.a) then Some (feeds_session w A) else caller_step p w A) (IsCalling p self.new)) }
     {
         if self.feed::<S>(alloc)? {
             return Ok(true);
@@ -136,7 +136,7 @@ impl<'a> CallingEnd<'a> {
 
     /// Takes the first step that applies; whether one did.
     fn step<S: Service>(&mut self, alloc: Global, calls: &[Call]) -> Result<bool, AllocError>
-        ensures { IfOk result (λ b. (p : Parties S) (w : CallWorld) → Given p → CallsHold p w → p.calls ≡ map raw_call calls.now
+        ensures { IfOk result (λ b. (p : Parties S) (w : CallWorld) → PartiesLaws p → CallsHold p w → p.calls ≡ map raw_call calls.now
             → IsCalling p self.old w →
             Stepped b w (step p A w) (IsCalling p self.new)) }
     {
@@ -152,7 +152,7 @@ impl<'a> CallingEnd<'a> {
 
     /// Takes steps until none applies.
     pub fn step_out<S: Service>(&mut self, alloc: Global, calls: &[Call]) -> Result<(), AllocError>
-        ensures { OnOk result ((p : Parties S) (w : CallWorld) → Given p → CallsHold p w → p.calls ≡ map raw_call calls.now
+        ensures { OnOk result ((p : Parties S) (w : CallWorld) → PartiesLaws p → CallsHold p w → p.calls ≡ map raw_call calls.now
             → IsCalling p self.old w →
             IsCalling p self.new (stepped_out (step p A) w)) }
     {

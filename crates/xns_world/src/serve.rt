@@ -3,9 +3,9 @@ ghost use Rattle.std.specs.Option.{option_to_list};
 ghost use Rattle.xns_idp.specs.Packet.{AreBytes};
 ghost use Rattle.courier_calls.specs.Table.{table_model, IsCheckedTable};
 ghost use Rattle.xns_spp.specs.Growth.{Begins};
-ghost use Rattle.xns_world.specs.Serve.{Served, serve, serve_start, serve_settles, serve_receives, serve_hears, IsServeTrace, IsHeard};
+ghost use Rattle.xns_world.specs.Serve.{Served, serve, serve_start, serve_settles, serve_receives, serve_hears, IsServeTrace, IsOfConversation};
 ghost use Rattle.xns_world.specs.ServePromises.{IsServedWithin};
-ghost use Rattle.xns_world.specs.ServeEnd.{IsServePlaying, ServeStepsBy, IsWithin};
+ghost use Rattle.xns_world.specs.ServeEnd.{IsServePlaying, ServeStepsBy, HasBoundedEnd};
 ghost use Rattle.item_world.specs.Setup.{IsGood};
 
 use crate::laws::calls::server_laws_are_given;
@@ -158,8 +158,8 @@ pub fn serve_bytes<S: Service>(
     requires checked { IsCheckedTable (table_model table.now) }
     requires state { S.IsServiceState service }
     ensures trace { IfOk result (λ t. IsServeTrace S.serving service t (serve S.serving service setup.now packets.now)) }
-    ensures heard { IfOk result (λ t. IsHeard S.serving service t) }
-    ensures within { IfOk result (λ t. IsWithin t (serve S.serving service setup.now packets.now)) }
+    ensures heard { IfOk result (λ t. IsOfConversation S.serving service t) }
+    ensures within { IfOk result (λ t. HasBoundedEnd t (serve S.serving service setup.now packets.now)) }
     // After each of the packets.
     ensures always { IfOk result (λ t. (come : List (List ℕ)) → Begins come packets.now
         → IsServedWithin S.serving service (serve S.serving service setup.now come)) }

@@ -6,7 +6,7 @@ ghost use Rattle.xns_spp.specs.Sending.{is_full, waiting_count, after_send, afte
 ghost use Rattle.xns_spp.specs.State.{State};
 ghost use Rattle.xns_spp.specs.declared.item.Item.{Item};
 ghost use Rattle.xns_world.specs.CallLaws.{ServerLaws};
-ghost use Rattle.xns_world.specs.ServeEnd.{IsServed, IsHearing, next_of, noted};
+ghost use Rattle.xns_world.specs.ServeEnd.{IsServed, IsHearing, next_item_out, fault_noted};
 ghost use Rattle.xns_world.specs.Settling.{serve_step, stepped_out, Stepped};
 ghost use Rattle.item_world.specs.Setup.{IsGood};
 ghost use Rattle.item_world.specs.World.{start, end_of};
@@ -57,7 +57,7 @@ impl<'a, S: Service> ServingEnd<'a, S> {
 
     /// Sends the first item that is out.
     fn send(&mut self)
-        ensures { (s : S) (v : State) (x : Item) → ServerLaws S.serving s → IsServed S.serving s self.old v → next_of S.serving s v ≡ Some x
+        ensures { (s : S) (v : State) (x : Item) → ServerLaws S.serving s → IsServed S.serving s self.old v → next_item_out S.serving s v ≡ Some x
             → is_full v ≡ false →
             IsServed S.serving s self.new (after_send v x) }
     {
@@ -145,7 +145,7 @@ fn list(alloc: Global, handed: &mut Items, item: &Item) -> Result<(), AllocError
 
 /// Notes a session's fault, unless it says that there was one before; want of memory is the caller's.
 fn note(first: &mut Option<SessionFault>, fault: SessionFault) -> Result<(), AllocError>
-    ensures { OnOk result (noted fault first.old first.new) }
+    ensures { OnOk result (fault_noted fault first.old first.new) }
 {
     match fault {
         SessionFault::NoMemory => return Err(AllocError),

@@ -11,7 +11,7 @@ use courier_types::{Shape, Value};
 use std::alloc::{AllocError, Global};
 use std::marker::Model;
 
-/// Its one procedure, 1 of version 1 of program 8, takes a list of at most 60,000 cardinals and returns as long a list: the
+/// The service's one procedure, 1 of version 1 of program 8, takes a list of at most 60,000 cardinals and returns as long a list: the
 /// numbers below 60,000, the greatest first.
 #[derive(Drop)]
 pub struct Lists {

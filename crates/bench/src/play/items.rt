@@ -5,7 +5,7 @@ use std::alloc::{AllocError, Global};
 use std::io;
 use test_setting::{WIDE_SETUP, numbered};
 
-/// So many items go out each way before packets are delivered.
+/// How many items go out each way before packets are delivered.
 const ROUND: u32 = 16;
 
 /// Plays so many items each way, and prints how many came through.
@@ -54,7 +54,7 @@ fn push_events(alloc: Global, events: &mut Vec<Event>, count: u32) -> Result<(),
     push_arrival(events)
 }
 
-/// Both sides send the item with this number.
+/// Lets both sides send the item with this number.
 fn push_sends(alloc: Global, events: &mut Vec<Event>, number: u32) -> Result<(), AllocError> {
     for side in &[Side::A, Side::B] {
         events.push(Event::Send(*side, numbered(alloc, number)?))?;
@@ -76,7 +76,7 @@ fn push_rest(events: &mut Vec<Event>) -> Result<(), AllocError> {
     Ok(())
 }
 
-/// Both sides hand up what a round brought.
+/// Lets both sides hand up what a round brought.
 fn push_takes(events: &mut Vec<Event>) -> Result<(), AllocError> {
     for _ in 0..ROUND {
         events.push(Event::Take(Side::A))?;

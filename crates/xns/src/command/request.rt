@@ -1,4 +1,5 @@
 //! What the words of the command line ask for.
+use xns_calls::Times;
 use xns_command::Mode;
 
 /// What the words of the command line ask for.
@@ -9,6 +10,8 @@ pub enum Request<'a> {
         mode: Mode,
         /// The name of the file that it reads, if one is named; `-` stands for standard input.
         file: Option<&'a str>,
+        /// Which times it prints of a capture.
+        times: Times,
     },
     /// To print the programs that files describe.
     Programs {

@@ -10,9 +10,9 @@ use Rattle.xns_sim.specs.declared.script_taker.ScriptTaker.{ScriptTaker}
 abbrev pub stands_for : ScriptTaker → Option (List ℕ) → Option (List ℕ) → List (List ℕ) → Type 0
 stands_for taker before after lines = HasRead taker.script (map without_return lines) × (after ≡ before)
 
--- it does not write
-abbrev pub never : ScriptTaker → Option (List ℕ) → Option (List ℕ) → List (List ℕ) → Type 0
-never taker before after lines = ⊥
+-- a script never writes
+abbrev pub never_fails : ScriptTaker → Option (List ℕ) → Option (List ℕ) → List (List ℕ) → Type 0
+never_fails taker before after lines = ⊥
 
 -- the script has read the whole input, and nothing was written
 pub record HasReadAll (script : Script) (input : List ℕ) (left before after : Option (List ℕ)) : Type 0 where

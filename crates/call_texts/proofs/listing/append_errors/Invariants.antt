@@ -1,9 +1,12 @@
-use Rattle.std.proofs.Common.{◌≡◌, ◌++◌, map, take}
+use Rattle.std.proofs.Common.{map, drop}
 use Rattle.std.specs.List.{flat_map}
 use Rattle.courier_programs.specs.Meanings.{error_model, resolved_model}
 use Rattle.call_texts.specs.Calls.{program_name}
 use Rattle.call_texts.specs.Listing.{error_line}
+use Rattle.call_texts.proofs.Appended.{SoFar}
 use Rattle.call_texts.proofs.listing.append_errors.Given as goal
 
 abbrev pub invariant-loop-error : goal.invariant-loop-error
-invariant-loop-error l = l.out.items ≡ l.fn.out.items ++ flat_map (error_line (program_name (resolved_model l.program))) (map error_model (take l.error-index l.program.errors.items))
+invariant-loop-error l =
+    let line = error_line (program_name (resolved_model l.program)) in
+    SoFar l.fn.out l.out (flat_map line (map error_model (drop l.error-index l.program.errors.items))) (flat_map line (map error_model l.program.errors.items))

@@ -1,9 +1,12 @@
-use Rattle.std.proofs.Common.{◌≡◌, ◌++◌, map, take}
+use Rattle.std.proofs.Common.{map, drop}
 use Rattle.std.specs.List.{flat_map}
 use Rattle.courier_programs.specs.Meanings.{procedure_model, resolved_model}
 use Rattle.call_texts.specs.Calls.{program_name}
 use Rattle.call_texts.specs.Listing.{procedure_line}
+use Rattle.call_texts.proofs.Appended.{SoFar}
 use Rattle.call_texts.proofs.listing.append_procedures.Given as goal
 
 abbrev pub invariant-loop-procedure : goal.invariant-loop-procedure
-invariant-loop-procedure l = l.out.items ≡ l.fn.out.items ++ flat_map (procedure_line (program_name (resolved_model l.program))) (map procedure_model (take l.procedure-index l.program.procedures.items))
+invariant-loop-procedure l =
+    let line = procedure_line (program_name (resolved_model l.program)) in
+    SoFar l.fn.out l.out (flat_map line (map procedure_model (drop l.procedure-index l.program.procedures.items))) (flat_map line (map procedure_model l.program.procedures.items))

@@ -1,18 +1,20 @@
-use Rattle.std.proofs.Common.{[], option_map, refl, ap, ◌∙◌, arith}
+use Rattle.std.proofs.Common.{[], ◌<◌, length, option_map, refl, ap, ◌∙◌, arith}
 use Rattle.std.proofs.lemmas.Result.{err_from_is_err_and}
 use Rattle.courier_notation.specs.Written.{candidate_models, candidates_from, field_models, fields_from, type_model}
 use Rattle.courier_texts.specs.Named.{members_seen}
 use Rattle.courier_programs.specs.Meanings.{components_seen}
+use Rattle.courier_programs.specs.Memory.{HasFields}
 use Rattle.courier_programs.specs.Scopes.{env}
 use Rattle.courier_programs.specs.Types.{candidates_meant, candidates_seen, choice_meant, components_meant, fields_meant, type_level_meant, type_meant}
 use Rattle.courier_programs.proofs.Groups.{candidates_stop, components_stop, more_candidates, more_components, names_stop, no_more_candidates, no_more_components}
 use Rattle.courier_programs.proofs.Models.{model_choice, model_record}
 use Rattle.courier_programs.proofs.Items.{item_here}
+use Rattle.courier_programs.proofs.Wants.{has_fields, wants_more}
 use Rattle.courier_programs.proofs.Writing.{written_choice, written_record}
 use Rattle.courier_programs.proofs.types.+types.Goals as goal
 
-pub components_of-returns-in_err-all_once : goal.components_of-returns-in_err-all_once
-components_of-returns-in_err-all_once t c =
+pub components_of-returns-in_err-all_once-clause-exact : goal.components_of-returns-in_err-all_once-clause-exact
+components_of-returns-in_err-all_once-clause-exact t c =
     let p = err_from_is_err_and c.from_residual.result c.from_residual.ensures.1 in
     let l = c.loop-group in
     let e = env c.args.scope.now in
@@ -20,19 +22,19 @@ components_of-returns-in_err-all_once t c =
     let groups = c.args.groups.now in
     let g = c.group-item.result in
     let here = item_here groups l.group-index g (omega arith) c.group-item.is in
-    let names = rw c.deref.ensures.value at c.in_err-all_once.ensures in
+    let names = rw c.deref.ensures.value at c.in_err-all_once.ensures.exact in
     rw (p.1, p.2) (names_stop c.in_err-all_once.field-0.0 e one l.seen.items (components_seen l.parts.items, l.left) groups l.group-index g (components_meant e one [] ([], c.args.room) (fields_from (field_models groups))) here names l.invariant)
 
-pub components_of-returns : goal.components_of-returns
-components_of-returns t c =
+pub components_of-returns-clause-exact : goal.components_of-returns-clause-exact
+components_of-returns-clause-exact t c =
     let l = c.loop-group in
     let e = env c.args.scope.now in
     let one = type_meant e c.args.depth in
     let groups = c.args.groups.now in
     no_more_components e one l.seen.items (components_seen l.parts.items, l.left) groups l.group-index (components_meant e one [] ([], c.args.room) (fields_from (field_models groups))) c.loop-group-test.false l.invariant
 
-pub take_groups-returns : goal.take_groups-returns
-take_groups-returns t c =
+pub take_groups-returns-clause-exact : goal.take_groups-returns-clause-exact
+take_groups-returns-clause-exact t c =
     let l = c.loop-group in
     let e = env c.args.scope.now in
     let one = type_meant e c.args.depth in
@@ -40,28 +42,28 @@ take_groups-returns t c =
     let tag = option_map (λ m. members_seen m.now) c.args.tag in
     no_more_candidates e tag one (members_seen l.taken.items) (candidates_seen l.parts.items, l.left) groups l.group-index (candidates_meant e tag one (members_seen c.args.taken.now.items) (candidates_seen c.args.parts.now.items, c.args.room) (candidates_from (candidate_models groups))) c.loop-group-test.false l.invariant
 
-pub record_of-returns : goal.record_of-returns
+pub record_of-returns-clause-exact : goal.record_of-returns-clause-exact
 unfolding fields_meant
-record_of-returns t c = rw (model_record c.in_ok-parts.parts, c.in_ok-parts.ensures) refl
+record_of-returns-clause-exact t c = rw (model_record c.in_ok-parts.parts, c.in_ok-parts.ensures.exact) refl
 
-pub choice_of-returns : goal.choice_of-returns
+pub choice_of-returns-clause-exact : goal.choice_of-returns-clause-exact
 unfolding choice_meant
-choice_of-returns t c = rw (model_choice c.in_ok-parts.parts, c.in_ok-members.ensures, c.in_ok-parts.ensures) refl
+choice_of-returns-clause-exact t c = rw (model_choice c.in_ok-parts.parts, c.in_ok-members.ensures, c.in_ok-parts.ensures.exact) refl
 
-pub type_by-returns-in-Record : goal.type_by-returns-in-Record
+pub type_by-returns-in-Record-clause-exact : goal.type_by-returns-in-Record-clause-exact
 unfolding type_level_meant
-type_by-returns-in-Record t c =
+type_by-returns-in-Record-clause-exact t c =
     let type = ap type_model c.in-Record.is ∙ written_record c.in-Record.groups in
-    rw (type, ← c.deref-in-Record.ensures.value) c.record_of.ensures
+    rw (type, ← c.deref-in-Record.ensures.value) c.record_of.ensures.exact
 
-pub type_by-returns-in-Choice : goal.type_by-returns-in-Choice
+pub type_by-returns-in-Choice-clause-exact : goal.type_by-returns-in-Choice-clause-exact
 unfolding type_level_meant
-type_by-returns-in-Choice t c =
+type_by-returns-in-Choice-clause-exact t c =
     let type = ap type_model c.in-Choice.is ∙ written_choice c.in-Choice.tag c.in-Choice.groups in
-    rw (type, ← c.deref-in-Choice.ensures.value) c.choice_of.ensures
+    rw (type, ← c.deref-in-Choice.ensures.value) c.choice_of.ensures.exact
 
-pub components_of-returns-in_err-left : goal.components_of-returns-in_err-left
-components_of-returns-in_err-left t c =
+pub components_of-returns-in_err-left-clause-exact : goal.components_of-returns-in_err-left-clause-exact
+components_of-returns-in_err-left-clause-exact t c =
     let p = err_from_is_err_and c.from_residual-in_err-left.result c.from_residual-in_err-left.ensures.1 in
     let l = c.loop-group in
     let e = env c.args.scope.now in
@@ -69,8 +71,8 @@ components_of-returns-in_err-left t c =
     let groups = c.args.groups.now in
     let g = c.group-item.result in
     let here = item_here groups l.group-index g (omega arith) c.group-item.is in
-    let names = rw c.deref.ensures.value at c.in_ok-all_once.ensures in
-    let parts = rw c.deref-in-loop-group.ensures.value at c.in_err-left.ensures in
+    let names = rw c.deref.ensures.value at c.in_ok-all_once.ensures.exact in
+    let parts = rw c.deref-in-loop-group.ensures.value at c.in_err-left.ensures.exact in
     rw (p.1, p.2) (components_stop c.in_err-left.field-0.0 e one l.seen.items c.all_once.new.seen.items (components_seen l.parts.items, l.left) groups l.group-index g (components_meant e one [] ([], c.args.room) (fields_from (field_models groups))) here names parts l.invariant)
 
 pub components_of-loop-group-preserved : goal.components_of-loop-group-preserved
@@ -81,12 +83,12 @@ components_of-loop-group-preserved t c =
     let groups = c.args.groups.now in
     let g = c.group-item.result in
     let here = item_here groups l.group-index g (omega arith) c.group-item.is in
-    let names = rw c.deref.ensures.value at c.in_ok-all_once.ensures in
-    let parts = rw c.deref-in-loop-group.ensures.value at c.in_ok-left.ensures in
+    let names = rw c.deref.ensures.value at c.in_ok-all_once.ensures.exact in
+    let parts = rw c.deref-in-loop-group.ensures.value at c.in_ok-left.ensures.exact in
     more_components e one l.seen.items c.all_once.new.seen.items (components_seen l.parts.items, l.left) (components_seen c.take_components.new.parts.items, c.in_ok-left.left) groups l.group-index g (components_meant e one [] ([], c.args.room) (fields_from (field_models groups))) here names parts l.invariant
 
-pub take_groups-returns-in_err-left : goal.take_groups-returns-in_err-left
-take_groups-returns-in_err-left t c =
+pub take_groups-returns-in_err-left-clause-exact : goal.take_groups-returns-in_err-left-clause-exact
+take_groups-returns-in_err-left-clause-exact t c =
     let p = err_from_is_err_and c.from_residual.result c.from_residual.ensures.1 in
     let l = c.loop-group in
     let e = env c.args.scope.now in
@@ -95,7 +97,7 @@ take_groups-returns-in_err-left t c =
     let tag = option_map (λ m. members_seen m.now) c.args.tag in
     let g = c.group-item.result in
     let here = item_here groups l.group-index g (omega arith) c.group-item.is in
-    let parts = rw c.deref.ensures.value at c.in_err-left.ensures in
+    let parts = rw c.deref.ensures.value at c.in_err-left.ensures.exact in
     rw (p.1, p.2) (candidates_stop c.in_err-left.field-0.0 e tag one (members_seen l.taken.items) (candidates_seen l.parts.items, l.left) groups l.group-index g (candidates_meant e tag one (members_seen c.args.taken.now.items) (candidates_seen c.args.parts.now.items, c.args.room) (candidates_from (candidate_models groups))) here parts l.invariant)
 
 pub take_groups-loop-group-preserved : goal.take_groups-loop-group-preserved
@@ -107,5 +109,11 @@ take_groups-loop-group-preserved t c =
     let tag = option_map (λ m. members_seen m.now) c.args.tag in
     let g = c.group-item.result in
     let here = item_here groups l.group-index g (omega arith) c.group-item.is in
-    let parts = rw c.deref.ensures.value at c.in_ok-left.ensures in
+    let parts = rw c.deref.ensures.value at c.in_ok-left.ensures.exact in
     more_candidates e tag one (members_seen l.taken.items) (members_seen c.take_group.new.taken.items, (candidates_seen c.take_group.new.parts.items, c.in_ok-left.left)) (candidates_seen l.parts.items, l.left) groups l.group-index g (candidates_meant e tag one (members_seen c.args.taken.now.items) (candidates_seen c.args.parts.now.items, c.args.room) (candidates_from (candidate_models groups))) here parts l.invariant
+
+pub type_by-returns-in-Record-clause-memory : goal.type_by-returns-in-Record-clause-memory
+type_by-returns-in-Record-clause-memory t c =
+    let type = ap type_model c.in-Record.is ∙ written_record c.in-Record.groups in
+    let groups = c.in-Record.groups.items in
+    rw type (wants_more c.record_of.result (0 < length groups) (HasFields (fields_from (field_models groups))) (has_fields groups) (rw c.deref-in-Record.ensures.value at c.record_of.ensures.memory))

@@ -5,10 +5,10 @@ use Rattle.std.specs.Vec.Iter.{into_iter_items}
 use Rattle.item_world.specs.declared.emitted.Emitted.{Emitted}
 use Rattle.item_world.specs.declared.moment.Moment.{Moment}
 use Rattle.item_world.specs.declared.side.Side.{Side}
-use Rattle.item_world.specs.World.{emitted, joined}
+use Rattle.item_world.specs.World.{emitted, with_packets}
 use Rattle.item_world.proofs.network.append_all.Goals as goal
 
-joined_more : (bag : List Emitted) (side : Side) (at : Moment) (bs : List (List ℕ)) (b : List ℕ) → joined bag side at (bs ++ b ∷ []) ≡ joined bag side at bs ++ emitted side at b ∷ []
+joined_more : (bag : List Emitted) (side : Side) (at : Moment) (bs : List (List ℕ)) (b : List ℕ) → with_packets bag side at (bs ++ b ∷ []) ≡ with_packets bag side at bs ++ emitted side at b ∷ []
 joined_more bag side at bs b = ap (λ (l : List Emitted). bag ++ l) (map-append (emitted side at) bs (b ∷ [])) ∙ sym (append_assoc bag (map (emitted side at) bs) (emitted side at b ∷ []))
 
 pub loop-bytes-init : goal.loop-bytes-init
@@ -33,4 +33,4 @@ pub returns : goal.returns
 returns c =
     let given : into_iter_items c.into_iter-bytes-iterator.result ≡ c.args.packets.items = c.into_iter-bytes-iterator.ensures.into_iter_gives.0 in
     let all : c.loop-bytes.yielded ≡ c.args.packets.items = All-taken c.into_iter-bytes-iterator.result c.loop-bytes.yielded (c.next.new.self, (c.loop-bytes.bytes-iterator, c.loop-bytes.yielded_by, c.in-None.ensures.steps)) ∙ given in
-    c.loop-bytes.invariant.joined ∙ ap (joined c.args.before.now.items c.args.side c.args.at) all
+    c.loop-bytes.invariant.joined ∙ ap (with_packets c.args.before.now.items c.args.side c.args.at) all

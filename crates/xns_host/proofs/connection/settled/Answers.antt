@@ -6,11 +6,6 @@ use Rattle.xns_host.proofs.Leading.{goes_then}
 use Rattle.xns_host.proofs.Tellings.{drains_still, undrained}
 use Rattle.xns_host.proofs.Closes.{closes}
 use Rattle.xns_host.proofs.Steps.{goes_on_by}
-use Rattle.std.proofs.Common.{◌≢◌, ap, refl, None}
-use Rattle.xns_spp.specs.Held.{StandsFor}
-use Rattle.xns_spp.specs.Sending.{waiting_count}
-use Rattle.xns_spp.specs.State.{State}
-use Rattle.xns_host.specs.Deeds.{is_starved, owed_moved}
 use Rattle.xns_host.proofs.connection.settled.Goals as goal
 
 pub after_moving-requires-clause-deaf : goal.after_moving-requires-clause-deaf

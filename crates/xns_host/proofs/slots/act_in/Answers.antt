@@ -1,4 +1,3 @@
-use Rattle.xns_host.proofs.Going.{keeps_by, keeps_moved}
 use Rattle.std.proofs.Common.{refl, rules}
 use Rattle.xns_host.proofs.Ends.{goes_fits}
 use Rattle.std.proofs.Common.{subst}
@@ -8,10 +7,6 @@ use Rattle.xns_host.specs.Went.{GuestActs}
 use Rattle.xns_host.specs.declared.guest.Guest.{Guest}
 use Rattle.xns_host.proofs.Placed.{placed, nobody_in}
 use Rattle.xns_host.proofs.slots.act_in.Goals as goal
-
-pub returns-clause-keeps : goal.returns-clause-keeps
-returns-clause-keeps c = λ g is.
-    keeps_by c.args.slot.now g c.in-Some.guest c.in-Some.is is (keeps_moved _ _ c.act.ensures.goes c.act.ensures.packets)
 
 pub returns-clause-fits : goal.returns-clause-fits
 returns-clause-fits c = λ g is fits. goes_fits c.args.slot.now g c.in-Some.guest _ c.in-Some.is is refl c.act.ensures.goes fits

@@ -1,9 +1,7 @@
 use Rattle.std.proofs.Common.{◌≡◌, ◌∙◌, ap, sym, rules, None, Some, true}
-use Rattle.xns_host.specs.Hosting.{HasTold, closed, handed}
 use Rattle.xns_host.specs.declared.connection.Connection.{Connection}
 use Rattle.xns_host.specs.declared.guest.Guest.{Guest}
 use Rattle.xns_host.proofs.Fetching.{told_now, untold}
-use Rattle.xns_host.proofs.Going.{by_guest}
 use Rattle.std.proofs.Common.{refl}
 use Rattle.xns_host.specs.Story.{with_handed}
 use Rattle.xns_host.proofs.Ends.{from_fits, handed_still}
@@ -20,24 +18,6 @@ returns-in_err-why-clause-none c = λ none.
     let why : c.take_why.new.self ≡ c.take_message.new.self
     = untold c.take_message.new.self c.take_why.new.self c.take_why.ensures.rest c.take_why.ensures.told (sym c.in_err-why.was ∙ c.take_why.ensures.why) in
     ap (λ (t : Connection). Some (record c.in-Some.guest { connection = t })) (why ∙ message) ∙ sym c.in-Some.is
-
-pub returns-in-Some-take_message-clause-told : goal.returns-in-Some-take_message-clause-told
-returns-in-Some-take_message-clause-told c = λ g is some.
-    by_guest (λ (h : Guest). HasTold c.args.now h.connection c.take_message.new.self) c.args.slot.now g c.in-Some.guest c.in-Some.is is
-    (handed c.in-Some-take_message.message (sym c.take_message.ensures.message ∙ c.in-Some-take_message.is)
-    (λ h tells. c.take_message.ensures.handed h c.in-Some-take_message.message tells c.in-Some-take_message.is) c.take_message.ensures.wanted
-    (λ still kept. c.take_message.ensures.replied (λ none. absurd (search rules)) still kept)
-    (c.take_message.ensures.why c.in-Some-take_message.message c.in-Some-take_message.is) c.take_message.ensures.steps)
-
-pub returns-clause-told : goal.returns-clause-told
-returns-clause-told c = λ g is some.
-    let none : c.take_message.result ≡ None = search rules in
-    let message : c.take_message.new.self ≡ c.in-Some.guest.connection = search rules in
-    let now : c.take_why.new.self ≡ record c.take_message.new.self { told = true }
-    = told_now c.take_message.new.self c.take_why.new.self c.in_ok-why.why c.take_why.ensures.rest c.take_why.ensures.told
-    (sym c.in_ok-why.was ∙ c.take_why.ensures.why) in
-    by_guest (λ (h : Guest). HasTold c.args.now h.connection c.take_why.new.self) c.args.slot.now g c.in-Some.guest c.in-Some.is is
-    (closed (sym c.take_message.ensures.message ∙ none) (now ∙ ap (λ (t : Connection). record t { told = true }) message))
 
 pub returns-in-Some-take_message-clause-fits : goal.returns-in-Some-take_message-clause-fits
 returns-in-Some-take_message-clause-fits c = λ g is fits.

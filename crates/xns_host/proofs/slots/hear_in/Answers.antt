@@ -1,54 +1,20 @@
-use Rattle.std.proofs.Common.{◌≡◌, Option, Some, ap, refl, rules, subst}
-use Rattle.xns_host.specs.Hosting.{HasHeard, HearsIn, nothing}
+use Rattle.std.proofs.Common.{◌≡◌, Some, ap, rules, subst}
 use Rattle.xns_host.specs.declared.guest.Guest.{Guest}
-use Rattle.xns_host.proofs.Hearing.{has_heard, heard_or_not}
 use Rattle.std.proofs.Common.{[], ◌++◌}
 use Rattle.xns_spp.specs.Packet.{spp_packet_spelling}
 use Rattle.xns_host.proofs.Ends.{received_fits}
 use Rattle.xns_host.specs.Hosting.{IsNotDoneIn}
-use Rattle.xns_host.specs.Went.{GuestHeard, GuestHears}
+use Rattle.xns_host.specs.Went.{GuestHears}
 use Rattle.xns_spp.specs.Held.{StandsFor}
-use Rattle.xns_spp.specs.Receiving.{StoresBytes}
-use Rattle.xns_spp.specs.State.{State}
 use Rattle.xns_host.proofs.Placed.{heard_or_lost, on_err, on_ok, placed}
-use Rattle.xns_spp.specs.Ends.{is_ours_at}
 use Rattle.std.proofs.Common.{◌∙◌, sym, false}
 use Rattle.xns_host.proofs.slots.hear_in.Goals as goal
-
-pub returns-in_default-clause-hears : goal.returns-in_default-clause-hears
-returns-in_default-clause-hears c = λ b read. nothing
-
-pub returns-then-not-is_ours-clause-hears : goal.returns-then-not-is_ours-clause-hears
-returns-then-not-is_ours-clause-hears c = λ b read.
-    subst (λ (p : Option Guest). HearsIn c.args.now b c.args.confirms (Some c.args.slot.now) (Some p)) c.in-Some.is nothing
-
-pub returns-clause-hears : goal.returns-clause-hears
-returns-clause-hears c = λ b read.
-    heard_or_not c.args.now b c.args.packet.now c.args.confirms c.args.slot.now c.in-Some.guest c.receive.new.self c.receive.result read c.in-Some.is
-    c.receive.ensures.hears c.receive.ensures.steps c.receive.ensures.known c.receive.ensures.news c.receive.ensures.unchanged
-
-pub returns-clause-heard : goal.returns-clause-heard
-returns-clause-heard c = λ b g s read is stands ours.
-    let there = c.in-Some.is in
-    let same : c.in-Some.guest ≡ g = cc in (
-      refl,
-      subst (λ (x : Guest). HasHeard b c.args.confirms x (Some c.receive.new.self)) same
-          (has_heard b c.args.packet.now c.args.confirms c.in-Some.guest c.receive.new.self c.receive.result read c.receive.ensures.hears c.receive.ensures.unchanged
-          c.receive.ensures.replied c.receive.ensures.closes c.receive.ensures.news c.receive.ensures.memory),
-    )
 
 pub returns-clause-fits : goal.returns-clause-fits
 returns-clause-fits c = λ g is fits.
     received_fits c.args.slot.now g c.in-Some.guest _ c.args.packet.now c.receive.result (spp_packet_spelling c.args.packet.now ++ []) c.in-Some.is is
     (c.written_packet_is_read_again.ensures.again c.args.packet.now [] c.requires) c.receive.ensures.known c.receive.ensures.hears
     c.receive.ensures.unchanged fits
-
-pub returns-clause-ours : goal.returns-clause-ours
-returns-clause-ours c = λ yes. record {
-  guest = c.in-Some.guest;
-  there = ap Some c.in-Some.is;
-  is = λ s stands. let e = c.is_ours.ensures s stands in search rules;
-}
 
 pub returns-clause-not_done : goal.returns-clause-not_done
 returns-clause-not_done c = λ was. c.receive.ensures.not_done (subst IsNotDoneIn c.in-Some.is was)
@@ -58,13 +24,6 @@ returns-in_default-clause-not_done c = λ was. was
 
 pub returns-then-not-is_ours-clause-not_done : goal.returns-then-not-is_ours-clause-not_done
 returns-then-not-is_ours-clause-not_done c = λ was. subst IsNotDoneIn c.in-Some.is was
-
-pub returns-clause-turn : goal.returns-clause-turn
-returns-clause-turn c = λ yes b read.
-    placed (λ (g h : Guest). GuestHears c.args.now b c.args.confirms g h) c.args.slot.now c.in-Some.guest _ c.in-Some.is
-    (heard_or_lost c.args.now b c.args.confirms c.in-Some.guest c.receive.new.self c.receive.result
-    (on_ok c.receive.result _ _ (λ f. f b read) c.receive.ensures.heard) c.receive.ensures.unchanged
-    (on_err c.receive.result _ _ (λ f s stands. f s b stands read) c.receive.ensures.memory))
 
 pub returns-in_default-clause-foreign : goal.returns-in_default-clause-foreign
 returns-in_default-clause-foreign c = λ no g s is stands. absurd (search rules)
@@ -77,3 +36,16 @@ returns-then-not-is_ours-clause-foreign c = λ no g s is stands.
     = subst (λ (x : Guest). StandsFor x.connection.conversation.endpoint s) same stands in
     let not : c.is_ours.result ≡ false = search rules in
     sym (c.is_ours.ensures s here) ∙ not
+
+pub returns-clause-turn : goal.returns-clause-turn
+returns-clause-turn c = λ yes. (
+  record {
+    guest = c.in-Some.guest;
+    there = ap Some c.in-Some.is;
+    is = λ s stands. let e = c.is_ours.ensures s stands in search rules;
+  },
+  λ b read. placed (λ (g h : Guest). GuestHears c.args.now b c.args.confirms g h) c.args.slot.now c.in-Some.guest _ c.in-Some.is
+      (heard_or_lost c.args.now b c.args.confirms c.in-Some.guest c.receive.new.self c.receive.result
+      (on_ok c.receive.result _ _ (λ f. f b read) c.receive.ensures.heard) c.receive.ensures.unchanged
+      (on_err c.receive.result _ _ (λ f s stands. f s b stands read) c.receive.ensures.memory)),
+)

@@ -8,7 +8,7 @@ use Rattle.std.proofs.lemmas.List.{length-map}
 use Rattle.courier_calls.specs.Calls.{outcomes, raw_call, seen_model}
 use Rattle.xns_world.specs.CallPlay.{IsReady, parties}
 use Rattle.xns_world.specs.CallWorld.{call_start, run_calls}
-use Rattle.xns_world.specs.CallLaws.{Given}
+use Rattle.xns_world.specs.CallLaws.{PartiesLaws}
 use Rattle.xns_world.proofs.call_play.play_calls.Goals as goal
 
 trace : goal.returns-clause-trace
@@ -17,7 +17,7 @@ trace g c =
     let serving = g.S.Service.serving in
     let p = parties serving c.args.service cs in
     let setup = c.args.setup.now in
-    let given : Given p = c.laws_are_given.ensures p (record { serving_is = refl; state = c.requires.state; calls = c.known_calls.ensures }) in
+    let given : PartiesLaws p = c.laws_are_given.ensures p (record { serving_is = refl; state = c.requires.state; calls = c.known_calls.ensures }) in
     let ready : IsReady serving cs p (call_start setup) = record { given = given; between = start_between p setup given c.known.ensures c.requires.good; serving_is = refl; calls_are = refl } in
     IfOk-weaker c.played.result _ _ (λ t is. is p (call_start setup) ready (c.in_ok-play.ensures p refl refl)) c.played.ensures
 
@@ -28,7 +28,7 @@ once : goal.returns-clause-once
 once g c =
     let p = parties g.S.Service.serving c.args.service c.args.calls.now in
     let w = run_calls p c.args.setup.now c.args.events.now in
-    let given : Given p = c.laws_are_given.ensures p (record { serving_is = refl; state = c.requires.state; calls = c.known_calls.ensures }) in
+    let given : PartiesLaws p = c.laws_are_given.ensures p (record { serving_is = refl; state = c.requires.state; calls = c.known_calls.ensures }) in
     let once = in_order p w given (always_between p c.args.setup.now c.args.events.now given c.known.ensures c.requires.good).holds in
     IfOk-weaker c.played.result _ _ (λ t is. once_along g.S.Service.serving c.args.service c.args.calls.now t w is (front_begins w.made p.calls) once) (trace g c)
 

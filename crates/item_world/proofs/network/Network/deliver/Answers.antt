@@ -8,7 +8,7 @@ use Rattle.item_world.proofs.Networks.{delivers_it, read_from}
 use Rattle.item_world.proofs.network.Network.deliver.Goals as goal
 use Rattle.item_world.specs.Network.{IsNetwork}
 use Rattle.item_world.specs.NetworkModel.{NetworkModel}
-use Rattle.item_world.specs.World.{emitted, joined}
+use Rattle.item_world.specs.World.{emitted, with_packets}
 use Rattle.item_world.specs.declared.emitted.Emitted.{Emitted}
 
 pub returns-clause-delivers : goal.returns-clause-delivers
@@ -22,7 +22,7 @@ returns-clause-delivers c w x s now is fits more =
     let sent : List Emitted = map (emitted side at) bs in
     let all : List Emitted = c.append.new.before.items in
     let e : Emitted = record x { delivered = true } in
-    let appended : all ≡ joined n.packets side at bs = c.in_ok-append.ensures.items in
+    let appended : all ≡ with_packets n.packets side at bs = c.in_ok-append.ensures.items in
     let there : slice_get n.packets k ≡ Some x = ap (λ (l : List Emitted). slice_get l k) h.bag ∙ is in
     let same = read_from all k x c.index_mut.result.now (ap (λ (l : List Emitted). slice_get l k) appended ∙ front_get n.packets sent k x there) c.index_mut.ensures.value in
     let counts = c.add.ensures (length s.taken) fits (ap (λ (m : ℕ). m + c.args.took) (h.taken side) ∙ more) in
@@ -30,4 +30,4 @@ returns-clause-delivers c w x s now is fits more =
     (ap (λ (y : Emitted). slice_set all k (record y { delivered = true })) same
     ∙ (ap (λ (l : List Emitted). slice_set l k e) appended
     ∙ (set-append_left n.packets sent k e (slice_get_within n.packets k x there)
-    ∙ ap (λ (l : List Emitted). joined (slice_set l k e) side at bs) h.bag))) refl refl
+    ∙ ap (λ (l : List Emitted). with_packets (slice_set l k e) side at bs) h.bag))) refl refl

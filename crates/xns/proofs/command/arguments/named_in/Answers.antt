@@ -1,11 +1,11 @@
-use Rattle.std.proofs.Common.{◌≡◌, ◌∙◌, ap, ap₂, sym, refl, true}
+use Rattle.std.proofs.Common.{◌≡◌, ◌∙◌, ap, ap₂, sym, refl, true, codes}
 use Rattle.std.proofs.lemmas.Result.{err_from_is_err_and}
 use Rattle.clap.proofs.OnLiterals.{clap_on_literals}
 use Rattle.clap.specs.Words.{fault_of, is_simple, is_simple_and_free, subcommand_of, takes}
 use Rattle.xns.proofs.Refusals.{is_free}
 use Rattle.xns_command.specs.declared.mode.Mode.{Mode}
 use Rattle.xns_command.specs.declared.mode.Mode.TheVariants.{Calls, Dump, Sim}
-use Rattle.xns.specs.Command.Arguments.{files_in, program_app, texts, words_of, words_of_programs, words_with_file}
+use Rattle.xns.specs.Command.Arguments.{files_in, flag_in, program_app, texts, times_by, words_of, words_of_programs, words_with_file}
 use Rattle.xns.proofs.command.arguments.named_in.Goals as goal
 
 is_taken : (mode : Mode) → takes program_app (words_of mode) ≡ true
@@ -48,6 +48,13 @@ returns-clause-files c =
     let app = c.in_ok-program.ensures in
     let rows = c.in_ok-matches.ensures.matches (ap is_simple app ∙ is_plain) in
     c.in_ok-files.ensures ∙ ap files_in (rows.1 ∙ ap (λ command. subcommand_of command (texts c.args.words.now)) app)
+
+pub returns-clause-times : goal.returns-clause-times
+returns-clause-times c =
+    let app = c.in_ok-program.ensures in
+    let rows = c.in_ok-matches.ensures.matches (ap is_simple app ∙ is_plain) in
+    c.times_of.ensures ∙ ap (λ found. times_by (flag_in (codes "relative") found) (flag_in (codes "times") found))
+    (rows.1 ∙ ap (λ command. subcommand_of command (texts c.args.words.now)) app)
 
 pub returns-clause-kinds : goal.returns-clause-kinds
 returns-clause-kinds c =

@@ -12,8 +12,6 @@ pub returns-in-Ok-clause-connects : goal.returns-in-Ok-clause-connects
 returns-in-Ok-clause-connects c =
     let is : c.connect.result ≡ Ok c.in-Ok.found = c.in-Ok.is in
     record {
-      connected = search rules;
-      apart = search rules;
       full = λ none. let bad = c.connect.ensures.full none in absurd (cc);
       used = λ all. let bad = c.connect.ensures.used all in absurd (cc);
       room = λ bad. absurd (unused bad);
@@ -23,7 +21,6 @@ returns-in-Ok-clause-connects c =
       found = λ i at. let eq : c.in-Ok.found ≡ i = cc in eq;
       connects = subst (λ (to : Address). ConnectsTo c.args.now c.args.via c.args.socket to c.connect.result c.args.self.now.host c.connect.new.self)
           c.address.ensures c.connect.ensures.connects;
-      unchanged = λ bad. absurd (bad refl);
       kept = record { event = refl; packet = refl };
     }
 
@@ -31,8 +28,6 @@ pub returns-in-Err-clause-connects : goal.returns-in-Err-clause-connects
 returns-in-Err-clause-connects c =
     let is : c.connect.result ≡ Err c.in-Err.fault = c.in-Err.is in
     record {
-      connected = λ bad. absurd (c.host_fault_number.ensures.refused bad);
-      apart = λ bad. absurd (c.host_fault_number.ensures.refused bad);
       full = λ none.
           let e = c.connect.ensures.full none in
           let fault : c.in-Err.fault ≡ NoRoom = cc in
@@ -48,6 +43,5 @@ returns-in-Err-clause-connects c =
       found = λ i at. absurd (cc);
       connects = subst (λ (to : Address). ConnectsTo c.args.now c.args.via c.args.socket to c.connect.result c.args.self.now.host c.connect.new.self)
           c.address.ensures c.connect.ensures.connects;
-      unchanged = search rules;
       kept = record { event = refl; packet = refl };
     }

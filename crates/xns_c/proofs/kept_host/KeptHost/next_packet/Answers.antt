@@ -7,12 +7,12 @@ use Rattle.xns_c.proofs.kept_host.KeptHost.next_packet.Goals as goal
 
 pub returns-then-told-ne-SHORT_BUFFER : goal.returns-then-told-ne-SHORT_BUFFER
 returns-then-told-ne-SHORT_BUFFER c =
-    packet_fetched c.args.self.now c.fetch_packet.new.self _ c.args.now c.in-Some.found c.fetch_packet.result _ _ _ _ _ _ _ c.in-Some.is (λ x is. (c.fetch_packet.ensures.kept x is).1) c.fetch_packet.ensures.told c.fetch_packet.ensures.gives (search rules) c.fetch_packet.ensures.event
+    packet_fetched c.args.self.now c.fetch_packet.new.self _ c.args.now c.in-Some.found c.fetch_packet.result _ _ _ _ _ _ _ c.in-Some.is (λ x is. (c.fetch_packet.ensures.kept x is).1) c.fetch_packet.ensures.gives (search rules) c.fetch_packet.ensures.event
     (packet_put c.in-Some.found c.as_slice.result.now _ _ c.args.written.now _ c.args.via.now _ c.as_slice.ensures (search rules) c.put_front-told.ensures.put c.put_front-told.ensures.short) refl (search rules) refl
 
 pub returns-else-told-ne-SHORT_BUFFER : goal.returns-else-told-ne-SHORT_BUFFER
 returns-else-told-ne-SHORT_BUFFER c =
-    packet_fetched c.args.self.now c.fetch_packet.new.self _ c.args.now c.in-Some.found c.fetch_packet.result _ _ _ _ _ _ _ c.in-Some.is (λ x is. (c.fetch_packet.ensures.kept x is).1) c.fetch_packet.ensures.told c.fetch_packet.ensures.gives (search rules) c.fetch_packet.ensures.event
+    packet_fetched c.args.self.now c.fetch_packet.new.self _ c.args.now c.in-Some.found c.fetch_packet.result _ _ _ _ _ _ _ c.in-Some.is (λ x is. (c.fetch_packet.ensures.kept x is).1) c.fetch_packet.ensures.gives (search rules) c.fetch_packet.ensures.event
     (packet_short c.in-Some.found c.as_slice.result.now _ _ c.args.written.now _ c.args.via.now _ c.as_slice.ensures (search rules) c.put_front-told.ensures.put c.put_front-told.ensures.short c.put_front-told.ensures.unchanged) refl (search rules) refl
 
 pub returns-in_default : goal.returns-in_default
@@ -26,8 +26,6 @@ returns-in_default c =
       starved = λ is. absurd (omega (arith, is));
       fetched = λ z. search rules;
       kept = λ p is. absurd (search rules);
-      told = λ p no is. absurd (cc);
-      rested = search rules;
       given = search rules;
       left = search rules;
       event = search rules;
@@ -44,8 +42,6 @@ returns-then-is_err c =
       starved = λ z fine. absurd (search rules);
       fetched = λ more. absurd (more refl);
       kept = λ p is. absurd (search rules);
-      told = λ p no is. absurd (cc);
-      rested = λ is. absurd (omega (arith, is));
       given = search rules;
       left = search rules;
       event = search rules;

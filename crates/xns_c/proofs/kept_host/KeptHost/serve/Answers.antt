@@ -6,7 +6,6 @@ returns c = record {
   answer = c.serve.result;
   told = c.host_told.ensures;
   serves = c.serve.ensures.serves;
-  guests = c.serve.ensures.guests;
   refused = c.serve.ensures.refused;
   kept = record { event = refl; packet = refl };
 }

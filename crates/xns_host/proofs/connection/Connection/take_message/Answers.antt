@@ -6,7 +6,7 @@ use Rattle.xns_host.specs.Telling.{OwesRoom}
 use Rattle.xns_host.proofs.Owing.{same_room}
 use Rattle.xns_host.proofs.Closes.{closes_calm, closes_from}
 use Rattle.xns_host.specs.Story.{Story}
-use Rattle.std.proofs.Common.{◌≡◌, ◌∙◌, ap, sym, false, None}
+use Rattle.std.proofs.Common.{◌≡◌, ◌∙◌, ap, sym, false}
 use Rattle.std.specs.Prelude.{not, ◌&&◌}
 use Rattle.xns_host.specs.Deeds.{done, took}
 use Rattle.xns_host.specs.Moving.{is_calm, scene}

@@ -2,12 +2,8 @@ use Rattle.std.proofs.Common.{◌≡◌, ◌<◌, refl, Some, length, rules, sli
 use Rattle.std.specs.Prelude.{slice_set}
 use Rattle.xns_host.proofs.Apart.{apart_then, set_apart, set_there}
 use Rattle.xns_host.proofs.Done.{act_settled}
-use Rattle.xns_host.proofs.Going.{all_set, all_settled, all_then, each_set, each_settled, each_then, keeping}
 use Rattle.xns_host.proofs.Noting.{kept_but, same_place}
-use Rattle.xns_host.specs.Knowing.{all_known_of}
-use Rattle.xns_host.proofs.Known.{all_known_set, known_same, same_settled, same_then}
 use Rattle.xns_host.proofs.Undone.{settled_not_done}
-use Rattle.std.proofs.Common.{◌∙◌, sym}
 use Rattle.xns_agenda.specs.Agenda.{noted}
 use Rattle.xns_host.specs.Hosting.{facts_in}
 use Rattle.xns_host.proofs.Placed.{acts_at, no_place}
@@ -34,43 +30,6 @@ returns-clause-apart c =
     let items : c.as_slice.result.now ≡ slice_set c.args.self.now.guests.items c.args.number c.act_in-done.new.slot = search rules in
     apart_then c.args.self.now.guests.items c.as_slice.result.now c.settle_in.new.guests.items c.args.number
     (set_apart c.args.self.now.guests.items c.as_slice.result.now c.args.number c.act_in-done.new.slot items) (search rules)
-
-pub returns-clause-goes : goal.returns-clause-goes
-returns-clause-goes c =
-    let less : c.args.number < length c.args.self.now.guests.items = omega arith in
-    let items : c.as_slice.result.now ≡ slice_set c.args.self.now.guests.items c.args.number c.act_in-done.new.slot = search rules in
-    let there : slice_get c.as_slice.result.now c.args.number ≡ Some c.act_in-done.new.slot
-    = set_there c.args.self.now.guests.items c.as_slice.result.now c.args.number c.act_in-done.new.slot less items in
-    each_then c.args.self.now.guests.items c.as_slice.result.now c.settle_in.new.guests.items
-    (each_set c.args.self.now.guests.items c.as_slice.result.now c.args.number c.index_mut.result.now c.act_in-done.new.slot less (search rules) items
-    c.act_in-done.ensures.known (search rules))
-    (each_settled c.as_slice.result.now c.settle_in.new.guests.items c.args.number c.act_in-done.new.slot c.act_in-done.result there
-    c.act_in-done.ensures.done (search rules) (search rules) (search rules))
-
-pub returns-clause-keeps : goal.returns-clause-keeps
-returns-clause-keeps c =
-    let less : c.args.number < length c.args.self.now.guests.items = omega arith in
-    let items : c.as_slice.result.now ≡ slice_set c.args.self.now.guests.items c.args.number c.act_in-done.new.slot = search rules in
-    let there : slice_get c.as_slice.result.now c.args.number ≡ Some c.act_in-done.new.slot
-    = set_there c.args.self.now.guests.items c.as_slice.result.now c.args.number c.act_in-done.new.slot less items in
-    all_then keeping c.args.self.now.guests.items c.as_slice.result.now c.settle_in.new.guests.items
-    (all_set keeping c.args.self.now.guests.items c.as_slice.result.now c.args.number c.index_mut.result.now c.act_in-done.new.slot less (search rules) items
-    c.act_in-done.ensures.known c.act_in-done.ensures.keeps)
-    (all_settled keeping c.as_slice.result.now c.settle_in.new.guests.items c.args.number c.act_in-done.new.slot c.act_in-done.result there
-    c.act_in-done.ensures.done (search rules) (search rules) (search rules))
-
-pub returns-then-number-len-clause-known : goal.returns-then-number-len-clause-known
-returns-then-number-len-clause-known c = known_same c.args.self.now.guests.items c.args.self.now.guests.items refl
-
-pub returns-clause-known : goal.returns-clause-known
-returns-clause-known c =
-    let less : c.args.number < length c.args.self.now.guests.items = omega arith in
-    let items : c.as_slice.result.now ≡ slice_set c.args.self.now.guests.items c.args.number c.act_in-done.new.slot = search rules in
-    same_then all_known_of c.args.self.now.guests.items c.as_slice.result.now c.settle_in.new.guests.items
-    (all_known_set c.args.self.now.guests.items c.as_slice.result.now c.args.number c.index_mut.result.now c.act_in-done.new.slot less (search rules) items
-    c.act_in-done.ensures.known c.act_in-done.ensures.news)
-    (same_settled all_known_of c.as_slice.result.now c.settle_in.new.guests.items c.args.number c.act_in-done.result (search rules) (search rules)
-    (search rules))
 
 pub invariant_of-self-2-clause-not_done : goal.invariant_of-self-2-clause-not_done
 invariant_of-self-2-clause-not_done c =

@@ -1,9 +1,7 @@
-use Rattle.std.proofs.Common.{subst, None, ◌≡◌, ◌<◌, ◌∙◌, ap, refl, sym, ℕ, length, rules, arith, slice_get, slice_set, get_or, Some, Ok, true, false}
+use Rattle.std.proofs.Common.{subst, None, ◌≡◌, ◌∙◌, refl, rules, arith, Some, Ok}
 use Rattle.xns_host.specs.Deeds.{gave}
 use Rattle.xns_host.specs.Reasons.{answer_fault_of}
-use Rattle.xns_host.specs.Hosting.{has_guest}
 use Rattle.xns_host.specs.declared.guest.Guest.{Guest}
-use Rattle.xns_host.specs.Went.{Went}
 use Rattle.xns_host.proofs.Noting.{kept_but}
 use Rattle.xns_host.proofs.Turns.{gave_still, in_place, is_there, not_none, one_guest, set_apart, slot_known, slot_not_done, slot_registered, went_set}
 use Rattle.xns_host.proofs.host.Host.answer.Goals as goal

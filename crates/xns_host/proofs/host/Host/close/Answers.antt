@@ -1,7 +1,5 @@
-use Rattle.std.proofs.Common.{◌≡◌, ◌<◌, ◌∙◌, ap, refl, sym, ℕ, length, rules, arith, slice_get, slice_set, get_or, Some, Ok, true, false}
+use Rattle.std.proofs.Common.{◌∙◌, refl, rules, arith, Some, Ok}
 use Rattle.xns_host.specs.Deeds.{asked}
-use Rattle.xns_host.specs.Hosting.{has_guest}
-use Rattle.xns_host.specs.Went.{Went}
 use Rattle.xns_host.proofs.Noting.{kept_but}
 use Rattle.xns_host.proofs.Turns.{in_place, is_there, not_none, set_apart, slot_known, slot_not_done, slot_registered, went_set}
 use Rattle.xns_host.proofs.host.Host.close.Goals as goal

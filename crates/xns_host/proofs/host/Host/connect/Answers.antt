@@ -42,41 +42,6 @@ returns-in_default-calling-clause-full c = λ none.
     (c.place.ensures.some c.in-Some.number c.in-Some.is) in
     absurd (not_both c.args.self.now.guests.items none place)
 
-pub returns-clause-connected : goal.returns-clause-connected
-returns-clause-connected c = record {
-  guest = record {
-    connection = c.in-Ok.connection;
-    via = c.args.via;
-    id = c.in-Some-next.id;
-    peer = c.args.peer;
-    opener = None;
-    confirmed = false;
-    heard_of = false;
-  };
-  there = c.put_in.ensures.there;
-  next = c.in-Some-next.ensures.next;
-  tells = subst (λ (own : Address). Tells c.in-Ok.connection.conversation
-      (new_story None (initiator_state own c.in-Some-next.id c.args.peer c.args.self.now.settings.window c.args.self.now.settings.backlog)))
-      c.address-own.ensures c.in-Ok.ensures.tells;
-  begun = subst (λ (t : ℕ). IsBegun c.args.self.now.settings t c.in-Ok.connection.wait) c.tell-now.ensures.result c.in-Ok.ensures.begun;
-  unclosed = c.in-Ok.ensures.open.0;
-  owes = c.in-Ok.ensures.open.1;
-  fresh = c.in-Ok.ensures.fresh.1;
-  owes_no_more = c.in-Ok.ensures.owes;
-  silent = c.in-Ok.ensures.packets;
-  untold = c.in-Ok.ensures.fresh.0;
-  via = refl;
-  peer = refl;
-  opener = refl;
-  confirmed = refl;
-  heard_of = refl;
-}
-
-pub returns-clause-place : goal.returns-clause-place
-returns-clause-place c =
-    gets_place c.args.self.now.agenda c.args.self.now.guests.items c.args.self.now.noted c.place.ensures.room c.args.self.now.sized
-    (c.place.ensures.some c.in-Some.number c.in-Some.is)
-
 pub returns-clause-full : goal.returns-clause-full
 returns-clause-full c = λ none.
     let place : IsPlace c.args.self.now.guests.items c.in-Some.number
@@ -88,11 +53,6 @@ pub invariant_of-self-2-clause-not_done : goal.invariant_of-self-2-clause-not_do
 invariant_of-self-2-clause-not_done c =
     came_not_done c.args.self.now.guests.items c.put_in.new.guests.items c.in-Some.number _ c.args.self.now.not_done c.put_in.ensures.apart c.put_in.ensures.there
     (not_done_new c.in-Ok.connection c.in-Ok.ensures.fresh.0)
-
-pub returns-clause-turned : goal.returns-clause-turned
-returns-clause-turned c =
-    turned_over c.args.self.now.register.identifiers c.take.new.self.identifiers c.put_in.new.register.identifiers _ c.in-Some-next.id c.take.result
-    c.in-Some-next.ensures.next c.take.ensures.given c.take.ensures.some c.put_in.ensures.order
 
 pub returns-clause-connects : goal.returns-clause-connects
 returns-clause-connects c = record {

@@ -1,19 +1,13 @@
-use Rattle.std.proofs.Common.{◌≡◌, ◌∙◌, ◌<◌, ap, refl, subst, sym, rules, ℕ, length, get_or, slice_get, Option, None, Some, arith}
+use Rattle.std.proofs.Common.{◌≡◌, ◌∙◌, ◌<◌, ap, refl, subst, sym, rules, ℕ, length, get_or, slice_get, None, Some, arith}
 use Rattle.std.specs.Prelude.{slice_set}
 use Rattle.std.proofs.lemmas.List.{length-set}
 use Rattle.xns_agenda.specs.Agenda.{Plan}
 use Rattle.xns_host.specs.Events.{event_in}
-use Rattle.xns_host.specs.Hosting.{TellsIn}
-use Rattle.xns_host.specs.declared.guest.Guest.{Guest}
-use Rattle.xns_host.proofs.Apart.{apart_then, set_apart, set_there}
-use Rattle.xns_host.proofs.Going.{told_settled}
-use Rattle.xns_host.proofs.Noting.{kept_but, passed_but, same_place, told_nothing}
+use Rattle.xns_host.proofs.Apart.{set_there}
+use Rattle.xns_host.proofs.Noting.{kept_but, passed_but, told_nothing}
 use Rattle.xns_host.proofs.Registered.{still_registered}
-use Rattle.xns_host.specs.Knowing.{known_of}
-use Rattle.xns_host.proofs.Known.{known_set, news_settled, same_settled, same_then}
 use Rattle.xns_host.specs.Hosting.{IsNotDoneIn}
 use Rattle.xns_host.proofs.Undone.{settled_not_done, still_not_done}
-use Rattle.std.proofs.Common.{false}
 use Rattle.xns_agenda.specs.Agenda.{noted}
 use Rattle.xns_host.specs.Hosting.{facts_in}
 use Rattle.xns_host.specs.Places.{AsksEvent, places_with}
@@ -45,52 +39,6 @@ note-requires-clause-others c =
     rw c.pass_event.ensures.passed (passed_but c.args.self.now.agenda c.as_slice.result.now c.args.number
     (kept_but c.args.self.now.agenda c.args.self.now.guests.items c.as_slice.result.now c.args.number c.index_mut.result.now c.event_in-event.new.slot
     c.args.self.now.noted c.requires (search rules) (search rules) (search rules)))
-
-pub returns-clause-apart : goal.returns-clause-apart
-returns-clause-apart c =
-    apart_then c.args.self.now.guests.items c.as_slice.result.now c.settle_in.new.guests.items c.args.number
-    (set_apart c.args.self.now.guests.items c.as_slice.result.now c.args.number c.event_in-event.new.slot (search rules)) (search rules)
-
-pub returns-clause-event : goal.returns-clause-event
-returns-clause-event c = λ place there.
-    let old : c.index_mut.result.now ≡ get_or c.args.self.now.guests.items c.args.number c.index_mut.result.now = search rules in
-    let same : c.index_mut.result.now ≡ place = same_place c.args.self.now.guests.items c.args.number c.index_mut.result.now place c.requires old there in
-    sym c.in_ok-event.was ∙ c.event_in-event.ensures.event ∙ ap (λ (p : Option Guest). event_in c.args.number p) same
-
-pub returns-clause-told : goal.returns-clause-told
-returns-clause-told c = λ g there some.
-    let old : c.index_mut.result.now ≡ get_or c.args.self.now.guests.items c.args.number c.index_mut.result.now = search rules in
-    let same : c.index_mut.result.now ≡ Some g = same_place c.args.self.now.guests.items c.args.number c.index_mut.result.now (Some g) c.requires old there in
-    let items : c.as_slice.result.now ≡ slice_set c.args.self.now.guests.items c.args.number c.event_in-event.new.slot = search rules in
-    let here : slice_get c.as_slice.result.now c.args.number ≡ Some c.event_in-event.new.slot
-    = set_there c.args.self.now.guests.items c.as_slice.result.now c.args.number c.event_in-event.new.slot c.requires items in
-    subst (λ (t : ℕ). TellsIn t g.connection (slice_get c.settle_in.new.guests.items c.args.number)) c.latest-now.ensures
-    (told_settled c.latest-now.result c.as_slice.result.now c.settle_in.new.guests.items c.args.number g.connection c.event_in-event.new.slot
-    c.is_done_in-done.result here (c.event_in-event.ensures.told g same (search rules)) (search rules) (search rules) (search rules))
-
-pub returns-clause-news : goal.returns-clause-news
-returns-clause-news c = λ g next there some at.
-    let old : c.index_mut.result.now ≡ get_or c.args.self.now.guests.items c.args.number c.index_mut.result.now = search rules in
-    let same : c.index_mut.result.now ≡ Some g = same_place c.args.self.now.guests.items c.args.number c.index_mut.result.now (Some g) c.requires old there in
-    let items : c.as_slice.result.now ≡ slice_set c.args.self.now.guests.items c.args.number c.event_in-event.new.slot = search rules in
-    let here : slice_get c.as_slice.result.now c.args.number ≡ Some c.event_in-event.new.slot
-    = set_there c.args.self.now.guests.items c.as_slice.result.now c.args.number c.event_in-event.new.slot c.requires items in
-    news_settled c.as_slice.result.now c.settle_in.new.guests.items c.args.number c.event_in-event.new.slot c.is_done_in-done.result _ here
-    (c.event_in-event.ensures.news g same (search rules)) (search rules) (search rules) (search rules) next at
-
-pub returns-clause-known : goal.returns-clause-known
-returns-clause-known c =
-    let items : c.as_slice.result.now ≡ slice_set c.args.self.now.guests.items c.args.number c.event_in-event.new.slot = search rules in
-    same_then known_of c.args.self.now.guests.items c.as_slice.result.now c.settle_in.new.guests.items
-    (known_set c.args.self.now.guests.items c.as_slice.result.now c.args.number c.index_mut.result.now c.event_in-event.new.slot c.requires (search rules)
-    items c.event_in-event.ensures.known)
-    (same_settled known_of c.as_slice.result.now c.settle_in.new.guests.items c.args.number c.is_done_in-done.result (search rules) (search rules)
-    (search rules))
-
-pub returns-in_err-event-clause-known : goal.returns-in_err-event-clause-known
-returns-in_err-event-clause-known c =
-    known_set c.args.self.now.guests.items (slice_set c.args.self.now.guests.items c.args.number c.event_in-event.new.slot) c.args.number
-    c.index_mut.result.now c.event_in-event.new.slot c.requires (search rules) refl c.event_in-event.ensures.known
 
 pub invariant_of-self-2-clause-not_done : goal.invariant_of-self-2-clause-not_done
 invariant_of-self-2-clause-not_done c =

@@ -10,7 +10,6 @@ use Rattle.xns_host.proofs.Waking.{gets_place}
 use Rattle.xns_host.proofs.Registered.{all_joined, joined_opened, opened_by, turned_over, unentered}
 use Rattle.xns_host.proofs.Undone.{came_not_done, not_done_new}
 use Rattle.xns_host.specs.Identifiers.{Ids, IsNext, TurnsOver}
-use Rattle.xns_host.proofs.Placed.{taken_as}
 use Rattle.xns_host.proofs.host.Host.open.Goals as goal
 
 pub invariant_of-self : goal.invariant_of-self
@@ -52,54 +51,49 @@ put_in-requires-clause-registered c =
           ∙ entered.1;
     })
 
-pub returns-clause-place : goal.returns-clause-place
-returns-clause-place c =
-    gets_place c.args.self.now.agenda c.args.self.now.guests.items c.args.self.now.noted c.place.ensures.room c.args.self.now.sized
-    (c.place.ensures.some c.in_ok-number.number c.in_ok-number.was)
-
-pub returns-clause-opened : goal.returns-clause-opened
-returns-clause-opened c = record {
-  guest = record {
-    connection = c.in-Ok.connection;
-    via = c.args.via;
-    id = c.in_ok-id.id;
-    peer = c.args.peer;
-    opener = Some c.args.opener;
-    confirmed = false;
-    heard_of = false;
-  };
-  there = c.put_in.ensures.there;
-  is = record {
-    next = c.in_ok-id.ensures.next;
-    tells = subst (λ (own : Address). Tells c.in-Ok.connection.conversation (new_story (Some c.args.programs.items)
-        (responder_state own c.in_ok-id.id c.args.peer c.args.peer_id c.args.self.now.settings.window c.args.self.now.settings.backlog)))
-        c.address-own.ensures c.in-Ok.ensures.tells;
-    begun = c.in-Ok.ensures.begun;
-    unclosed = c.in-Ok.ensures.open.0;
-    unsaid = c.in-Ok.ensures.open.1;
-    fresh = c.in-Ok.ensures.fresh.1;
-    owes_no_more = c.in-Ok.ensures.owes;
-    silent = c.in-Ok.ensures.packets;
-    untold = c.in-Ok.ensures.fresh.0;
-    via = refl;
-    peer = refl;
-    known_by = ap Some c.requires.opener;
-    confirmed = refl;
-    heard_of = refl;
-  };
-}
-
 pub invariant_of-self-2-clause-not_done : goal.invariant_of-self-2-clause-not_done
 invariant_of-self-2-clause-not_done c =
     came_not_done c.args.self.now.guests.items c.put_in.new.guests.items c.in_ok-number.number _ c.args.self.now.not_done c.put_in.ensures.apart c.put_in.ensures.there
     (not_done_new c.in-Ok.connection c.in-Ok.ensures.fresh.0)
 
-pub returns-clause-turned : goal.returns-clause-turned
-returns-clause-turned c =
-    subst (λ (a : Ids). (i : ℕ) × TurnsOver a c.put_in.new.register.identifiers i) c.enter.ensures.identifiers
+pub returns-clause-opened : goal.returns-clause-opened
+returns-clause-opened c =
+    let t = subst (λ (a : Ids). (i : ℕ) × TurnsOver a c.put_in.new.register.identifiers i) c.enter.ensures.identifiers
     (turned_over c.enter.new.self.identifiers c.take.new.self.identifiers c.put_in.new.register.identifiers _ c.in_ok-id.id c.take.result
-    (subst (λ (a : Ids). IsNext a c.in_ok-id.id) (sym c.enter.ensures.identifiers) c.in_ok-id.ensures.next) c.take.ensures.given c.take.ensures.some c.put_in.ensures.order)
-
-pub returns-clause-place_taken : goal.returns-clause-place_taken
-returns-clause-place_taken c = λ g there.
-    taken_as c.put_in.new.guests.items c.in_ok-number.number _ g _ _ c.put_in.ensures.there there c.put_in.ensures.places
+    (subst (λ (a : Ids). IsNext a c.in_ok-id.id) (sym c.enter.ensures.identifiers) c.in_ok-id.ensures.next) c.take.ensures.given c.take.ensures.some
+    c.put_in.ensures.order) in
+    record {
+      guest = record {
+        connection = c.in-Ok.connection;
+        via = c.args.via;
+        id = c.in_ok-id.id;
+        peer = c.args.peer;
+        opener = Some c.args.opener;
+        confirmed = false;
+        heard_of = false;
+      };
+      place = gets_place c.args.self.now.agenda c.args.self.now.guests.items c.args.self.now.noted c.place.ensures.room c.args.self.now.sized
+          (c.place.ensures.some c.in_ok-number.number c.in_ok-number.was);
+      answering = record {
+        next = c.in_ok-id.ensures.next;
+        tells = subst (λ (own : Address). Tells c.in-Ok.connection.conversation (new_story (Some c.args.programs.items)
+            (responder_state own c.in_ok-id.id c.args.peer c.args.peer_id c.args.self.now.settings.window c.args.self.now.settings.backlog)))
+            c.address-own.ensures c.in-Ok.ensures.tells;
+        begun = c.in-Ok.ensures.begun;
+        unclosed = c.in-Ok.ensures.open.0;
+        unsaid = c.in-Ok.ensures.open.1;
+        fresh = c.in-Ok.ensures.fresh.1;
+        owes_no_more = c.in-Ok.ensures.owes;
+        silent = c.in-Ok.ensures.packets;
+        untold = c.in-Ok.ensures.fresh.0;
+        via = refl;
+        peer = refl;
+        known_by = ap Some c.requires.opener;
+        confirmed = refl;
+        heard_of = refl;
+      };
+      there = c.put_in.ensures.there;
+      is = c.put_in.ensures.places;
+      identifier = t.0;
+      turned = t.1;
+    }

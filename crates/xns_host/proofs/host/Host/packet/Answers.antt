@@ -1,18 +1,14 @@
-use Rattle.std.proofs.Common.{◌≡◌, ◌∙◌, ap, refl, sym, rules, slice_get, false, Bool, None, Ok, Some}
+use Rattle.std.proofs.Common.{◌≡◌, ◌∙◌, ap, refl, rules, slice_get, false, Bool, None, Ok, Some}
 use Rattle.std.specs.Prelude.{slice_set}
 use Rattle.xns_agenda.specs.Agenda.{Plan}
 use Rattle.xns_host.specs.Hosting.{facts_in}
 use Rattle.xns_agenda.specs.Turns.{with_turn}
 use Rattle.xns_host.proofs.Apart.{set_there}
-use Rattle.xns_host.proofs.Done.{each_step}
-use Rattle.xns_host.proofs.Going.{all_set, each_set, given_there, keeping}
 use Rattle.xns_host.proofs.Noting.{kept_but, rested_but}
-use Rattle.xns_host.proofs.Known.{all_known_set}
-use Rattle.std.proofs.Common.{subst, Option, Result, Err}
+use Rattle.std.proofs.Common.{subst, Option, Result}
 use Rattle.xns_agenda.specs.Agenda.{noted}
 use Rattle.xns_host.specs.Places.{AsksPacket, places_with}
 use Rattle.xns_host.specs.Went.{as_fault}
-use Rattle.xns_host.specs.declared.host_fault.HostFault.{HostFault}
 use Rattle.xns_host.specs.declared.outgoing.Outgoing.{Outgoing}
 use Rattle.std.specs.declared.alloc.AllocError.{AllocError}
 use Rattle.xns_host.proofs.Placed.{asks_packet}
@@ -24,38 +20,6 @@ note-requires-clause-others c =
     (kept_but c.args.self.now.agenda c.args.self.now.guests.items c.as_slice.result.now c.args.number c.index_mut.result.now c.packet_in-made.new.slot
     c.args.self.now.noted c.requires (search rules) (search rules) (search rules)))
 
-pub returns-in-Ok-clause-steps : goal.returns-in-Ok-clause-steps
-returns-in-Ok-clause-steps c =
-    each_step c.args.now c.args.self.now.guests.items (slice_set c.args.self.now.guests.items c.args.number c.packet_in-made.new.slot) c.args.number
-    c.index_mut.result.now c.packet_in-made.new.slot c.requires (search rules) refl c.packet_in-made.ensures.steps
-
-pub returns-in-Err-clause-steps : goal.returns-in-Err-clause-steps
-returns-in-Err-clause-steps c =
-    each_step c.args.now c.args.self.now.guests.items (slice_set c.args.self.now.guests.items c.args.number c.packet_in-made.new.slot) c.args.number
-    c.index_mut.result.now c.packet_in-made.new.slot c.requires (search rules) refl c.packet_in-made.ensures.steps
-
-pub returns-in-Ok-clause-goes : goal.returns-in-Ok-clause-goes
-returns-in-Ok-clause-goes c =
-    each_set c.args.self.now.guests.items (slice_set c.args.self.now.guests.items c.args.number c.packet_in-made.new.slot) c.args.number
-    c.index_mut.result.now c.packet_in-made.new.slot c.requires (search rules) refl c.packet_in-made.ensures.known c.packet_in-made.ensures.goes
-
-pub returns-in-Ok-clause-given : goal.returns-in-Ok-clause-given
-returns-in-Ok-clause-given c =
-    given_there c.args.self.now.guests.items (slice_set c.args.self.now.guests.items c.args.number c.packet_in-made.new.slot) c.args.number
-    c.index_mut.result.now c.packet_in-made.new.slot c.in-Ok.packet c.requires (search rules) refl c.in-Ok.ensures.given
-
-pub returns-in-Ok-clause-keeps : goal.returns-in-Ok-clause-keeps
-returns-in-Ok-clause-keeps c = λ none.
-    all_set keeping c.args.self.now.guests.items (slice_set c.args.self.now.guests.items c.args.number c.packet_in-made.new.slot) c.args.number
-    c.index_mut.result.now c.packet_in-made.new.slot c.requires (search rules) refl c.packet_in-made.ensures.known
-    (c.packet_in-made.ensures.keeps (λ o made. let some : c.in-Ok.packet ≡ Some o = (let e = sym c.in-Ok.is ∙ made in cc) in none o (ap Ok some)))
-
-pub returns-in-Err-clause-keeps : goal.returns-in-Err-clause-keeps
-returns-in-Err-clause-keeps c = λ none.
-    all_set keeping c.args.self.now.guests.items (slice_set c.args.self.now.guests.items c.args.number c.packet_in-made.new.slot) c.args.number
-    c.index_mut.result.now c.packet_in-made.new.slot c.requires (search rules) refl c.packet_in-made.ensures.known
-    (c.packet_in-made.ensures.keeps (λ o made. absurd (search rules)))
-
 pub returns-in-Ok-clause-rested : goal.returns-in-Ok-clause-rested
 returns-in-Ok-clause-rested c = λ none.
     let items : c.as_slice.result.now ≡ slice_set c.args.self.now.guests.items c.args.number c.packet_in-made.new.slot = search rules in
@@ -65,21 +29,6 @@ returns-in-Ok-clause-rested c = λ none.
     let quiet : (facts_in c.packet_in-made.new.slot).has_packet ≡ false = c.packet_in-made.ensures.rested (c.in-Ok.is ∙ ap Ok packet) in
     c.note.ensures.packets c.packet_in-made.new.slot there ∙ ap (λ (b : Bool). with_turn c.pass_packet.new.self.packets c.args.number b) quiet
     ∙ ap (λ (a : Plan). with_turn a.packets c.args.number false) c.pass_packet.ensures.passed
-
-pub returns-in-Err-clause-goes : goal.returns-in-Err-clause-goes
-returns-in-Err-clause-goes c =
-    each_set c.args.self.now.guests.items (slice_set c.args.self.now.guests.items c.args.number c.packet_in-made.new.slot) c.args.number
-    c.index_mut.result.now c.packet_in-made.new.slot c.requires (search rules) refl c.packet_in-made.ensures.known c.packet_in-made.ensures.goes
-
-pub returns-in-Ok-clause-known : goal.returns-in-Ok-clause-known
-returns-in-Ok-clause-known c =
-    all_known_set c.args.self.now.guests.items (slice_set c.args.self.now.guests.items c.args.number c.packet_in-made.new.slot) c.args.number
-    c.index_mut.result.now c.packet_in-made.new.slot c.requires (search rules) refl c.packet_in-made.ensures.known c.packet_in-made.ensures.news
-
-pub returns-in-Err-clause-known : goal.returns-in-Err-clause-known
-returns-in-Err-clause-known c =
-    all_known_set c.args.self.now.guests.items (slice_set c.args.self.now.guests.items c.args.number c.packet_in-made.new.slot) c.args.number
-    c.index_mut.result.now c.packet_in-made.new.slot c.requires (search rules) refl c.packet_in-made.ensures.known c.packet_in-made.ensures.news
 
 pub returns-in-Ok-clause-asks : goal.returns-in-Ok-clause-asks
 returns-in-Ok-clause-asks c = λ g at.

@@ -2,11 +2,8 @@ use Rattle.std.proofs.Common.{◌≡◌, Bool, Result, Ok, Err, IfErr, ap, sym, 
 use Rattle.xns_host.specs.declared.side.Side.{Side}
 use Rattle.courier_sessions.specs.declared.feed_refusal.FeedRefusal.{FeedRefusal}
 use Rattle.courier_sessions.specs.declared.feed_refusal.FeedRefusal.TheVariants.{NoMemory}
-use Rattle.xns_spp.specs.State.{State}
-use Rattle.xns_spp.specs.Held.{StandsFor}
-use Rattle.std.proofs.Common.{true, false}
 use Rattle.xns_host.specs.Moving.{once, Converses, calms, starves, refuses}
-use Rattle.xns_host.specs.Story.{MovesUntil, is_stopped}
+use Rattle.xns_host.specs.Story.{MovesUntil}
 use Rattle.xns_host.proofs.Rounds.{Reached, one_more, refused_on}
 use Rattle.xns_host.proofs.Coming.{quiet}
 use Rattle.xns_host.proofs.Leading.{moves_on, all_moves, moves_all, calms_at, calms_never, until_then, unrejects}

@@ -7,7 +7,6 @@ use Rattle.xns_host.proofs.Handing.{rejected, reject_moves, nothing_moves}
 use Rattle.xns_host.proofs.Leading.{moves_not}
 use Rattle.xns_host.specs.Moving.{Rejects}
 use Rattle.xns_host.proofs.Rounds.{rejects_one}
-use Rattle.std.proofs.Common.{Ok, true}
 use Rattle.xns_host.proofs.side.Side.reject_unlisted.Goals as goal
 
 pub returns-in-Calls-clause-moves : goal.returns-in-Calls-clause-moves

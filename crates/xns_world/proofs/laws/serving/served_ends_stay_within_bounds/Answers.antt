@@ -4,7 +4,7 @@ use Rattle.xns_spp.specs.Sending.{is_full}
 use Rattle.xns_spp.specs.declared.item.Item.{Item}
 use Rattle.xns_world.proofs.ServeBounds.{Within, handed_items, steps_within, settles_within, hears_all_within, still_handed, kept_ending, out_first}
 use Rattle.xns_world.specs.Serve.{serve, serve_start, serve_settles}
-use Rattle.xns_world.specs.Settling.{handed_by, end_step_with}
+use Rattle.xns_world.specs.Settling.{handed_up_by, end_step_with}
 use Rattle.xns_world.proofs.laws.serving.served_ends_stay_within_bounds.Goals as goal
 
 pub returns : goal.returns
@@ -23,8 +23,8 @@ returns g c = record {
       let within = hears_all_within serving s (serve_settles serving s w) packets answering brings (settles_within serving s w answering brings start) bytes in
       record {
         end = within.fits;
-        kept = λ p is. c.what_is_kept_is_bounded.ensures (handed_by v) p (kept_ending (handed_by v) p is);
-        answer = λ transaction call words. c.answers_are_short.ensures (server_state serving s (handed_by v)) transaction call (c.service_stays_in_its_states.ensures.items s (handed_by v) can (handed_items v within.fits)) words;
+        kept = λ p is. c.what_is_kept_is_bounded.ensures (handed_up_by v) p (kept_ending (handed_up_by v) p is);
+        answer = λ transaction call words. c.answers_are_short.ensures (server_state serving s (handed_up_by v)) transaction call (c.service_stays_in_its_states.ensures.items s (handed_up_by v) can (handed_items v within.fits)) words;
         alone = λ x u is step. still_handed answering.ends v u x (is_full v) (subst (λ (o : Option Item). end_step_with v o ≡ Some u) is step);
         out = within.out;
       };

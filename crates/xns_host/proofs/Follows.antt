@@ -1,0 +1,157 @@
+-- What follows of a host from what its calls are.
+use Rattle.std.proofs.Common.{◌≡◌, ◌∙◌, ap, arith, refl, subst, sym, ℕ, List, [], ◌∷◌, Bool, true, Option, Some, None, Result, Ok, slice_get}
+use Rattle.std.specs.Prelude.{◌&&◌, not}
+use Rattle.std.specs.Option.{is_none}
+use Rattle.std.proofs.lemmas.Option.{same_Some}
+use Rattle.xns_idp.specs.Packet.{PacketModel, same_place}
+use Rattle.xns_idp.specs.Reading.{packet_of}
+use Rattle.xns_agenda.specs.Turns.{HasNoTurn}
+use Rattle.xns_spp.specs.Ends.{is_open, is_ours_at}
+use Rattle.xns_spp.specs.Held.{Held, StandsFor}
+use Rattle.xns_spp.specs.Packet.{SppPacketModel, spp_packet_of}
+use Rattle.xns_spp.specs.State.{State}
+use Rattle.xns_spp.specs.Telling.{own_name}
+use Rattle.xns_spp.specs.declared.ends.Ends.{Ends}
+use Rattle.xns_host.specs.Coming.{Comes, echoes, foreign, hears, opens, refuses}
+use Rattle.xns_host.specs.Following.{AConnectionHearsItsPackets, AQuotedOpeningIsNotServed, ASilentHostHasNothingToTell, AnIdleHostHasNoPacket}
+use Rattle.xns_host.specs.Hosting.{HasNoPacket, IsPacketOf, IsRefusedBy, confirms}
+use Rattle.xns_host.specs.Ours.{Names, QuotesOurs}
+use Rattle.xns_host.specs.Ours as ours
+use Rattle.xns_host.specs.Places.{AsksEvent, AsksInVain, NextEvent, NextPacket, Places, Turns, another, gives, nobody, nothing, quiet, starves, tells, told}
+use Rattle.xns_host.specs.Quotes.{quoted_opening}
+use Rattle.xns_host.specs.Register.{owner_in}
+use Rattle.xns_host.specs.Registered.{IsAllRegistered, named_in}
+use Rattle.xns_host.specs.Turn.{whole_of}
+use Rattle.xns_host.specs.Went.{GuestHears, GuestUnserved}
+use Rattle.xns_host.specs.Whole.{Whole}
+use Rattle.xns_host.specs.declared.event.Event.{Event}
+use Rattle.xns_host.specs.declared.guest.Guest.{Guest}
+use Rattle.xns_host.specs.declared.host_fault.HostFault.{HostFault}
+use Rattle.xns_host.specs.declared.opening_quote.OpeningQuote.{OpeningQuote}
+use Rattle.xns_host.specs.declared.outgoing.Outgoing.{Outgoing}
+use Rattle.xns_host.proofs.Ends.{end_id, leads_to}
+use Rattle.xns_host.proofs.Fetching.{no_event, no_packet}
+use Rattle.xns_host.proofs.Hearing.{one_packet, sequenced_kind}
+
+-- ---- what is left
+
+asked_same : (now number : ℕ) (p r : Places) (o : Option Event) → o ≡ None → AsksEvent now number p o r → r.guests ≡ p.guests
+asked_same now number p r o none (quiet place there silent) = refl
+asked_same now number p r o none (tells g h event there some step) = absurd (cc)
+
+vain_same : {now : ℕ} {p r : Places} → AsksInVain now p r → r.guests ≡ p.guests
+vain_same nobody = refl
+vain_same {now} {p} {r} (another {q = q} number vain first asks) = asked_same now number q r None refl asks ∙ vain_same vain
+
+none_told : (now : ℕ) (p r : Places) (o : Option Event) → o ≡ None → NextEvent now p o r → (r.guests ≡ p.guests) × HasNoTurn r.agenda.events
+none_told now p r o none (nothing vain left) = (vain_same vain, left)
+none_told now p r o none (told number vain first asks) = absurd (cc)
+
+pub nothing_to_tell : ASilentHostHasNothingToTell
+nothing_to_tell old new event =
+    let left = none_told old.clock.latest _ _ None refl event.next in
+    no_event new.agenda old.guests.items new.guests.items new.noted (λ k. ap (λ (xs : List (Option Guest)). slice_get xs k) left.0) left.1
+
+none_given : (now : ℕ) (p r : Places) (x : Result (Option Outgoing) HostFault) → x ≡ Ok None → NextPacket now p x r → HasNoTurn r.agenda.packets
+none_given now p r x none (nothing gone left) = left
+none_given now p r x none (gives number gone first asks) = absurd (cc)
+none_given now p r x none (starves number gone first asks) = absurd (cc)
+
+pub no_packet_left : AnIdleHostHasNoPacket
+no_packet_left now old new out = by old.strays.waiting refl where
+  by : (ws : List Outgoing) → old.strays.waiting ≡ ws → HasNoPacket new.guests.items
+  by [] none = no_packet new.agenda new.guests.items new.noted (none_given _ _ _ (Ok None) refl (out.next none).0)
+  by (o ∷ os) some = let bad = (out.stray o os some).0 in absurd (cc)
+
+-- ---- whose a packet is
+
+one_end : (g : Guest) (s v : State) → StandsFor g.connection.conversation.endpoint s → StandsFor g.connection.conversation.endpoint v → s.ends ≡ v.ends
+one_end g s v here there = ap (λ (e : Held). e.ends) (sym here.holds ∙ there.holds)
+
+names_it : (w : Whole) (p : SppPacketModel) (n : ℕ) (g : Guest) → IsAllRegistered w.register w.places.guests → IsPacketOf w.host p g
+    → slice_get w.places.guests n ≡ Some (Some g) → Names w p
+names_it w p n g all of there = record {
+  here = of.here;
+  number = n;
+  named = leads_to w.register n g of.state p (all.each n g there) of.stands of.ours;
+  there = record {
+    guest = g;
+    there = there;
+    is = λ s stands. subst (λ (e : Ends). is_ours_at e p ≡ true) (one_end g of.state s of.stands stands) of.ours;
+  };
+}
+
+heard_in : (now way : ℕ) (b : List ℕ) (w v : Whole) (r : Bool) (p : SppPacketModel) (n : ℕ) (g : Guest) → IsAllRegistered w.register w.places.guests
+    → Comes now way b w r v → spp_packet_of b ≡ Ok p → IsPacketOf w.host p g → slice_get w.places.guests n ≡ Some (Some g)
+    → (r ≡ true) × Turns (λ (f h : Guest). GuestHears now b (confirms p) f h) n w.places v.places
+unfolding names_it
+heard_in now way b w v r p n g all (foreign never still) is of there = absurd (never (ours.names p is (names_it w p n g all of there)))
+heard_in now way b w v r p n g all (echoes c taken read asks waits) is of there =
+    let bad : 2 ≡ 5 = sym asks.kind ∙ sequenced_kind b c taken p read is in absurd (omega (arith, bad))
+heard_in now way b w v r p n g all (refuses c taken read quotes turn) is of there =
+    let bad : 3 ≡ 5 = sym quotes.kind ∙ sequenced_kind b c taken p read is in absurd (omega (arith, bad))
+heard_in now way b w v r p n g all (hears q {q = places} read names turn) is of there =
+    let same : q ≡ p = (let e = sym read ∙ is in cc) in
+    let named : named_in w.register q ≡ Some n = ap (λ (x : SppPacketModel). named_in w.register x) same ∙ (names_it w p n g all of there).named in
+    let one : names.number ≡ n = same_Some names.number n (sym names.named ∙ named) in (
+      refl,
+      subst (λ (x : SppPacketModel). Turns (λ (f h : Guest). GuestHears now b (confirms x) f h) n w.places places) same
+          (subst (λ (m : ℕ). Turns (λ (f h : Guest). GuestHears now b (confirms q) f h) m w.places places) one turn),
+    )
+heard_in now way b w v r p n g all (opens q read opener made) is of there =
+    let same : q ≡ p = (let e = sym read ∙ is in cc) in
+    let named : named_in w.register q ≡ Some n = ap (λ (x : SppPacketModel). named_in w.register x) same ∙ (names_it w p n g all of there).named in
+    let bad = sym opener.unnamed ∙ named in
+    absurd (cc)
+
+pub its_packets_are_heard : AConnectionHearsItsPackets
+its_packets_are_heard now way number bytes result old new p g takes is of there =
+    heard_in _ way bytes (whole_of old) (whole_of new) result p number g old.registered takes.comes is of there
+
+quotes_it : (w : Whole) (p : PacketModel) (n : ℕ) (g : Guest) → IsAllRegistered w.register w.places.guests → IsRefusedBy w.host p g
+    → slice_get w.places.guests n ≡ Some (Some g) → QuotesOurs w p
+quotes_it w p n g all by there =
+    let at = all.each n g there in
+    record {
+      kind = by.kind;
+      here = by.here;
+      quote = by.quote;
+      quoted = by.quoted;
+      number = n;
+      owner = ap (λ (id : ℕ). owner_in w.register.identifiers id) (by.named ∙ end_id g by.state at.fits by.stands) ∙ at.own;
+      there = record {
+        guest = g;
+        there = there;
+        is = λ s stands.
+            subst (λ (e : Ends). (is_none g.opener && (not (is_open e) && (same_place (own_name e).0 by.quote.source && same_place g.peer by.quote.target))) ≡ true)
+            (one_end g by.state s by.stands stands) by.opened;
+      };
+    }
+
+same_packet : (b : List ℕ) (c p : PacketModel) (x y : ℕ) → packet_of b ≡ Ok (c, x) → packet_of b ≡ Ok (p, y) → c ≡ p
+same_packet b c p x y left right = sym (one_packet c p x y (sym left) right)
+
+unserved_in : (now way : ℕ) (b : List ℕ) (w v : Whole) (r : Bool) (p : PacketModel) (taken n : ℕ) (g : Guest)
+    → IsAllRegistered w.register w.places.guests → Comes now way b w r v → packet_of b ≡ Ok (p, taken) → IsRefusedBy w.host p g
+    → slice_get w.places.guests n ≡ Some (Some g) → (r ≡ true) × Turns (λ (f h : Guest). GuestUnserved now f h) n w.places v.places
+unfolding quotes_it
+unserved_in now way b w v r p taken n g all (foreign never still) is by there = absurd (never (ours.quotes p taken is (quotes_it w p n g all by there)))
+unserved_in now way b w v r p taken n g all (echoes c other read asks waits) is by there =
+    let bad : 2 ≡ 3 = sym asks.kind ∙ (ap (λ (x : PacketModel). x.kind) (same_packet b c p other taken read is) ∙ by.kind) in
+    absurd (omega (arith, bad))
+unserved_in now way b w v r p taken n g all (refuses c other {q = places} read quotes turn) is by there =
+    let same : c ≡ p = same_packet b c p other taken read is in
+    let mine = quotes_it w p n g all by there in
+    let quote : quotes.quote ≡ mine.quote
+    = same_Some quotes.quote mine.quote (sym quotes.quoted ∙ (ap (λ (x : PacketModel). quoted_opening x.body) same ∙ mine.quoted)) in
+    let one : quotes.number ≡ n
+    = same_Some quotes.number n (sym quotes.owner ∙ (ap (λ (x : OpeningQuote). owner_in w.register.identifiers x.id) quote ∙ mine.owner)) in
+    (refl, subst (λ (m : ℕ). Turns (λ (f h : Guest). GuestUnserved now f h) m w.places places) one turn)
+unserved_in now way b w v r p taken n g all (hears q read names turn) is by there =
+    let bad : 3 ≡ 5 = sym by.kind ∙ sequenced_kind b p taken q is read in absurd (omega (arith, bad))
+unserved_in now way b w v r p taken n g all (opens q read opener made) is by there =
+    let bad : 3 ≡ 5 = sym by.kind ∙ sequenced_kind b p taken q is read in absurd (omega (arith, bad))
+
+pub a_quoted_one_is_unserved : AQuotedOpeningIsNotServed
+a_quoted_one_is_unserved now way number taken bytes result old new p g takes is by there =
+    unserved_in _ way bytes (whole_of old) (whole_of new) result p taken number g old.registered takes.comes is by there

@@ -1,0 +1,8 @@
+use Rattle.xns_host.proofs.Follows.{no_packet_left, nothing_to_tell}
+use Rattle.xns_host.proofs.laws.nothing_is_left.Goals as goal
+
+pub returns-clause-event : goal.returns-clause-event
+returns-clause-event c = nothing_to_tell
+
+pub returns-clause-packet : goal.returns-clause-packet
+returns-clause-packet c = no_packet_left

@@ -1,0 +1,16 @@
+-- All of a host but the latest time that was told.
+use Rattle.std.specs.Prelude.{ℕ, List}
+use Rattle.xns_host.specs.Places.{Places}
+use Rattle.xns_host.specs.Strays.{StrayQueue}
+use Rattle.xns_host.specs.declared.register.Register.{Register}
+use Rattle.xns_host.specs.declared.services.Services.{Services}
+use Rattle.xns_host.specs.declared.settings.Settings.{Settings}
+
+pub record Whole : Type 0 where
+  pub network : ℕ
+  pub host : List ℕ
+  pub settings : Settings
+  pub services : Services
+  pub register : Register
+  pub strays : StrayQueue
+  pub places : Places

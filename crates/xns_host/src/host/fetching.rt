@@ -1,0 +1,144 @@
+//! What a host tells its program next, and which packet goes out next.
+
+ghost use Rattle.std.specs.Prelude.{◌≡◌, ◌<◌, Option, length, false, OnErr, Some, None, Ok, Err, slice_get};
+ghost use Rattle.xns_agenda.specs.Turns.{with_turn};
+ghost use Rattle.xns_agenda.specs.Waiting.{last_time};
+
+use crate::event::Event;
+use crate::host::Host;
+use crate::host_fault::HostFault;
+use crate::outgoing::Outgoing;
+use crate::slots::{act_in, event_in, is_done_in, note, packet_in, settle_in};
+
+impl Host {
+    ghost use Rattle.xns_host.specs.Hosting.{ActsIn, EachActs, IsApart};
+    ghost use Rattle.xns_host.specs.Identifiers.{StaysInOrder};
+    ghost use Rattle.xns_host.specs.Places.{Acts, ActsAt, AsksEvent, AsksPacket};
+    ghost use Rattle.xns_host.specs.Standing.{StaysSetUp};
+    ghost use Rattle.xns_host.specs.Turn.{GivesOut, TellsNext, places_of};
+    ghost use Rattle.xns_host.specs.declared.guest.Guest.{Guest};
+    ghost use Rattle.xns_host.specs.declared.host_fault.HostFault.TheVariants.{NoMemory};
+
+    /// What the connection with this number has to tell the program, if it has anything: it has had its turn.
+    #[tactic(auto, using(crate::proofs::Noting::put_back, crate::proofs::Noting::quiet_noted, crate::proofs::Registered::still_registered, crate::proofs::Undone::still_not_done))]
+    fn event(&mut self, number: usize) -> Option<Event>
+        requires { number < length self.old.guests.items }
+        ensures asks { AsksEvent self.old.clock.latest number (places_of self.old) result (places_of self.new) }
+        ensures passed { result ≡ None → self.new.agenda
+            ≡ record self.old.agenda { events = with_turn self.old.agenda.events number false } }
+        ensures order { StaysInOrder self.old.register.identifiers self.new.register.identifiers }
+        ensures strays { self.new.strays ≡ self.old.strays }
+        ensures set_up { StaysSetUp self.old self.new }
+    {
+        let now = self.clock.latest();
+        let event = event_in(&mut self.guests[number], self.alloc, now, number);
+        self.agenda.pass_event(number);
+        let event = event?;
+        let done = is_done_in(&self.guests[number]);
+        note(self.guests.as_slice(), &mut self.agenda, number);
+        settle_in(
+            &mut self.register,
+            &mut self.guests,
+            &mut self.agenda,
+            number,
+            done,
+        );
+        Some(event)
+    }
+
+    /// The next thing that the program is told. A `None`: there is nothing, until something is done again.
+    pub fn next_event(&mut self) -> Option<Event>
+        ensures tells { TellsNext result self.old self.new }
+    {
+        while let Some(number) = self.agenda.first_event() {
+            if let Some(event) = self.event(number) {
+                return Some(event);
+            }
+        }
+        None
+    }
+
+    /// Does what is due of the connection with this number.
+    #[tactic(auto, using(crate::proofs::Registered::still_registered, crate::proofs::Undone::still_not_done))]
+    fn act(&mut self, now: u64, number: usize)
+        ensures turn { (g : Guest) → slice_get self.old.guests.items number ≡ Some (Some g)
+            → ActsAt now number (places_of self.old) (places_of self.new) }
+        ensures acts { now < last_time → (g : Guest) → slice_get self.old.guests.items number ≡ Some (Some g)
+            → ActsIn now g.connection (slice_get self.new.guests.items number) }
+        ensures apart { IsApart self.old.guests.items self.new.guests.items number }
+        ensures order { StaysInOrder self.old.register.identifiers self.new.register.identifiers }
+        ensures strays { self.new.strays ≡ self.old.strays }
+        ensures set_up { StaysSetUp self.old self.new }
+    {
+        if number >= self.guests.len() {
+            return;
+        }
+        let done = act_in(&mut self.guests[number], now);
+        note(self.guests.as_slice(), &mut self.agenda, number);
+        settle_in(
+            &mut self.register,
+            &mut self.guests,
+            &mut self.agenda,
+            number,
+            done,
+        );
+    }
+
+    /// Does what is due, of each connection.
+    fn act_all(&mut self, now: u64)
+        ensures one_by_one { Acts now (places_of self.old) (places_of self.new) }
+        ensures acts { now < last_time → EachActs now self.old.guests.items self.new.guests.items }
+        ensures order { StaysInOrder self.old.register.identifiers self.new.register.identifiers }
+        ensures strays { self.new.strays ≡ self.old.strays }
+        ensures set_up { StaysSetUp self.old self.new }
+    {
+        for _ in 0..self.guests.len() {
+            let Some(number) = self.agenda.first_due(now) else {
+                return;
+            };
+            self.act(now, number);
+        }
+    }
+
+    /// The next packet of the connection with this number, which has had its turn.
+    #[tactic(auto, using(crate::proofs::Registered::still_registered, crate::proofs::Undone::still_not_done))]
+    fn packet(&mut self, now: u64, number: usize) -> Result<Option<Outgoing>, HostFault>
+        requires { number < length self.old.guests.items }
+        ensures asks { (g : Guest) → slice_get self.old.guests.items number ≡ Some (Some g)
+            → AsksPacket now number result (places_of self.old) (places_of self.new) }
+        ensures rested { result ≡ Ok None → self.new.agenda.packets
+            ≡ with_turn (with_turn self.old.agenda.packets number false) number false }
+        ensures fault { OnErr result (result ≡ Err NoMemory) }
+        ensures register { self.new.register ≡ self.old.register }
+        ensures strays { self.new.strays ≡ self.old.strays }
+        ensures set_up { StaysSetUp self.old self.new }
+    {
+        let made = packet_in(&mut self.guests[number], self.alloc, now);
+        self.agenda.pass_packet(number);
+        note(self.guests.as_slice(), &mut self.agenda, number);
+        match made {
+            Ok(packet) => Ok(packet),
+            Err(_) => Err(HostFault::NoMemory),
+        }
+    }
+
+    /// The next packet that is to go out, with its `via`; also what is due at this time is done. `None`: there is none, until
+    /// something is done again or [`wake`](Host::wake)'s time has come.
+    ///
+    /// The only error is [`HostFault::NoMemory`]: what is to go out stays so.
+    pub fn next_packet(&mut self, now: u64) -> Result<Option<Outgoing>, HostFault>
+        ensures gives { GivesOut now result self.old self.new }
+    {
+        let now = self.clock.tell(now);
+        self.act_all(now);
+        if let Some(stray) = self.strays.take() {
+            return Ok(Some(stray));
+        }
+        while let Some(number) = self.agenda.first_packet() {
+            if let Some(packet) = self.packet(now, number)? {
+                return Ok(Some(packet));
+            }
+        }
+        Ok(None)
+    }
+}

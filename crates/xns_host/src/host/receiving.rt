@@ -1,0 +1,261 @@
+//! What a host does with a packet that came.
+
+ghost use Rattle.std.specs.Prelude.{◌≡◌, ◌≢◌, ◌≤◌, ℕ, List, Option, length, true, false, IfSome, Some, None, Ok, slice_get};
+ghost use Rattle.std.specs.BTreeMap.{get};
+ghost use Rattle.xns_idp.specs.Packet.{IsPacket, most_data, packet_model};
+ghost use Rattle.xns_idp.specs.Reading.{packet_of};
+ghost use Rattle.xns_idp.specs.declared.packet_type.TheConstants.{ERROR, SEQUENCED_PACKET};
+ghost use Rattle.xns_spp.specs.Ends.{is_ours_at};
+ghost use Rattle.xns_spp.specs.Held.{StandsFor};
+ghost use Rattle.xns_spp.specs.Packet.{IsSppPacket, opener_of, spp_packet_of};
+ghost use Rattle.xns_spp.specs.State.{State};
+ghost use Rattle.xns_small.specs.Echo.{echo_reply};
+
+use crate::connection::Connection;
+use crate::guest::Guest;
+use crate::host::Host;
+use crate::opening_quote::{OpeningQuote, quoted_opening};
+use crate::peer::Peer;
+use crate::slots::{hear_in, not_served_in, note, put_in};
+use courier_sessions::Program;
+use xns_idp::packet_type::{ECHO, ERROR, SEQUENCED_PACKET};
+use xns_idp::{Address, Packet, decode};
+use xns_spp::{SppPacket, carried_packet};
+
+/// The socket of the Echo protocol (XSIS 028112, Echo Protocol).
+const ECHO_SOCKET: u16 = 2;
+
+impl Host {
+    ghost use Rattle.xns_host.specs.Coming.{Comes, Opens, Seats};
+    ghost use Rattle.xns_host.specs.Hosting.{IsThere, address_in};
+    ghost use Rattle.xns_host.specs.Identifiers.{StaysInOrder};
+    ghost use Rattle.xns_host.specs.Ours.{AsksEcho, IsOf, IsToOpen, QuotesOurs};
+    ghost use Rattle.xns_host.specs.Places.{IsUnmoved, Turns};
+    ghost use Rattle.xns_host.specs.Quotes.{is_opened_by};
+    ghost use Rattle.xns_host.specs.Register.{number_by, peer_at, peer_cmp};
+    ghost use Rattle.xns_host.specs.Services.{programs_at};
+    ghost use Rattle.xns_host.specs.Standing.{StaysSetUp};
+    ghost use Rattle.xns_host.specs.Strays.{MayHaveStray, echo_socket, stray_of};
+    ghost use Rattle.xns_host.specs.Turn.{TakesIn, places_of, whole_of};
+    ghost use Rattle.xns_host.specs.Went.{GuestHears, GuestUnserved};
+    ghost use Rattle.xns_host.specs.declared.guest.Guest.{Guest};
+
+    /// Takes a packet in that came by this `via`, and says whether it was for the host. One that was not changes nothing: it is the
+    /// program's to use.
+    pub fn receive(&mut self, now: u64, via: u32, bytes: &[u8]) -> bool
+        ensures takes { TakesIn now via bytes.now result self.old self.new }
+    {
+        let now = self.clock.tell(now);
+        let Ok((packet, _)) = decode(bytes) else {
+            return false;
+        };
+        match packet.kind {
+            ECHO => self.echo(via, &packet),
+            ERROR => self.refused(now, &packet),
+            SEQUENCED_PACKET => self.sequenced(now, via, &packet),
+            _ => false,
+        }
+    }
+
+    /// Answers an Echo request; whether it was one. Where there is no room or no memory it is as if lost.
+    fn echo(&mut self, via: u32, packet: &Packet<'_>) -> bool
+        requires { length packet.now.body.now ≤ most_data }
+        ensures asked { result ≡ true → AsksEcho (whole_of self.old) (packet_model packet.now) }
+        ensures foreign { result ≡ false → AsksEcho (whole_of self.old) (packet_model packet.now) → ⊥ }
+        ensures waits { result ≡ true → MayHaveStray self.old.strays self.new.strays (stray_of via
+            (echo_reply (address_in self.old.network self.old.host echo_socket) (packet_model packet.now))) }
+        ensures unchanged { result ≡ false → self.new.strays ≡ self.old.strays }
+        ensures rest { whole_of self.new ≡ record (whole_of self.old) { strays = self.new.strays } }
+        ensures clock { self.new.clock ≡ self.old.clock }
+    {
+        let own = self.address(ECHO_SOCKET);
+        match self.strays.echo(self.alloc, own, via, packet) {
+            Ok(answered) => answered,
+            Err(_) => true,
+        }
+    }
+
+    /// Closes the connection whose opening packet an Error packet quotes; whether there is one that is not open yet.
+    fn refused(&mut self, now: u64, packet: &Packet<'_>) -> bool
+        ensures refuses { packet.now.kind ≡ ERROR → result ≡ true → (quotes : QuotesOurs (whole_of self.old) (packet_model packet.now))
+            × Turns (GuestUnserved now) quotes.number (places_of self.old) (places_of self.new) }
+        ensures foreign { result ≡ false → QuotesOurs (whole_of self.old) (packet_model packet.now) → ⊥ }
+        ensures rest { result ≡ false → IsUnmoved (places_of self.old) (places_of self.new) }
+        ensures register { self.new.register ≡ self.old.register }
+        ensures strays { self.new.strays ≡ self.old.strays }
+        ensures set_up { StaysSetUp self.old self.new }
+    {
+        if packet.target.host != self.host {
+            return false;
+        }
+        let Some(quote) = quoted_opening(packet.body) else {
+            return false;
+        };
+        let Some(number) = self.register.owner(quote.id) else {
+            return false;
+        };
+        self.not_served(now, usize::from(number), &quote)
+    }
+
+    /// Closes the connection with this number, if it is the one that a quoted packet was to open.
+    #[tactic(auto, using(crate::proofs::Registered::still_registered, crate::proofs::Undone::still_not_done))]
+    fn not_served(&mut self, now: u64, number: usize, quote: &OpeningQuote) -> bool
+        ensures turn { result ≡ true → IsThere (IsToOpen quote.now) (slice_get self.old.guests.items number)
+            × Turns (GuestUnserved now) number (places_of self.old) (places_of self.new) }
+        ensures foreign { result ≡ false → (g : Guest) (s : State) → slice_get self.old.guests.items number ≡ Some (Some g)
+            → StandsFor g.connection.conversation.endpoint s → is_opened_by g s quote.now ≡ false }
+        ensures rest { result ≡ false → IsUnmoved (places_of self.old) (places_of self.new) }
+        ensures register { self.new.register ≡ self.old.register }
+        ensures strays { self.new.strays ≡ self.old.strays }
+        ensures set_up { StaysSetUp self.old self.new }
+    {
+        if number >= self.guests.len() {
+            return false;
+        }
+        let closed = not_served_in(&mut self.guests[number], now, quote);
+        note(self.guests.as_slice(), &mut self.agenda, number);
+        closed
+    }
+
+    /// Takes a sequenced packet in; whether it was for the host.
+    fn sequenced(&mut self, now: u64, via: u32, carrier: &Packet<'_>) -> bool
+        requires fits { IsPacket (packet_model carrier.now) }
+        requires size { length carrier.now.body.now ≤ most_data }
+        requires kind { carrier.now.kind ≡ SEQUENCED_PACKET }
+        ensures comes { (b : List ℕ) (taken : ℕ) → packet_of b ≡ Ok (packet_model carrier.now, taken)
+            → Comes now via b (whole_of self.old) result (whole_of self.new) }
+        ensures clock { self.new.clock ≡ self.old.clock }
+    {
+        let Ok(packet) = carried_packet(carrier) else {
+            return false;
+        };
+        if packet.target.host != self.host {
+            return false;
+        }
+        let id = packet.header.target_id;
+        let peer = Peer::at(
+            &packet.source,
+            packet.header.source_id,
+            packet.target.socket,
+        );
+        match self.register.find(id, &peer) {
+            Some(number) => self.hear(now, usize::from(number), id != 0, &packet),
+            None => self.opening(now, via, peer, &packet),
+        }
+    }
+
+    /// Takes a packet in that names the connection with this number; whether it is one of it.
+    #[tactic(auto, using(crate::proofs::Registered::still_registered, crate::proofs::Undone::still_not_done))]
+    fn hear(&mut self, now: u64, number: usize, confirms: bool, packet: &SppPacket) -> bool
+        requires { IsSppPacket packet.now }
+        ensures turn { result ≡ true → IsThere (IsOf packet.now) (slice_get self.old.guests.items number)
+            × ((b : List ℕ) → spp_packet_of b ≡ Ok packet.now
+            → Turns (GuestHears now b confirms) number (places_of self.old) (places_of self.new)) }
+        ensures foreign { result ≡ false → (g : Guest) (s : State) → slice_get self.old.guests.items number ≡ Some (Some g)
+            → StandsFor g.connection.conversation.endpoint s → is_ours_at s.ends packet.now ≡ false }
+        ensures rest { result ≡ false → IsUnmoved (places_of self.old) (places_of self.new) }
+        ensures register { self.new.register ≡ self.old.register }
+        ensures strays { self.new.strays ≡ self.old.strays }
+        ensures set_up { StaysSetUp self.old self.new }
+    {
+        if number >= self.guests.len() {
+            return false;
+        }
+        let heard = hear_in(&mut self.guests[number], self.alloc, now, confirms, packet);
+        note(self.guests.as_slice(), &mut self.agenda, number);
+        heard
+    }
+
+    /// Takes a packet in that names no connection; whether it opens one at a socket that is served. Where there is no room, it is as if
+    /// lost.
+    fn opening(&mut self, now: u64, via: u32, opener: Peer, packet: &SppPacket) -> bool
+        requires packet { IsSppPacket packet.now }
+        requires here { packet.now.target.host ≡ self.old.host }
+        requires opener { opener ≡ peer_at packet.now.source packet.now.header.source_id packet.now.target.socket }
+        requires unknown { number_by self.old.register.identifiers self.old.register.peers packet.now.header.target_id opener ≡ None }
+        ensures opens { (b : List ℕ) → spp_packet_of b ≡ Ok packet.now → result ≡ true
+            → Opens now via b packet.now (whole_of self.old) self.new.register (places_of self.new) }
+        ensures opener { result ≡ true → (opener_of packet.now ≢ None)
+            × (programs_at self.old.services.programs packet.now.target.socket ≢ None) }
+        ensures answer { opener_of packet.now ≢ None → programs_at self.old.services.programs packet.now.target.socket ≢ None
+            → result ≡ true }
+        ensures rest { result ≡ false → (self.new.register ≡ self.old.register) × IsUnmoved (places_of self.old) (places_of self.new) }
+        ensures strays { self.new.strays ≡ self.old.strays }
+        ensures set_up { StaysSetUp self.old self.new }
+    {
+        let Some((peer, peer_id)) = packet.opener() else {
+            return false;
+        };
+        let socket = packet.target.socket;
+        let Some(programs) = self.services.at(socket) else {
+            return false;
+        };
+        let Ok(programs) = Vec::from_slice(self.alloc, programs.as_slice()) else {
+            return true;
+        };
+        if let Some(number) = self.open(now, via, socket, opener, peer, peer_id, programs) {
+            self.hear(now, number, false, packet);
+        }
+        true
+    }
+
+    /// Opens a connection for this peer; its number. `None` where there is no room, or no memory.
+    fn open(
+        &mut self,
+        now: u64,
+        via: u32,
+        socket: u16,
+        opener: Peer,
+        peer: Address,
+        peer_id: u16,
+        programs: Vec<Program>,
+    ) -> Option<usize>
+        requires unknown { get peer_cmp self.old.register.peers opener ≡ None }
+        requires opener { opener ≡ peer_at peer peer_id socket }
+        ensures opened { IfSome result (λ n. Seats now via (whole_of self.old) socket peer peer_id programs.items n self.new.register
+            (places_of self.new)) }
+        ensures none { result ≡ None → places_of self.new ≡ places_of self.old }
+        ensures order { result ≡ None → StaysInOrder self.old.register.identifiers self.new.register.identifiers }
+        ensures strays { self.new.strays ≡ self.old.strays }
+        ensures set_up { StaysSetUp self.old self.new }
+    {
+        if peer_id == 0 {
+            return None;
+        }
+        let number = self.agenda.place()?;
+        let id = self.register.next()?;
+        let own = self.address(socket);
+        let made = Connection::answering(
+            self.alloc,
+            &self.settings,
+            own,
+            id,
+            peer,
+            peer_id,
+            programs,
+            now,
+        );
+        let Ok(connection) = made else {
+            return None;
+        };
+        self.register.enter(opener, number as u16).ok()?;
+        let _ = self.register.take(number as u16);
+        let guest = Guest {
+            connection,
+            via,
+            id,
+            peer,
+            opener: Some(opener),
+            confirmed: false,
+            heard_of: false,
+        };
+        put_in(
+            &mut self.register,
+            &mut self.guests,
+            &mut self.agenda,
+            number,
+            guest,
+        );
+        Some(number)
+    }
+}
