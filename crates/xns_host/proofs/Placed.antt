@@ -194,23 +194,18 @@ next_as t p r x y is next = subst (λ (z : Result (Option Outgoing) HostFault). 
 
 -- ---- stray replies
 
-queue_by : (q r : StrayQueue) (ws : List Outgoing) → r.most ≡ q.most → r.waiting ≡ ws → r ≡ record q { waiting = ws }
-queue_by q r ws most waiting =
-    ap (λ (m : ℕ). let x : StrayQueue = record { most = m; waiting = r.waiting } in x) most
-    ∙ ap (λ (w : List Outgoing). let x : StrayQueue = record { most = q.most; waiting = w } in x) waiting
-
-pub no_stray : (q r : StrayQueue) (x : Option Outgoing) → x ≡ None → q.waiting ≡ option_to_list x ++ r.waiting → r.most ≡ q.most → r ≡ q
-no_stray q r (Some s) none waiting most = absurd (cc)
-no_stray q r None none waiting most = queue_by q r q.waiting most (sym waiting)
+pub no_stray : (q r : StrayQueue) (x : Option Outgoing) → x ≡ None → q.waiting ≡ option_to_list x ++ r.waiting → r ≡ record q { waiting = r.waiting } → r ≡ q
+no_stray q r (Some s) none waiting rest = absurd (cc)
+no_stray q r None none waiting rest = rest ∙ ap (λ (ws : List Outgoing). let y : StrayQueue = record q { waiting = ws } in y) (sym waiting)
 
 pub stray_out : (q r : StrayQueue) (x : Option Outgoing) (s o : Outgoing) (os : List Outgoing) → x ≡ Some s → q.waiting ≡ option_to_list x ++ r.waiting
-    → r.most ≡ q.most → q.waiting ≡ o ∷ os → (s ≡ o) × (r ≡ record q { waiting = os })
-stray_out q r None s o os some waiting most is = absurd (cc)
-stray_out q r (Some t) s o os some waiting most is =
+    → r ≡ record q { waiting = r.waiting } → q.waiting ≡ o ∷ os → (s ≡ o) × (r ≡ record q { waiting = os })
+stray_out q r None s o os some waiting rest is = absurd (cc)
+stray_out q r (Some t) s o os some waiting kept is =
     let both : t ∷ r.waiting ≡ o ∷ os = sym waiting ∙ is in
     let first : s ≡ o = cc in
     let rest : r.waiting ≡ os = cc in
-    (first, queue_by q r os most rest)
+    (first, kept ∙ ap (λ (ws : List Outgoing). let y : StrayQueue = record q { waiting = ws } in y) rest)
 
 pub some_stray : (q r : StrayQueue) (x : Option Outgoing) (s : Outgoing) → x ≡ Some s → q.waiting ≡ option_to_list x ++ r.waiting → q.waiting ≡ [] → ⊥
 some_stray q r None s some waiting none = absurd (cc)
