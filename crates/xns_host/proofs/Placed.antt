@@ -14,7 +14,7 @@ use Rattle.xns_spp.specs.Held.{StandsFor}
 use Rattle.xns_spp.specs.Receiving.{StoresBytes}
 use Rattle.xns_spp.specs.State.{State}
 use Rattle.xns_host.specs.Events.{event_in}
-use Rattle.xns_host.specs.Hosting.{IsAllNoted, IsThere, facts_in, is_done}
+use Rattle.xns_host.specs.Hosting.{IsAllNoted, IsApart, IsThere, facts_in, is_done}
 use Rattle.xns_host.specs.Places.{ActsAll, ActsAt, AsksEvent, AsksInVain, AsksPacket, GivesNone, IsUnmoved, NextPacket, Places, Turns, became, nobody, noted_again, taken_by, vacated, event_passed, places_with, vacated_if, quiet, tells}
 use Rattle.xns_host.specs.Step.{GivesNext, Hands}
 use Rattle.xns_host.specs.Story.{waiting_message}
@@ -25,6 +25,7 @@ use Rattle.xns_host.specs.declared.event.Event.{Event}
 use Rattle.xns_host.specs.declared.guest.Guest.{Guest}
 use Rattle.xns_host.specs.declared.host_fault.HostFault.{HostFault}
 use Rattle.xns_host.specs.declared.outgoing.Outgoing.{Outgoing}
+use Rattle.xns_host.proofs.Apart.{apart_then, set_apart, set_there}
 
 -- ---- in its place
 
@@ -242,3 +243,26 @@ taken_as gs n g h q p here at is =
 pub is_true : (b : Bool) → (b ≡ false → ⊥) → b ≡ true
 is_true true never = refl
 is_true false never = absurd (never refl)
+
+-- ---- one that was forgotten, if it was done
+
+abbrev rows : Places → Row
+rows p = p.guests
+
+pub settled_kept : (gs ks : Row) (x d : Plan) (n : ℕ) (done : Bool) → places_with ks d ≡ vacated_if done (places_with gs x) n → done ≡ false → ks ≡ gs
+settled_kept gs ks x d n true is z = absurd (cc)
+settled_kept gs ks x d n false is z = ap rows is
+
+pub settled_gone : (gs ks : Row) (x d : Plan) (n : ℕ) (done : Bool) → places_with ks d ≡ vacated_if done (places_with gs x) n → n < length gs → done ≡ true
+    → slice_get ks n ≡ Some None
+settled_gone gs ks x d n true is less z = set_there gs ks n None less (ap rows is)
+settled_gone gs ks x d n false is less z = absurd (cc)
+
+pub settled_apart : (gs ks : Row) (x d : Plan) (n : ℕ) (done : Bool) → places_with ks d ≡ vacated_if done (places_with gs x) n → IsApart gs ks n
+settled_apart gs ks x d n true is = set_apart gs ks n None (ap rows is)
+settled_apart gs ks x d n false is = record { others = λ k other. ap (λ (xs : Row). slice_get xs k) (ap rows is) }
+
+-- one that gave way to another
+pub taken_apart : (gs ks : Row) (x d : Plan) (n : ℕ) (g : Guest) → places_with ks d ≡ taken_by (vacated (places_with gs x) n) n g → IsApart gs ks n
+taken_apart gs ks x d n g is =
+    apart_then gs (slice_set gs n None) ks n (set_apart gs (slice_set gs n None) n None refl) (set_apart (slice_set gs n None) ks n (Some g) (ap rows is))
