@@ -140,7 +140,7 @@ done
 
 version=$(cat VERSION)
 soname=libxns.so.${version%%.*}
-pages='C C-REFERENCE CAPTURES COURIER ENDPOINT FORMATS GLOSSARY NETWORKS PROMISES PROOF WORLD'
+pages='C C-REFERENCE CAPTURES COURIER ENDPOINT FORMATS GLOSSARY NETWORKS NOTATION PROMISES PROOF PYTHON WORLD'
 files="bin/xns bin/xns-net include/xns.h lib/libxns.a lib/libxns.so.$version lib/$soname lib/libxns.so lib/pkgconfig/xns.pc share/man/man1/xns.1 share/man/man1/xns-net.1"
 for page in $pages; do files="$files share/doc/xns/$page.md"; done
 files="$files share/doc/xns/examples/six-calls.hex share/xns/installed"

@@ -1,4 +1,4 @@
-/* The same as c_codec.c in plain C: the checksum by the standard's loop, add with end-around carry and rotate left by one for each word. */
+/* What c_codec.c does, in plain C: the checksum by the standard's loop, add with end-around carry and rotate left by one for each word. */
 #include <stdbool.h>
 #include <stddef.h>
 #include <stdint.h>

@@ -12,7 +12,7 @@ mod values;
 use std::collections::VecDeque;
 use std::env;
 use std::hint::black_box;
-use values::{Shape, Value};
+use values::{Shape, Value, put};
 
 /// Words that lie two bytes each.
 #[cfg(not(plain))]
@@ -151,33 +151,6 @@ fn fits(shape: &Shape, value: &Value) -> bool {
             members.iter().find(|member| member.0 == *designator).is_some_and(|member| fits(&member.1, value))
         }
         _ => false,
-    }
-}
-
-fn put_long(long: u32, out: &mut Vec<u16>) {
-    out.extend([(long >> 16) as u16, long as u16]);
-}
-
-fn write(value: &Value, out: &mut Vec<u16>) {
-    match value {
-        Value::Boolean(bit) => out.push(u16::from(*bit)),
-        Value::Cardinal(word) | Value::Unspecified(word) | Value::Enumeration(word) => out.push(*word),
-        Value::Integer(number) => out.push(*number as u16),
-        Value::LongCardinal(long) => put_long(*long, out),
-        Value::LongInteger(long) => put_long(*long as u32, out),
-        Value::Text(bytes) => {
-            out.push(bytes.len() as u16);
-            out.extend(bytes.chunks(2).map(|pair| u16::from(pair[0]) << 8 | u16::from(*pair.get(1).unwrap_or(&0))));
-        }
-        Value::Array(values) | Value::Fields(values) => values.iter().for_each(|value| write(value, out)),
-        Value::Sequence(values) => {
-            out.push(values.len() as u16);
-            values.iter().for_each(|value| write(value, out));
-        }
-        Value::Choice(designator, value) => {
-            out.push(*designator);
-            write(value, out);
-        }
     }
 }
 
@@ -473,7 +446,7 @@ fn decide<S: Service>(table: &Table, service: &mut S, transaction: u16, program:
         Outcome::Returned(value) => (vec![2, transaction], value),
         Outcome::Aborted(error, value) => (vec![3, transaction, error], value),
     };
-    write(&value, &mut answer);
+    put(&value, &mut answer);
     answer
 }
 
@@ -602,7 +575,7 @@ impl<'a> Caller<'a> {
                 if !fits(&listed.arguments, value) {
                     return Err(CallFault::BadArguments);
                 }
-                write(value, &mut words);
+                put(value, &mut words);
             }
             Arguments::Raw(given) => words.extend_from_slice(given),
         }

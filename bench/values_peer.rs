@@ -5,7 +5,7 @@ mod values;
 
 use std::hint::black_box;
 use std::time::Instant;
-use values::{Shape, Value};
+use values::{Shape, Value, put};
 
 #[allow(dead_code)]
 #[derive(Debug)]
@@ -109,36 +109,6 @@ fn read(shape: &Shape, words: &[u16]) -> Result<(Value, usize), Fault> {
     let mut reader = Reader { words, place: 0 };
     let value = reader.value(shape)?;
     Ok((value, reader.place))
-}
-
-fn put_long(long: u32, out: &mut Vec<u16>) {
-    out.push((long >> 16) as u16);
-    out.push(long as u16);
-}
-
-fn put(value: &Value, out: &mut Vec<u16>) {
-    match value {
-        Value::Boolean(bit) => out.push(u16::from(*bit)),
-        Value::Cardinal(word) | Value::Unspecified(word) | Value::Enumeration(word) => out.push(*word),
-        Value::Integer(number) => out.push(*number as u16),
-        Value::LongCardinal(long) => put_long(*long, out),
-        Value::LongInteger(long) => put_long(*long as u32, out),
-        Value::Text(bytes) => {
-            out.push(bytes.len() as u16);
-            for pair in bytes.chunks(2) {
-                out.push(u16::from(pair[0]) << 8 | u16::from(*pair.get(1).unwrap_or(&0)));
-            }
-        }
-        Value::Array(values) | Value::Fields(values) => values.iter().for_each(|value| put(value, out)),
-        Value::Sequence(values) => {
-            out.push(values.len() as u16);
-            values.iter().for_each(|value| put(value, out));
-        }
-        Value::Choice(designator, value) => {
-            out.push(*designator);
-            put(value, out);
-        }
-    }
 }
 
 #[inline(never)]

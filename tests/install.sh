@@ -33,7 +33,7 @@ holds() {
 }
 
 version=$(cat VERSION)
-pages='C C-REFERENCE CAPTURES COURIER ENDPOINT FORMATS GLOSSARY NETWORKS PROMISES PROOF WORLD'
+pages='C C-REFERENCE CAPTURES COURIER ENDPOINT FORMATS GLOSSARY NETWORKS NOTATION PROMISES PROOF PYTHON WORLD'
 folders='bin include lib lib/pkgconfig share share/doc share/doc/xns share/doc/xns/examples share/man share/man/man1 share/xns share/xns/python share/xns/python/xns'
 files="bin/xns bin/xns-net include/xns.h lib/libxns.a lib/libxns.so lib/libxns.so.0 lib/libxns.so.$version lib/pkgconfig/xns.pc share/man/man1/xns.1 share/man/man1/xns-net.1"
 for page in $pages; do files="$files share/doc/xns/$page.md"; done

@@ -135,6 +135,7 @@ prints() {
 # ---- two stations and a cable: each server, with each client
 
 longest='return 131060 bytes, the same'
+echo 'Tally: PROGRAM 7 VERSION 1 = BEGIN Add: PROCEDURE [amount: CARDINAL] RETURNS [total: LONG CARDINAL] = 1; END.' > "$work/tally.courier"
 for language in C Python; do
     cable
     begin 2 python3 tests/network.py capture eth0 "$work/$language.pcap"
@@ -150,6 +151,7 @@ return 0 3
 return 1 2
 $longest" at 2 "$work/client" -i eth0 "$(station 1)" 1 2 65535 x131060
     prints "a call of Python to a server in $language" 'return 0001 0007' at 2 xns-net call 0200aa000001 7 1 1 0005 -i eth0
+    prints "a call by name to a server in $language" 'return Add [total: 65550]' at 2 xns-net call 0200aa000001 Tally 1 Add 7 --programs "$work/tally.courier" -i eth0
     prints "a call that is rejected by a server in $language" 'reject 2 -' sh -c "timeout 60 ip netns exec $front-2 xns-net call 0200aa000001 7 1 3 -i eth0; [ \$? -eq 3 ]"
     expect 'the longest Echo' at 2 "$work/ping" -i eth0 "$(station 1)" 2 544
     expect 'comes back' grep -qx '2 sent, 2 came' "$work/out"
@@ -160,7 +162,7 @@ $longest" at 2 "$work/client" -i eth0 "$(station 1)" 1 2 65535 x131060
         expect 'has its replies' grep -q '^2 sent, 2 answered.* 0% lost$' "$work/out"
     done
     tries=0
-    until [ "$(grep -c ' call ' "$watched") $(grep -c ' return \| reject ' "$watched")" = '6 6' ] || [ $tries -eq 50 ]; do
+    until [ "$(grep -c ' call ' "$watched") $(grep -c ' return \| reject ' "$watched")" = '7 7' ] || [ $tries -eq 50 ]; do
         tries=$((tries + 1))
         sleep 0.1
     done
@@ -169,8 +171,8 @@ $longest" at 2 "$work/client" -i eth0 "$(station 1)" 1 2 65535 x131060
     wait "$watching" "$capturing" 2> /dev/null
     expect 'the capture' xns calls "$work/$language.pcap"
     cp "$work/out" "$work/calls"
-    expect 'has each call' test "$(grep -c ' call ' "$work/calls")" -eq 6
-    expect 'and each answer' test "$(grep -c ' return ' "$work/calls") $(grep -c ' reject ' "$work/calls")" = '5 1'
+    expect 'has each call' test "$(grep -c ' call ' "$work/calls")" -eq 7
+    expect 'and each answer' test "$(grep -c ' return ' "$work/calls") $(grep -c ' reject ' "$work/calls")" = '6 1'
     for one in "$work/calls" "$watched"; do grep ' call \| return \| reject ' "$one" | cut -d' ' -f3- | sed 's/ of [0-9]* / /' > "$one.lines"; done
     mv "$work/calls.lines" "$work/wanted"
     mv "$watched.lines" "$work/out"

@@ -26,9 +26,12 @@ ENDS = frozenset("""initiator_state responder_state after_send send_answer after
 # and what its sessions make of items: the contracts of `Caller` and `Server` cite them
 STEPS = ENDS | frozenset("caller_items server_items server_state answers decided_calls decision after_decision Serving Service IsFitting".split())
 
+# and what the calls of a host do: the contracts of `Host` cite them
+TURNS = frozenset("IsNewHost ConnectsTo Turn TellsNext TakesIn GivesOut ServesAt Host Guest".split())
+
 NOTHING = frozenset()
 
-# what docs/PROOF.md gives figures for: its name, crate, file, function, clause (None: all) and what is left out: NOTHING, ENDS or STEPS
+# what docs/PROOF.md gives figures for: its name, crate, file, function, clause (None: all) and what is left out: NOTHING, ENDS, STEPS or TURNS
 SUBJECTS = [
     ("`entries_keep_the_order`, the ledger alone", "xns_world", "laws/calls.rt", "entries_keep_the_order", None, STEPS),
     ("`each_step_is_an_entry`, the headline for calls, with the network", "xns_world", "laws/calls.rt", "each_step_is_an_entry", None, STEPS),
@@ -42,6 +45,9 @@ SUBJECTS = [
     ("the same, with what ends and sessions do", "xns_world", "laws/calls.rt", "no_play_is_stuck", None, NOTHING),
     ("`play_calls`: `once`", "xns_world", "call_play.rt", "play_calls", "once", NOTHING),
     ("`a_number_keeps_its_order`, the dialogue alone", "host_world", "laws.rt", "a_number_keeps_its_order", None, NOTHING),
+    ("`each_number_of_a_host_has_a_history`, with the calls of a host", "host_world", "laws.rt", "each_number_of_a_host_has_a_history",
+     None, TURNS),
+    ("the same, with what its calls do", "host_world", "laws.rt", "each_number_of_a_host_has_a_history", None, NOTHING),
     ("`decode`", "xns_idp", "decoding.rt", "decode", None, NOTHING),
     ("`Endpoint::receive`", "xns_spp", "endpoint.rt", "Endpoint::receive", None, NOTHING),
     ("`dump`", "xns_dump", "dumping.rt", "dump", None, NOTHING),

@@ -4,25 +4,56 @@
 
 #include "frame.h"
 #include <arpa/inet.h>
+#include <errno.h>
 #include <netinet/tcp.h>
 #include <sys/socket.h>
+#include <unistd.h>
 
-enum { NETHUB_LENGTH = 2, NETHUB_ROOM = 1 << 17, NETHUB_LONGEST_WAIT = 1000 };
+enum { NETHUB_LENGTH = 2, NETHUB_ROOM = 1 << 17, NETHUB_LONGEST_WAIT = 1000, NETHUB_REST = 1000, NETHUB_NO_STREAM = -1 };
 
+static struct sockaddr_in nethub_place;  /* the hub's */
 static uint8_t nethub_came[NETHUB_ROOM]; /* what came and is no whole frame yet */
 static size_t nethub_count;
+static uint64_t nethub_next; /* the time at which a hub that is gone is tried again */
 
-static inline void nethub_is_gone(void) {
-    fputs("the hub is gone\n", stderr);
-    exit(1);
+/* Opens a stream to the hub, if the hub is there. */
+static inline bool nethub_join(struct link *link) {
+    const int at_once = 1;
+    nethub_next = milliseconds() + NETHUB_REST;
+    link->file = socket(AF_INET, SOCK_STREAM, 0);
+    if (link->file < 0) return false;
+    if (connect(link->file, (struct sockaddr *)&nethub_place, sizeof nethub_place) != 0) {
+        const int why = errno;
+        close(link->file);
+        link->file = NETHUB_NO_STREAM;
+        errno = why;
+        return false;
+    }
+    setsockopt(link->file, IPPROTO_TCP, TCP_NODELAY, &at_once, sizeof at_once);
+    nethub_count = 0;
+    return true;
 }
 
-/* Packets of whole frames to this station or to all. */
+/* The hub is gone: until it is back, a packet is as one that is lost. */
+static inline void nethub_leave(struct link *link) {
+    close(link->file);
+    link->file = NETHUB_NO_STREAM;
+    nethub_next = milliseconds() + NETHUB_REST;
+}
+
+/* Whether there is a stream to the hub. One that is gone is tried again each second. */
+static inline bool nethub_is_there(struct link *link) {
+    return link->file >= 0 || (milliseconds() >= nethub_next && nethub_join(link));
+}
+
+/* Gives the packets of whole frames to this station or to all. */
 static inline void nethub_receive(struct link *link, link_taker *take, void *given) {
     size_t at = 0;
-    const ssize_t more = recv(link->file, nethub_came + nethub_count, NETHUB_ROOM - nethub_count, MSG_DONTWAIT);
-    if (more == 0) nethub_is_gone();
-    if (more < 0) return;
+    ssize_t more;
+    if (!nethub_is_there(link)) return;
+    more = recv(link->file, nethub_came + nethub_count, NETHUB_ROOM - nethub_count, MSG_DONTWAIT);
+    if (more == 0 || (more < 0 && errno != EAGAIN && errno != EINTR)) nethub_leave(link);
+    if (more <= 0) return;
     nethub_count += (size_t)more;
     while (nethub_count - at >= NETHUB_LENGTH) {
         const uint8_t *frame = nethub_came + at + NETHUB_LENGTH;
@@ -42,10 +73,14 @@ static inline void nethub_put(struct link *link, uint32_t via, const uint8_t *pa
     (void)via;
     bytes[0] = (uint8_t)(size >> 8);
     bytes[1] = (uint8_t)size;
+    if (!nethub_is_there(link)) return;
     for (size_t sent = 0; sent < NETHUB_LENGTH + size;) {
         struct pollfd one = { link->file, POLLOUT, 0 };
         const ssize_t more = poll(&one, 1, NETHUB_LONGEST_WAIT) == 1 ? send(link->file, bytes + sent, NETHUB_LENGTH + size - sent, MSG_NOSIGNAL) : -1;
-        if (more <= 0) nethub_is_gone();
+        if (more <= 0) {
+            nethub_leave(link);
+            return;
+        }
         sent += (size_t)more;
     }
 }
@@ -54,20 +89,16 @@ static inline void nethub_flush(struct link *link) {
     (void)link;
 }
 
-/* A link by way of the hub at a port, as this station. */
+/* A link by way of the hub at a port, as this station. The hub has to be there at first; where it is gone later, the link comes back by itself. */
 static inline void nethub_open(struct link *link, uint16_t port, const uint8_t station[6]) {
-    const int at_once = 1;
-    struct sockaddr_in place;
-    memset(&place, 0, sizeof place);
-    place.sin_family = AF_INET;
-    place.sin_port = htons(port);
-    place.sin_addr.s_addr = htonl(INADDR_LOOPBACK);
-    link->file = socket(AF_INET, SOCK_STREAM, 0);
-    if (link->file < 0 || connect(link->file, (struct sockaddr *)&place, sizeof place) != 0) {
+    memset(&nethub_place, 0, sizeof nethub_place);
+    nethub_place.sin_family = AF_INET;
+    nethub_place.sin_port = htons(port);
+    nethub_place.sin_addr.s_addr = htonl(INADDR_LOOPBACK);
+    if (!nethub_join(link)) {
         perror("the hub");
         exit(1);
     }
-    setsockopt(link->file, IPPROTO_TCP, TCP_NODELAY, &at_once, sizeof at_once);
     memcpy(link->station, station, 6);
     link->receive = nethub_receive;
     link->put = nethub_put;

@@ -15,6 +15,12 @@ And a client of it is this. Its socket, 3000, is one that no other client of its
         with xns.Client(udp, ("127.0.0.1", 4000), own, peer, timeout=10) as client:
             print(client.call(7, 1, 1, [5, 6]).words)
 
+By name and value, where a program is written in Courier's notation, the same is
+
+    tally = xns.read_programs("tally.courier")["Tally"]
+    xns.serve(udp, own, [tally.served], tally.server(service))    # service.Add(amount) gives the total
+    print(tally.client(client).Add(5))
+
 On Ethernet the socket is `xns.ethernet("eth0")`, and by way of a hub of emulators
 `xns.nethub("127.0.0.1", 3333)`; the place of a peer is then the host of its address. `Carrier` says
 what else can carry packets. In a loop of asyncio there are `serve_async` and `AsyncClient`. For
@@ -30,7 +36,8 @@ for is no error: such a call returns None.
 The module calls the shared library `libxns.so`: the one that the environment's XNS_LIBRARY names,
 else the one that `install.sh` installed with this module, else the one that the system finds. What
 the library does is proved; this module is not. It needs Python 3.8 or later and nothing else.
-docs/C.md says when a program makes each call, and docs/C-REFERENCE.md more on it.
+docs/PYTHON.md has more on it; docs/C.md says when a program makes each call, and docs/C-REFERENCE.md which
+there are.
 
 An object is used by the thread that made it alone; `Server.stop` can be called by any. It gives its
 memory back when it is freed, by `free` or at the end of a `with`, or when Python lets it go in that
@@ -48,10 +55,11 @@ from ._packets import (
     checksum, complain, decode, echo_accept, echo_reply, echo_request, encode, error_read, exchange_accept, exchange_read, exchange_reply, exchange_request,
     exchange_write, header_read, header_write, message_read, message_write, new_identifier, opening,
 )
+from ._programs import AbortedError, DeclaredError, Program, Programs, RejectedError, TypedServer, read_programs
 from ._serving import UNSPECIFIED, Server, serve
 from ._told import (
     LONGEST_ITEM, LONGEST_PACKET, MOST_CALL_WORDS, MOST_MESSAGE_WORDS, MOST_WINDOW, Address, Answer, Call, Closed, Control, Dropped, Event, Header, Item, Kind,
-    Message, Packet, PacketType, Received, Reject, Reply, Result, Stream, Why, aborts, rejects, returns,
+    Message, NotationReason, Packet, PacketType, Received, Reject, Reply, Result, Stream, Why, aborts, rejects, returns,
 )
 from ._values import Reader, Writer
 
@@ -60,10 +68,11 @@ globals().update(_OF_RESULTS)
 
 __all__ = [
     "serve", "Client", "Server", "returns", "aborts", "rejects", "Address", "Call", "Answer", "Reply", "Reader", "Writer",
+    "read_programs", "Programs", "Program", "TypedServer", "DeclaredError", "AbortedError", "RejectedError",
     "ethernet", "nethub", "Carrier", "Ethernet", "NetHub", "serve_async", "AsyncClient",
     "XnsError", "SilentError", "ClosedError", "NotServedError", "ArgumentsError", "NoCallError", "LibraryError", *_OF_RESULTS,
     "Host", "Event", "Closed", "Endpoint", "Item", "Received", "Packet", "Header", "Message",
-    "Kind", "Reject", "UNSPECIFIED", "Why", "Result", "Dropped", "PacketType", "Control", "Stream",
+    "Kind", "Reject", "UNSPECIFIED", "Why", "Result", "NotationReason", "Dropped", "PacketType", "Control", "Stream",
     "checksum", "decode", "encode", "echo_reply", "echo_request", "echo_accept", "complain", "error_read", "exchange_read", "exchange_write",
     "exchange_request", "exchange_accept", "exchange_reply", "header_read", "header_write", "message_read", "message_write", "new_identifier", "opening",
     "version", "LONGEST_PACKET", "LONGEST_ITEM", "MOST_WINDOW", "MOST_CALL_WORDS", "MOST_MESSAGE_WORDS",

@@ -40,6 +40,7 @@ TEXTS = {
     Result.NO_CONNECTION: "no connection has this number",
     Result.TOO_MANY_SERVICES: "the host serves as many sockets as it can",
     Result.PEER_CALLS: "the peer opened the connection: its side calls",
+    Result.WRONG_TEXT: "the text is no program of Courier's notation",
 }
 CLOSED_TEXTS = {
     Why.ASKED: "the program closed the connection",

@@ -109,6 +109,14 @@ class RawHandle(ctypes.Structure):
     _fields_ = [("at", c_void_p)]
 
 
+class RawFault(ctypes.Structure):
+    _fields_ = [("line", c_size_t), ("column", c_size_t), ("reason", c_uint32)]
+
+
+class RawNode(ctypes.Structure):
+    _fields_ = [("kind", c_uint32), ("number", c_uint32), ("parts", c_size_t), ("name", c_size_t)]
+
+
 class RawCursor(ctypes.Structure):
     _fields_ = [("place", c_size_t), ("fault", c_uint32)]
 
@@ -172,6 +180,18 @@ CALLS = {
     "host_wake": [_HANDLE],
     "host_connections": [_HANDLE],
     "host_peer": [_HANDLE, c_size_t, _STRUCT],
+    "programs_read": [_HANDLE, _BYTES, c_size_t, _STRUCT],
+    "programs_clear": [_HANDLE],
+    "programs_find": [_HANDLE, _BYTES, c_size_t, _STRUCT, _WORDS],
+    "programs_find_procedure": [_HANDLE, c_uint32, c_uint16, _BYTES, c_size_t, _WORDS],
+    "programs_find_error": [_HANDLE, c_uint32, c_uint16, _BYTES, c_size_t, _WORDS],
+    "programs_name": [_HANDLE, c_uint32, c_uint16, _BUFFER, c_size_t, _LENGTH],
+    "programs_procedure_name": [_HANDLE, c_uint32, c_uint16, c_uint16, _BUFFER, c_size_t, _LENGTH],
+    "programs_error_name": [_HANDLE, c_uint32, c_uint16, c_uint16, _BUFFER, c_size_t, _LENGTH],
+    "programs_call_text": [_HANDLE, c_uint32, c_uint16, c_uint16, _WORDS, c_size_t, _BUFFER, c_size_t, _LENGTH, _LENGTH],
+    "programs_return_text": [_HANDLE, c_uint32, c_uint16, c_uint16, _WORDS, c_size_t, _BUFFER, c_size_t, _LENGTH, _LENGTH],
+    "programs_abort_text": [_HANDLE, c_uint32, c_uint16, c_uint16, _WORDS, c_size_t, _BUFFER, c_size_t, _LENGTH, _LENGTH],
+    "programs_table": [_HANDLE, c_size_t, _STRUCT, _WORDS, _STRUCT, c_size_t, _LENGTH, _BUFFER, c_size_t, _LENGTH],
     "read_cardinal": [_WORDS, c_size_t, _STRUCT, _WORDS],
     "read_long_cardinal": [_WORDS, c_size_t, _STRUCT, _STRUCT],
     "read_integer": [_WORDS, c_size_t, _STRUCT, _STRUCT],
@@ -192,6 +212,7 @@ CALLS = {
 _ANSWERS = {
     "endpoint_clear": None,
     "host_clear": None,
+    "programs_clear": None,
     "endpoint_is_open": c_bool,
     "endpoint_is_full": c_bool,
     "endpoint_is_ours": c_bool,

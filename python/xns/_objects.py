@@ -16,7 +16,7 @@ _USUAL_CONNECTIONS = 64
 _SECRET = 32  # bytes of a host's secret
 
 
-class _Object:
+class Object:
     """What a handle holds, until it is freed."""
 
     _family = ""
@@ -59,7 +59,7 @@ class _Object:
         return Item(ctypes.string_at(body, item.length), item.stream, bool(item.attention), bool(item.last))
 
 
-class Endpoint(_Object):
+class Endpoint(Object):
     """One end of a connection. It has no socket and no clock: packets that came go to `receive`, what the calls return is sent."""
 
     _family = "endpoint"
@@ -165,7 +165,7 @@ class Endpoint(_Object):
         return self._written("resend_first", LONGEST_PACKET)
 
 
-class Host(_Object):
+class Host(Object):
     """Many Courier conversations behind one address, with time. It has no socket, no clock and no thread: packets that came go to `receive`, those of
     `packets` are sent, and `events` tell what came. `now` is in milliseconds of any clock, and a `via` a number of the program's: the packets of a
     connection go out by the one that it was opened by."""

@@ -50,6 +50,62 @@ class Result(enum.IntEnum):
     NO_CONNECTION = 82
     TOO_MANY_SERVICES = 83
     PEER_CALLS = 84
+    WRONG_TEXT = 91
+
+
+class NotationReason(enum.IntEnum):
+    """What is wrong with a text in Courier's notation. docs/NOTATION.md has each by the name that it has as a text, as `NoName`."""
+
+    TOO_LONG = 1
+    BAD_BYTE = 2
+    HUGE_NUMBER = 3
+    LONG_NAME = 4
+    OPEN_STRING = 5
+    TOO_MANY_TOKENS = 6
+    NO_TYPE = 11
+    NO_CONSTANT = 12
+    NO_PROGRAM = 13
+    NO_VERSION = 14
+    NO_BEGIN = 15
+    NO_END = 16
+    NO_UPON = 17
+    NO_EQUAL = 18
+    NO_SEMICOLON = 19
+    NO_DOT = 20
+    NO_NAME = 21
+    NO_NUMBER = 22
+    LARGE_NUMBER = 23
+    NO_OF = 24
+    NO_ARROW = 25
+    NO_COLON = 26
+    NO_OPEN_BRACE = 27
+    NO_CLOSE_BRACE = 28
+    NO_OPEN_BRACKET = 29
+    NO_CLOSE_BRACKET = 30
+    NO_OPEN_PARENTHESIS = 31
+    NO_CLOSE_PARENTHESIS = 32
+    TOO_DEEP = 33
+    TOO_MANY_PARTS = 34
+    TOO_MANY_DECLARATIONS = 35
+    TRAILING = 36
+    DOUBLED_NAME = 41
+    DOUBLED_WORD = 42
+    DOUBLED_NUMBER = 43
+    DOUBLED_PROGRAM = 44
+    UNKNOWN_NAME = 45
+    UNKNOWN_PROGRAM = 46
+    NOT_READ = 47
+    NOT_NUMBER = 48
+    NOT_ENUMERATION = 49
+    OTHER_NUMBER = 50
+    NO_DESIGNATOR = 51
+    RECURSIVE = 52
+    TYPES_TOO_DEEP = 53
+    NO_WORDS = 54
+    TOO_LARGE = 55
+
+    def __str__(self) -> str:
+        return "TooDeep" if self is NotationReason.TYPES_TOO_DEEP else "".join(word.capitalize() for word in self.name.split("_"))
 
 
 class Dropped(enum.IntEnum):

@@ -12,6 +12,7 @@ from typing import Any, Callable, List, Optional, Tuple
 from ._client import Client
 from ._errors import XnsError
 from ._library import version
+from ._named import Named, plain
 from ._ping import LEAST, MOST, Ping
 from ._reached import USUAL_NETWORK, Network, over_ethernet, over_nethub, over_udp, read_address, read_host, spelled
 from ._serving import Server
@@ -26,6 +27,7 @@ _ADDRESS = "HOST, NETWORK.HOST or NETWORK.HOST.SOCKET, in hex as `xns calls` pri
 _SERVICE = """what answers calls: a function of a `xns.Call` that gives a reply, or a class of such objects; without it a tally: program 7, version 1,
 procedure 1 adds a cardinal, procedure 2 returns its words"""
 _PROGRAM = "a program that is served, with its versions; else those that the service has as `programs`, else each"
+_PROGRAMS = """a program in Courier's notation, by whose names and types is called and told; again for each file, what one depends upon before it"""
 _END = """statuses: 0 done; 1 the network or the other side failed; 2 wrong words; 3 a call was aborted or rejected; 130 Ctrl-C ended a call"""
 
 
@@ -124,10 +126,12 @@ def _parser() -> argparse.ArgumentParser:
     ping.add_argument("--wait", type=_seconds, default=1.0, help="seconds for the reply to the last one (1)")
     call = commands.add_parser("call", help="call a procedure, and print what it is answered", epilog=_END)
     call.add_argument("address", metavar="ADDRESS", help=f"{_ADDRESS}; the socket is 5 where none is said")
-    call.add_argument("program", metavar="PROGRAM", type=_whole(0, 2**32 - 1))
+    call.add_argument("program", metavar="PROGRAM", help="its number, or its name")
     call.add_argument("version", metavar="VERSION", type=_whole(0, 65535))
-    call.add_argument("procedure", metavar="PROCEDURE", type=_whole(0, 65535))
-    call.add_argument("words", metavar="WORD", nargs="*", type=_word, help="the arguments, each word four digits of hex")
+    call.add_argument("procedure", metavar="PROCEDURE", help="its number, or its name")
+    call.add_argument("arguments", metavar="ARGUMENT", nargs="*", help="each word four digits of hex; by name each a value, as `xns calls` prints it")
+    call.add_argument("--programs", metavar="FILE", action="append", help=_PROGRAMS)
+    call.set_defaults(parser=call)
     call.add_argument("--timeout", type=_seconds, default=10.0, help="seconds for the answer (10)")
     serve = commands.add_parser("serve", help="serve calls until Ctrl-C or SIGTERM ends it", epilog=_END)
     serve.add_argument("service", metavar="MODULE:NAME", nargs="?", help=_SERVICE)
@@ -164,13 +168,28 @@ def _ping(given: argparse.Namespace) -> int:
 
 
 def _call(given: argparse.Namespace) -> int:
+    named = None if given.programs is None else Named(given.programs)
+    program, procedure, words = (_numbered if named is None else named.called)(given)
     with _network(given) as network:
         peer = read_address(given.address, given.network, COURIER)
         with Client(network.link, network.place(peer), network.own(), peer, timeout=given.timeout) as client:
-            answer = client.call(given.program, given.version, given.procedure, given.words)
-    number = [] if answer.kind == Kind.RETURN else [str(answer.code)]
-    _say(" ".join([answer.kind.name.lower(), *number, *([f"{word:04x}" for word in answer.words] or ["-"])]))
+            answer = client.call(program, given.version, procedure, words)
+    line = plain(answer)
+    _say(line if named is None else named.told(line, program, given.version, procedure, answer))
     return DONE if answer.kind == Kind.RETURN else NOT_RETURNED
+
+
+def _numbered(given: argparse.Namespace) -> Tuple[int, int, List[int]]:
+    """The program, the procedure and the words of a call by numbers."""
+
+    def number(name: str, read: Callable[[str], int], text: str) -> int:
+        try:
+            return read(text)
+        except argparse.ArgumentTypeError as error:
+            return given.parser.error(f"argument {name}: {error}")
+
+    program, procedure = number("PROGRAM", _whole(0, 2**32 - 1), given.program), number("PROCEDURE", _whole(0, 65535), given.procedure)
+    return program, procedure, [number("ARGUMENT", _word, argument) for argument in given.arguments]
 
 
 def _service(name: Optional[str]) -> Any:

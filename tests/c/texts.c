@@ -30,6 +30,9 @@ static void initializers(void) {
     IS_INIT(xns_event, XNS_EVENT_INIT, one.kind == 0 && one.number == 0 && one.message.program == 0 && one.closed == 0 && one.fault == 0);
     IS_INIT(xns_cursor, XNS_CURSOR_INIT, one.place == 0 && one.fault == 0);
     IS_INIT(xns_program, XNS_PROGRAM_INIT, one.program == 0 && one.low == 0 && one.high == 0);
+    IS_INIT(xns_programs, XNS_PROGRAMS_INIT, one.at == NULL);
+    IS_INIT(xns_notation_fault, XNS_NOTATION_FAULT_INIT, one.line == 0 && one.column == 0 && one.reason == 0);
+    IS_INIT(xns_node, XNS_NODE_INIT, one.kind == 0 && one.number == 0 && one.parts == 0 && one.name == 0);
 }
 
 /* Each result has a text of its own, and a number that is none has another. */
@@ -39,7 +42,7 @@ static void results(void) {
         XNS_BAD_SUM, XNS_TOO_LONG, XNS_ATTENTION_SIZE, XNS_EXHAUSTED, XNS_FULL, XNS_NO_SLOT, XNS_ODD_LENGTH, XNS_SHORT_MESSAGE, XNS_UNKNOWN_KIND, XNS_LONG_MESSAGE,
         XNS_NO_COMMON_VERSION, XNS_BAD_VERSIONS, XNS_WRONG_TRANSACTION, XNS_BAD_REPLY, XNS_OTHER_STREAM, XNS_STOPPED, XNS_BUSY, XNS_CLOSING, XNS_ATTENTION,
         XNS_TRUNCATED, XNS_NOT_BOOLEAN, XNS_OVER_MAXIMUM, XNS_NOT_LISTED, XNS_LEFT_OVER, XNS_NO_HOST, XNS_NO_CONNECTION,
-        XNS_TOO_MANY_SERVICES, XNS_PEER_CALLS
+        XNS_TOO_MANY_SERVICES, XNS_PEER_CALLS, XNS_WRONG_TEXT
     };
     const size_t count = sizeof all / sizeof all[0];
     const char *none = xns_result_text((enum xns_result)127);
@@ -65,12 +68,17 @@ static void have_texts(const char *(*text)(uint32_t), const uint32_t *all, size_
     CHECK(named == count);
 }
 
-/* So has each reason for which an item is not taken, and each for which a connection is closed. */
+/* Each reason for which an item is not taken, and each for which a connection is closed, has a text too. The reasons of a text in the notation are named; two limits
+ * of depth have one name. */
 static void reasons(void) {
     static const uint32_t dropped[] = { XNS_NOT_DROPPED, XNS_NOT_IDP, XNS_NOT_SPP, XNS_NOT_OURS, XNS_AHEAD_OF_US, XNS_OUT_OF_ORDER, XNS_NO_ROOM, XNS_REPEAT };
     static const uint32_t closed[] = { XNS_CLOSED_ASKED, XNS_CLOSED_BY_PEER, XNS_CLOSED_SILENT, XNS_CLOSED_NOT_SERVED, XNS_CLOSED_REFUSED };
     have_texts(xns_dropped_text, dropped, sizeof dropped / sizeof dropped[0]);
     have_texts(xns_closed_text, closed, sizeof closed / sizeof closed[0]);
+    for (uint32_t reason = 0; reason < 127; reason++)
+        CHECK((strcmp(xns_reason_text(reason), xns_reason_text(0)) != 0) == ((reason >= 1 && reason <= 6) || (reason >= 11 && reason <= 36) || (reason >= 41 && reason <= 55)));
+    CHECK(strcmp(xns_reason_text(XNS_REASON_TOO_LONG), "TooLong") == 0 && strcmp(xns_reason_text(XNS_REASON_NO_CLOSE_PARENTHESIS), "NoCloseParenthesis") == 0);
+    CHECK(strcmp(xns_reason_text(XNS_REASON_TYPES_TOO_DEEP), "TooDeep") == 0 && strcmp(xns_reason_text(XNS_REASON_TOO_LARGE), "TooLarge") == 0);
 }
 
 /* A cursor says its fault, or that it has one of the program's. */

@@ -129,7 +129,7 @@ static void texts(void) {
     CHECK(xns_write_text(words, 32770, &at, bytes, 65535) == XNS_OK && at.place == 32769 && words[0] == 65535 && words[32768] == 0 && words[32769] == 0xeeee);
 }
 
-/* The same, read: "Hello" with a spare byte that is not 0, "Hi", none, and one whose last word is not there. */
+/* Texts that are read: "Hello" with a spare byte that is not 0, "Hi", none, and one whose last word is not there. */
 static void texts_read(void) {
     static const uint16_t words[] = { 5, 0x4865, 0x6c6c, 0x6fff, 2, 0x4869, 0, 3, 0x4869 };
     enum { COUNT = sizeof words / sizeof words[0] };

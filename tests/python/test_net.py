@@ -122,6 +122,36 @@ class NetTest(unittest.TestCase):
             status, out, err = run("call", SERVER, "7", "1", "1", "--timeout", "0.3", "--udp", str(nobody.getsockname()[1]))
             self.assertEqual((status, out, err), (1, "", "xns-net: the call was not answered in 0.3 seconds\n"))
 
+    def test_a_call_by_name(self):
+        with tempfile.TemporaryDirectory() as folder:
+            description = pathlib.Path(folder) / "tally.courier"
+            description.write_text("""Tally: PROGRAM 7 VERSION 1 = BEGIN
+                Kind: TYPE = {small(0), large(1)};
+                Add: PROCEDURE [amount: CARDINAL] RETURNS [total: LONG CARDINAL] = 1;
+                Echo: PROCEDURE [what: STRING, kinds: SEQUENCE OF Kind] RETURNS [what: STRING, kinds: SEQUENCE OF Kind] = 2;
+                Short: PROCEDURE RETURNS [total: LONG CARDINAL, rest: CARDINAL] = 3; END.""")
+            by_name = "--programs", str(description)
+            with Serving() as serving:
+                for words, wanted in (
+                    (("Tally", "1", "Add", "5"), (0, "return Add [total: 5]\n", "")),
+                    (("7", "1", "1", "6"), (0, "return Add [total: 11]\n", "")),
+                    (("Tally", "1", "Echo", '"a b\\x00\\""', "[large, small]"), (0, 'return Echo [what: "a b\\x00\\"", kinds: [large, small]]\n', "")),
+                    (("Tally", "1", "Short"), (3, "reject 2 -\n", "")),
+                    (("Tally", "2", "Add", "5"), (2, "", "xns-net: no program Tally of version 2 is declared\n")),
+                    (("Tally", "1", "Sub", "5"), (2, "", "xns-net: Tally declares no procedure Sub\n")),
+                    (("Tally", "1", "Add"), (2, "", "xns-net: Add takes [amount: CARDINAL]\n")),
+                    (("Tally", "1", "Add", "five"), (2, "", "xns-net: amount: 'five' is no CARDINAL\n")),
+                    (("Tally", "1", "Add", "65536"), (2, "", "xns-net: amount is 65536, which is not from 0 to 65535\n")),
+                    (("Tally", "1", "Add", "5 6"), (2, "", "xns-net: amount: '6' is left\n")),
+                ):
+                    self.assertEqual(run("call", SERVER, *words, "--udp", serving.port, *by_name), wanted)
+                description.write_text("Tally: PROGRAM 7 VERSION 1 = BEGIN Echo: PROCEDURE [a: CARDINAL] RETURNS [a: LONG CARDINAL] = 2; END.")
+                self.assertEqual(run("call", SERVER, "Tally", "1", "Echo", "5", "--udp", serving.port, *by_name), (0, "return 0005 unread 1 Truncated\n", ""))
+                description.write_text("Tally: PROGRAM\n7 VERSION = BEGIN END.")
+                self.assertEqual(run("call", SERVER, "Tally", "1", "Echo", "--udp", serving.port, *by_name), (2, "", f"xns-net: {description}:2:11 NoNumber\n"))
+            status, out, err = run("call", SERVER, "Tally", "1", "Echo", "--udp", "9", "--programs", f"{folder}/none")
+            self.assertEqual((status, out, err), (2, "", f"xns-net: {folder}/none: No such file or directory\n"))
+
     def test_words(self):
         for words in ((), ("pong",), ("ping",), ("ping", SERVER), ("ping", SERVER, "--udp", "0"), ("ping", SERVER, "--udp", "1", "-i", "lo"),
                       ("ping", "12", "--udp", "9"), ("ping", SERVER, "--udp", "9", "-s", "11"), ("ping", SERVER, "--udp", "9", "-s", "545"),

@@ -151,10 +151,13 @@ class TallyTest(unittest.TestCase):
                     time.sleep(0.01)
                 call = [*net, "call", station, "7", "1", "1", "0005", "--nethub", f":{hub.port}"]
                 self.assertEqual(subprocess.run(call, stdout=subprocess.PIPE, text=True, timeout=60).stdout, "return 0000 0005\n")
+                # The hub is gone for a while: the server comes back, and its tally is as it was.
+                hub.drop()
+                self.assertEqual(subprocess.run(call, stdout=subprocess.PIPE, text=True, timeout=60).stdout, "return 0000 000a\n")
                 if C:
                     add = [*C[1], "-n", str(hub.port), "0000aa000304", station, "7", "x131060"]
                     told = subprocess.run(add, stdout=subprocess.PIPE, text=True, timeout=60).stdout
-                    self.assertEqual(told, "return 0 12\nreturn 131060 bytes, the same\n")
+                    self.assertEqual(told, "return 0 17\nreturn 131060 bytes, the same\n")
                 process.terminate()
                 self.assertEqual((process.communicate(timeout=60)[1], process.returncode), ("", 0))
                 while hub.streams:

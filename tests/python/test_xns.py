@@ -30,6 +30,8 @@ class HeaderTest(unittest.TestCase):
             ("xns_reject", "REJECT_", xns.Reject),
             ("xns_control", "CONTROL_", xns.Control),
             ("xns_closed", "CLOSED_", xns.Why),
+            ("xns_reason", "REASON_", xns.NotationReason),
+            ("xns_node_kind", "NODE_", xns._types.NodeKind),
         ):
             with self.subTest(name):
                 self.assertEqual({one.name: int(one) for one in ours}, self.numbers(name, prefix))
@@ -53,6 +55,8 @@ class HeaderTest(unittest.TestCase):
         self.assertTrue(all(texts[one.name] == text for one, text in xns._errors.TEXTS.items()))
         body = re.search(r"\*xns_closed_text\(.*?\n}", HEADER, re.S).group(0)
         self.assertEqual({one.name: text for one, text in xns._errors.CLOSED_TEXTS.items()}, dict(re.findall(r'case XNS_CLOSED_(\w+): return "(.*)";', body)))
+        body = re.search(r"\*xns_reason_text\(.*?\n}", HEADER, re.S).group(0)
+        self.assertEqual({one.name: str(one) for one in xns.NotationReason}, dict(re.findall(r'case XNS_REASON_(\w+): return "(.*)";', body)))
 
 
 class ValueTest(unittest.TestCase):

@@ -17,7 +17,7 @@ pub record IsDeclared (meanings : MeaningList) (name : List ℕ) (meaning : Mean
   pub parts : meanings ≡ front ++ (name, meaning) ∷ back
   pub first : meaning_of front name ≡ None
 
--- that of a reference: in the same program before, or in the program that is depended upon by the first name
+-- a reference means this: what the same program declared before, or what the program declares that is depended upon by the first name
 abbrev pub IsDeclaredAs : Env → Reference → MeaningModel → Type 0
 IsDeclaredAs e (references.Own name) meaning = IsDeclared e.meanings (text_of e.names name) meaning
 IsDeclaredAs e (references.Other program name) meaning =

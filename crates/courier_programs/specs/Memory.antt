@@ -1,4 +1,4 @@
--- Where resolving may be refused memory: this project's rule. Something grows there, and no fault was found before it.
+-- Where resolving may be refused memory, which is this project's rule: where something may grow.
 use Rattle.std.specs.Prelude.{◌≡◌, ◌<◌, List, [], ◌∷◌, length, None, IsOk, true, is_some}
 use Rattle.courier_notation.specs.declared.declared.Dependency.{Dependency}
 use Rattle.courier_notation.specs.ProgramModels.{DeclaredModel, ProgramModel}

@@ -42,7 +42,7 @@ abbrev pub Gives : {X Y : Type 0} → (X → Y) → Result X Refusal → Result 
 Gives view (Ok x) meant = meant ≡ Ok (view x)
 Gives view (Err refusal) meant = Refuses refusal meant
 
--- the same under another name
+-- what was read, made into something else
 abbrev pub over : {A B S : Type 0} → (A → B) → Result (A × S) NameFault → Result (B × S) NameFault
 over f (Ok x) = Ok (f x.0, x.1)
 over f (Err e) = Err e

@@ -5,6 +5,9 @@ mod Deeds
 mod Shown
 mod Numbers
 mod Hosts
+mod Telling
+mod Gives
+mod Guests
 mod Kept
 mod Led
 mod Paired

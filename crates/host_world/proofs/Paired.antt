@@ -50,7 +50,7 @@ went_told m u A n l given k B = k B
 went_told m u B n l given k A = k A
 went_told m u B n l given k B = n.tells
 
-told : {a b : Station} {programs : List Program} {m : Meeting} → Meets a b programs m → AreTold m
+pub told : {a b : Station} {programs : List Program} {m : Meeting} → Meets a b programs m → AreTold m
 told (opens c d calls answers none empty) A = calls
 told (opens c d calls answers none empty) B = answers
 told (acts {m = m} before side {l = l} act n same) s = went_told m m.world side n l (at m side).given (told before) s
@@ -78,7 +78,7 @@ went_does m u B n did more kept = record { deeds = refl; given = refl; other = r
 went_idly : (m : Meeting) (u : World) (side : Side) {base : Story} (n : Next base) (did : Deeds → Deeds) → AreKept m.world.bag u.bag → Does m (went_on m u side n (did (at m side).deeds) (at m side).given) side did []
 went_idly m u side n did kept = subst (λ (given : List (List ℕ)). Does m (went_on m u side n (did (at m side).deeds) given) side did []) (append-nil (at m side).given) (went_does m u side n did [] kept)
 
-acts_on : {a b : Station} {programs : List Program} (m : Meeting) → Meets a b programs m → (side : Side) (base : Story) (did : Deeds → Deeds) (d : Conversation) → Acts (at m side).conversation (at m side).story (at m side).deeds base (did (at m side).deeds)
+pub acts_on : {a b : Station} {programs : List Program} (m : Meeting) → Meets a b programs m → (side : Side) (base : Story) (did : Deeds → Deeds) (d : Conversation) → Acts (at m side).conversation (at m side).story (at m side).deeds base (did (at m side).deeds)
     → d.packets ≡ (at m side).conversation.packets → (n : Story) → Tells d n → GoesOn base n → Onward a b programs m side d did []
 acts_on m meets side base did d act same n tells on =
     let next : Next base = record { conversation = d; story = n; tells = tells; on = on } in
@@ -89,7 +89,7 @@ acts_on m meets side base did d act same n tells on =
       does = went_idly m m.world side next did (kept_itself m.world.bag);
     }
 
-gives_on : {a b : Station} {programs : List Program} (m : Meeting) → Meets a b programs m → (side : Side) (packet : Option (List ℕ)) (d : Conversation) → Gives (at m side).conversation d packet → Onward a b programs m side d no_more (option_to_list packet)
+pub gives_on : {a b : Station} {programs : List Program} (m : Meeting) → Meets a b programs m → (side : Side) (packet : Option (List ℕ)) (d : Conversation) → Gives (at m side).conversation d packet → Onward a b programs m side d no_more (option_to_list packet)
 gives_on m meets side packet d gave =
     let on = gave.on (at m side).story (told meets side) in
     let next : Next (at m side).story = record { conversation = d; story = on.0; tells = on.1; on = on.2 } in
@@ -107,7 +107,7 @@ kept_answered w k x is =
     let bs = option_to_list (receive_answer (end_of u side) x.bytes).reply in
     kept_then w.bag u.bag (answered w k x).bag (kept_marked w.bag k x is) (kept_moved u side (after_receive (end_of u side) x.bytes) bs)
 
-hears_on : {a b : Station} {programs : List Program} (m : Meeting) → Meets a b programs m → (side : Side) (bytes : List ℕ) (d : Conversation) → Hears (at m side).conversation d bytes → d.packets ≡ (at m side).conversation.packets → MayCome m side bytes
+pub hears_on : {a b : Station} {programs : List Program} (m : Meeting) → Meets a b programs m → (side : Side) (bytes : List ℕ) (d : Conversation) → Hears (at m side).conversation d bytes → d.packets ≡ (at m side).conversation.packets → MayCome m side bytes
     → Onward a b programs m side d no_more []
 hears_on m meets side bytes d hears same (foreign strange) =
     let on = hears.on (at m side).story (told meets side) in
@@ -132,7 +132,7 @@ hears_on {a} {b} {programs} m meets side bytes d hears same (made k x here_it_is
       }
 
 -- one step after the other
-then_on : {a b : Station} {programs : List Program} {m : Meeting} {side : Side} {c d : Conversation} {given : List (List ℕ)} → (one : Onward a b programs m side c no_more []) → Onward a b programs one.next side d no_more given → Onward a b programs m side d no_more given
+pub then_on : {a b : Station} {programs : List Program} {m : Meeting} {side : Side} {c d : Conversation} {given : List (List ℕ)} → (one : Onward a b programs m side c no_more []) → Onward a b programs one.next side d no_more given → Onward a b programs m side d no_more given
 then_on {m = m} {side = side} {given = given} one two = record {
   next = two.next;
   meets = two.meets;

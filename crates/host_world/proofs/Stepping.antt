@@ -117,10 +117,6 @@ pub record Changes (side : Side) (closing : Bool) (c e : Connection) : Type 0 wh
   pub told : e.told ≡ c.told
   pub stays : c.closed ≢ None → e.closed ≡ c.closed
 
--- the scene once the deed is done reads on where it did
-same_drains : (side : Side) (a b : Closing) → a.deaf ≡ b.deaf → a.end_sent ≡ b.end_sent → a.reply_sent ≡ b.reply_sent → drains side a ≡ drains side b
-same_drains side a b deaf end reply = cc
-
 pub steps : (now : ℕ) (deed : Deed) (c e : Connection) (s : State) (side : Side) (wanted : Bool) → StandsFor c.conversation.endpoint s → Step now deed c e
     → (done deed (scene c.conversation s)).side ≡ side → (done deed (scene c.conversation s)).closing.wanted ≡ wanted
     → drains side (done deed (scene c.conversation s)).closing ≡ drains side c.conversation.closing

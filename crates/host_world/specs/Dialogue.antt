@@ -33,7 +33,8 @@ IsEven d = length d.calls ≡ length d.answers
 abbrev pub IsOpen : Dialogue → Message → Type 0
 IsOpen d call = slice_get d.calls (length d.answers) ≡ Some call
 
--- the number may become free: the program was told that the connection is closed; or a peer opened it, and no call of it was handed yet
+-- the number may become free: the program was told that the connection is closed; or a peer opened it, it is not closed, and no call of it
+-- was handed
 abbrev pub MayGo : Dialogue → Type 0
 MayGo d = (d.told ≡ true) ⊎ ((d.ours ≡ false) × (d.calls ≡ []) × (d.closed ≡ None))
 

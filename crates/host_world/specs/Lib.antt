@@ -5,3 +5,4 @@ pub mod Pairing
 pub mod Going
 pub mod Dialogue
 pub mod Seen
+pub mod Guests

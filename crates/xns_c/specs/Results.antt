@@ -74,6 +74,9 @@ too_many_services = 83
 abbrev pub peer_calls : ℕ
 peer_calls = 84
 
+abbrev pub wrong_text : ℕ
+wrong_text = 91
+
 -- why bytes are no internet packet
 abbrev pub idp_fault_number : IdpFault → ℕ
 idp_fault_number (Short h) = short

@@ -54,6 +54,9 @@ pub const NOT_BOOLEAN: u32 = 72;
 /// The count of a sequence is over its maximum.
 pub const OVER_MAXIMUM: u32 = 73;
 
+/// The word of an enumeration, or the designator of a choice, is not listed.
+pub const NOT_LISTED: u32 = 74;
+
 /// Words are left behind the last value.
 pub const LEFT_OVER: u32 = 75;
 
@@ -68,6 +71,9 @@ pub const TOO_MANY_SERVICES: u32 = 83;
 
 /// The peer opened the connection: its side calls.
 pub const PEER_CALLS: u32 = 84;
+
+/// A text is no program of Courier's notation.
+pub const WRONG_TEXT: u32 = 91;
 
 /// Why bytes are no internet packet.
 pub fn idp_fault_number(fault: IdpFault) -> u32

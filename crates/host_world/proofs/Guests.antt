@@ -1,0 +1,185 @@
+-- What a host does at a connection of a meeting is a step of the meeting.
+use Rattle.std.proofs.Common.{◌≡◌, ◌≢◌, ◌∙◌, ap, refl, sym, subst, ℕ, Bool, true, false, List, [], ◌∷◌, ◌++◌, append-nil, Option, Some, None, Result, Ok, Err}
+use Rattle.std.specs.Prelude.{◌||◌, if◌then◌else◌}
+use Rattle.std.specs.Option.{is_some, option_to_list}
+use Rattle.std.specs.declared.alloc.AllocError.{AllocError}
+use Rattle.courier_messages.specs.RawCalls.{RawCall}
+use Rattle.courier_messages.specs.declared.message.Message.{Message}
+use Rattle.courier_sessions.specs.Answering.{answer_message}
+use Rattle.courier_sessions.specs.declared.answer.Answer.{Answer}
+use Rattle.courier_sessions.specs.declared.program.Program.{Program}
+use Rattle.item_world.specs.declared.side.Side.{Side}
+use Rattle.xns_agenda.specs.Waiting.{act_at, lingering}
+use Rattle.xns_agenda.specs.declared.act.Act.{Act}
+use Rattle.xns_agenda.specs.declared.act.Act.TheVariants.{Nothing, Again, Ask, GiveUp, Forget}
+use Rattle.xns_spp.specs.Ends.{is_open}
+use Rattle.xns_host.specs.Acting.{Acts, idling, calling, handing, answering}
+use Rattle.xns_host.specs.Deeds as deeds
+use Rattle.xns_host.specs.Deeds.{Deed, Parts, acted_by, done, given_up, side_taken, told_by, unserved, with_answer}
+use Rattle.xns_host.specs.Living.{Deeds}
+use Rattle.xns_host.specs.Step.{AStepKeepsItsPromises, HandsBy, MovesOwed, parts_of}
+use Rattle.xns_host.specs.Story.{GoesOn as StoryGoesOn, Story, asked_of, start, waiting_message, with_handed}
+use Rattle.xns_host.specs.Telling.{Gives, Hears, Tells}
+use Rattle.xns_host.specs.Went.{GuestActs, GuestGives, GuestHears, GuestStep, GuestTells, GuestUnserved, given_by, hears, lost}
+use Rattle.xns_host.specs.declared.connection.Connection.{Connection}
+use Rattle.xns_host.specs.declared.conversation.Conversation.{Conversation}
+use Rattle.xns_host.specs.declared.guest.Guest.{Guest}
+use Rattle.xns_host.specs.declared.host_fault.HostFault.{HostFault}
+use Rattle.xns_host.specs.declared.outgoing.Outgoing.{Outgoing}
+use Rattle.xns_host.specs.declared.why.Why.TheVariants.{NotServed}
+use Rattle.host_world.specs.Guests.{GoesOn, HearsOn, LeadsTo, packets_in}
+use Rattle.host_world.specs.Meeting.{Meeting, at}
+use Rattle.host_world.specs.Meets.{Meets}
+use Rattle.host_world.specs.Pairing.{no_more, one_answer_more, one_call_more, one_message_more}
+use Rattle.host_world.specs.declared.station.Station.{Station}
+use Rattle.host_world.proofs.Gives.{gives_on_from, packet_of}
+use Rattle.host_world.proofs.Paired.{Onward, acts_on, gives_on, hears_on, then_on, told}
+use Rattle.host_world.proofs.Telling.{tells_given_up, tells_handed}
+
+-- ---- acts
+
+leads : {a b : Station} {programs : List Program} {m : Meeting} {side : Side} (h : Guest) {did : Deeds → Deeds} {gave : List (List ℕ)} → Onward a b programs m side h.connection.conversation did gave
+    → LeadsTo a b programs m side h did gave
+leads h o = record { next = o.next; meets = o.meets; same = o.conversation; does = o.does }
+
+-- the program did this, and the connection went on from where that leads
+acts_so : (c d : Conversation) (base : Story → Story) (did : Deeds → Deeds) → d.packets ≡ c.packets → ((h : Story) (l : Deeds) → Acts c h l (base h) (did l))
+    → ((h : Story) → Tells c h → (m : Story) × Tells d m × StoryGoesOn (base h) m)
+    → (a b : Station) (programs : List Program) (m : Meeting) (side : Side) → Meets a b programs m → (at m side).conversation ≡ c → Onward a b programs m side d did []
+acts_so c d base did same act on a b programs m side meets here =
+    let h = (at m side).story in
+    let goes = on h (subst (λ (k : Conversation). Tells k h) here (told meets side)) in
+    acts_on m meets side (base h) did d (subst (λ (k : Conversation). Acts k h (at m side).deeds (base h) (did (at m side).deeds)) (sym here) (act h (at m side).deeds))
+    (same ∙ sym (ap (λ (k : Conversation). k.packets) here)) goes.0 goes.1 goes.2
+
+-- from where a story is it goes on in place
+pub stays : (h : Story) → StoryGoesOn h h
+stays h = record { programs = refl; path = start; made = refl; handed = refl; taken = ([], append-nil h.taken); answers = ([], append-nil h.answers); even = refl }
+
+-- ---- the program's part
+
+pub calls : (now : ℕ) (c : RawCall) (g h : Guest) → AStepKeepsItsPromises → GuestStep now (deeds.made c) g h → GoesOn g h (one_call_more c) []
+calls now c g h law s a b programs m side meets here =
+    leads h (acts_so g.connection.conversation h.connection.conversation (λ k. record k { made = k.made ++ c ∷ [] }) (one_call_more c) s.step.packets (λ k l. calling c)
+    (λ k t. (law now (deeds.made c) g.connection h.connection k.state t.stands s.step).story k t) a b programs m side meets here)
+
+pub closes : (now : ℕ) (g h : Guest) → AStepKeepsItsPromises → GuestStep now deeds.asked g h → GoesOn g h no_more []
+closes now g h law s a b programs m side meets here =
+    leads h (acts_so g.connection.conversation h.connection.conversation (λ k. k) no_more s.step.packets (λ k l. idling)
+    (λ k t. (law now deeds.asked g.connection h.connection k.state t.stands s.step).story k t) a b programs m side meets here)
+
+pub answers : (now : ℕ) (kind : Answer) (k : ℕ) (words : List ℕ) (g h : Guest) → AStepKeepsItsPromises → GuestStep now (deeds.gave kind words) g h → asked_of g.connection.conversation.side ≡ Some k
+    → GoesOn g h (one_answer_more (answer_message kind k words)) []
+answers now kind k words g h law s asked a b programs m side meets here =
+    leads h (acts_so g.connection.conversation h.connection.conversation (λ n. record n { answers = n.answers ++ answer_message kind k words ∷ [] }) (one_answer_more (answer_message kind k words)) s.step.packets
+    (λ n l. answering kind k words asked)
+    (λ n t. subst (λ (o : Option ℕ). (v : Story) × Tells h.connection.conversation v × StoryGoesOn (with_answer o kind words n) v) asked
+    ((law now (deeds.gave kind words) g.connection h.connection n.state t.stands s.step).story n t)) a b programs m side meets here)
+
+-- ---- what is told
+
+by_hands : (b : Bool) (now : ℕ) (c d : Connection) (m : Message) (h : Story) → AStepKeepsItsPromises → waiting_message c.conversation.side ≡ Some m → Tells c.conversation h → HandsBy b now c d
+    → (v : Story) × Tells d.conversation v × StoryGoesOn (with_handed c.conversation.side h m) v
+by_hands true now c d m h law is t same =
+    let of : d.conversation ≡ record c.conversation { side = side_taken c.conversation.side } = ap (λ (p : Parts). p.conversation) same in
+    (with_handed c.conversation.side h m, subst (λ (k : Conversation). Tells k (with_handed c.conversation.side h m)) (sym of) (tells_handed c.conversation h m is t), stays (with_handed c.conversation.side h m))
+by_hands false now c d m h law is t step =
+    let on = (law now deeds.took c d h.state t.stands step).story h t in
+    subst (λ (o : Option Message). (v : Story) × Tells d.conversation v × StoryGoesOn (deeds.with_taken o c.conversation.side h) v) is on
+
+packets_by : (b : Bool) (now : ℕ) (c d : Connection) → HandsBy b now c d → d.conversation.packets ≡ c.conversation.packets
+packets_by true now c d same = ap (λ (p : Parts). p.conversation.packets) same
+packets_by false now c d step = step.packets
+
+some_waits : (o : Option Message) (m : Message) → o ≡ Some m → o ≢ None
+some_waits None m e z = absurd (cc)
+some_waits (Some n) m e z = absurd (cc)
+
+pub hands : (now : ℕ) (m : Message) (g h : Guest) → AStepKeepsItsPromises → GuestTells now g h → waiting_message g.connection.conversation.side ≡ Some m → GoesOn g h (one_message_more m) []
+hands now m g h law t is a b programs x side meets here =
+    let c = g.connection in
+    let some = some_waits (waiting_message c.conversation.side) m is in
+    let hand = λ (k : Story) (told_it : Tells c.conversation k). (t.handed some).some some k.state told_it.stands in
+    let first = hand (at x side).story (subst (λ (k : Conversation). Tells k (at x side).story) here (told meets side)) in
+    leads h (acts_so c.conversation h.connection.conversation (λ k. with_handed c.conversation.side k m) (one_message_more m)
+    (packets_by _ now c h.connection first)
+    (λ k l. handing m is)
+    (λ k told_it. by_hands _ now c h.connection m k law is told_it (hand k told_it)) a b programs x side meets here)
+
+pub tells : (now : ℕ) (g h : Guest) → GuestTells now g h → waiting_message g.connection.conversation.side ≡ None → GoesOn g h no_more []
+tells now g h t is a b programs m side meets here =
+    let same : h.connection.conversation ≡ g.connection.conversation = ap (λ (k : Connection). k.conversation) (t.closed is) in
+    leads h (acts_so g.connection.conversation h.connection.conversation (λ k. k) no_more (ap (λ (k : Conversation). k.packets) same) (λ k l. idling)
+    (λ k told_it. (k, subst (λ (c : Conversation). Tells c k) (sym same) told_it, stays k)) a b programs m side meets here)
+
+-- ---- by itself
+
+acted_on : (c : Conversation) (d : Conversation) → (h : Story) → Tells c h → d ≡ c → (m : Story) × Tells d m × StoryGoesOn h m
+acted_on c d h t same = (h, subst (λ (k : Conversation). Tells k h) (sym same) t, stays h)
+
+given_up_on : (c : Conversation) (d : Conversation) → (h : Story) → Tells c h → d ≡ given_up c → (m : Story) × Tells d m × StoryGoesOn h m
+given_up_on c d h t same = (h, subst (λ (k : Conversation). Tells k h) (sym same) (tells_given_up c h t), stays h)
+
+acts_by : (c d : Connection) (now : ℕ) (act : Act) → parts_of d ≡ acted_by (parts_of c) act now
+    → (d.conversation.packets ≡ c.conversation.packets) × ((h : Story) → Tells c.conversation h → (m : Story) × Tells d.conversation m × StoryGoesOn h m)
+acts_by c d now Nothing is = let same = ap (λ (p : Parts). p.conversation) is in (ap (λ (k : Conversation). k.packets) same, λ h t. acted_on c.conversation d.conversation h t same)
+acts_by c d now Again is = let same = ap (λ (p : Parts). p.conversation) is in (ap (λ (k : Conversation). k.packets) same, λ h t. acted_on c.conversation d.conversation h t same)
+acts_by c d now Ask is = let same = ap (λ (p : Parts). p.conversation) is in (ap (λ (k : Conversation). k.packets) same, λ h t. acted_on c.conversation d.conversation h t same)
+acts_by c d now GiveUp is = let same = ap (λ (p : Parts). p.conversation) is in (ap (λ (k : Conversation). k.packets) same, λ h t. given_up_on c.conversation d.conversation h t same)
+acts_by c d now Forget is = let same = ap (λ (p : Parts). p.conversation) is in (ap (λ (k : Conversation). k.packets) same, λ h t. acted_on c.conversation d.conversation h t same)
+
+pub acts : (now : ℕ) (g h : Guest) → GuestActs now g h → GoesOn g h no_more []
+acts now g h s a b programs m side meets here =
+    let on = acts_by g.connection h.connection now (act_at g.connection.wait now) s.parts in
+    leads h (acts_so g.connection.conversation h.connection.conversation (λ k. k) no_more on.0 (λ k l. idling) on.1 a b programs m side meets here)
+
+unserved_by : (b : Bool) (c d : Connection) (now : ℕ)
+    → parts_of d ≡ (if b then parts_of c else record (parts_of c) { conversation = given_up c.conversation; closed = Some NotServed; wait = lingering c.wait now })
+    → (d.conversation.packets ≡ c.conversation.packets) × ((h : Story) → Tells c.conversation h → (m : Story) × Tells d.conversation m × StoryGoesOn h m)
+unserved_by true c d now is = let same = ap (λ (p : Parts). p.conversation) is in (ap (λ (k : Conversation). k.packets) same, λ h t. acted_on c.conversation d.conversation h t same)
+unserved_by false c d now is = let same = ap (λ (p : Parts). p.conversation) is in (ap (λ (k : Conversation). k.packets) same, λ h t. given_up_on c.conversation d.conversation h t same)
+
+pub not_served : (now : ℕ) (g h : Guest) → GuestUnserved now g h → GoesOn g h no_more []
+not_served now g h s a b programs m side meets here =
+    let k = (at m side).story in
+    let t = subst (λ (c : Conversation). Tells c k) here (told meets side) in
+    let on = unserved_by (is_open k.state.ends || is_some g.connection.closed) g.connection h.connection now (s.parts k.state t.stands) in
+    leads h (acts_so g.connection.conversation h.connection.conversation (λ n. n) no_more on.0 (λ n l. idling) on.1 a b programs m side meets here)
+
+-- ---- what goes out
+
+owed_on : (b : Bool) (now : ℕ) (c d : Connection) → AStepKeepsItsPromises → MovesOwed b now c d
+    → (d.conversation.packets ≡ c.conversation.packets) × ((h : Story) → Tells c.conversation h → (m : Story) × Tells d.conversation m × StoryGoesOn h m)
+owed_on true now c d law step = (step.packets, λ h t. (law now deeds.nothing c d h.state t.stands step).story h t)
+owed_on false now c d law same =
+    let is = ap (λ (k : Connection). k.conversation) same in
+    (ap (λ (k : Conversation). k.packets) is, λ h t. acted_on c.conversation d.conversation h t is)
+
+packets_given : (way : ℕ) (left : Bool) (answer : Result (Option (List ℕ)) AllocError) → packets_in (given_by way left answer) ≡ option_to_list (packet_of answer)
+packets_given way left (Ok (Some p)) = refl
+packets_given way true (Ok None) = refl
+packets_given way false (Ok None) = refl
+packets_given way left (Err e) = refl
+
+pub gives : (now : ℕ) (result : Result (Option Outgoing) HostFault) (g h : Guest) → AStepKeepsItsPromises → GuestGives now result g h → GoesOn g h no_more (packets_in result)
+gives now result g h law s a b programs m side meets here =
+    let n = s.gave in
+    let mid = n.mid in
+    let owed = owed_on g.connection.owed.moving now g.connection mid law n.moved in
+    let one = acts_so g.connection.conversation mid.conversation (λ k. k) no_more owed.0 (λ k l. idling) owed.1 a b programs m side meets here in
+    let out = gives_on_from mid.conversation h.connection.conversation mid.owed h.connection.owed s.answer n.beside.0 n.beside.1 n.gave n.short in
+    let two = gives_on one.next one.meets side (packet_of s.answer) h.connection.conversation (subst (λ (k : Conversation). Gives k h.connection.conversation (packet_of s.answer)) (sym one.conversation) out) in
+    subst (LeadsTo a b programs m side h no_more) (sym (ap packets_in s.is ∙ packets_given g.via h.connection.owed.fresh s.answer)) (leads h (then_on one two))
+
+-- ---- what comes
+
+pub hears_it : (now : ℕ) (bytes : List ℕ) (confirming : Bool) (g h : Guest) → AStepKeepsItsPromises → GuestHears now bytes confirming g h → HearsOn g h no_more bytes
+hears_it now bytes confirming g h law (hears {h = k} s) a b programs m side meets here may =
+    let n = (at m side).story in
+    let t = subst (λ (c : Conversation). Tells c n) here (told meets side) in
+    let p = law now (deeds.heard bytes) g.connection k.connection n.state t.stands s.step in
+    let heard_so : Hears g.connection.conversation k.connection.conversation bytes = record { wanted = λ z. p.wanted ∙ z; on = p.story } in
+    leads k (hears_on m meets side bytes k.connection.conversation (subst (λ (c : Conversation). Hears c k.connection.conversation bytes) (sym here) heard_so)
+    (s.step.packets ∙ sym (ap (λ (c : Conversation). c.packets) here)) may)
+hears_it now bytes confirming g h law (lost stores) a b programs m side meets here may =
+    leads g (acts_so g.connection.conversation g.connection.conversation (λ k. k) no_more refl (λ k l. idling) (λ k t. (k, t, stays k)) a b programs m side meets here)

@@ -1,0 +1,46 @@
+//! The nodes of tables.
+
+/// What a node stands for.
+#[derive(Clone, Copy, Debug, PartialEq, Eq)]
+pub enum NodeKind {
+    Boolean,
+    Cardinal,
+    LongCardinal,
+    Integer,
+    LongInteger,
+    Unspecified,
+    /// A string.
+    Text,
+    /// An enumeration. Its parts are its members.
+    Enumeration,
+    /// A member of an enumeration. Its number is its word.
+    Member,
+    /// An array. Its number is how many elements it has, and its part the type of one.
+    Array,
+    /// A sequence. Its number is how many elements it has at most, and its part the type of one.
+    Sequence,
+    /// A record. Its parts are the types of its components, each by the component's name.
+    Record,
+    /// A choice. Its parts are its candidates.
+    Choice,
+    /// A candidate of a choice. Its number is its designator, and its part the type of its value.
+    Candidate,
+    /// A constant that is a number.
+    Constant,
+    /// A procedure by its number. Its parts are two records: the arguments, and the results.
+    Procedure,
+    /// An error by its number. Its part is the record of its arguments.
+    Error,
+}
+
+/// A node of a table. Its parts stand behind it, each with its own parts.
+#[derive(Debug, Drop)]
+pub struct Node {
+    pub kind: NodeKind,
+    /// What the kind says; 0 where it says nothing.
+    pub number: u32,
+    /// How many parts it has, without theirs.
+    pub parts: usize,
+    /// The name that it is declared by; empty where it has none.
+    pub name: Vec<u8>,
+}

@@ -1,0 +1,250 @@
+"""Programs by name: reading descriptions, typed clients and typed servers, each against the other, against words, and against the programs of C where TALLY_C names
+the folder of `server` and `client`."""
+import asyncio
+import enum
+import os
+import pathlib
+import pydoc
+import subprocess
+import threading
+import unittest
+
+import xns
+from relay import bound
+from test_tally import C, Serving, total
+
+EXAMPLES = pathlib.Path(__file__).resolve().parents[2] / "examples"
+TALLY = EXAMPLES / "courier" / "tally.courier"
+SERVER, CLIENT = xns.Address(1, bytes.fromhex("0000aa000102"), 5), xns.Address(1, bytes.fromhex("0000aa000304"), 1024)
+OLD_TALLY = b"Tally: PROGRAM 7 VERSION 1 = BEGIN Add: PROCEDURE [amount: CARDINAL] RETURNS [total: LONG CARDINAL] = 1; END."
+SHAPES = b"""Shapes: PROGRAM 4660 VERSION 2 =
+BEGIN
+    most: CARDINAL = 3;
+    Color: TYPE = {red(0), green(7)};
+    Point: TYPE = RECORD [x, y: INTEGER];
+    Lost: ERROR [why: STRING, code: UNSPECIFIED, args: BOOLEAN] = 9;
+    Draw: PROCEDURE [points: SEQUENCE most OF Point, color: Color] RETURNS [done: BOOLEAN, last: Point] REPORTS [Lost] = 5;
+    Ask: PROCEDURE [from: LONG INTEGER] RETURNS [one: CHOICE Color OF {red => LONG INTEGER, green => ARRAY 2 OF LONG CARDINAL}] = 6;
+    Nothing: PROCEDURE = 7;
+    Absent: PROCEDURE = 8;
+END.
+"""
+
+
+class Service:
+    """A tally by name."""
+
+    def __init__(self, tally):
+        self.tally, self.total = tally, 0
+
+    def Add(self, amount):
+        if self.total + amount > self.tally.most:
+            raise self.tally.Limit(self.total)
+        self.total += amount
+        return self.total
+
+    def Total(self):
+        return self.total
+
+
+class Drawing:
+    def __init__(self, shapes):
+        self.shapes = shapes
+
+    def Draw(self, points, color):
+        if color == self.shapes.Color.red:
+            raise self.shapes.Lost(why=b"red\n", code=len(points), args=True)
+        return True, points[-1]
+
+    def Ask(self, from_):
+        if from_ == 1:
+            return "one"  # no value of the type
+        return ("red", from_) if from_ < 0 else ("green", [from_, 4_000_000_000])
+
+    def Nothing(self):
+        pass
+
+
+class ReadingTest(unittest.TestCase):
+    def test_examples(self):
+        programs = xns.read_programs(*sorted(path for path in (EXAMPLES / "courier").iterdir()))
+        self.assertEqual(set(programs), {"Authentication", "Clearinghouse", "Tally", "Time"})
+        self.assertEqual((programs["Tally"].number, programs["Tally"].version, programs["Tally"].most), (7, 2, 1_000_000))
+        with self.assertRaises(KeyError):
+            programs["Filing"]
+        with self.assertRaises(AttributeError):
+            programs["Tally"].Sub
+
+    def test_faults(self):
+        programs = xns.Programs()
+        programs.read(SHAPES)
+        for text, told in ((b"", "f:1:1 NoName"), (SHAPES, "f:1:1 DoubledProgram"), (b"A: PROGRAM 1 VERSION 1 = BEGIN\n a: TYPE = b; END.", "f:2:12 UnknownName")):
+            with self.assertRaises(xns.WrongTextError) as raised:
+                programs.read(text, "f")
+            self.assertEqual(str(raised.exception), told)
+            self.assertEqual(told, f"f:{raised.exception.line}:{raised.exception.column} {raised.exception.reason}")
+        self.assertEqual(list(programs), ["Shapes"])
+        with self.assertRaises(FileNotFoundError):
+            xns.read_programs("/nowhere.courier")
+
+    def test_texts(self):
+        programs = xns.read_programs(TALLY)
+        self.assertEqual(programs.call_text(7, 2, 1, [5]), "Tally 7.2 Add [amount: 5]")
+        self.assertEqual(programs.return_text(7, 2, 1, [0, 5]), "Add [total: 5]")
+        self.assertEqual(programs.abort_text(7, 2, 1, [0, 5]), "Limit [total: 5]")
+        self.assertIsNone(programs.call_text(7, 1, 1, [5]))
+        with self.assertRaises(xns.LeftOverError) as raised:
+            programs.call_text(7, 2, 1, [5, 6])
+        self.assertEqual(raised.exception.place, 1)
+
+    def test_a_long_text(self):
+        programs = xns.Programs()
+        programs.read(b"Long: PROGRAM 1 VERSION 1 = BEGIN Say: PROCEDURE [what: STRING] = 0; END.")
+        self.assertEqual(programs.call_text(1, 1, 0, xns.Writer().text(b"x" * 5000).words), f"Long 1.1 Say [what: \"{'x' * 5000}\"]")
+
+    def test_types(self):
+        shapes = xns.Programs().read(SHAPES)
+        self.assertTrue(issubclass(shapes.Color, enum.IntEnum))
+        self.assertEqual([(one.name, one) for one in shapes.Color], [("red", 0), ("green", 7)])
+        self.assertEqual(shapes.Point(1, y=2), (1, 2))
+        told = pydoc.plain(pydoc.render_doc(shapes.client(None)))
+        self.assertIn("Draw(self, points: List[Shapes.Point], color: Shapes.Color) -> Shapes.DrawResults", told)
+        self.assertIn("Ask(self, from_: int)", told)
+        self.assertIn("Nothing(self) -> None", told)
+
+
+class Served(unittest.TestCase):
+    """A typed server that runs, and clients of it."""
+
+    def served(self, program, service):
+        udp, stops = bound(), threading.Event()
+        self.addCleanup(udp.close)
+        thread = threading.Thread(target=xns.serve, args=(udp, SERVER, [program.served], program.server(service)), kwargs={"stop": stops}, daemon=True)
+        thread.start()
+        self.addCleanup(thread.join, 10)
+        self.addCleanup(stops.set)
+        return udp.getsockname()
+
+    def client(self, place):
+        udp = bound()
+        self.addCleanup(udp.close)
+        client = xns.Client(udp, place, CLIENT, SERVER, timeout=30)
+        self.addCleanup(client.close)
+        return client
+
+
+class ServedTest(Served):
+    def test_a_tally(self):
+        tally = xns.read_programs(TALLY)["Tally"]
+        client = self.client(self.served(tally, Service(tally)))
+        by_name = tally.client(client)
+        self.assertEqual((by_name.Total(), by_name.Add(5), by_name.Add(amount=6), by_name.Total()), (0, 5, 11, 11))
+        self.assertEqual(client.call(7, 2, 1, [1])[1:], (xns.Kind.RETURN, 0, [0, 12]))  # by words
+        with self.assertRaises(tally.Limit) as raised:
+            for _ in range(16):
+                by_name.Add(65535)
+        self.assertEqual((raised.exception.total, raised.exception.code, raised.exception.fields), (12 + 15 * 65535, 1, (983037,)))
+        self.assertEqual(client.call(7, 2, 1, [65535])[1:], (xns.Kind.ABORT, 1, [14, 65533]))
+        for words in ([], [1, 2]):
+            self.assertEqual(client.call(7, 2, 1, words)[1:], (xns.Kind.REJECT, xns.Reject.INVALID_ARGUMENTS, []))
+        self.assertEqual(client.call(7, 2, 3)[1:], (xns.Kind.REJECT, xns.Reject.NO_SUCH_PROCEDURE, []))
+        for wrong, error in (((70000,), ValueError), ((-1,), ValueError), (("5",), TypeError), ((), TypeError), ((1, 2), TypeError)):
+            with self.assertRaises(error):
+                by_name.Add(*wrong)
+        self.assertEqual(by_name.Total(), 983037)
+
+    def test_shapes(self):
+        shapes = xns.Programs().read(SHAPES)
+        by_name = shapes.client(self.client(self.served(shapes, Drawing(shapes))))
+        drawn = by_name.Draw([(1, -2), shapes.Point(3, 4)], shapes.Color.green)
+        self.assertEqual((drawn, drawn.last.y), ((True, (3, 4)), 4))
+        self.assertEqual((by_name.Ask(-5), by_name.Ask(from_=7), by_name.Nothing()), (("red", -5), ("green", [7, 4_000_000_000]), None))
+        with self.assertRaises(shapes.Lost) as raised:
+            by_name.Draw([], 0)
+        self.assertEqual((raised.exception.why, raised.exception.code, raised.exception.args), (b"red\n", 0, True))
+        for points, color in (([(1, 2)] * 4, 7), ([(1, 32768)], 7), ([], 5)):
+            with self.assertRaisesRegex(ValueError, "points|color"):
+                by_name.Draw(points, color)
+        for points, color in (([1], 7), (b"", 7), ([(1, b"")], 7), ([], "green")):
+            with self.assertRaisesRegex(TypeError, "points|color"):
+                by_name.Draw(points, color)
+        with self.assertRaises(xns.RejectedError) as rejected:
+            by_name.Absent()
+        self.assertEqual(rejected.exception.reason, xns.Reject.NO_SUCH_PROCEDURE)
+        with self.assertLogs("xns", "ERROR"), self.assertRaises(xns.RejectedError) as rejected:
+            by_name.Ask(1)
+        self.assertEqual(rejected.exception.reason, xns.UNSPECIFIED)
+
+    def test_what_is_not_declared(self):
+        shapes = xns.Programs().read(SHAPES)
+        answers = {5: xns.aborts(4, [1, 2]), 6: xns.returns([7, 0, 1]), 7: xns.returns([1]), 8: xns.aborts(9, [5])}
+        udp, stops = bound(), threading.Event()
+        self.addCleanup(udp.close)
+        thread = threading.Thread(target=xns.serve, args=(udp, SERVER, [], lambda call: answers[call.procedure], None, stops), daemon=True)
+        thread.start()
+        self.addCleanup(thread.join, 10)
+        self.addCleanup(stops.set)
+        by_name = shapes.client(self.client(udp.getsockname()))
+        with self.assertRaises(xns.AbortedError) as raised:
+            by_name.Draw([], 7)
+        self.assertEqual((type(raised.exception), raised.exception.code, raised.exception.words), (xns.AbortedError, 4, [1, 2]))
+        with self.assertRaises(xns.TruncatedError):
+            by_name.Ask(0)
+        with self.assertRaises(xns.LeftOverError):
+            by_name.Nothing()
+        with self.assertRaises(xns.TruncatedError):
+            by_name.Absent()
+
+    def test_in_a_loop_of_asyncio(self):
+        tally = xns.read_programs(TALLY)["Tally"]
+
+        class Later(Service):
+            async def Add(self, amount):
+                await asyncio.sleep(0)
+                return super().Add(amount)
+
+        async def both():
+            stops = asyncio.Event()
+            with bound() as udp, bound() as other:
+                serving = asyncio.ensure_future(xns.serve_async(udp, SERVER, [tally.served], tally.server(Later(tally)), stop=stops))
+                async with xns.AsyncClient(other, udp.getsockname(), CLIENT, SERVER, timeout=30) as client:
+                    by_name = tally.client(client)
+                    told = [await by_name.Add(5), await by_name.Total()]
+                    try:
+                        while True:
+                            await by_name.Add(65535)
+                    except tally.Limit as error:
+                        told.append(error.total)
+                stops.set()
+                await serving
+            return told
+
+        self.assertEqual(asyncio.run(both()), [5, 5, 983030])
+
+
+@unittest.skipUnless(C, "TALLY_C names no programs of C")
+class CrosswiseTest(Served):
+    def test_a_typed_client_and_a_server_of_c(self):
+        tally = xns.Programs().read(OLD_TALLY)
+        with Serving(C[0]) as serving:
+            client = self.client(serving.place)
+            self.assertEqual([tally.client(client).Add(amount) for amount in (5, 65535, 1)], [5, 65540, 65541])
+            client.close()
+
+    def test_a_client_of_c_and_a_typed_server(self):
+        tally = xns.Programs().read(OLD_TALLY)
+
+        class Sums:
+            total = 0
+
+            def Add(self, amount):
+                self.total += amount
+                return self.total
+
+        _, port = self.served(tally, Sums())
+        ended = subprocess.run([*C[1], str(port), "5", "65535", "1"], stdout=subprocess.PIPE, text=True, timeout=60, env=os.environ)
+        self.assertEqual([total(line) for line in ended.stdout.splitlines()], [5, 65540, 65541])
+
+
+if __name__ == "__main__":
+    unittest.main()
