@@ -1,5 +1,6 @@
 #!/usr/bin/env python3
-"""Writes 65,536 packets in hex, one a line, that carry calls of Courier. The word says which:
+"""Writes 65,536 packets in hex, one a line, that carry calls of Courier; or, with the word `pcap` behind, a capture of them, each in a frame
+of Ethernet. The first word says which:
 
     short      one connection of calls with one argument and their answers
     reversed   one flow of short calls whose items come in reverse order, 63 at a time
@@ -8,6 +9,7 @@
     endless    one flow of full packets that never ends a message; each line has 4,096 digits
     endless-flows    the same, each packet in a flow of its own
 """
+import struct
 import sys
 
 PACKETS = 65536
@@ -69,5 +71,15 @@ def packets(which):
         sys.exit(__doc__)
 
 
-for line in packets(sys.argv[1] if len(sys.argv) == 2 else ""):
-    print(line)
+def write_capture(lines, file):
+    file.write(struct.pack("<IHHiIII", 0xA1B2C3D4, 2, 4, 0, 0, 262144, 1))
+    for number, line in enumerate(lines):
+        frame = HOSTS[0] + HOSTS[1] + b"\6\0" + bytes.fromhex(line)
+        file.write(struct.pack("<IIII", 1700000000 + number // 1000, number % 1000 * 1000, len(frame), len(frame)) + frame)
+
+
+if sys.argv[2:] == ["pcap"]:
+    write_capture(packets(sys.argv[1]), sys.stdout.buffer)
+else:
+    for line in packets(sys.argv[1] if len(sys.argv) == 2 else ""):
+        print(line)

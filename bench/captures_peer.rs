@@ -1,10 +1,12 @@
-// A plain Rust `calls` (no proofs, std alone): what a user would write without us, to be timed beside `xns calls`. It prints the same lines.
+// A plain Rust `calls` (no proofs, std alone): what a user would write without us, to be timed beside `xns calls`. It prints the same lines,
+// of lines of hex on standard input or of the capture that its word names.
 #[path = "peer/packets.rs"]
 mod packets;
 
 use packets::{be, cycle, nearest, next_line, nibble};
 use std::collections::{BTreeMap, HashMap};
-use std::io::{self, Write};
+use std::fs::File;
+use std::io::{self, Read, Write};
 
 // A flow: host, socket and identifier of its source, then of its target.
 type Key = [u8; 20];
@@ -122,25 +124,60 @@ fn address(out: &mut Vec<u8>, b: &[u8], id: &[u8]) {
     write!(out, "{:08x}.{:012x}.{:04x} id {:04x}", be(&b[..4]), be(&b[4..10]), be(&b[10..12]), be(id)).unwrap();
 }
 
+// Where packets come from: lines of hex, or a file of Ethernet frames, classic pcap of the lower byte first.
+enum Source<'a> { Lines(io::StdinLock<'a>, Vec<u8>), Capture(io::BufReader<File>) }
+
+impl Source<'_> {
+    // The next packet, if a line or a frame has one; none at the end.
+    fn next(&mut self, n: &mut u64, bytes: &mut Vec<u8>, out: &mut Vec<u8>, refused: &mut bool) -> Option<bool> {
+        bytes.clear();
+        match self {
+            Source::Lines(input, line) => {
+                if !next_line(input, line) { return None; }
+                *n += 1;
+                if line.len() % 2 == 1 { *refused = true; writeln!(out, "{n} hex refused OddLength").unwrap(); return Some(false); }
+                if let Some(p) = line.iter().position(|c| nibble(*c).is_none()) { *refused = true; writeln!(out, "{n} hex refused Digit {p}").unwrap(); return Some(false); }
+                for p in line.chunks_exact(2) { bytes.push(nibble(p[0]).unwrap() << 4 | nibble(p[1]).unwrap()); }
+                Some(true)
+            }
+            Source::Capture(input) => {
+                let mut head = [0; 16];
+                if input.read_exact(&mut head).is_err() { return None; }
+                *n += 1;
+                let count = u32::from_le_bytes([head[8], head[9], head[10], head[11]]) as usize;
+                let mut ethernet = [0; 14];
+                let front = count.min(14);
+                input.read_exact(&mut ethernet[..front]).unwrap();
+                bytes.resize(count - front, 0);
+                input.read_exact(bytes).unwrap();
+                Some(front == 14 && ethernet[12..] == [6, 0])
+            }
+        }
+    }
+}
+
 fn main() {
     let stdin = io::stdin();
-    let mut input = stdin.lock();
+    let mut source = match std::env::args().nth(1) {
+        Some(path) => {
+            let mut input = io::BufReader::with_capacity(65536, File::open(path).unwrap());
+            input.read_exact(&mut [0; 24]).unwrap();
+            Source::Capture(input)
+        }
+        None => Source::Lines(stdin.lock(), Vec::new()),
+    };
     let stdout = io::stdout();
-    let mut output = io::BufWriter::new(stdout.lock());
-    let (mut line, mut bytes, mut out) = (Vec::new(), Vec::new(), Vec::new());
+    let mut output = io::BufWriter::with_capacity(65536, stdout.lock());
+    let (mut bytes, mut out) = (Vec::new(), Vec::new());
     let mut n = 0u64;
     let mut refused = false;
     let mut places: HashMap<Key, usize> = HashMap::new();
     let mut connections: Vec<[Side; 2]> = Vec::new();
     let mut flows: Vec<(usize, usize)> = Vec::new();
-    while next_line(&mut input, &mut line) {
-        n += 1;
+    while let Some(found) = source.next(&mut n, &mut bytes, &mut out, &mut refused) {
         output.write_all(&out).unwrap();
         out.clear();
-        bytes.clear();
-        if line.len() % 2 == 1 { refused = true; writeln!(out, "{n} hex refused OddLength").unwrap(); continue; }
-        if let Some(p) = line.iter().position(|c| nibble(*c).is_none()) { refused = true; writeln!(out, "{n} hex refused Digit {p}").unwrap(); continue; }
-        for p in line.chunks_exact(2) { bytes.push(nibble(p[0]).unwrap() << 4 | nibble(p[1]).unwrap()); }
+        if !found { continue; }
         let have = bytes.len();
         if have < 30 { refused = true; writeln!(out, "{n} idp refused Short {have}").unwrap(); continue; }
         let length = be(&bytes[2..4]) as usize;

@@ -24,7 +24,8 @@ prints the medians and their ratio.
     python3 bench/compare.py dump         `xns dump` of 65,536 packets in hex: of types that no layer reads, of types 2 to 4, sequenced ones of 1, 1,000 and
                                           65,536 flows, and those that end messages of Courier; and the largest resident memory of each
     python3 bench/compare.py captures     `xns calls` of 65,536 packets in hex: short calls of one connection, out of order, long ones, each in a flow
-                                          of its own, and messages that never end; beside a peer and beside `xns dump` of the same
+                                          of its own, and messages that never end; beside a peer and beside `xns dump` of the same; and of captures
+                                          of them, beside the same peer, by time and by instructions
     python3 bench/compare.py loopback     calls Add over UDP on this machine, of one client of the library for C and of 16, beside ONC RPC by libtirpc, over UDP
                                           and TCP, and beside bare datagrams; and 100,000 bytes there and back, at the default window and at
                                           window 64, beside bare datagrams and ONC RPC over TCP. Processor time of both sides, and instructions
@@ -39,9 +40,9 @@ The proved program is built by `rt run` in its crate, the peer by `rustc -O`. Ab
 ratio is of processor time in one run. What is printed is thrown away, once it is known that both print the same; that of `xns dump` goes
 into a file too, which costs both the same time of the system's.
 """
-import os, pathlib, statistics, subprocess, sys, tempfile, time
+import os, pathlib, re, statistics, subprocess, sys, tempfile, time
 
-from building import BENCH, EXAMPLES, TIRPC, built_c, built_peer, built_program, built_shared, has_gcc, has_tirpc
+from building import BENCH, EXAMPLES, TIRPC, built_c, built_peer, built_program, built_shared, has_gcc, has_tirpc, has_valgrind
 from loopback import Kind, bare_datagrams, compare_kinds, onc_rpc, ours_over_udp
 
 RUNS = 5
@@ -74,6 +75,14 @@ def held_by(words, given):
             most = max([most, *(int(line.split()[1]) for line in status.splitlines() if line.startswith("VmHWM"))])
             time.sleep(0.005)
     return most
+
+
+def instructions_of(words, given):
+    """How many instructions one run has, by callgrind."""
+    with open(given, "rb") as lines, tempfile.NamedTemporaryFile() as found:
+        counting = ["valgrind", "--tool=callgrind", f"--callgrind-out-file={found.name}"]
+        said = subprocess.run([*counting, *words], stdin=lines, stdout=subprocess.DEVNULL, stderr=subprocess.PIPE, check=False, text=True).stderr
+    return int(re.search(r"Collected : ([0-9]+)", said).group(1))
 
 
 def compare(ours, peer, given, to=os.devnull, runs=RUNS):
@@ -223,6 +232,16 @@ def time_captures(folder, given):
         dump = statistics.median(seconds_of([ours, "dump"], given) for _ in range(RUNS))
         print(f"    {medians['ours'] / dump:.2f} of the time of dump; ours holds {held_by([ours, 'calls'], given)} KiB at most, the peer {held_by([peer], given)}")
         yield f"`xns calls` of 65,536 packets, {which}", "captures_peer", ratio_of(medians)
+    given.write_bytes(b"")
+    capture = pathlib.Path(folder) / "capture.pcap"
+    for which in ("short", "reversed", "long", "flows"):
+        capture.write_bytes(made_by("captures.py", which, "pcap"))
+        print(f"{which}, of a capture:", end=" ", flush=True)
+        ratio = ratio_of(compare([ours, "calls", capture], [peer, capture], given))
+        if has_valgrind():
+            counts = [instructions_of([*words, capture], given) for words in ([ours, "calls"], [peer])]
+            print(f"    ours {counts[0]:,} instructions, the peer {counts[1]:,}: {counts[0] / counts[1]:.2f}")
+        yield f"`xns calls x.pcap` of 65,536 packets, {which}", "captures_peer", ratio
 
 
 CALL_SIZES = (56, 50)  # bytes of the packets of a call Add, and of its answer

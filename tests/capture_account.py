@@ -3,10 +3,13 @@
 
     capture_account.py FILE        prints the numbered packets of a capture, a line `N HEX` for each, where N is the number
                                    of the frame, from 1. A fault is named on standard error, and the status is then 3.
+    capture_account.py --times FILE    prints standard input, which is what `calls` says of the capture, with the times of its frames;
+    capture_account.py --times=relative FILE    the same, in seconds since the first frame
 
 Faults: NoCapture, Cut, TooLong, Lengths, Order, Version, NoInterface, TooManyInterfaces.
 """
 import sys
+from fractions import Fraction
 
 MOST_FRAME = 262144
 MOST_BLOCK = 16777216
@@ -41,6 +44,31 @@ class Source:
         return taken
 
 
+def resolution_of(options, number):
+    """The resolution of an interface's times by its options: how many units a second has, and the digits of one."""
+    at = 0
+    while at + 4 <= len(options):
+        code, length = number(options, at, 2), number(options, at + 2, 2)
+        if code == 0:
+            break
+        if code == 9 and length == 1:
+            power = options[at + 4] if at + 4 < len(options) else 0
+            if power >= 128:
+                return (2 ** (power - 128), 9) if power < 192 else None
+            return (10 ** power, min(power, 9)) if power < 20 else None
+        at += 4 + length + -length % 4
+    return 10 ** 6, 6
+
+
+def time_of(resolution, high, low):
+    """The time of a count of units, or None where it is not known, and its digits."""
+    if resolution is None:
+        return None, 0
+    units, digits = resolution
+    time = Fraction((high << 32) + low, units)
+    return time if time * 10 ** 9 < 2 ** 64 else None, digits
+
+
 def frames_of_classic(source, order):
     """The frames of a classic capture, whose numbers have their bytes in that order."""
     header = source.take(24)
@@ -51,12 +79,14 @@ def frames_of_classic(source, order):
     if (number(header, 4, 2), number(header, 6, 2)) != (2, 4):
         raise Fault("Version")
     link = number(header, 20, 4) & 0xFFFF
+    digits = 9 if number(header, 0, 4) == 0xA1B23C4D else 6
     while not source.is_empty():
         head = source.peek(16)
         captured = number(head, 8, 4)
         if captured > MOST_FRAME:
             raise Fault("TooLong")
-        yield link, source.take(16 + captured)[16:]
+        time = Fraction(number(head, 4, 4), 10 ** digits) + number(head, 0, 4)
+        yield link, source.take(16 + captured)[16:], (time, digits)
 
 
 def frames_of_blocks(source):
@@ -98,7 +128,7 @@ def frames_of_blocks(source):
         elif kind == 1:
             if len(interfaces) >= MOST_INTERFACES:
                 raise Fault("TooManyInterfaces")
-            interfaces.append((number(block, 8, 2), number(block, 12, 4)))
+            interfaces.append((number(block, 8, 2), number(block, 12, 4), resolution_of(block[16:total - 4], number)))
         elif kind in (2, 3, 6):
             if kind == 6:
                 which = number(block, 8, 4)
@@ -108,7 +138,7 @@ def frames_of_blocks(source):
                 which = 0
             if which >= len(interfaces):
                 raise Fault("NoInterface")
-            link, most = interfaces[which]
+            link, most, resolution = interfaces[which]
             if kind == 3:
                 start, captured = 12, number(block, 8, 4)
                 if most and most < captured:
@@ -119,13 +149,14 @@ def frames_of_blocks(source):
                 raise Fault("TooLong")
             if start + captured > room:
                 raise Fault("Lengths")
-            yield link, block[start:start + captured]
+            time = None if kind == 3 else time_of(resolution, number(block, 12, 4), number(block, 16, 4))
+            yield link, block[start:start + captured], time
         elif kind in COUNTED:
-            yield 0, b""
+            yield 0, b"", None
 
 
 def frames_of(data):
-    """The frames of a capture: pairs of a link type and bytes."""
+    """The frames of a capture: each with its link type, its bytes, and its time with the digits of that, or None."""
     source = Source(data)
     first = data[:4].hex()
     if first == "0a0d0d0a":
@@ -192,7 +223,7 @@ def packets_of(data):
     """The packets of a capture, each with the number of its frame, and the name of the fault, or None."""
     packets = []
     try:
-        for number, (link, frame) in enumerate(frames_of(data), 1):
+        for number, (link, frame, _) in enumerate(frames_of(data), 1):
             packet = packet_of(link, frame)
             if packet is not None:
                 packets.append((number, packet))
@@ -201,7 +232,42 @@ def packets_of(data):
     return packets, None
 
 
+def seconds(time, digits):
+    """Seconds with so many digits, rounded down towards 0 from billionths of a second."""
+    billionths = abs(time)
+    text = f"{billionths // 10 ** 9}"
+    if digits:
+        text += "." + f"{billionths % 10 ** 9:09}"[:digits]
+    return "-" + text if time < 0 else text
+
+
+def with_times(data, text, is_relative):
+    """The text of `calls` with the time of the frame before each line, and behind each answer how long its call took."""
+    times = []
+    try:
+        for _, _, time in frames_of(data):
+            times.append(time)
+    except Fault:
+        pass
+    first = next((time[0] for time in times if time), None) if is_relative else Fraction(0)
+    known = [time and time[0] is not None and first is not None and (time[0] * 10 ** 9 // 1, time[1]) for time in times]
+    since = None if first is None else first * 10 ** 9 // 1
+    lines = []
+    for line in text.splitlines():
+        words = line.split(" ")
+        time = known[int(words[0]) - 1]
+        if len(words) > 5 and words[4] == "of":
+            call = known[int(words[5]) - 1] if words[5] != "-" else None
+            line += " took " + (seconds(time[0] - call[0], time[1]) if time and call else "-")
+        lines.append((seconds(time[0] - since, time[1]) if time else "-") + " " + line + "\n")
+    return "".join(lines)
+
+
 def main(words):
+    if len(words) == 2 and words[0] in ("--times", "--times=relative"):
+        with open(words[1], "rb") as file:
+            sys.stdout.write(with_times(file.read(), sys.stdin.read(), words[0] == "--times=relative"))
+        return 0
     if len(words) != 1:
         sys.stderr.write(__doc__)
         return 2

@@ -118,6 +118,19 @@ grep -E '^[0-9]+ 2[ab] ' calls_expected > second_expected
 xns calls calls.pcap | grep -E '^[0-9]+ 2[ab] ' > from_second
 same 'one conversation' second_expected from_second
 
+# The times before its lines, beside tshark's, which always have nine digits.
+editcap -F pcapng calls.pcap calls.pcapng 2> /dev/null
+editcap -F nsecpcap calls.pcap calls_nano.pcap 2> /dev/null
+for kind in calls.pcap calls.pcapng calls_nano.pcap; do
+    for style in --times:frame.time_epoch --times=relative:frame.time_relative; do
+        tshark -r $kind -T fields -e frame.number -e "${style#*:}" 2> /dev/null | awk '{sub(/0+$/, "", $2); print $2, $1}' | sort > frame_times
+        xns calls "${style%:*}" $kind | awk '{sub(/0+$/, "", $1); print $1, $2}' | sort -u > line_times
+        if [ -s line_times ]; then comm -23 line_times frame_times; else echo none; fi > strange_times
+        : > nothing
+        same "times of $kind, ${style%:*}" nothing strange_times
+    done
+done
+
 # ---- identifiers that are used again: the second time prints nothing, and all where the capture is cut at its opening
 
 cat "$root/examples/six-calls.hex" "$root/examples/six-calls.hex" > again.hex

@@ -5,7 +5,8 @@
 
 Each capture is written to a file, and read by `dump` and `calls`: by its name, and through a pipe in pieces of 1 or of 7 bytes, or
 whole. The packets that `capture_account.py` finds in it go, as lines of hex, to the same commands, and the number of each packet's
-frame takes the place of the number of its line. Texts, statuses and the line on standard error are to be the same. Captures with a
+frame takes the place of the number of its line. Texts, statuses and the line on standard error are to be the same. The text of
+`calls --times` is that of `calls` with the times that the second account finds. Captures with a
 packet that has no line are compared by `dump`'s first words alone. The last line is 'N passed, M failed'.
 """
 import os
@@ -13,7 +14,7 @@ import subprocess
 import sys
 import tempfile
 
-from capture_account import packets_of
+from capture_account import packets_of, with_times
 from random_captures import captures_of
 
 # What the program says of a fault.
@@ -87,6 +88,16 @@ def compare(program, mode, path, capture, piece):
     return None if status == wanted and not unsaid else f"status {status} and not {wanted}"
 
 
+def compare_times(program, style, path, capture):
+    """What differs of `calls` with times, beside the same without, or None."""
+    status, text, errors = run([program, "calls", path])
+    if "NoCapture" == packets_of(capture)[1]:
+        text = run([program, "calls", f"--times{style}", path])
+        return None if text == (status, *run([program, "calls", path])[1:]) else "another text of lines"
+    wanted = status, with_times(capture, text, style == "=relative"), errors
+    return None if run([program, "calls", f"--times{style}", path]) == wanted else "other times"
+
+
 def main(words):
     program, seed, count = os.path.abspath(words[0]), int(words[1]), int(words[2])
     passed = failed = 0
@@ -105,6 +116,13 @@ def main(words):
                 else:
                     failed += 1
                     print(f"FAILED {mode} of capture {place} of seed {seed}, pieces of {piece}: {differs}")
+            for style in ("", "=relative"):
+                differs = compare_times(program, style, path, capture)
+                if differs is None:
+                    passed += 1
+                else:
+                    failed += 1
+                    print(f"FAILED calls --times{style} of capture {place} of seed {seed}: {differs}")
     print(f"{passed} passed, {failed} failed")
     return 1 if failed else 0
 

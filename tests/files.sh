@@ -72,12 +72,31 @@ def block(kind, body):
 with open(sys.argv[1], encoding="ascii") as lines, open(sys.argv[2], "wb") as file:
     file.write(block(0x0A0D0D0A, struct.pack("<IHHq", 0x1A2B3C4D, 1, 0, -1)) + block(1, struct.pack("<HHI", 1, 0, 0)))
     frames = [bytes(12) + b"\x08\x00"] + [bytes(12) + b"\x06\x00" + bytes.fromhex(line) for line in lines]
-    for frame in frames:
-        file.write(block(6, struct.pack("<IIIII", 0, 0, 0, len(frame), len(frame)) + frame))
+    for number, frame in enumerate(frames):
+        file.write(block(6, struct.pack("<IIIII", 0, 1, 7000001 * number, len(frame), len(frame)) + frame))
 END
 "$program" calls $example | awk '{$1=$1+1} $5=="of"&&$6!="-"{$6=$6+1} 1' > "$work/text"
 run calls "$work/x.pcapng"
 ends 'the calls of a capture' 0 '' "$work/text"
+
+# The time of frame N is 2^32 + (N - 1) * 7000001 microseconds; the first call is whole in frame 6, and its answer in frame 10.
+run calls --times "$work/x.pcapng"
+printf '%s\n' '4329.967301 6 1b call 1 program 7 version 2 procedure 1 args 0005' \
+    '4357.967305 10 1a return 1 of 6 results 0000 0005 took 28.000004' > "$work/wanted"
+sed -n '3,4p' "$work/out" > "$work/front"
+if cmp -s "$work/wanted" "$work/front"; then pass; else fail 'times of a call and its answer'; fi
+for style in --times --times=relative; do
+    python3 tests/capture_account.py $style "$work/x.pcapng" < "$work/text" > "$work/timed"
+    run calls $style "$work/x.pcapng"
+    ends "the calls of a capture, $style" 0 '' "$work/timed"
+done
+run calls --relative "$work/x.pcapng"
+ends 'the calls of a capture, --relative' 0 '' "$work/timed"
+run calls --times $example
+"$program" calls < $example > "$work/of_lines"
+ends 'lines have no times' 0 '' "$work/of_lines"
+run dump --times "$work/x.pcapng"
+ends 'dump has no times' 2 "error: unexpected argument '--times' found; a command reads one FILE, as in 'xns calls x.pcap'; try 'xns --help'" /dev/null
 head -c -1 "$work/x.pcapng" > "$work/cut.pcapng"
 run dump "$work/cut.pcapng"
 ends 'a capture that is cut' 3 "xns: $work/cut.pcapng: the capture is cut" -

@@ -200,8 +200,18 @@ class Maker:
             body = body[:self.rng.choice([4, 8, 12])]
         return self.block(write, 0x0A0D0D0A, body)
 
+    def resolution(self, write):
+        """An option with the resolution of times, among others."""
+        power = self.rng.choice([0, 3, 6, 9, 9, 12, 128, 138, 148]) if not self.odd(0.3) else self.rng.randrange(256)
+        value = bytes([power]) + self.bytes(self.rng.randrange(3) if self.odd(0.1) else 0)
+        option = write.word(9) + write.word(len(value)) + value + bytes(-len(value) % 4)
+        return option if not self.odd(0.05) else option[:self.rng.randrange(8)]
+
     def interface(self, write, link, most):
-        body = write.word(link) + write.word(0) + write.long(most) + self.options(write)
+        options = (self.resolution(write) if self.chance(0.4) else b"") + self.options(write)
+        if self.chance(0.2):
+            options = self.options(write) + (self.resolution(write) if self.chance(0.4) else b"")
+        body = write.word(link) + write.word(0) + write.long(most) + options
         if self.odd(0.005):
             body = body[:4]
         return self.block(write, 1, body)
@@ -218,7 +228,8 @@ class Maker:
             which = self.rng.choice([which + 1, which + 7, 0xFFFFFFFF, 1 << 16])
         if self.odd(0.005):
             return self.block(write, 6, self.bytes(self.rng.choice([0, 4, 16])))
-        body = write.long(which) + write.long(0) + write.long(self.rng.randrange(1 << 31)) + write.long(captured) + write.long(original)
+        high = self.rng.choice([0, 1, 0x50000, self.rng.randrange(1 << 32)])
+        body = write.long(which) + write.long(high) + write.long(self.rng.randrange(1 << 31)) + write.long(captured) + write.long(original)
         return self.block(write, 6, body + frame + bytes(-len(frame) % 4) + self.options(write))
 
     def old(self, write, which, link):

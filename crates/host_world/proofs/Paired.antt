@@ -17,7 +17,7 @@ use Rattle.item_world.specs.declared.side.Side.TheVariants.{A, B}
 use Rattle.xns_spp.specs.Packet.{SppPacketModel, spp_packet_of}
 use Rattle.xns_host.specs.Deeds as deeds
 use Rattle.xns_host.specs.Deeds.{Deed, with_answer}
-use Rattle.xns_host.specs.Step.{Promises, Step, WaitsBy}
+use Rattle.xns_host.specs.Step.{AStepKeepsItsPromises, Step, WaitsBy}
 use Rattle.xns_host.specs.Acting.{Acts, idling, calling, handing, answering}
 use Rattle.xns_host.specs.Closing.{drains}
 use Rattle.xns_host.specs.Living.{Deeds, GoesFrom}
@@ -218,15 +218,17 @@ pub pair_unchanged : {X E : Type 0} (p : Pair) (c d : Connection) (side : Side) 
 pair_unchanged p c d side (Ok x) is same = tt
 pair_unchanged p c d side (Err e) is same = put_back p side d (same ∙ is)
 
-pub pair_calls : (p : Pair) (c d : Connection) (side : Side) (now : ℕ) (call : RawCall) (r : Result (Unit {0}) HostFault) → c ≡ connection_at p side
-    → OnOk r (Step now (deeds.made call) c d) → OnOk r (Promises now (deeds.made call) c d) → OnOk r (Steps p (with_connection p side d) side (one_call_more call) [])
-pair_calls p c d side now call (Ok u) is step promises =
-    pair_acts p c d side (one_call_more call) (λ h. record h { made = h.made ++ call ∷ [] }) is step.packets (λ h l. calling call) promises.story
-pair_calls p c d side now call (Err e) is step promises = tt
+pub pair_calls : AStepKeepsItsPromises → (p : Pair) (c d : Connection) (side : Side) (now : ℕ) (call : RawCall) (r : Result (Unit {0}) HostFault) → c ≡ connection_at p side
+    → OnOk r (Step now (deeds.made call) c d) → OnOk r (Steps p (with_connection p side d) side (one_call_more call) [])
+pair_calls law p c d side now call (Ok u) is step =
+    pair_acts p c d side (one_call_more call) (λ h. record h { made = h.made ++ call ∷ [] }) is step.packets (λ h l. calling call)
+    (law now (deeds.made call) c d step).story
+pair_calls law p c d side now call (Err e) is step = tt
 
-pub pair_closes : (p : Pair) (c d : Connection) (side : Side) (now : ℕ) → c ≡ connection_at p side → Step now deeds.asked c d → Promises now deeds.asked c d
+pub pair_closes : AStepKeepsItsPromises → (p : Pair) (c d : Connection) (side : Side) (now : ℕ) → c ≡ connection_at p side → Step now deeds.asked c d
     → Steps p (with_connection p side d) side no_more []
-pair_closes p c d side now is step promises = pair_acts p c d side no_more (λ h. h) is step.packets (λ h l. idling) promises.story
+pair_closes law p c d side now is step =
+    pair_acts p c d side no_more (λ h. h) is step.packets (λ h l. idling) (law now deeds.asked c d step).story
 
 -- its waits come by steps of that moment, or stay
 pub waits_on : {E : Type 0} (now : ℕ) (deed : Deed) (c d : Connection) (r : Result (Unit {0}) E)
@@ -256,18 +258,18 @@ asked c kind words e = by (drains c.side c.closing) e where
   by true e = absurd (cc)
   by false e = side_asked c.side kind words e
 
-pub pair_answers : (p : Pair) (c d : Connection) (side : Side) (now : ℕ) (kind : Answer) (words : List ℕ) (r : Result (Unit {0}) HostFault) → c ≡ connection_at p side
-    → Refusals (answer_fault_of c.conversation kind words) r → OnOk r (Step now (deeds.gave kind words) c d) → OnOk r (Promises now (deeds.gave kind words) c d)
+pub pair_answers : AStepKeepsItsPromises → (p : Pair) (c d : Connection) (side : Side) (now : ℕ) (kind : Answer) (words : List ℕ) (r : Result (Unit {0}) HostFault) → c ≡ connection_at p side
+    → Refusals (answer_fault_of c.conversation kind words) r → OnOk r (Step now (deeds.gave kind words) c d)
     → OnOk r ((k : ℕ) × (asked_of (connection_at p side).conversation.side ≡ Some k) × Steps p (with_connection p side d) side (one_answer_more (answer_message kind k words)) [])
-pair_answers p c d side now kind words (Ok u) is none step promises =
+pair_answers law p c d side now kind words (Ok u) is none step =
     let some = asked c.conversation kind words none in (
       some.0,
       subst (λ (k : Connection). asked_of k.conversation.side ≡ Some some.0) is some.1,
       pair_acts p c d side (one_answer_more (answer_message kind some.0 words)) (λ h. record h { answers = h.answers ++ answer_message kind some.0 words ∷ [] }) is step.packets
           (λ h l. answering kind some.0 words some.1)
-          (λ h tells. subst (λ (o : Option ℕ). (m : Story) × Tells d.conversation m × GoesOn (with_answer o kind words h) m) some.1 (promises.story h tells)),
+          (λ h tells. subst (λ (o : Option ℕ). (m : Story) × Tells d.conversation m × GoesOn (with_answer o kind words h) m) some.1 ((law now (deeds.gave kind words) c d step).story h tells)),
     )
-pair_answers p c d side now kind words (Err e) is none step promises = tt
+pair_answers law p c d side now kind words (Err e) is none step = tt
 
 pub pair_hands : (p : Pair) (c d : Connection) (side : Side) (r : Option Message) → c ≡ connection_at p side → d.conversation.packets ≡ c.conversation.packets → r ≡ waiting_message c.conversation.side
     → ((h : Story) (m : Message) → Tells c.conversation h → r ≡ Some m → (n : Story) × Tells d.conversation n × GoesOn (with_handed c.conversation.side h m) n)

@@ -30,6 +30,7 @@ use courier_messages::PiecedMessage;
 use courier_sessions::{Answer, Program};
 use item_world::Side;
 use std::alloc::{AllocError, Global};
+use xns_host::laws::a_step_keeps_its_promises;
 use xns_host::{Act, Connection, Due, HostFault, Why};
 use xns_spp::{Bytes, read_packet};
 
@@ -109,6 +110,7 @@ impl Pair {
         ensures waits { StepsAt now (connection_at self.old side).wait (connection_at self.new side).wait }
         ensures unchanged { OnErr result (self.new ≡ self.old) }
     {
+        a_step_keeps_its_promises();
         self.at(side)
             .call(alloc, now, program, version, procedure, words)
     }
@@ -128,6 +130,7 @@ impl Pair {
         ensures waits { StepsAt now (connection_at self.old side).wait (connection_at self.new side).wait }
         ensures unchanged { OnErr result (self.new ≡ self.old) }
     {
+        a_step_keeps_its_promises();
         self.at(side).answer(alloc, now, kind, words)
     }
 
@@ -137,6 +140,7 @@ impl Pair {
         ensures asked { (connection_at self.new side).conversation.closing.wanted ≡ true }
         ensures waits { StepsAt now (connection_at self.old side).wait (connection_at self.new side).wait }
     {
+        a_step_keeps_its_promises();
         self.at(side).close(alloc, now);
     }
 

@@ -26,6 +26,8 @@ use Rattle.xns_calls.proofs.Inputs.{IsAt, acknowledged_is, acknowledged_said, ac
 use Rattle.xns_calls.proofs.Others.{get_set}
 use Rattle.xns_calls.proofs.Packets.{acknowledge_own, number_event, packet_other}
 use Rattle.xns_calls.proofs.Places.{place_there}
+use Rattle.xns_calls.specs.declared.origin.Origin.{Origin}
+use Rattle.xns_calls.specs.Origins.{line_origin}
 
 -- ---- a packet, for a flow that has not begun
 
@@ -77,7 +79,7 @@ unfolding after_packet
 system_same h packet f content s e =
     let known = after_acknowledge h f.acknowledge s in ap (λ p. cond p known (after_data h packet f content known)) e
 
-own_waits : (n i : ℕ) (b : Bool) (packet : PacketModel) (f : Header) (content : List ℕ) (c : Connection) (k : Known) → slice_get k.connections i ≡ Some c → (scene_in b c k).own.track ≡ None → is_system f ≡ true
+own_waits : (n : Origin) (i : ℕ) (b : Bool) (packet : PacketModel) (f : Header) (content : List ℕ) (c : Connection) (k : Known) → slice_get k.connections i ≡ Some c → (scene_in b c k).own.track ≡ None → is_system f ≡ true
     → Awaits i b k.text (after_in n i b packet f content (Some c) k) (item_events (heading_at n i b) f content None) (item_field f)
 own_waits n i b packet f content c k there none e =
     let h = heading_at n i b in
@@ -107,7 +109,7 @@ packet_new h packet f content s none e =
     let known = after_acknowledge h f.acknowledge s in
     ap (λ p. cond p known (after_data h packet f content known)) e ∙ data_new h packet f content known (acknowledge_own h f.acknowledge s ∙ none)
 
-own_starts : (n i : ℕ) (b : Bool) (packet : PacketModel) (f : Header) (content : List ℕ) (c : Connection) (k : Known) → slice_get k.connections i ≡ Some c → (scene_in b c k).own.track ≡ None → is_system f ≡ false
+own_starts : (n : Origin) (i : ℕ) (b : Bool) (packet : PacketModel) (f : Header) (content : List ℕ) (c : Connection) (k : Known) → slice_get k.connections i ≡ Some c → (scene_in b c k).own.track ≡ None → is_system f ≡ false
     → Starts i b k.text (after_in n i b packet f content (Some c) k) (item_events (heading_at n i b) f content None) (item_field f)
 own_starts n i b packet f content c k there none e =
     let h = heading_at n i b in
@@ -148,7 +150,7 @@ own_starts n i b packet f content c k there none e =
           ∙ ap (λ x. line ++ x) (sym (added h B.text (take_number h f item B).text z) ∙ ap (λ (x : Scene). drop (length B.text) x.text) one ∙ sym (captured_new h o item start)));
     }
 
-own_meets : (n i : ℕ) (b : Bool) (packet : PacketModel) (f : Header) (content : List ℕ) (c : Connection) (k : Known) → slice_get k.connections i ≡ Some c → (scene_in b c k).own.track ≡ None
+own_meets : (n : Origin) (i : ℕ) (b : Bool) (packet : PacketModel) (f : Header) (content : List ℕ) (c : Connection) (k : Known) → slice_get k.connections i ≡ Some c → (scene_in b c k).own.track ≡ None
     → Met i b k.text (after_in n i b packet f content (Some c) k) (item_events (heading_at n i b) f content None) (item_field f)
 own_meets n i b packet f content c k there none = by_system (is_system f) refl
   where
@@ -161,7 +163,7 @@ acknowledge_same : (h : Heading) (field : ℕ) (s : Scene) → s.other.track ≡
 unfolding after_acknowledge
 acknowledge_same h field s none = ap (λ o. advance_other h (acknowledged_track o field) s) none
 
-behind_waits : (n i : ℕ) (q : Bool) (packet : PacketModel) (f : Header) (content : List ℕ) (c : Connection) (k : Known) → slice_get k.connections i ≡ Some c → (scene_in q c k).other.track ≡ None
+behind_waits : (n : Origin) (i : ℕ) (q : Bool) (packet : PacketModel) (f : Header) (content : List ℕ) (c : Connection) (k : Known) → slice_get k.connections i ≡ Some c → (scene_in q c k).other.track ≡ None
     → Awaits i (not q) k.text (after_in n i q packet f content (Some c) k) [] None
 behind_waits n i q packet f content c k there none =
     let h = heading_at n i q in
@@ -183,14 +185,14 @@ behind_waits n i q packet f content c k there none =
 abbrev near_field : Bool → Bool → Header → Option ℕ
 near_field b q f = cond (is_same b q) (item_field f) None
 
-near_meets : (n i : ℕ) (b q : Bool) (packet : PacketModel) (f : Header) (content : List ℕ) (c : Connection) (k : Known) → slice_get k.connections i ≡ Some c → (scene_in b c k).own.track ≡ None
+near_meets : (n : Origin) (i : ℕ) (b q : Bool) (packet : PacketModel) (f : Header) (content : List ℕ) (c : Connection) (k : Known) → slice_get k.connections i ≡ Some c → (scene_in b c k).own.track ≡ None
     → Met i b k.text (after_in n i q packet f content (Some c) k) (near_events n i b q f content None) (near_field b q f)
 near_meets n i true true packet f content c k there none = own_meets n i true packet f content c k there none
 near_meets n i false false packet f content c k there none = own_meets n i false packet f content c k there none
 near_meets n i true false packet f content c k there none = inl (behind_waits n i false packet f content c k there none)
 near_meets n i false true packet f content c k there none = inl (behind_waits n i true packet f content c k there none)
 
-far_waits : (n i j : ℕ) (b q : Bool) (packet : PacketModel) (f : Header) (content : List ℕ) (c : Connection) (k : Known) → (i == j) ≡ false → track_in (flow_at i b) k.connections ≡ None
+far_waits : (n : Origin) (i j : ℕ) (b q : Bool) (packet : PacketModel) (f : Header) (content : List ℕ) (c : Connection) (k : Known) → (i == j) ≡ false → track_in (flow_at i b) k.connections ≡ None
     → Awaits i b k.text (after_in n j q packet f content (Some c) k) [] None
 far_waits n i j b q packet f content c k far none =
     let s = scene_in q c k in record {
@@ -207,7 +209,7 @@ none_there : (i : ℕ) (b : Bool) (c : Connection) (k : Known) → slice_get k.c
 none_there i true c k there none = sym (ap (track_at true) there) ∙ none
 none_there i false c k there none = sym (ap (track_at false) there) ∙ none
 
-at_meets : (n i j : ℕ) (b q : Bool) (packet : PacketModel) (f : Header) (content : List ℕ) (c : Connection) (k : Known) → slice_get k.connections j ≡ Some c → track_in (flow_at i b) k.connections ≡ None
+at_meets : (n : Origin) (i j : ℕ) (b q : Bool) (packet : PacketModel) (f : Header) (content : List ℕ) (c : Connection) (k : Known) → slice_get k.connections j ≡ Some c → track_in (flow_at i b) k.connections ≡ None
     → Met i b k.text (after_at n j q packet f content k) (events_between (flow_at i b) (flow_at j q) (heading_at n i b) f content None) (field_between (flow_at i b) (flow_at j q) f)
 unfolding after_at
 at_meets n i j b q packet f content c k there none =
@@ -238,7 +240,7 @@ nothing_left true true x = refl
 nothing_left true false x = refl
 nothing_left false q x = refl
 
-new_meets : (n i : ℕ) (b : Bool) (packet : PacketModel) (f : Header) (content : List ℕ) (k : Known) → track_in (flow_at i b) k.connections ≡ None
+new_meets : (n : Origin) (i : ℕ) (b : Bool) (packet : PacketModel) (f : Header) (content : List ℕ) (k : Known) → track_in (flow_at i b) k.connections ≡ None
     → Met i b k.text (after_new_flow n packet f content k) (events_between (flow_at i b) (flow_at (length k.connections) false) (heading_at n i b) f content None) (field_between (flow_at i b) (flow_at (length k.connections) false) f)
 new_meets n i b packet f content k none = by_system (is_system f) refl
   where
@@ -259,7 +261,7 @@ new_meets n i b packet f content k none = by_system (is_system f) refl
     by_system false e =
         at_meets n i count b false packet f content (new_connection flow) (with_new flow k) (get_last k.connections (new_connection flow)) (none_more b k.connections flow i none)
 
-sequenced_meets : (n i : ℕ) (b : Bool) (packet : PacketModel) (f : Header) (content : List ℕ) (k : Known) → track_in (flow_at i b) k.connections ≡ None
+sequenced_meets : (n : Origin) (i : ℕ) (b : Bool) (packet : PacketModel) (f : Header) (content : List ℕ) (k : Known) → track_in (flow_at i b) k.connections ≡ None
     → Met i b k.text (after_sequenced n packet f content k) (events_between (flow_at i b) (flow_place packet f k.connections) (heading_at n i b) f content None) (field_between (flow_at i b) (flow_place packet f k.connections) f)
 unfolding after_sequenced
 sequenced_meets n i b packet f content k none = by_places (place_of (flow_of packet f) k.connections) (place_of (flow_behind (flow_of packet f)) k.connections) refl refl
@@ -274,14 +276,14 @@ sequenced_meets n i b packet f content k none = by_places (place_of (flow_of pac
 -- ---- a line
 
 line_meets : (n i : ℕ) (b : Bool) (k : Known) → track_in (flow_at i b) k.connections ≡ None → (line : List ℕ)
-    → Met i b k.text (after_line n line k) (events_at (flow_at i b) n (arrival line) k.connections) (field_at (flow_at i b) (arrival line) k.connections)
+    → Met i b k.text (after_line n line k) (events_at (flow_at i b) (line_origin n) (arrival line) k.connections) (field_at (flow_at i b) (arrival line) k.connections)
 line_meets n i b k none line =
-    line_is (λ k' o. Met i b k.text k' (events_at (flow_at i b) n o k.connections) (field_at (flow_at i b) o k.connections)) n k
+    line_is (λ k' o. Met i b k.text k' (events_at (flow_at i b) (line_origin n) o k.connections) (field_at (flow_at i b) o k.connections)) n k
     (λ part quiet.
     inl (record { none = none; nothing = refl; later = refl; parts = part ∷ []; text = ap (λ z. k.text ++ z) (sym (append-nil (part_text part))); own = ap (λ z. z ++ []) (quiet (flow_at i b)) }))
     (inl (waits_still i b k [] None none refl refl))
-    (λ x. subst (λ o. Met i b k.text (after_sequenced n x.0 x.1 x.2 k) (events_between (flow_at i b) (flow_place x.0 x.1 k.connections) (heading_at n i b) x.1 x.2 o) (field_between (flow_at i b) (flow_place x.0 x.1 k.connections) x.1)) (sym none)
-    (sequenced_meets n i b x.0 x.1 x.2 k none))
+    (λ x. subst (λ o. Met i b k.text (after_sequenced (line_origin n) x.0 x.1 x.2 k) (events_between (flow_at i b) (flow_place x.0 x.1 k.connections) (heading_at (line_origin n) i b) x.1 x.2 o) (field_between (flow_at i b) (flow_place x.0 x.1 k.connections) x.1)) (sym none)
+    (sequenced_meets (line_origin n) i b x.0 x.1 x.2 k none))
     line
 
 -- ---- all lines
@@ -314,7 +316,7 @@ lines_met n i b k none (line ∷ lines) first e = by_meeting (line_meets n i b (
     later = first_field_from P (n + 1) next lines
 
     here : List Event
-    here = events_at P n (arrival line) k.connections
+    here = events_at P (line_origin n) (arrival line) k.connections
 
     rest : List Event
     rest = events_from P (n + 1) next lines

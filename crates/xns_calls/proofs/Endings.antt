@@ -28,6 +28,8 @@ use Rattle.xns_calls.proofs.Inputs.{behind_text, far_text, flow_at, number_tells
 use Rattle.xns_calls.proofs.Others.{get_set}
 use Rattle.xns_calls.proofs.Packets.{advanced_other}
 use Rattle.xns_calls.proofs.Whole.{nothing_kept, whole_said}
+use Rattle.xns_calls.specs.declared.origin.Origin.{Origin}
+use Rattle.xns_calls.specs.Origins.{line_origin}
 
 -- the end of a flow, which says nothing of another one
 record Closes (i : ℕ) (b : Bool) (before : List ℕ) (k : Known) (track : Track) : Type 0 where
@@ -39,10 +41,10 @@ record Closes (i : ℕ) (b : Bool) (before : List ℕ) (k : Known) (track : Trac
 closed_already : (i : ℕ) (b : Bool) (k : Known) (track : Track) → track_in (flow_at i b) k.connections ≡ Some track → Closes i b k.text k track
 closed_already i b k track is = record { is = is; parts = []; text = sym (append-nil k.text); own = refl }
 
-end_said : ℕ → ℕ → Bool → Scene → List Said
+end_said : Origin → ℕ → Bool → Scene → List Said
 end_said n j q s = (ended_adds (heading_at n j q) s).said
 
-end_text : (n j : ℕ) (q : Bool) (s : Scene) → (ended (heading_at n j q) s).text ≡ s.text ++ parts_text (told n (record { place = j; is_behind = q }) (end_said n j q s) ∷ [])
+end_text : (n : Origin) (j : ℕ) (q : Bool) (s : Scene) → (ended (heading_at n j q) s).text ≡ s.text ++ parts_text (told n (record { place = j; is_behind = q }) (end_said n j q s) ∷ [])
 unfolding end_said
 end_text n j q s =
     let x = ended_adds (heading_at n j q) s in x.is ∙ ap (λ z. s.text ++ z) (sym (append-nil (said_texts (heading_at n j q) x.said)))
@@ -65,7 +67,7 @@ track_there : (i : ℕ) (b : Bool) (c : Connection) (k : Known) (track : Track) 
 track_there i true c k track there is = sym (ap (track_at true) there) ∙ is
 track_there i false c k track there is = sym (ap (track_at false) there) ∙ is
 
-own_closes : (n i : ℕ) (b : Bool) (c : Connection) (k : Known) (track : Track) → slice_get k.connections i ≡ Some c → (scene_in b c k).own.track ≡ Some track → track.early ≡ []
+own_closes : (n : Origin) (i : ℕ) (b : Bool) (c : Connection) (k : Known) (track : Track) → slice_get k.connections i ≡ Some c → (scene_in b c k).own.track ≡ Some track → track.early ≡ []
     → Closes i b k.text (after_scene i b c (ended (heading_at n i b) (scene_in b c k)) k) track
 own_closes n i b c k track there e none =
     let s = scene_in b c k in
@@ -76,7 +78,7 @@ own_closes n i b c k track there e none =
       own = refl;
     }
 
-behind_closes : (n i : ℕ) (q : Bool) (c : Connection) (k : Known) (track : Track) → slice_get k.connections i ≡ Some c → (scene_in q c k).other.track ≡ Some track
+behind_closes : (n : Origin) (i : ℕ) (q : Bool) (c : Connection) (k : Known) (track : Track) → slice_get k.connections i ≡ Some c → (scene_in q c k).other.track ≡ Some track
     → Closes i (not q) k.text (after_scene i q c (ended (heading_at n i q) (scene_in q c k)) k) track
 behind_closes n i q c k track there e =
     let s = scene_in q c k in
@@ -87,14 +89,14 @@ behind_closes n i q c k track there e =
       own = ap (λ z. z ++ []) (behind_text n i q (end_said n i q s));
     }
 
-near_closes : (n i : ℕ) (b q : Bool) (c : Connection) (k : Known) (track : Track) → slice_get k.connections i ≡ Some c → (scene_in b c k).own.track ≡ Some track → track.early ≡ []
+near_closes : (n : Origin) (i : ℕ) (b q : Bool) (c : Connection) (k : Known) (track : Track) → slice_get k.connections i ≡ Some c → (scene_in b c k).own.track ≡ Some track → track.early ≡ []
     → Closes i b k.text (after_scene i q c (ended (heading_at n i q) (scene_in q c k)) k) track
 near_closes n i true true c k track there e none = own_closes n i true c k track there e none
 near_closes n i false false c k track there e none = own_closes n i false c k track there e none
 near_closes n i true false c k track there e none = behind_closes n i false c k track there e
 near_closes n i false true c k track there e none = behind_closes n i true c k track there e
 
-far_closes : (n i j : ℕ) (b q : Bool) (c : Connection) (k : Known) (track : Track) → (i == j) ≡ false → track_in (flow_at i b) k.connections ≡ Some track
+far_closes : (n : Origin) (i j : ℕ) (b q : Bool) (c : Connection) (k : Known) (track : Track) → (i == j) ≡ false → track_in (flow_at i b) k.connections ≡ Some track
     → Closes i b k.text (after_scene j q c (ended (heading_at n j q) (scene_in q c k)) k) track
 far_closes n i j b q c k track far is =
     let s = scene_in q c k in
@@ -105,7 +107,7 @@ far_closes n i j b q c k track far is =
       own = ap (λ z. z ++ []) (far_text n i j b q (end_said n j q s) far);
     }
 
-place_closes : (n i j : ℕ) (b q : Bool) (c : Connection) (k : Known) (track : Track) → slice_get k.connections j ≡ Some c → track_in (flow_at i b) k.connections ≡ Some track → track.early ≡ []
+place_closes : (n : Origin) (i j : ℕ) (b q : Bool) (c : Connection) (k : Known) (track : Track) → slice_get k.connections j ≡ Some c → track_in (flow_at i b) k.connections ≡ Some track → track.early ≡ []
     → Closes i b k.text (after_scene j q c (ended (heading_at n j q) (scene_in q c k)) k) track
 place_closes n i j b q c k track there is none = by_place (i == j) refl
   where
@@ -118,7 +120,7 @@ place_closes n i j b q c k track there is none = by_place (i == j) refl
     by_place true e = at_own j (equal_tells i j e) there
     by_place false e = far_closes n i j b q c k track e is
 
-flow_closes : (n i : ℕ) (b : Bool) (o : Option FlowPlace) (k : Known) (track : Track) → track_in (flow_at i b) k.connections ≡ Some track → track.early ≡ [] → Closes i b k.text (ended_flow n o k) track
+flow_closes : (n : Origin) (i : ℕ) (b : Bool) (o : Option FlowPlace) (k : Known) (track : Track) → track_in (flow_at i b) k.connections ≡ Some track → track.early ≡ [] → Closes i b k.text (ended_flow n o k) track
 unfolding ended_at
 flow_closes n i b None k track is none = closed_already i b k track is
 flow_closes n i b (Some flow) k track is none = by_connection (slice_get k.connections flow.place) refl
@@ -127,7 +129,7 @@ flow_closes n i b (Some flow) k track is none = by_connection (slice_get k.conne
     by_connection None there = closed_already i b k track is
     by_connection (Some c) there = place_closes n i flow.place b flow.is_behind c k track there is none
 
-end_closes : (n i : ℕ) (b : Bool) (part : ℕ) (k : Known) (track : Track) → track_in (flow_at i b) k.connections ≡ Some track → track.early ≡ [] → Closes i b k.text (after_end n part k) track
+end_closes : (n : Origin) (i : ℕ) (b : Bool) (part : ℕ) (k : Known) (track : Track) → track_in (flow_at i b) k.connections ≡ Some track → track.early ≡ [] → Closes i b k.text (after_end n part k) track
 unfolding after_end
 end_closes n i b part k track is none = flow_closes n i b (slice_get k.flows part) k track is none
 
@@ -145,7 +147,7 @@ all_closed i b own lines track none first zero = first
 all_closed i b own lines track none first (suc part) =
     let w = all_closed i b own lines track none first part in
     let k : Known = record (known_with_end lines part) { text = [] } in
-    let v = end_closes (length lines) i b part k track w.is none in
+    let v = end_closes (line_origin (length lines)) i b part k track w.is none in
     let P = flow_at i b in record {
       is = v.is;
       parts = w.parts ++ v.parts;

@@ -35,6 +35,8 @@ use Rattle.xns_calls.proofs.Gaps.{equal_tells}
 use Rattle.xns_calls.proofs.Others.{get_front, get_set}
 use Rattle.xns_calls.proofs.Whole.{get_below}
 use Rattle.xns_calls.proofs.Packets.{acknowledge_event, packet_events, packet_other}
+use Rattle.xns_calls.specs.declared.origin.Origin.{Origin}
+use Rattle.xns_calls.specs.Origins.{line_origin}
 
 -- ---- texts
 
@@ -146,19 +148,19 @@ number_tells i j e same = no_both (i == j) e (subst (λ k. (i == k) ≡ true) sa
 abbrev pub flow_at : ℕ → Bool → FlowPlace
 flow_at i b = record { place = i; is_behind = b }
 
-pub own_text : (n i : ℕ) (b : Bool) (said : List Said) → text_in (flow_at i b) (told n (flow_at i b) said) ≡ said_texts (heading_at n i b) said
+pub own_text : (n : Origin) (i : ℕ) (b : Bool) (said : List Said) → text_in (flow_at i b) (told n (flow_at i b) said) ≡ said_texts (heading_at n i b) said
 own_text n i true said = ap (λ p. cond p (said_texts (heading_at n i true) said) []) (same_number i)
 own_text n i false said = ap (λ p. cond p (said_texts (heading_at n i false) said) []) (same_number i)
 
-pub other_text : (n i : ℕ) (b : Bool) (said : List Said) → text_in (flow_at i b) (told n (flow_at i (not b)) said) ≡ []
+pub other_text : (n : Origin) (i : ℕ) (b : Bool) (said : List Said) → text_in (flow_at i b) (told n (flow_at i (not b)) said) ≡ []
 other_text n i true said = ap (λ (p : Bool). cond p [] []) (same_number i)
 other_text n i false said = ap (λ (p : Bool). cond p [] []) (same_number i)
 
-pub behind_text : (n i : ℕ) (q : Bool) (said : List Said) → text_in (flow_at i (not q)) (told n (flow_at i q) said) ≡ []
+pub behind_text : (n : Origin) (i : ℕ) (q : Bool) (said : List Said) → text_in (flow_at i (not q)) (told n (flow_at i q) said) ≡ []
 behind_text n i true said = ap (λ (p : Bool). cond p [] []) (same_number i)
 behind_text n i false said = ap (λ (p : Bool). cond p [] []) (same_number i)
 
-pub far_text : (n i j : ℕ) (b q : Bool) (said : List Said) → (i == j) ≡ false → text_in (flow_at i b) (told n (flow_at j q) said) ≡ []
+pub far_text : (n : Origin) (i j : ℕ) (b q : Bool) (said : List Said) → (i == j) ≡ false → text_in (flow_at i b) (told n (flow_at j q) said) ≡ []
 far_text n i j b q said e = ap (λ (p : Bool). cond p (cond (is_same b q) (said_texts (heading_at n j q) said) []) []) e
 
 pub two_of : (a b c d : List ℕ) → a ≡ c → b ≡ d → a ++ (b ++ []) ≡ c ++ d
@@ -168,20 +170,20 @@ pub scene_text : (b : Bool) (c : Connection) (k : Known) → (scene_in b c k).te
 scene_text true c k = refl
 scene_text false c k = refl
 
-pub acknowledged_said : ℕ → ℕ → Bool → Header → Scene → List Said
+pub acknowledged_said : Origin → ℕ → Bool → Header → Scene → List Said
 acknowledged_said n i q f s = (acknowledge_adds (heading_at n i q) f.acknowledge s).said
 
-pub packet_said : ℕ → ℕ → Bool → PacketModel → Header → List ℕ → Scene → List Said
+pub packet_said : Origin → ℕ → Bool → PacketModel → Header → List ℕ → Scene → List Said
 packet_said n i q packet f content s = (packet_adds (heading_at n i q) packet f content s).said
 
 -- what a packet of a flow says of the flow behind it, and of the flow
-abbrev pub packet_parts : ℕ → ℕ → Bool → PacketModel → Header → List ℕ → Scene → List Part
+abbrev pub packet_parts : Origin → ℕ → Bool → PacketModel → Header → List ℕ → Scene → List Part
 packet_parts n i q packet f content s = told n (flow_at i (not q)) (acknowledged_said n i q f s) ∷ told n (flow_at i q) (packet_said n i q packet f content s) ∷ []
 
 pub two_texts : (a b c x y : List ℕ) → b ≡ a ++ x → c ≡ b ++ y → c ≡ a ++ (x ++ (y ++ []))
 two_texts a b c x y e f = f ∙ ap (λ z. z ++ y) e ∙ append_assoc a x y ∙ ap (λ z. a ++ (x ++ z)) (sym (append-nil y))
 
-pub packet_text : (n i : ℕ) (q : Bool) (packet : PacketModel) (f : Header) (content : List ℕ) (s : Scene)
+pub packet_text : (n : Origin) (i : ℕ) (q : Bool) (packet : PacketModel) (f : Header) (content : List ℕ) (s : Scene)
     → (after_packet (heading_at n i q) packet f content s).text ≡ s.text ++ parts_text (packet_parts n i q packet f content s)
 unfolding acknowledged_said packet_said
 packet_text n i q packet f content s =
@@ -190,18 +192,18 @@ packet_text n i q packet f content s =
     let y = packet_adds h packet f content s in
     two_texts s.text (after_acknowledge h f.acknowledge s).text (after_packet h packet f content s).text (said_texts (of_other h) x.said) (said_texts h y.said) x.is y.is
 
-pub acknowledged_is : (n i : ℕ) (q : Bool) (f : Header) (s : Scene)
+pub acknowledged_is : (n : Origin) (i : ℕ) (q : Bool) (f : Header) (s : Scene)
     → (after_acknowledge (heading_at n i q) f.acknowledge s).text ≡ s.text ++ said_texts (of_other (heading_at n i q)) (acknowledged_said n i q f s)
 unfolding acknowledged_said
 acknowledged_is n i q f s = (acknowledge_adds (heading_at n i q) f.acknowledge s).is
 
-pub acknowledged_text : (n i : ℕ) (q : Bool) (f : Header) (s : Scene)
+pub acknowledged_text : (n : Origin) (i : ℕ) (q : Bool) (f : Header) (s : Scene)
     → drop (length s.text) (after_acknowledge (heading_at n i q) f.acknowledge s).text ≡ said_texts (of_other (heading_at n i q)) (acknowledged_said n i q f s)
 unfolding acknowledged_said
 acknowledged_text n i q f s =
     let h = heading_at n i q in added (of_other h) s.text (after_acknowledge h f.acknowledge s).text (acknowledge_adds h f.acknowledge s)
 
-pub said_text_of : (n i : ℕ) (q : Bool) (packet : PacketModel) (f : Header) (content : List ℕ) (s : Scene)
+pub said_text_of : (n : Origin) (i : ℕ) (q : Bool) (packet : PacketModel) (f : Header) (content : List ℕ) (s : Scene)
     → drop (length (after_acknowledge (heading_at n i q) f.acknowledge s).text) (after_packet (heading_at n i q) packet f content s).text
     ≡ said_texts (heading_at n i q) (packet_said n i q packet f content s)
 unfolding packet_said
@@ -282,7 +284,7 @@ unchanged i b k k' t parts same text own a = record {
   own = own;
 }
 
-own_step : (n i : ℕ) (b : Bool) (packet : PacketModel) (f : Header) (content : List ℕ) (c : Connection) (k : Known) (t : Told) → slice_get k.connections i ≡ Some c
+own_step : (n : Origin) (i : ℕ) (b : Bool) (packet : PacketModel) (f : Header) (content : List ℕ) (c : Connection) (k : Known) (t : Told) → slice_get k.connections i ≡ Some c
     → (scene_in b c k).own.track ≡ Some t.track → t ≡ told_of t.track (scene_in b c k)
     → Stepped i b k (after_in n i b packet f content (Some c) k) t (item_events (heading_at n i b) f content (Some t.track))
 own_step n i b packet f content c k t e track is =
@@ -304,7 +306,7 @@ own_step n i b packet f content c k t e track is =
           ∙ sym (item_new (is_system f) h (near t.track.next f.sequence) (item_with f content) (with_others (record { own = known.own.call; asked = known.other.call }) known.text known.is_refused t)));
     }
 
-behind_step : (n i : ℕ) (q : Bool) (packet : PacketModel) (f : Header) (content : List ℕ) (c : Connection) (k : Known) (t : Told) → slice_get k.connections i ≡ Some c
+behind_step : (n : Origin) (i : ℕ) (q : Bool) (packet : PacketModel) (f : Header) (content : List ℕ) (c : Connection) (k : Known) (t : Told) → slice_get k.connections i ≡ Some c
     → (scene_in q c k).other.track ≡ Some t.track → t ≡ told_of t.track (seen_from_other (scene_in q c k))
     → Stepped i (not q) k (after_in n i q packet f content (Some c) k) t (acknowledge_events (heading_at n i (not q)) f (Some t.track))
 behind_step n i q packet f content c k t e track is =
@@ -332,7 +334,7 @@ behind_step n i q packet f content c k t e track is =
     }
 
 -- a packet of another connection
-far_step : (n i j : ℕ) (b q : Bool) (packet : PacketModel) (f : Header) (content : List ℕ) (o : Option Connection) (k : Known) (t : Told) → (i == j) ≡ false → IsAt i b k t
+far_step : (n : Origin) (i j : ℕ) (b q : Bool) (packet : PacketModel) (f : Header) (content : List ℕ) (o : Option Connection) (k : Known) (t : Told) → (i == j) ≡ false → IsAt i b k t
     → Stepped i b k (after_in n j q packet f content o k) t []
 far_step n i j b q packet f content None k t far a = unchanged i b k k t [] refl (sym (append-nil k.text)) refl a
 far_step n i j b q packet f content (Some c) k t far a =
@@ -342,18 +344,18 @@ far_step n i j b q packet f content (Some c) k t far a =
     (two_of (text_in (flow_at i b) (told n (flow_at j (not q)) (acknowledged_said n j q f s))) (text_in (flow_at i b) (told n (flow_at j q) (packet_said n j q packet f content s))) [] []
     (far_text n i j b (not q) (acknowledged_said n j q f s) far) (far_text n i j b q (packet_said n j q packet f content s) far)) a
 
-abbrev pub near_events : ℕ → ℕ → Bool → Bool → Header → List ℕ → Option Track → List Event
+abbrev pub near_events : Origin → ℕ → Bool → Bool → Header → List ℕ → Option Track → List Event
 near_events n i b q f content track = cond (is_same b q) (item_events (heading_at n i b) f content track) (acknowledge_events (heading_at n i b) f track)
 
 -- a packet of its own connection
-near_step : (n i : ℕ) (b q : Bool) (packet : PacketModel) (f : Header) (content : List ℕ) (c : Connection) (k : Known) (t : Told) → slice_get k.connections i ≡ Some c
+near_step : (n : Origin) (i : ℕ) (b q : Bool) (packet : PacketModel) (f : Header) (content : List ℕ) (c : Connection) (k : Known) (t : Told) → slice_get k.connections i ≡ Some c
     → (scene_in b c k).own.track ≡ Some t.track → t ≡ told_of t.track (scene_in b c k) → Stepped i b k (after_in n i q packet f content (Some c) k) t (near_events n i b q f content (Some t.track))
 near_step n i true true packet f content c k t e track is = own_step n i true packet f content c k t e track is
 near_step n i false false packet f content c k t e track is = own_step n i false packet f content c k t e track is
 near_step n i true false packet f content c k t e track is = behind_step n i false packet f content c k t e track is
 near_step n i false true packet f content c k t e track is = behind_step n i true packet f content c k t e track is
 
-at_step : (n i j : ℕ) (b q : Bool) (packet : PacketModel) (f : Header) (content : List ℕ) (k : Known) (t : Told) → IsAt i b k t
+at_step : (n : Origin) (i j : ℕ) (b q : Bool) (packet : PacketModel) (f : Header) (content : List ℕ) (k : Known) (t : Told) → IsAt i b k t
     → Stepped i b k (after_at n j q packet f content k) t (events_between (flow_at i b) (flow_at j q) (heading_at n i b) f content (Some t.track))
 unfolding after_at
 at_step n i j b q packet f content k t a = by_place (i == j) refl
@@ -365,7 +367,7 @@ at_step n i j b q packet f content k t a = by_place (i == j) refl
     by_place false e = far_step n i j b q packet f content (slice_get k.connections j) k t e a
 
 -- a packet that begins a connection, or that is a system packet of none
-new_step : (n i : ℕ) (b : Bool) (packet : PacketModel) (f : Header) (content : List ℕ) (k : Known) (t : Told) → IsAt i b k t
+new_step : (n : Origin) (i : ℕ) (b : Bool) (packet : PacketModel) (f : Header) (content : List ℕ) (k : Known) (t : Told) → IsAt i b k t
     → Stepped i b k (after_new_flow n packet f content k) t (events_between (flow_at i b) (flow_at (length k.connections) false) (heading_at n i b) f content (Some t.track))
 new_step n i b packet f content k t a = over (is_system f)
   where
@@ -386,7 +388,7 @@ new_step n i b packet f content k t a = over (is_system f)
         let w = at_step n i (length k.connections) b false packet f content more t (with_more i b (flow_of packet f) k t a) in
         record { events = w.events; are = w.are; stands = w.stands; parts = w.parts; text = w.text; own = w.own }
 
-sequenced_step : (n i : ℕ) (b : Bool) (packet : PacketModel) (f : Header) (content : List ℕ) (k : Known) (t : Told) → IsAt i b k t
+sequenced_step : (n : Origin) (i : ℕ) (b : Bool) (packet : PacketModel) (f : Header) (content : List ℕ) (k : Known) (t : Told) → IsAt i b k t
     → Stepped i b k (after_sequenced n packet f content k) t (events_between (flow_at i b) (flow_place packet f k.connections) (heading_at n i b) f content (Some t.track))
 unfolding after_sequenced
 sequenced_step n i b packet f content k t a = by_places (place_of (flow_of packet f) k.connections) (place_of (flow_behind (flow_of packet f)) k.connections)
@@ -405,30 +407,30 @@ by_both P false x y u v a b = b
 
 -- a line is refused, or does nothing, or brings a packet
 pub line_is : (P : Known → Option Arrival → Type 0) (n : ℕ) (k : Known) → ((part : Part) → ((p : FlowPlace) → text_in p part ≡ []) → P (refuse (part_text part) k) None) → P k None
-    → ((a : Arrival) → P (after_sequenced n a.0 a.1 a.2 k) (Some a)) → (line : List ℕ) → P (after_line n line k) (arrival line)
+    → ((a : Arrival) → P (after_sequenced (line_origin n) a.0 a.1 a.2 k) (Some a)) → (line : List ℕ) → P (after_line n line k) (arrival line)
 unfolding after_line after_bytes after_body arrival
 line_is P n k bad same takes line = by_digits (decode_of (digits_of line))
   where
-    by_header : (packet : PacketModel) (r : Result (Header × List ℕ) SppFault) → P (after_header n packet r k) (with_header packet r)
-    by_header packet (Ok found) = by_both P (found.0.target_id == 0) k (after_sequenced n packet found.0 found.1 k) None (Some (packet, found.0, found.1)) same (takes (packet, found.0, found.1))
-    by_header packet (Err fault) = bad (bad_header n fault) (λ p. refl)
+    by_header : (packet : PacketModel) (r : Result (Header × List ℕ) SppFault) → P (after_header (line_origin n) packet r k) (with_header packet r)
+    by_header packet (Ok found) = by_both P (found.0.target_id == 0) k (after_sequenced (line_origin n) packet found.0 found.1 k) None (Some (packet, found.0, found.1)) same (takes (packet, found.0, found.1))
+    by_header packet (Err fault) = bad (bad_header (line_origin n) fault) (λ p. refl)
 
-    by_packet : (r : Result (PacketModel × ℕ) IdpFault) → P (after_found n r k) (in_packet r)
+    by_packet : (r : Result (PacketModel × ℕ) IdpFault) → P (after_found (line_origin n) r k) (in_packet r)
     by_packet (Ok found) =
-        by_both P (found.0.kind == 5) (after_header n found.0 (header_of found.0.body) k) k (with_header found.0 (header_of found.0.body)) None (by_header found.0 (header_of found.0.body)) same
-    by_packet (Err fault) = bad (bad_packet n fault) (λ p. refl)
+        by_both P (found.0.kind == 5) (after_header (line_origin n) found.0 (header_of found.0.body) k) k (with_header found.0 (header_of found.0.body)) None (by_header found.0 (header_of found.0.body)) same
+    by_packet (Err fault) = bad (bad_packet (line_origin n) fault) (λ p. refl)
 
     by_digits : (r : Result (List ℕ) FromHexError) → P (after_digits n r k) (in_bytes r)
     by_digits (Ok bytes) = by_packet (packet_of bytes)
     by_digits (Err error) = bad (bad_hex n error) (λ p. refl)
 
-line_step : (n i : ℕ) (b : Bool) (k : Known) (t : Told) → IsAt i b k t → (line : List ℕ) → Stepped i b k (after_line n line k) t (events_at (flow_at i b) n (arrival line) k.connections)
+line_step : (n i : ℕ) (b : Bool) (k : Known) (t : Told) → IsAt i b k t → (line : List ℕ) → Stepped i b k (after_line n line k) t (events_at (flow_at i b) (line_origin n) (arrival line) k.connections)
 line_step n i b k t a line =
-    line_is (λ k' o. Stepped i b k k' t (events_at (flow_at i b) n o k.connections)) n k
+    line_is (λ k' o. Stepped i b k k' t (events_at (flow_at i b) (line_origin n) o k.connections)) n k
     (λ part none. unchanged i b k (refuse (part_text part) k) t (part ∷ []) refl (ap (λ z. k.text ++ z) (sym (append-nil (part_text part)))) (ap (λ z. z ++ []) (none (flow_at i b))) a)
     (unchanged i b k k t [] refl (sym (append-nil k.text)) refl a)
-    (λ x. subst (λ o. Stepped i b k (after_sequenced n x.0 x.1 x.2 k) t (events_between (flow_at i b) (flow_place x.0 x.1 k.connections) (heading_at n i b) x.1 x.2 o)) (sym (track_is i b k t a))
-    (sequenced_step n i b x.0 x.1 x.2 k t a))
+    (λ x. subst (λ o. Stepped i b k (after_sequenced (line_origin n) x.0 x.1 x.2 k) t (events_between (flow_at i b) (flow_place x.0 x.1 k.connections) (heading_at (line_origin n) i b) x.1 x.2 o)) (sym (track_is i b k t a))
+    (sequenced_step (line_origin n) i b x.0 x.1 x.2 k t a))
     line
 
 -- ---- all lines, once the flow has begun
@@ -451,7 +453,7 @@ lines_ran n i b k t a (line ∷ lines) =
     let v = lines_ran (n + 1) i b next (after_events w.events u) w.stands lines in
     let P = flow_at i b in record {
       events = meanwhile t.calls [] k.is_refused ∷ (w.events ++ v.events);
-      are = flat_map-append plain_one w.events v.events ∙ ap (λ z. z ++ plain v.events) w.are ∙ ap (λ z. events_at P n (arrival line) k.connections ++ z) v.are;
+      are = flat_map-append plain_one w.events v.events ∙ ap (λ z. z ++ plain v.events) w.are ∙ ap (λ z. events_at P (line_origin n) (arrival line) k.connections ++ z) v.are;
       stands = subst (IsAt i b (known_from (n + 1) next lines)) (sym (after_append w.events v.events u)) v.stands;
       parts = w.parts ++ v.parts;
       is = ap (λ z. z ++ text_from (n + 1) next lines) w.text ∙ ap (λ z. parts_text w.parts ++ z) v.is ∙ sym (flat_map-append part_text w.parts v.parts);

@@ -7,6 +7,7 @@ use Rattle.xns_calls.specs.Capture.{IsPlaced, Keeps, Known, after_end, known}
 use Rattle.xns_calls.specs.declared.capture.Capture.{Capture}
 use Rattle.xns_calls.specs.declared.printer.CallsPrinter.{CallsPrinter}
 use Rattle.xns_calls.proofs.Behind.{known-last, text-last}
+use Rattle.xns_calls.specs.Origins.{line_origin}
 
 abbrev pub known_by : Capture → Page → Known
 known_by capture page = known capture.connections.items capture.flows.items page
@@ -21,32 +22,32 @@ begun_known capture page lines part begun h =
     ∙ ap (λ t. record { connections = k.connections; flows = k.flows; text = t; is_refused = page.is_refused }) begun.text
     ∙ ap (λ b. record { connections = k.connections; flows = k.flows; text = []; is_refused = b }) begun.refused
 
-pub printed : (capture : Capture) (count : ℕ) (printer' : CallsPrinter) (page page' : Page) (line : List ℕ) (n : ℕ) (lines : List (List ℕ))
-    → (IsPlaced capture → known_by printer'.capture page' ≡ after_line n line (known_by capture page)) → (IsPlaced capture → IsPlaced printer'.capture) → printer'.count ≡ n
+pub printed : (capture : Capture) (printer' : CallsPrinter) (page page' : Page) (line : List ℕ) (n : ℕ) (lines : List (List ℕ))
+    → (IsPlaced capture → known_by printer'.capture page' ≡ after_line n line (known_by capture page)) → (IsPlaced capture → IsPlaced printer'.capture) → printer'.last ≡ line_origin n
     → n ≡ length lines + 1 → IsBegun (λ xs. has_refused xs 0) page lines → Keeps capture (known_of lines)
     → IsPrinted (λ xs. HasPrinted printer' xs 0) (λ xs. text_with_end xs 0) (λ xs. has_refused xs 0) page' lines line
-printed capture count printer' page page' line n lines taken places counted number begun h =
+printed capture printer' page page' line n lines taken places counted number begun h =
     let after : known_by printer'.capture page' ≡ known_of (lines ++ line ∷ []) =
     taken h.places ∙ ap (after_line n line) (begun_known capture page lines 0 begun h) ∙ ap (λ m. line_taken m line (known_of lines)) number ∙ sym (known-last lines line) in record {
       printed = record {
         keeps = record { connections = ap (λ (k : Known). k.connections) after; flows = ap (λ (k : Known). k.flows) after; places = places h.places };
-        count = counted ∙ number ∙ sym (length-append lines (line ∷ []));
+        last = counted ∙ ap line_origin (number ∙ sym (length-append lines (line ∷ [])));
       };
       text = text-last lines line ∙ ap (λ (k : Known). text_of lines ++ k.text) (sym (known-last lines line) ∙ sym after);
       refused = ap (λ (k : Known). k.is_refused) after;
     }
 
 pub end_printed : (printer printer' : CallsPrinter) (page page' : Page) (lines : List (List ℕ)) (part : ℕ)
-    → known_by printer'.capture page' ≡ after_end printer.count part (known_by printer.capture page) → (IsPlaced printer.capture → IsPlaced printer'.capture) → printer'.count ≡ printer.count
+    → known_by printer'.capture page' ≡ after_end printer.last part (known_by printer.capture page) → (IsPlaced printer.capture → IsPlaced printer'.capture) → printer'.last ≡ printer.last
     → IsBegun (λ xs. has_refused xs part) page lines → HasPrinted printer lines part
     → IsEndPrinted (HasPrinted printer' lines) (text_with_end lines) (has_refused lines) page' part
 end_printed printer printer' page page' lines part taken places counted begun h =
     let e : suc part ≡ part + 1 = omega arith in
     let after : known_by printer'.capture page' ≡ known_with_end lines (suc part) =
-    taken ∙ ap (λ n. after_end n part (known_by printer.capture page)) h.count ∙ ap (after_end (length lines) part) (begun_known printer.capture page lines part begun h.keeps) in
+    taken ∙ ap (λ n. after_end n part (known_by printer.capture page)) h.last ∙ ap (after_end (line_origin (length lines)) part) (begun_known printer.capture page lines part begun h.keeps) in
     let printed : HasPrinted printer' lines (suc part) = record {
       keeps = record { connections = ap (λ (k : Known). k.connections) after; flows = ap (λ (k : Known). k.flows) after; places = places h.keeps.places };
-      count = counted ∙ h.count;
+      last = counted ∙ h.last;
     } in record {
       printed = subst (HasPrinted printer' lines) e printed;
       text = ap (text_with_end lines) (sym e) ∙ ap (λ (k : Known). text_with_end lines part ++ k.text) (sym after);

@@ -1,5 +1,5 @@
 -- The flag is set exactly where the text has the word `refused`.
-use Rattle.std.proofs.Common.{◌≡◌, ◌∙◌, ap, sym, refl, ℕ, zero, suc, length, ◌+◌, ◌-◌, ◌==◌, ◌||◌, Bool, true, false, cond, List, [], ◌∷◌, ◌++◌, codes, Option, Some, None, Result, Ok, Err}
+use Rattle.std.proofs.Common.{◌≡◌, ◌∙◌, ap, sym, refl, ℕ, zero, suc, length, ◌+◌, ◌-◌, ◌*◌, ◌/◌, ◌%◌, ◌==◌, ◌||◌, Bool, true, false, cond, List, [], ◌∷◌, ◌++◌, codes, Option, Some, None, Result, Ok, Err}
 use Rattle.std.specs.Prelude.{nat_lt, slice_get}
 use Rattle.hex.specs.Hex.{decode_of}
 use Rattle.hex.specs.declared.error.FromHexError.{FromHexError}
@@ -26,7 +26,7 @@ use Rattle.xns_calls.specs.Exchange.{Scene, acknowledged, advance_other, advance
 use Rattle.xns_calls.specs.Reading.{Told, after_heard, brought, brought_over, is_due, item_read, passed, past, read_next, said_item, with_kept_item}
 use Rattle.xns_calls.specs.Speech.{heard_of}
 use Rattle.xns_calls.specs.Telling.{heard_text, is_fault, message_line}
-use Rattle.xns_calls.specs.Texts.{answer_text, call_text, end_text, flow_line, heading_text, line_or_dash, missing_line, refused_line, words_end}
+use Rattle.xns_calls.specs.Texts.{answer_end, answer_text, call_text, end_text, flow_line, heading_text, line_or_dash, missing_line, refused_line, words_end}
 use Rattle.xns_calls.specs.declared.unanswered.Calls.{Calls}
 use Rattle.xns_calls.specs.declared.connection.Connection.{Connection}
 use Rattle.xns_calls.specs.declared.early.Early.{Early}
@@ -35,6 +35,12 @@ use Rattle.xns_calls.specs.declared.heading.Heading.{Heading}
 use Rattle.xns_calls.specs.declared.heard.Heard.{Heard}
 use Rattle.xns_calls.specs.declared.heard.Heard.TheVariants as heard
 use Rattle.xns_calls.specs.declared.track.Track.{Track}
+use Rattle.xns_calls.specs.declared.origin.Origin.{Origin}
+use Rattle.xns_calls.specs.Origins.{line_origin}
+use Rattle.xns_calls.specs.TimeTexts.{digits_text, fraction_text, from_to_text, seconds_text, time_text, took, took_since, took_text}
+use Rattle.xns_calls.specs.declared.origin.ShownTime.{ShownTime}
+use Rattle.xns_calls.specs.declared.origin.ShownTime.TheVariants as shown
+use Rattle.xns_calls.specs.declared.waiting.Waiting.{Waiting}
 
 cases : {A : Type 0} (P : A → Type 0) (p : Bool) (x y : A) → P x → P y → P (cond p x y)
 cases P true x y h k = h
@@ -43,9 +49,50 @@ cases P false x y h k = k
 module _ (joined : JoinedTextsSayRefused) (only : OnlyRefusalsSayRefused) where
   -- ---- the texts
 
+  digits_are : (digits b : ℕ) → IsQuiet (digits_text digits b)
+  digits_are zero b = record { skips = λ ys. refl }
+  digits_are (suc digits) b = joined.quiet _ _ (only.number (b / 100000000)) (digits_are digits (b % 100000000 * 10))
+
+  fraction_is : (digits b : ℕ) → IsQuiet (fraction_text digits b)
+  fraction_is zero b = record { skips = λ ys. refl }
+  fraction_is (suc digits) b = joined.quiet (codes ".") _ (record { skips = λ ys. refl }) (digits_are (suc digits) b)
+
+  seconds_are : (digits ns : ℕ) → IsQuiet (seconds_text digits ns)
+  seconds_are digits ns = joined.quiet _ _ (only.number (ns / 1000000000)) (fraction_is digits (ns % 1000000000))
+
+  from_to_is : (digits from to : ℕ) → IsQuiet (from_to_text digits from to)
+  unfolding from_to_text
+  from_to_is digits from to =
+      cases IsQuiet (nat_lt to from) (codes "-" ++ seconds_text digits (from - to)) (seconds_text digits (to - from))
+      (joined.quiet (codes "-") _ (record { skips = λ ys. refl }) (seconds_are digits (from - to))) (seconds_are digits (to - from))
+
+  -- a time never begins the word
+  time_is : (time : ShownTime) → IsQuiet (time_text time)
+  unfolding time_text
+  time_is shown.Hidden = record { skips = λ ys. refl }
+  time_is shown.Unknown = record { skips = λ ys. refl }
+  time_is (shown.Known ns since digits) = joined.quiet _ _ (from_to_is digits since ns) (record { skips = λ ys. refl })
+
+  took_since_is : (call answer : ShownTime) → IsQuiet (took_since call answer)
+  took_since_is shown.Hidden answer = record { skips = λ ys. refl }
+  took_since_is shown.Unknown answer = record { skips = λ ys. refl }
+  took_since_is (shown.Known from since digits) shown.Hidden = record { skips = λ ys. refl }
+  took_since_is (shown.Known from since digits) shown.Unknown = record { skips = λ ys. refl }
+  took_since_is (shown.Known from since digits) (shown.Known to since' digits') = from_to_is digits' from to
+
+  how_long_is : (o : Option Waiting) (time : ShownTime) → IsQuiet (took o time)
+  how_long_is None time = record { skips = λ ys. refl }
+  how_long_is (Some waiting) time = took_since_is waiting.origin.time time
+
+  took_is : (o : Option Waiting) (time : ShownTime) → IsQuiet (took_text o time)
+  unfolding took_text
+  took_is o shown.Hidden = record { skips = λ ys. refl }
+  took_is o shown.Unknown = joined.quiet (codes " took ") _ (record { skips = λ ys. refl }) (how_long_is o shown.Unknown)
+  took_is o (shown.Known ns since digits) = joined.quiet (codes " took ") _ (record { skips = λ ys. refl }) (how_long_is o (shown.Known ns since digits))
+
   heading_is : (h : Heading) → IsQuiet (heading_text h)
   unfolding heading_text
-  heading_is h = joined.quiet _ _ (joined.quiet _ _ (joined.quiet _ _ (only.number h.number) (record { skips = λ ys. refl })) (only.number h.connection)) (cases IsQuiet h.is_behind (codes "b") (codes "a") (record { skips = λ ys. refl }) (record { skips = λ ys. refl }))
+  heading_is h = joined.quiet _ _ (joined.quiet _ _ (joined.quiet _ _ (joined.quiet _ _ (time_is h.origin.time) (only.number h.origin.number)) (record { skips = λ ys. refl })) (only.number h.connection)) (cases IsQuiet h.is_behind (codes "b") (codes "a") (record { skips = λ ys. refl }) (record { skips = λ ys. refl }))
 
   end_is : (name : List ℕ) (a : Address) (i : ℕ) → IsQuiet name → IsQuiet (end_text name a i)
   unfolding end_text
@@ -63,25 +110,29 @@ module _ (joined : JoinedTextsSayRefused) (only : OnlyRefusalsSayRefused) where
   unfolding words_end
   words_are name ws h = joined.quiet _ _ (joined.quiet name _ h (only.words ws)) (record { skips = λ ys. refl })
 
+  end_words_are : (name ws : List ℕ) (o : Option Waiting) (time : ShownTime) → IsQuiet name → IsQuiet (answer_end name ws o time)
+  unfolding answer_end
+  end_words_are name ws o time h = joined.quiet _ _ (joined.quiet _ _ (joined.quiet name _ h (only.words ws)) (took_is o time)) (record { skips = λ ys. refl })
+
   call_is : (h : Heading) (t p v q : ℕ) → IsQuiet (call_text h t p v q)
   unfolding call_text
   call_is h t p v q = joined.quiet _ _ (joined.quiet _ _ (heading_is h) (joined.quiet (codes " call ") _ (record { skips = λ ys. refl }) (only.number t))) (only.callee p v q)
 
-  dash_is : (o : Option ℕ) → IsQuiet (line_or_dash o)
-  dash_is (Some n) = only.number n
+  dash_is : (o : Option Waiting) → IsQuiet (line_or_dash o)
+  dash_is (Some waiting) = only.number waiting.origin.number
   dash_is None = record { skips = λ ys. refl }
 
-  answer_is : (h : Heading) (name : List ℕ) (t : ℕ) (o : Option ℕ) → IsQuiet name → IsQuiet (answer_text h name t o)
+  answer_is : (h : Heading) (name : List ℕ) (t : ℕ) (o : Option Waiting) → IsQuiet name → IsQuiet (answer_text h name t o)
   unfolding answer_text
   answer_is h name t o q = joined.quiet _ _ (joined.quiet _ _ (joined.quiet _ _ (heading_is h) (joined.quiet name _ q (only.number t))) (record { skips = λ ys. refl })) (dash_is o)
 
   message_is : (h : Heading) (calls : Calls) (m : Message) → IsQuiet (message_line h calls m)
   message_is h calls (Call t p v q ws) = joined.quiet _ _ (call_is h t p v q) (words_are _ ws (record { skips = λ ys. refl }))
   message_is h calls (Reject t reason ws) =
-      joined.quiet _ _ (joined.quiet _ _ (answer_is h _ t _ (record { skips = λ ys. refl })) (joined.quiet (codes " reason ") _ (record { skips = λ ys. refl }) (only.number reason))) (words_are _ ws (record { skips = λ ys. refl }))
-  message_is h calls (Return t ws) = joined.quiet _ _ (answer_is h _ t _ (record { skips = λ ys. refl })) (words_are _ ws (record { skips = λ ys. refl }))
+      joined.quiet _ _ (joined.quiet _ _ (answer_is h _ t _ (record { skips = λ ys. refl })) (joined.quiet (codes " reason ") _ (record { skips = λ ys. refl }) (only.number reason))) (end_words_are _ ws _ _ (record { skips = λ ys. refl }))
+  message_is h calls (Return t ws) = joined.quiet _ _ (answer_is h _ t _ (record { skips = λ ys. refl })) (end_words_are _ ws _ _ (record { skips = λ ys. refl }))
   message_is h calls (Abort t error ws) =
-      joined.quiet _ _ (joined.quiet _ _ (answer_is h _ t _ (record { skips = λ ys. refl })) (joined.quiet (codes " error ") _ (record { skips = λ ys. refl }) (only.number error))) (words_are _ ws (record { skips = λ ys. refl }))
+      joined.quiet _ _ (joined.quiet _ _ (answer_is h _ t _ (record { skips = λ ys. refl })) (joined.quiet (codes " error ") _ (record { skips = λ ys. refl }) (only.number error))) (end_words_are _ ws _ _ (record { skips = λ ys. refl }))
 
   refused_is : (h : Heading) (fault : SessionFault) → IsLoud (refused_line h fault)
   unfolding refused_line
@@ -235,43 +286,43 @@ module _ (joined : JoinedTextsSayRefused) (only : OnlyRefusalsSayRefused) where
   abbrev SaysKnown : Bool → Known → Type 0
   SaysKnown b k = Says b k.text k.is_refused
 
-  in_says : (b : Bool) (n i : ℕ) (q : Bool) (p : PacketModel) (f : Header) (content : List ℕ) (o : Option Connection) (k : Known) → SaysKnown b k → SaysKnown b (after_in n i q p f content o k)
+  in_says : (b : Bool) (n : Origin) (i : ℕ) (q : Bool) (p : PacketModel) (f : Header) (content : List ℕ) (o : Option Connection) (k : Known) → SaysKnown b k → SaysKnown b (after_in n i q p f content o k)
   in_says b n i q p f content None k s = s
   in_says b n i true p f content (Some c) k s = packet_says b (heading_at n i true) p f content (scene_in true c k) s
   in_says b n i false p f content (Some c) k s = packet_says b (heading_at n i false) p f content (scene_in false c k) s
 
-  at_says : (b : Bool) (n i : ℕ) (q : Bool) (p : PacketModel) (f : Header) (content : List ℕ) (k : Known) → SaysKnown b k → SaysKnown b (after_at n i q p f content k)
+  at_says : (b : Bool) (n : Origin) (i : ℕ) (q : Bool) (p : PacketModel) (f : Header) (content : List ℕ) (k : Known) → SaysKnown b k → SaysKnown b (after_at n i q p f content k)
   unfolding after_at
   at_says b n i q p f content k s = in_says b n i q p f content (slice_get k.connections i) k s
 
-  places_say : (b : Bool) (n : ℕ) (p : PacketModel) (f : Header) (content : List ℕ) (o u : Option ℕ) (k : Known) → SaysKnown b k → SaysKnown b (after_places n p f content o u k)
+  places_say : (b : Bool) (n : Origin) (p : PacketModel) (f : Header) (content : List ℕ) (o u : Option ℕ) (k : Known) → SaysKnown b k → SaysKnown b (after_places n p f content o u k)
   places_say b n p f content (Some i) u k s = at_says b n i false p f content k s
   places_say b n p f content None (Some i) k s = at_says b n i true p f content k s
   places_say b n p f content None None k s =
       cases (SaysKnown b) (is_system f) k _ s (at_says b n _ false p f content (with_new (flow_of p f) k) s)
 
-  sequenced_says : (b : Bool) (n : ℕ) (p : PacketModel) (f : Header) (content : List ℕ) (k : Known) → SaysKnown b k → SaysKnown b (after_sequenced n p f content k)
+  sequenced_says : (b : Bool) (n : Origin) (p : PacketModel) (f : Header) (content : List ℕ) (k : Known) → SaysKnown b k → SaysKnown b (after_sequenced n p f content k)
   unfolding after_sequenced
   sequenced_says b n p f content k s = places_say b n p f content (place_of (flow_of p f) k.connections) (place_of (flow_behind (flow_of p f)) k.connections) k s
 
-  header_says : (b : Bool) (n : ℕ) (p : PacketModel) (r : Result (Header × List ℕ) SppFault) (k : Known) → SaysKnown b k → SaysKnown b (after_header n p r k)
+  header_says : (b : Bool) (n : Origin) (p : PacketModel) (r : Result (Header × List ℕ) SppFault) (k : Known) → SaysKnown b k → SaysKnown b (after_header n p r k)
   header_says b n p (Ok found) k s = cases (SaysKnown b) (found.0.target_id == 0) k (after_sequenced n p found.0 found.1 k) s (sequenced_says b n p found.0 found.1 k s)
-  header_says b n p (Err fault) k s = says_loud b k.text _ k.is_refused s (only.header n fault)
+  header_says b n p (Err fault) k s = says_loud b k.text _ k.is_refused s (joined.loud_behind _ _ (time_is n.time) (only.header n.number fault))
 
-  body_says : (b : Bool) (n : ℕ) (p : PacketModel) (k : Known) → SaysKnown b k → SaysKnown b (after_body n p k)
+  body_says : (b : Bool) (n : Origin) (p : PacketModel) (k : Known) → SaysKnown b k → SaysKnown b (after_body n p k)
   unfolding after_body
   body_says b n p k s = cases (SaysKnown b) (p.kind == 5) (after_header n p (header_of p.body) k) k (header_says b n p (header_of p.body) k s) s
 
-  found_says : (b : Bool) (n : ℕ) (r : Result (PacketModel × ℕ) IdpFault) (k : Known) → SaysKnown b k → SaysKnown b (after_found n r k)
+  found_says : (b : Bool) (n : Origin) (r : Result (PacketModel × ℕ) IdpFault) (k : Known) → SaysKnown b k → SaysKnown b (after_found n r k)
   found_says b n (Ok found) k s = body_says b n found.0 k s
-  found_says b n (Err fault) k s = says_loud b k.text _ k.is_refused s (only.packet n fault)
+  found_says b n (Err fault) k s = says_loud b k.text _ k.is_refused s (joined.loud_behind _ _ (time_is n.time) (only.packet n.number fault))
 
-  bytes_say : (b : Bool) (n : ℕ) (bytes : List ℕ) (k : Known) → SaysKnown b k → SaysKnown b (after_bytes n bytes k)
+  bytes_say : (b : Bool) (n : Origin) (bytes : List ℕ) (k : Known) → SaysKnown b k → SaysKnown b (after_bytes n bytes k)
   unfolding after_bytes
   bytes_say b n bytes k s = found_says b n (packet_of bytes) k s
 
   digits_say : (b : Bool) (n : ℕ) (r : Result (List ℕ) FromHexError) (k : Known) → SaysKnown b k → SaysKnown b (after_digits n r k)
-  digits_say b n (Ok bytes) k s = bytes_say b n bytes k s
+  digits_say b n (Ok bytes) k s = bytes_say b (line_origin n) bytes k s
   digits_say b n (Err error) k s = says_loud b k.text _ k.is_refused s (only.hex n error)
 
   line_says : (b : Bool) (n : ℕ) (line : List ℕ) (k : Known) → SaysKnown b k → SaysKnown b (after_line n line k)
@@ -288,17 +339,17 @@ module _ (joined : JoinedTextsSayRefused) (only : OnlyRefusalsSayRefused) where
   unfolding ended
   ended_says b h s k = own_says b h (behind_last s.own.track) s k
 
-  end_in_says : (b : Bool) (n i : ℕ) (q : Bool) (o : Option Connection) (k : Known) → SaysKnown b k → SaysKnown b (ended_in n (record { place = i; is_behind = q }) o k)
+  end_in_says : (b : Bool) (n : Origin) (i : ℕ) (q : Bool) (o : Option Connection) (k : Known) → SaysKnown b k → SaysKnown b (ended_in n (record { place = i; is_behind = q }) o k)
   end_in_says b n i q None k s = s
   end_in_says b n i true (Some c) k s = ended_says b (heading_at n i true) (scene_in true c k) s
   end_in_says b n i false (Some c) k s = ended_says b (heading_at n i false) (scene_in false c k) s
 
-  flow_says : (b : Bool) (n : ℕ) (o : Option FlowPlace) (k : Known) → SaysKnown b k → SaysKnown b (ended_flow n o k)
+  flow_says : (b : Bool) (n : Origin) (o : Option FlowPlace) (k : Known) → SaysKnown b k → SaysKnown b (ended_flow n o k)
   unfolding ended_at
   flow_says b n None k s = s
   flow_says b n (Some flow) k s = end_in_says b n flow.place flow.is_behind (slice_get k.connections flow.place) k s
 
-  end_says : (b : Bool) (n part : ℕ) (k : Known) → SaysKnown b k → SaysKnown b (after_end n part k)
+  end_says : (b : Bool) (n : Origin) (part : ℕ) (k : Known) → SaysKnown b k → SaysKnown b (after_end n part k)
   unfolding after_end
   end_says b n part k s = flow_says b n (slice_get k.flows part) k s
 
@@ -324,7 +375,7 @@ module _ (joined : JoinedTextsSayRefused) (only : OnlyRefusalsSayRefused) where
   ends_say lines (suc part) =
       let k = known_with_end lines part in
       let first = ends_say lines part in
-      let last = end_says k.is_refused (length lines) part (record k { text = [] }) (none_said k.is_refused) in record {
+      let last = end_says k.is_refused (line_origin (length lines)) part (record k { text = [] }) (none_said k.is_refused) in record {
         new = first.new || last.new;
         flag_is = last.flag_is ∙ ap (λ f. f || last.new) first.flag_is ∙ or_assoc false first.new last.new;
         tells = tells_both first.new last.new (text_with_end lines part) (known_with_end lines (suc part)).text first.tells last.tells;

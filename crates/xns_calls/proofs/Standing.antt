@@ -10,9 +10,10 @@ use Rattle.xns_dump.specs.declared.flows.flow.Flow.{Flow}
 use Rattle.xns_calls.specs.Capture.{Known, StandsOrBegins, known, after_at, after_new_flow, after_places, after_sequenced, flow_behind, place_of, standing, standing_at, wants_at, wants_places, wants_sequenced, with_new}
 use Rattle.xns_calls.specs.declared.connection.Connection.{Connection}
 use Rattle.xns_calls.specs.declared.flow_place.FlowPlace.{FlowPlace}
+use Rattle.xns_calls.specs.declared.origin.Origin.{Origin}
 
 -- a flow that stands somewhere
-after_found : (n : ℕ) (packet : PacketModel) (f : Header) (content : List ℕ) (k : Known) (at : FlowPlace) (x y : Option ℕ) → Some at ≡ standing_at x y
+after_found : (n : Origin) (packet : PacketModel) (f : Header) (content : List ℕ) (k : Known) (at : FlowPlace) (x y : Option ℕ) → Some at ≡ standing_at x y
     → after_places n packet f content x y k ≡ after_at n at.place at.is_behind packet f content k
 after_found n packet f content k at (Some i) y e =
     let one : record { place = i; is_behind = false } ≡ at = (cc) in ap (λ (t : FlowPlace). after_at n t.place t.is_behind packet f content k) one
@@ -27,7 +28,7 @@ wants_found f k at None (Some i) e =
     let one : record { place = i; is_behind = true } ≡ at = (cc) in ap (λ (t : FlowPlace). wants_at t.place t.is_behind f k) one
 wants_found f k at None None e = (cc)
 
-pub after_standing : (n : ℕ) (packet : PacketModel) (f : Header) (content : List ℕ) (k : Known) (flow : Flow) (at : FlowPlace) → flow ≡ flow_of packet f
+pub after_standing : (n : Origin) (packet : PacketModel) (f : Header) (content : List ℕ) (k : Known) (flow : Flow) (at : FlowPlace) → flow ≡ flow_of packet f
     → Some at ≡ standing flow k.connections → after_sequenced n packet f content k ≡ after_at n at.place at.is_behind packet f content k
 unfolding after_sequenced
 after_standing n packet f content k flow at is e =
@@ -42,7 +43,7 @@ wants_standing packet f k flow at is e =
     (e ∙ ap (λ q. standing q k.connections) is)
 
 -- a flow that stands nowhere
-after_none : (n : ℕ) (packet : PacketModel) (f : Header) (content : List ℕ) (k : Known) (x y : Option ℕ) → None ≡ standing_at x y
+after_none : (n : Origin) (packet : PacketModel) (f : Header) (content : List ℕ) (k : Known) (x y : Option ℕ) → None ≡ standing_at x y
     → after_places n packet f content x y k ≡ after_new_flow n packet f content k
 after_none n packet f content k (Some i) y e = (cc)
 after_none n packet f content k None (Some i) e = (cc)
@@ -53,7 +54,7 @@ wants_none f k (Some i) y e = (cc)
 wants_none f k None (Some i) e = (cc)
 wants_none f k None None e = refl
 
-pub after_nowhere : (n : ℕ) (packet : PacketModel) (f : Header) (content : List ℕ) (k : Known) (flow : Flow) → flow ≡ flow_of packet f
+pub after_nowhere : (n : Origin) (packet : PacketModel) (f : Header) (content : List ℕ) (k : Known) (flow : Flow) → flow ≡ flow_of packet f
     → None ≡ standing flow k.connections → after_sequenced n packet f content k ≡ after_new_flow n packet f content k
 unfolding after_sequenced
 after_nowhere n packet f content k flow is e =
@@ -61,7 +62,7 @@ after_nowhere n packet f content k flow is e =
     (e ∙ ap (λ q. standing q k.connections) is)
 
 -- a system packet of it begins none
-pub after_system : (n : ℕ) (packet : PacketModel) (f : Header) (content : List ℕ) (k : Known) (flow : Flow) → flow ≡ flow_of packet f
+pub after_system : (n : Origin) (packet : PacketModel) (f : Header) (content : List ℕ) (k : Known) (flow : Flow) → flow ≡ flow_of packet f
     → None ≡ standing flow k.connections → is_system f ≡ true → after_sequenced n packet f content k ≡ k
 after_system n packet f content k flow is e system =
     after_nowhere n packet f content k flow is e
@@ -75,7 +76,7 @@ wants_nowhere packet f k flow is e =
     (e ∙ ap (λ q. standing q k.connections) is)
 
 -- it begins a connection
-pub after_begun : (n : ℕ) (packet : PacketModel) (f : Header) (content : List ℕ) (k k' : Known) (flow : Flow) (place : ℕ) → flow ≡ flow_of packet f
+pub after_begun : (n : Origin) (packet : PacketModel) (f : Header) (content : List ℕ) (k k' : Known) (flow : Flow) (place : ℕ) → flow ≡ flow_of packet f
     → None ≡ standing flow k.connections → is_system f ≡ false → place ≡ length k.connections → k' ≡ with_new flow k
     → after_sequenced n packet f content k ≡ after_at n place false packet f content k'
 after_begun n packet f content k k' flow place is e plain last begun =
@@ -85,7 +86,7 @@ after_begun n packet f content k k' flow place is e plain last begun =
     ∙ ap (λ x. after_at n place false packet f content x) (ap (λ q. with_new q k) (sym is) ∙ sym begun)
 
 -- a data packet of a flow that stands somewhere, or begins a connection
-pub after_data : (n : ℕ) (packet : PacketModel) (f : Header) (content : List ℕ) (cs cs' : List Connection) (flows : List FlowPlace) (page : Page) (flow : Flow) (at : FlowPlace) → flow ≡ flow_of packet f
+pub after_data : (n : Origin) (packet : PacketModel) (f : Header) (content : List ℕ) (cs cs' : List Connection) (flows : List FlowPlace) (page : Page) (flow : Flow) (at : FlowPlace) → flow ≡ flow_of packet f
     → is_system f ≡ false → StandsOrBegins flow at cs cs' → after_sequenced n packet f content (known cs flows page) ≡ after_at n at.place at.is_behind packet f content (known cs' flows page)
 after_data n packet f content cs cs' flows page flow at is plain (inl (stands, same)) =
     after_standing n packet f content (known cs flows page) flow at is (sym stands)

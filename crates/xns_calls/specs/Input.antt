@@ -23,12 +23,15 @@ use Rattle.xns_calls.specs.Capture.{Known, flow_behind, heading_at, place_of, si
 use Rattle.xns_calls.specs.Events.{Event, acknowledged_event, captured_event}
 use Rattle.xns_calls.specs.Exchange.{first_track}
 use Rattle.xns_calls.specs.Numbers.{near}
+use Rattle.xns_calls.specs.Origins.{line_origin}
 use Rattle.xns_calls.specs.Telling.{message_line}
 use Rattle.xns_calls.specs.Texts.{flow_line, missing_line, refused_line}
+use Rattle.xns_calls.specs.TimeTexts.{time_text}
 use Rattle.xns_calls.specs.Whole.{SaysConversation, of_courier}
 use Rattle.xns_calls.specs.declared.connection.Connection.{Connection}
 use Rattle.xns_calls.specs.declared.flow_place.FlowPlace.{FlowPlace}
 use Rattle.xns_calls.specs.declared.heading.Heading.{Heading}
+use Rattle.xns_calls.specs.declared.origin.Origin.{Origin}
 use Rattle.xns_calls.specs.declared.track.Track.{Track}
 use Rattle.xns_calls.specs.declared.unanswered.Calls.{Calls}
 
@@ -100,14 +103,14 @@ events_between p q h f content track =
     if p.place == q.place then (if is_same p.is_behind q.is_behind then item_events h f content track else acknowledge_events h f track)
     else []
 
-abbrev pub events_at : FlowPlace → ℕ → Option Arrival → List Connection → List Event
+abbrev pub events_at : FlowPlace → Origin → Option Arrival → List Connection → List Event
 events_at p n None connections = []
 events_at p n (Some a) connections =
     events_between p (flow_place a.0 a.1 connections) (heading_at n p.place p.is_behind) a.1 a.2 (track_in p connections)
 
 abbrev pub events_from : FlowPlace → ℕ → Known → List (List ℕ) → List Event
 events_from p n k [] = []
-events_from p n k (line ∷ lines) = events_at p n (arrival line) k.connections ++ events_from p (n + 1) (line_taken n line k) lines
+events_from p n k (line ∷ lines) = events_at p (line_origin n) (arrival line) k.connections ++ events_from p (n + 1) (line_taken n line k) lines
 
 -- what happens in all lines
 abbrev pub events_in : FlowPlace → List (List ℕ) → List Event
@@ -156,16 +159,16 @@ said_texts h said = flat_map (said_text h) said
 
 -- what is said of a flow at a line of the input, or why that line or its packet was refused
 pub data Part : Type 0 where
-  told : ℕ → FlowPlace → List Said → Part
+  told : Origin → FlowPlace → List Said → Part
   bad_hex : ℕ → FromHexError → Part
-  bad_packet : ℕ → IdpFault → Part
-  bad_header : ℕ → SppFault → Part
+  bad_packet : Origin → IdpFault → Part
+  bad_header : Origin → SppFault → Part
 
 abbrev pub part_text : Part → List ℕ
 part_text (told n q said) = said_texts (heading_at n q.place q.is_behind) said
 part_text (bad_hex n error) = hex_refusal n error
-part_text (bad_packet n fault) = idp_refusal n fault
-part_text (bad_header n fault) = header_refusal n fault
+part_text (bad_packet n fault) = time_text n.time ++ idp_refusal n.number fault
+part_text (bad_header n fault) = time_text n.time ++ header_refusal n.number fault
 
 abbrev pub parts_text : List Part → List ℕ
 parts_text parts = flat_map part_text parts

@@ -29,8 +29,10 @@ use Rattle.xns_calls.specs.Reading.{Told}
 use Rattle.xns_calls.specs.Whole.{IsWhole, SaysConversation, flow_text, of_courier}
 use Rattle.xns_calls.specs.declared.flow_place.FlowPlace.{FlowPlace}
 use Rattle.xns_calls.specs.declared.heading.Heading.{Heading}
+use Rattle.xns_calls.specs.declared.origin.Origin.{Origin}
 use Rattle.xns_calls.specs.declared.speech.Speech.{Speech}
 use Rattle.xns_calls.specs.declared.speech.Speech.TheVariants.{Hearing}
+use Rattle.xns_calls.specs.declared.times.Times.TheVariants.{Hidden}
 use Rattle.xns_calls.specs.declared.track.Track.{Track}
 
 -- what is heard of a flow from its version range on begins with the conversation of its items, and is all of it where that has no fault
@@ -113,7 +115,7 @@ InputsTellTheirConversations = (input : List ℕ) (p : FlowPlace) (items : List 
 
 -- a packet to a known identifier changes no connection but that of its flow or of the flow behind it
 abbrev pub OtherConnectionsStay : Type 0
-OtherConnectionsStay = (n : ℕ) (packet : PacketModel) (f : Header) (content : List ℕ) (k : Known) (i : ℕ) → i < length k.connections
+OtherConnectionsStay = (n : Origin) (packet : PacketModel) (f : Header) (content : List ℕ) (k : Known) (i : ℕ) → i < length k.connections
     → place_of (flow_of packet f) k.connections ≢ Some i → place_of (flow_behind (flow_of packet f)) k.connections ≢ Some i
     → slice_get (after_sequenced n packet f content k).connections i ≡ slice_get k.connections i
 
@@ -122,7 +124,7 @@ abbrev pub OneKeyServesBothDirections : Type 0
 OneKeyServesBothDirections = (a b : Flow) → IsFlow a → IsFlow b
     → is_eq (key_cmp (connection_key a) (connection_key b)) ≡ (is_flow a b || is_flow a (flow_behind b))
 
--- a capture says what lines say that spell its packets
+-- a capture says what lines say that spell its packets, where no times are wanted
 pub record CapturesSayWhatLinesSay : Type 0 where
-  pub text : (input file : List ℕ) → SpellsPackets input file → calls_capture_text file ≡ calls_text input
-  pub refused : (input file : List ℕ) → SpellsPackets input file → has_file_refusal file ≡ has_refusal input
+  pub text : (input file : List ℕ) → SpellsPackets input file → calls_capture_text Hidden file ≡ calls_text input
+  pub refused : (input file : List ℕ) → SpellsPackets input file → has_file_refusal Hidden file ≡ has_refusal input

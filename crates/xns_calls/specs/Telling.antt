@@ -8,15 +8,15 @@ use Rattle.xns_calls.specs.declared.heading.Heading.{Heading}
 use Rattle.xns_calls.specs.declared.heard.Heard.{Heard}
 use Rattle.xns_calls.specs.declared.heard.Heard.TheVariants as heard
 use Rattle.xns_calls.specs.declared.waiting.Waiting.{Waiting}
-use Rattle.xns_calls.specs.Texts.{answer_text, call_text, refused_line, words_end}
+use Rattle.xns_calls.specs.Texts.{answer_end, answer_text, call_text, refused_line, words_end}
 
-abbrev pub line_if : ℕ → Waiting → Option ℕ
-line_if transaction waiting = if waiting.transaction == transaction then Some waiting.line else None
+abbrev pub call_if : ℕ → Waiting → Option Waiting
+call_if transaction waiting = if waiting.transaction == transaction then Some waiting else None
 
--- the line of the call that an answer of this transaction is for, if one waits
-abbrev pub line_of_call : Option Waiting → ℕ → Option ℕ
-line_of_call None transaction = None
-line_of_call (Some waiting) transaction = line_if transaction waiting
+-- the call that an answer of this transaction is for, if one waits
+abbrev pub call_of : Option Waiting → ℕ → Option Waiting
+call_of None transaction = None
+call_of (Some waiting) transaction = call_if transaction waiting
 
 -- the call has its answer then
 abbrev pub call_left : Option Waiting → ℕ → Option Waiting
@@ -28,13 +28,14 @@ abbrev pub message_line : Heading → Calls → Message → List ℕ
 message_line heading calls (Call transaction program version procedure words) =
     call_text heading transaction program version procedure ++ words_end (codes " args ") words
 message_line heading calls (Reject transaction reason words) =
-    answer_text heading (codes " reject ") transaction (line_of_call calls.asked transaction) ++ (codes " reason " ++ decimal reason)
-    ++ words_end (codes " words ") words
+    answer_text heading (codes " reject ") transaction (call_of calls.asked transaction) ++ (codes " reason " ++ decimal reason)
+    ++ answer_end (codes " words ") words (call_of calls.asked transaction) heading.origin.time
 message_line heading calls (Return transaction words) =
-    answer_text heading (codes " return ") transaction (line_of_call calls.asked transaction) ++ words_end (codes " results ") words
+    answer_text heading (codes " return ") transaction (call_of calls.asked transaction)
+    ++ answer_end (codes " results ") words (call_of calls.asked transaction) heading.origin.time
 message_line heading calls (Abort transaction error words) =
-    answer_text heading (codes " abort ") transaction (line_of_call calls.asked transaction) ++ (codes " error " ++ decimal error)
-    ++ words_end (codes " args ") words
+    answer_text heading (codes " abort ") transaction (call_of calls.asked transaction) ++ (codes " error " ++ decimal error)
+    ++ answer_end (codes " args ") words (call_of calls.asked transaction) heading.origin.time
 
 abbrev pub after_answer : Calls → ℕ → Calls
 after_answer calls transaction = record calls { asked = call_left calls.asked transaction }
@@ -42,7 +43,7 @@ after_answer calls transaction = record calls { asked = call_left calls.asked tr
 -- a call is the flow's call without an answer, and an answer answers that of the flow behind
 abbrev pub after_message : Heading → Calls → Message → Calls
 after_message heading calls (Call transaction program version procedure words) = record calls {
-  own = Some (record { transaction = transaction; line = heading.number });
+  own = Some (record { transaction = transaction; origin = heading.origin });
 }
 after_message heading calls (Reject transaction reason words) = after_answer calls transaction
 after_message heading calls (Return transaction words) = after_answer calls transaction

@@ -10,15 +10,19 @@ use Rattle.xns_spp.specs.declared.header.Header.{Header}
 use Rattle.xns_lines.specs.Text.{hex_word, words_text}
 use Rattle.xns_dump.specs.Layers.Courier.{callee_text}
 use Rattle.xns_dump.specs.Layers.Text.{address_text}
+use Rattle.xns_calls.specs.TimeTexts.{time_text, took_text}
 use Rattle.xns_calls.specs.declared.heading.Heading.{Heading}
+use Rattle.xns_calls.specs.declared.origin.ShownTime.{ShownTime}
+use Rattle.xns_calls.specs.declared.waiting.Waiting.{Waiting}
 
 -- a flow's letter in its connection
 abbrev pub letter : Bool → List ℕ
 letter is_behind = if is_behind then codes "b" else codes "a"
 
--- the number of the line, and the name of the flow
+-- the time of the frame, its number or that of the line, and the name of the flow
 unfoldable pub heading_text : Heading → List ℕ
-heading_text heading = decimal heading.number ++ codes " " ++ decimal heading.connection ++ letter heading.is_behind
+heading_text heading = time_text heading.origin.time ++ decimal heading.origin.number ++ codes " " ++ decimal heading.connection
+    ++ letter heading.is_behind
 
 -- one end of a flow
 unfoldable pub end_text : List ℕ → Address → ℕ → List ℕ
@@ -39,18 +43,22 @@ missing_line heading first behind = heading_text heading ++ (codes " missing " +
 unfoldable pub words_end : List ℕ → List ℕ → List ℕ
 words_end name words = name ++ words_text words ++ codes "\n"
 
+-- the same, and how long a call took
+unfoldable pub answer_end : List ℕ → List ℕ → Option Waiting → ShownTime → List ℕ
+answer_end name words of time = name ++ words_text words ++ took_text of time ++ codes "\n"
+
 -- the front of a call
 unfoldable pub call_text : Heading → ℕ → ℕ → ℕ → ℕ → List ℕ
 call_text heading transaction program version procedure = heading_text heading ++ (codes " call " ++ decimal transaction)
     ++ callee_text program version procedure
 
--- the number of the line of a call, or a dash
-abbrev pub line_or_dash : Option ℕ → List ℕ
-line_or_dash (Some line) = decimal line
+-- the number of the line or frame of a call, or a dash
+abbrev pub line_or_dash : Option Waiting → List ℕ
+line_or_dash (Some waiting) = decimal waiting.origin.number
 line_or_dash None = codes "-"
 
 -- the front of an answer
-unfoldable pub answer_text : Heading → List ℕ → ℕ → Option ℕ → List ℕ
+unfoldable pub answer_text : Heading → List ℕ → ℕ → Option Waiting → List ℕ
 answer_text heading name transaction of = heading_text heading ++ (name ++ decimal transaction) ++ codes " of " ++ line_or_dash of
 
 -- why what was said is no message or no version range; no other fault comes of items of datastream 0

@@ -6,7 +6,10 @@ ghost use Rattle.xns_calls.specs.Files.{FileStopsIn, calls_capture_text, has_fil
 ghost use Rattle.xns_lines.specs.Lines.{IsWithinLimits};
 ghost use Rattle.xns_calls.specs.Calls.{StopsIn, calls_text, has_refusal, most_numbered_lines};
 
+use crate::packet_printer::CapturePrinter;
 use crate::printer::CallsPrinter;
+use crate::time_style::{AbsoluteTimes, NoTimes, RelativeTimes, TimeStyle};
+use crate::times::Times;
 use std::alloc::Global;
 use std::io::{Read, Write};
 use xns_captures::{FileFault, print_packets};
@@ -62,23 +65,46 @@ pub fn calls<R: Read, W: Write>(
 }
 
 /// Reads a capture and prints the Courier calls that the internet packets in its frames carry, and what came back, as `calls`
-/// does of lines, with the number of the frame in place of the line's. The answer is whether something was refused.
+/// does of lines, with the number of the frame in place of the line's. Where times are wanted, the time of the frame stands
+/// before each line, and behind each answer how long its call took. The answer is whether something was refused.
 pub fn calls_capture<R: Read, W: Write>(
     alloc: Global,
+    times: Times,
     reader: &mut R,
     writer: &mut W,
 ) -> Result<bool, FileFault>
     // Without a fault the text of the whole file is written, which holds no fault.
     ensures text { IfOk result (λ refused. IfSome (R.remaining reader.old) (λ file.
-        Appends (W.contents writer.old) (W.contents writer.new) (calls_capture_text file))) }
-    ensures refused { IfOk result (λ refused. IfSome (R.remaining reader.old) (λ file. refused ≡ has_file_refusal file)) }
+        Appends (W.contents writer.old) (W.contents writer.new) (calls_capture_text times file))) }
+    ensures refused { IfOk result (λ refused. IfSome (R.remaining reader.old) (λ file. refused ≡ has_file_refusal times file)) }
     ensures whole { OnOk result (IfSome (R.remaining reader.old) (λ file. fault_of file ≡ None)) }
 
     // After a fault the text of the packets before it is written; one of the capture comes behind all its packets.
     ensures fault { IfErr result (λ fault. IfSome (R.remaining reader.old) (λ file.
-        FileStopsIn fault file (W.contents writer.old) (W.contents writer.new))) }
+        FileStopsIn times fault file (W.contents writer.old) (W.contents writer.new))) }
 {
-    let Ok(printer) = CallsPrinter::new(alloc) else {
+    match times {
+        Times::Hidden => print_styled(alloc, NoTimes, reader, writer),
+        Times::Absolute => print_styled(alloc, AbsoluteTimes, reader, writer),
+        Times::Relative => print_styled(alloc, RelativeTimes, reader, writer),
+    }
+}
+
+/// Reads a capture and prints its calls, with times of that style.
+fn print_styled<S: TimeStyle, R: Read, W: Write>(
+    alloc: Global,
+    style: S,
+    reader: &mut R,
+    writer: &mut W,
+) -> Result<bool, FileFault>
+    ensures text { IfOk result (λ refused. IfSome (R.remaining reader.old) (λ file.
+        Appends (W.contents writer.old) (W.contents writer.new) (calls_capture_text S.style file))) }
+    ensures refused { IfOk result (λ refused. IfSome (R.remaining reader.old) (λ file. refused ≡ has_file_refusal S.style file)) }
+    ensures whole { OnOk result (IfSome (R.remaining reader.old) (λ file. fault_of file ≡ None)) }
+    ensures fault { IfErr result (λ fault. IfSome (R.remaining reader.old) (λ file.
+        FileStopsIn S.style fault file (W.contents writer.old) (W.contents writer.new))) }
+{
+    let Ok(printer) = CapturePrinter::new(alloc, style) else {
         return Err(FileFault::Run(RunFault::NoMemory));
     };
     print_packets(alloc, reader, writer, printer)

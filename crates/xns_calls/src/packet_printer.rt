@@ -1,38 +1,61 @@
 //! What `calls` makes of the packets of a capture.
+ghost use Rattle.std.specs.Prelude.{◌≡◌, [], IfOk};
 ghost use Rattle.xns_calls.specs.Files.{HasPrintedPackets, packet_end_count, packets_refused, packets_text_with_end};
 
+use crate::origin::Origin;
 use crate::packet_lines::take_packet_in;
 use crate::printer::CallsPrinter;
-use std::alloc::AllocError;
-use xns_captures::PacketPrinter;
+use crate::time_style::TimeStyle;
+use std::alloc::{AllocError, Global};
+use xns_captures::{PacketPrinter, Stamp};
 use xns_lines::Page;
 
-impl PacketPrinter for CallsPrinter {
-    ghost prints = { HasPrintedPackets };
+/// Says what was called in a capture and what came back, with times of one style.
+#[derive(Drop)]
+pub(crate) struct CapturePrinter<S> {
+    /// What was said.
+    printer: CallsPrinter,
+    /// Which times are printed.
+    style: S,
+}
 
-    ghost packets_text = { packets_text_with_end };
+impl<S: TimeStyle> CapturePrinter<S> {
+    /// A printer that has printed nothing. The only error is want of memory.
+    pub(crate) fn new(alloc: Global, style: S) -> Result<Self, AllocError>
+        ensures { IfOk result (λ printer. HasPrintedPackets S.style printer.printer [] 0) }
+    {
+        let printer = CallsPrinter::new(alloc)?;
+        Ok(CapturePrinter { printer, style })
+    }
+}
 
-    ghost refuses = { packets_refused };
+impl<S: TimeStyle> PacketPrinter for CapturePrinter<S> {
+    ghost prints = { λ printer packets part. HasPrintedPackets S.style printer.printer packets part };
 
-    ghost packet_ends = { packet_end_count };
+    ghost packets_text = { packets_text_with_end S.style };
+
+    ghost refuses = { packets_refused S.style };
+
+    ghost packet_ends = { packet_end_count S.style };
 
     fn print_packet(
         &mut self,
         page: &mut Page,
-        number: usize,
+        stamp: Stamp,
         packet: &[u8],
     ) -> Result<(), AllocError> {
-        take_packet_in(&mut self.capture, page, number, packet)?;
-        self.count = number;
+        let origin = Origin::of_frame(self.style.times(), stamp);
+        take_packet_in(&mut self.printer.capture, page, origin, packet)?;
+        self.printer.last = origin;
         Ok(())
     }
 
     fn count_packet_ends(&self) -> usize {
-        self.capture.flow_count()
+        self.printer.capture.flow_count()
     }
 
     fn print_packet_end(&mut self, page: &mut Page, part: usize) -> Result<(), AllocError> {
-        self.capture.take_end(page, self.count, part)
+        self.printer.capture.take_end(page, self.printer.last, part)
     }
 
     fn nothing_is_said() {}

@@ -2,12 +2,14 @@
 ghost use Rattle.std.specs.Prelude.{◌≡◌, ◌||◌, OnOk};
 ghost use Rattle.courier_messages.specs.Head.{with_words};
 ghost use Rattle.xns_lines.specs.Report.{Adds};
-ghost use Rattle.xns_calls.specs.Telling.{after_message, call_left, calls_after, heard_text, is_fault, line_of_call, message_line};
+ghost use Rattle.xns_calls.specs.Telling.{after_message, call_left, calls_after, heard_text, is_fault, call_of, message_line};
 
 use crate::heading::Heading;
 use crate::heard::Heard;
 use crate::scratch::Scratch;
-use crate::texts::{append_answer, append_call, append_refused_line, append_words};
+use crate::texts::{
+    append_answer, append_answer_end, append_call, append_refused_line, append_words,
+};
 use crate::unanswered::Calls;
 use crate::waiting::Waiting;
 use courier_messages::{Head, PiecedMessage, WholeMessage};
@@ -89,7 +91,7 @@ fn tell_words(
         } => {
             calls.own = Some(Waiting {
                 transaction,
-                line: heading.number,
+                origin: heading.origin,
             });
             append_call(report, heading, transaction, program, version, procedure)?;
             append_words(report, b" args ", words)
@@ -101,32 +103,32 @@ fn tell_words(
             let of = answer(calls, transaction);
             append_answer(report, heading, b" reject ", transaction, of)?;
             append_field(report, b" reason ", reason)?;
-            append_words(report, b" words ", words)
+            append_answer_end(report, b" words ", words, of, heading.origin.time)
         }
         Head::Return { transaction } => {
             let of = answer(calls, transaction);
             append_answer(report, heading, b" return ", transaction, of)?;
-            append_words(report, b" results ", words)
+            append_answer_end(report, b" results ", words, of, heading.origin.time)
         }
         Head::Abort { transaction, error } => {
             let of = answer(calls, transaction);
             append_answer(report, heading, b" abort ", transaction, of)?;
             append_field(report, b" error ", error)?;
-            append_words(report, b" args ", words)
+            append_answer_end(report, b" args ", words, of, heading.origin.time)
         }
     }
 }
 
-/// The line of the call that waits for an answer of this transaction, which no longer waits then.
-fn answer(calls: &mut Calls, transaction: u16) -> Option<usize>
-    ensures line { result ≡ line_of_call calls.old.asked transaction }
+/// The call that waits for an answer of this transaction, which no longer waits then.
+fn answer(calls: &mut Calls, transaction: u16) -> Option<Waiting>
+    ensures call { result ≡ call_of calls.old.asked transaction }
     ensures left { calls.new.asked ≡ call_left calls.old.asked transaction }
     ensures own { calls.new.own ≡ calls.old.own }
 {
     match calls.asked {
         Some(waiting) if waiting.transaction == transaction => {
             calls.asked = None;
-            Some(waiting.line)
+            Some(waiting)
         }
         _ => None,
     }

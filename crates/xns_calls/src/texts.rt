@@ -5,10 +5,13 @@ ghost use Rattle.xns_idp.specs.Packet.{packet_model};
 ghost use Rattle.xns_dump.specs.Layers.Text.{address_text};
 ghost use Rattle.xns_lines.specs.Report.{Adds};
 ghost use Rattle.xns_lines.specs.Text.{hex_word};
-ghost use Rattle.xns_calls.specs.Texts.{answer_text, call_text, end_text, flow_line, heading_text, missing_line, reason_text, refused_line};
+ghost use Rattle.xns_calls.specs.Texts.{answer_end, answer_text, call_text, end_text, flow_line, heading_text, missing_line, reason_text, refused_line};
 ghost use Rattle.xns_calls.specs.Texts.{words_end};
 
 use crate::heading::Heading;
+use crate::origin::ShownTime;
+use crate::time_texts::{append_time, append_took};
+use crate::waiting::Waiting;
 use courier_messages::{MessageFault, SessionFault};
 use std::alloc::AllocError;
 use std::ops::Range;
@@ -19,12 +22,13 @@ use xns_lines::numbers::{append_decimal, append_decimal_u64, append_word_list};
 use xns_lines::{Report, write_few_digits};
 use xns_spp::Header;
 
-/// Appends the number of the line and the name of the flow.
+/// Appends the time of the frame, its number or that of the line, and the name of the flow.
 #[tactic(auto, unfolding(crate::specs::Texts::heading_text))]
 fn append_heading(report: &mut Report, heading: Heading) -> Result<(), AllocError>
     ensures { Adds result report.old report.new (heading_text heading) }
 {
-    append_decimal(report, heading.number)?;
+    append_time(report, heading.origin.time)?;
+    append_decimal(report, heading.origin.number)?;
     report.append(b" ")?;
     append_decimal(report, heading.connection)?;
     if heading.is_behind {
@@ -124,14 +128,31 @@ pub fn append_words(report: &mut Report, name: &[u8], words: &[u16]) -> Result<(
     report.append(b"\n")
 }
 
-/// Appends what an answer begins with: the number of the line of its call stands behind its transaction, or a dash.
+/// Appends words behind what they are, and how long a call took, and ends the line.
+#[tactic(auto, unfolding(crate::specs::Texts::answer_end))]
+pub fn append_answer_end(
+    report: &mut Report,
+    name: &[u8],
+    words: &[u16],
+    of: Option<Waiting>,
+    time: ShownTime,
+) -> Result<(), AllocError>
+    ensures { Adds result report.old report.new (answer_end name.now words.now of time) }
+{
+    report.append(name)?;
+    append_word_list(report, words)?;
+    append_took(report, of, time)?;
+    report.append(b"\n")
+}
+
+/// Appends what an answer begins with: the number of the line or frame of its call stands behind its transaction, or a dash.
 #[tactic(auto, unfolding(crate::specs::Texts::answer_text))]
 pub fn append_answer(
     report: &mut Report,
     heading: Heading,
     name: &[u8],
     transaction: u16,
-    of: Option<usize>,
+    of: Option<Waiting>,
 ) -> Result<(), AllocError>
     ensures { Adds result report.old report.new (answer_text heading name.now transaction of) }
 {
@@ -139,7 +160,7 @@ pub fn append_answer(
     append_field(report, name, transaction)?;
     report.append(b" of ")?;
     match of {
-        Some(line) => append_decimal(report, line),
+        Some(waiting) => append_decimal(report, waiting.origin.number),
         None => report.append(b"-"),
     }
 }

@@ -49,14 +49,14 @@ unfolding size_of
 part_has_bytes Unread head =
     cond_both (long_at Big head 0 == section_type) (block_size Big head) (classic_size (classic_order head)) (HasBytes 12)
     (λ _. any_block_has_bytes Big head) (λ _. classic_has_bytes (classic_order head))
-part_has_bytes (Records order link) head =
+part_has_bytes (Records order link is_nano) head =
     cond_both (nat_lt most_frame_bytes (long_at order head 8)) (Err fault.TooLong) (Ok (16 + long_at order head 8)) (HasBytes 16)
     (λ _. tt) (λ _. omega arith)
 part_has_bytes (Blocks order) head = any_block_has_bytes order head
 
 pub head_has_bytes : (f : Format) → 1 ≤ head_count f
 head_has_bytes Unread = lit≤ tt
-head_has_bytes (Records order link) = lit≤ tt
+head_has_bytes (Records order link is_nano) = lit≤ tt
 head_has_bytes (Blocks order) = lit≤ tt
 
 -- what a part holds, with what is said of the rest in two ways

@@ -3,9 +3,10 @@ use Rattle.std.proofs.Common.{◌≡◌, refl, ap, sym, ◌∙◌, subst, arith,
 use Rattle.std.specs.Prelude.{IfSome}
 use Rattle.std.specs.Io.KnownBytes.{Consumes, IsAtEnd, Keeps}
 use Rattle.std.proofs.lemmas.Bool.{eqb-false, eqb-true}
-use Rattle.xns_captures.specs.Captures.{Contents, FrameBytes, NumberedPacket, contents, contents_of, ends_with, fault_of, frames_of, packets_in, packets_of, with_packet}
+use Rattle.std.specs.Option.{option_or}
+use Rattle.xns_captures.specs.Captures.{Contents, FrameBytes, NumberedPacket, contents, contents_of, ends_with, fault_of, frames_of, packets_in, packets_of, stamp_of, with_packet}
 use Rattle.xns_captures.specs.Links.{packet_of_frame}
-use Rattle.xns_captures.specs.Reading.{HasRead, HasStopped, Says, StandsAfter, StopsBy, behind_frames, cut_unless_empty}
+use Rattle.xns_captures.specs.Reading.{HasRead, HasStopped, Says, StandsAfter, StopsBy, behind_frames, cut_unless_empty, first_among}
 use Rattle.xns_captures.specs.declared.fault.CaptureFault.{CaptureFault}
 use Rattle.xns_captures.specs.declared.fault.CaptureFault.TheVariants.{Cut}
 use Rattle.xns_lines.specs.declared.fault.RunFault.TheVariants as run
@@ -13,17 +14,20 @@ use Rattle.xns_captures.specs.declared.file_fault.FileFault.{FileFault}
 use Rattle.xns_captures.specs.declared.file_fault.FileFault.TheVariants.{Run, Capture}
 use Rattle.xns_lines.specs.declared.fault.RunFault.{RunFault}
 use Rattle.xns_captures.specs.declared.format.Format.TheVariants.{Unread}
+use Rattle.xns_captures.specs.declared.frame_time.FrameTime.{FrameTime}
 use Rattle.xns_captures.specs.declared.reading.Reading.{Reading}
 use Rattle.xns_captures.proofs.Frames.{rest_of, with-packet-append}
 
 -- ---- frames
 
-packets-join : (n : ℕ) (xs ys : List FrameBytes) → packets_in n (xs ++ ys) ≡ packets_in n xs ++ packets_in (n + length xs) ys
-packets-join n [] ys = ap (λ m. packets_in m ys) (sym (add-zero n))
-packets-join n (x ∷ xs) ys =
-    ap (with_packet n (packet_of_frame x.0 x.1)) (packets-join (n + 1) xs ys)
-    ∙ with-packet-append n (packet_of_frame x.0 x.1) (packets_in (n + 1) xs) (packets_in ((n + 1) + length xs) ys)
-    ∙ ap (λ m. packets_in n (x ∷ xs) ++ packets_in m ys) (omega arith)
+packets-join : (first : Option FrameTime) (n : ℕ) (xs ys : List FrameBytes)
+    → packets_in first n (xs ++ ys) ≡ packets_in first n xs ++ packets_in (first_among first xs) (n + length xs) ys
+packets-join first n [] ys = ap (λ m. packets_in first m ys) (sym (add-zero n))
+packets-join first n (x ∷ xs) ys =
+    let next = option_or first x.2 in
+    ap (with_packet (stamp_of first n x.2) (packet_of_frame x.0 x.1)) (packets-join next (n + 1) xs ys)
+    ∙ with-packet-append (stamp_of first n x.2) (packet_of_frame x.0 x.1) (packets_in next (n + 1) xs) (packets_in (first_among next xs) ((n + 1) + length xs) ys)
+    ∙ ap (λ m. packets_in first n (x ∷ xs) ++ packets_in (first_among next xs) m ys) (omega arith)
 
 frames-behind : (frames : List FrameBytes) (rest : Contents) → (behind_frames frames rest).frames ≡ frames ++ rest.frames
 frames-behind [] rest = refl
@@ -35,9 +39,9 @@ fault-behind (frame ∷ frames) rest = fault-behind frames rest
 
 -- the packets of a file that holds these frames and more
 packets-of : (file : List ℕ) (frames : List FrameBytes) (more : Contents) → contents_of file ≡ behind_frames frames more
-    → packets_of file ≡ packets_in 1 frames ++ packets_in (1 + length frames) more.frames
+    → packets_of file ≡ packets_in None 1 frames ++ packets_in (first_among None frames) (1 + length frames) more.frames
 packets-of file frames more e =
-    ap (λ c. packets_in 1 c.frames) e ∙ ap (packets_in 1) (frames-behind frames more) ∙ packets-join 1 frames more.frames
+    ap (λ c. packets_in None 1 c.frames) e ∙ ap (packets_in None 1) (frames-behind frames more) ∙ packets-join None 1 frames more.frames
 
 fault-of : (file : List ℕ) (frames : List FrameBytes) (more : Contents) → contents_of file ≡ behind_frames frames more
     → fault_of file ≡ more.fault
@@ -45,16 +49,17 @@ fault-of file frames more e = ap (λ c. c.fault) e ∙ fault-behind frames more
 
 -- where nothing is behind these frames
 packets-end : (file : List ℕ) (frames : List FrameBytes) (why : Option CaptureFault) → contents_of file ≡ behind_frames frames (ends_with why)
-    → packets_of file ≡ packets_in 1 frames
-packets-end file frames why e = packets-of file frames (ends_with why) e ∙ append-nil (packets_in 1 frames)
+    → packets_of file ≡ packets_in None 1 frames
+packets-end file frames why e = packets-of file frames (ends_with why) e ∙ append-nil (packets_in None 1 frames)
 
 -- ---- what was read is the file, or the front of it
 
-pub begun : (reading : Reading) (stands : Says) → reading.format ≡ Unread → reading.interfaces.items ≡ [] → reading.count ≡ 0 → stands []
+pub begun : (reading : Reading) (stands : Says) → reading.format ≡ Unread → reading.interfaces.items ≡ [] → reading.count ≡ 0 → reading.first ≡ None → stands []
     → HasRead reading [] [] stands
-begun reading stands format interfaces count said = record {
+begun reading stands format interfaces count first said = record {
   frames = [];
   count = count;
+  first = first;
   whole = λ rest. ap (λ f. contents f [] rest) (sym format) ∙ ap (λ is. contents reading.format is rest) (sym interfaces);
   taken = said;
 }
@@ -65,6 +70,7 @@ pub grown : (reading : Reading) (read kept piece : List ℕ) (stands : Says) →
 grown reading read kept piece stands h = record {
   frames = h.frames;
   count = h.count;
+  first = h.first;
   whole = λ rest. ap contents_of (append_assoc read piece rest) ∙ h.whole (piece ++ rest)
       ∙ ap (λ more. behind_frames h.frames (rest_of reading more)) (sym (append_assoc kept piece rest));
   taken = h.taken;
@@ -119,7 +125,7 @@ stopped (Capture why) read xs left h =
     let e : contents_of (read ++ xs) ≡ behind_frames h.frames (ends_with (Some why)) = h.whole xs ∙ ap (behind_frames h.frames) (h.ends xs) in
     (fault-of (read ++ xs) h.frames (ends_with (Some why)) e, subst left (sym (packets-end (read ++ xs) h.frames (Some why) e)) h.is_left)
 stopped (Run fault) read xs left h =
-    (packets_in 1 h.frames, packets_in (1 + length h.frames) (h.more xs).frames, sym (packets-of (read ++ xs) h.frames (h.more xs) (h.whole xs)), h.is_left)
+    (packets_in None 1 h.frames, packets_in (first_among None h.frames) (1 + length h.frames) (h.more xs).frames, sym (packets-of (read ++ xs) h.frames (h.more xs) (h.whole xs)), h.is_left)
 
 pub stops_by : (fault : FileFault) (left after : Option (List ℕ)) (read : List ℕ) (first leaves : Option (List ℕ) → Says)
     → Consumes left after read
@@ -142,10 +148,11 @@ some_items (x ∷ xs) e = refl
 
 -- the taker stands for the same packets, and the same is kept
 pub anew : (reading : Reading) (read kept kept' : List ℕ) (stands stands' : Says) → kept' ≡ kept → (h : HasRead reading read kept stands)
-    → (stands (packets_in 1 h.frames) → stands' (packets_in 1 h.frames)) → HasRead reading read kept' stands'
+    → (stands (packets_in None 1 h.frames) → stands' (packets_in None 1 h.frames)) → HasRead reading read kept' stands'
 anew reading read kept kept' stands stands' e h said = record {
   frames = h.frames;
   count = h.count;
+  first = h.first;
   whole = λ rest. h.whole rest ∙ ap (λ bytes. behind_frames h.frames (rest_of reading (bytes ++ rest))) (sym e);
   taken = said h.taken;
 }

@@ -1,6 +1,7 @@
 -- What a capture holds: its frames, why it can't be read on, and the packets in its frames.
 use Rattle.std.specs.Prelude.{ℕ, zero, suc, ◌+◌, nat_lt, if◌then◌else◌, List, [], ◌∷◌, ◌++◌, length, take, drop}
 use Rattle.std.specs.Prelude.{Option, Some, None, Ok, Err}
+use Rattle.std.specs.Option.{option_or}
 use Rattle.xns_captures.specs.Links.{packet_of_frame}
 use Rattle.xns_captures.specs.Parts.{Holds, Size, head_count, part_of, size_of}
 use Rattle.xns_captures.specs.declared.fault.CaptureFault.{CaptureFault}
@@ -8,17 +9,19 @@ use Rattle.xns_captures.specs.declared.fault.CaptureFault.TheVariants as fault
 use Rattle.xns_captures.specs.declared.format.Format.{Format}
 use Rattle.xns_captures.specs.declared.format.Format.TheVariants.{Unread}
 use Rattle.xns_captures.specs.declared.frame.Frame.{Frame}
+use Rattle.xns_captures.specs.declared.frame_time.FrameTime.{FrameTime}
 use Rattle.xns_captures.specs.declared.interface.Interface.{Interface}
 use Rattle.xns_captures.specs.declared.part.Part.{Part}
 use Rattle.xns_captures.specs.declared.part.Part.TheVariants as part
+use Rattle.xns_captures.specs.declared.stamp.Stamp.{Stamp}
 
--- a frame is its link type and its captured bytes
+-- a frame is its link type, its captured bytes, and when it was captured, where the capture says so
 abbrev pub FrameBytes : Type 0
-FrameBytes = ℕ × List ℕ
+FrameBytes = ℕ × List ℕ × Option FrameTime
 
 -- the frame that stands in a part
 abbrev pub frame_in : Frame → List ℕ → FrameBytes
-frame_in frame bytes = (frame.link, take frame.count (drop frame.start bytes))
+frame_in frame bytes = (frame.link, take frame.count (drop frame.start bytes), frame.time)
 
 -- the frames, and why no more can be read, if so
 pub record Contents : Type 0 where
@@ -78,19 +81,24 @@ frames_of file = (contents_of file).frames
 abbrev pub fault_of : List ℕ → Option CaptureFault
 fault_of file = (contents_of file).fault
 
--- a packet and the number of its frame
+-- the number and the time of its frame, and a packet
 abbrev pub NumberedPacket : Type 0
-NumberedPacket = ℕ × List ℕ
+NumberedPacket = Stamp × List ℕ
 
-abbrev pub with_packet : ℕ → Option (List ℕ) → List NumberedPacket → List NumberedPacket
-with_packet n None packets = packets
-with_packet n (Some packet) packets = (n, packet) ∷ packets
+abbrev pub with_packet : Stamp → Option (List ℕ) → List NumberedPacket → List NumberedPacket
+with_packet stamp None packets = packets
+with_packet stamp (Some packet) packets = (stamp, packet) ∷ packets
 
--- the packets in frames of which the first has number n
-abbrev pub packets_in : ℕ → List FrameBytes → List NumberedPacket
-packets_in n [] = []
-packets_in n (frame ∷ frames) = with_packet n (packet_of_frame frame.0 frame.1) (packets_in (n + 1) frames)
+-- the stamp of frame n, which has this time, behind frames with this first time
+abbrev pub stamp_of : Option FrameTime → ℕ → Option FrameTime → Stamp
+stamp_of first n time = record { number = n; time = time; first = option_or first time }
+
+-- the packets in frames of which the first has number n, behind frames with this first time
+abbrev pub packets_in : Option FrameTime → ℕ → List FrameBytes → List NumberedPacket
+packets_in first n [] = []
+packets_in first n (frame ∷ frames) =
+    with_packet (stamp_of first n frame.2) (packet_of_frame frame.0 frame.1) (packets_in (option_or first frame.2) (n + 1) frames)
 
 -- the packets of a file; frames count from 1
 abbrev pub packets_of : List ℕ → List NumberedPacket
-packets_of file = packets_in 1 (frames_of file)
+packets_of file = packets_in None 1 (frames_of file)

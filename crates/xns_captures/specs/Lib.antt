@@ -4,3 +4,4 @@ pub mod Parts
 pub mod Places
 pub mod Printing
 pub mod Reading
+pub mod Times

@@ -1,12 +1,14 @@
 -- The parts of a capture: how many bytes the next one has, by its head, and what it holds.
-use Rattle.std.specs.Prelude.{ℕ, ◌+◌, ◌-◌, ◌%◌, ◌≤◌, ◌==◌, ◌||◌, ◌&&◌, min, nat_lt, Bool, not, if◌then◌else◌, List, length, slice_get}
-use Rattle.std.specs.Prelude.{Option, Some, None, is_some, Result, Ok, Err}
-use Rattle.xns_captures.specs.Places.{long_at, word_at}
+use Rattle.std.specs.Prelude.{ℕ, ◌+◌, ◌-◌, ◌*◌, ◌%◌, ◌≤◌, ◌==◌, ◌||◌, ◌&&◌, min, nat_lt, Bool, true, false, not, if◌then◌else◌, List, length, slice_get, take, drop}
+use Rattle.std.specs.Prelude.{Option, Some, None, is_some, option_map, Result, Ok, Err}
+use Rattle.xns_captures.specs.Places.{count_at, long_at, word_at}
+use Rattle.xns_captures.specs.Times.{resolution_of}
 use Rattle.xns_captures.specs.declared.byte_order.ByteOrder.{ByteOrder}
 use Rattle.xns_captures.specs.declared.byte_order.ByteOrder.TheVariants.{Big, Little}
 use Rattle.xns_captures.specs.declared.fault.CaptureFault.{CaptureFault}
 use Rattle.xns_captures.specs.declared.fault.CaptureFault.TheVariants as fault
 use Rattle.xns_captures.specs.declared.format.Format.{Format}
+use Rattle.xns_captures.specs.declared.frame_time.FrameTime.{FrameTime}
 use Rattle.xns_captures.specs.declared.format.Format.TheVariants.{Unread, Records, Blocks}
 use Rattle.xns_captures.specs.declared.interface.Interface.{Interface}
 use Rattle.xns_captures.specs.declared.part.Part.{Part}
@@ -44,21 +46,28 @@ classic_order bytes =
     else if is_classic (long_at Little bytes 0) then Some Little
     else None
 
--- the header of a file: its version is 2.4; the link type stands in the low half of the last number, below the bits on check sequences
+-- the header of a file: its magic number, version 2.4, and the link type in the low half of the last number, below the bits on check
+-- sequences
 abbrev pub header_in : ByteOrder → List ℕ → Holds
 header_in order bytes =
     if nat_lt (length bytes) 24 then Err fault.Cut
     else if word_at order bytes 4 == 2 && word_at order bytes 6 == 4
-    then Ok (part.Begins (Records order (long_at order bytes 20 % 65536)))
+    then Ok (part.Begins (Records order (long_at order bytes 20 % 65536) (long_at order bytes 0 == 0xa1b23c4d)))
     else Err fault.Version
 
--- a record: a head of 16 bytes, with the captured length at 8, and the frame
+-- a record: a head of 16 bytes, with the seconds since 1970 and a part of one, the captured length at 8, and the frame
 abbrev pub record_size : ByteOrder → List ℕ → Size
 record_size order head =
     if nat_lt most_frame_bytes (long_at order head 8) then Err fault.TooLong else Ok (16 + long_at order head 8)
 
-abbrev pub record_in : ℕ → List ℕ → Holds
-record_in link bytes = Ok (part.Frame (record { link = link; start = 16; count = length bytes - 16 }))
+-- the part of a second has nine digits or six
+abbrev pub record_time : ByteOrder → Bool → List ℕ → FrameTime
+record_time order true bytes = record { count = long_at order bytes 0 * 1000000000 + long_at order bytes 4; resolution = 9 }
+record_time order false bytes = record { count = long_at order bytes 0 * 1000000 + long_at order bytes 4; resolution = 6 }
+
+abbrev pub record_in : ByteOrder → ℕ → Bool → List ℕ → Holds
+record_in order link is_nano bytes =
+    Ok (part.Frame (record { link = link; start = 16; count = length bytes - 16; time = Some (record_time order is_nano bytes) }))
 
 -- ---- pcapng
 
@@ -102,43 +111,53 @@ section_in_order (Some order) bytes =
     then Ok (part.Begins (Blocks order))
     else Err fault.Version
 
--- an interface description: the link type at 8, and the most bytes that are kept of a frame at 12
+-- an interface description: the link type at 8, the most bytes that are kept of a frame at 12, and options up to the length at the end
 abbrev pub interface_in : ByteOrder → List Interface → List ℕ → Holds
 interface_in order interfaces bytes =
     if not (has_lengths order 20 bytes) then Err fault.Lengths
     else if not (nat_lt (length interfaces) most_interfaces) then Err fault.TooManyInterfaces
-    else Ok (part.Interface (record { link = word_at order bytes 8; most = long_at order bytes 12 }))
+    else Ok (part.Interface (record {
+      link = word_at order bytes 8;
+      most = long_at order bytes 12;
+      resolution = resolution_of order (drop 16 (take (length bytes - 4) bytes));
+    }))
+
+-- the time of a count of an interface's units
+abbrev pub time_by : Option Interface → ℕ → Option FrameTime
+time_by interface count = option_map (λ i. record { count = count; resolution = i.resolution }) interface
 
 -- a frame of an interface, which begins at a place of a block; its padding and the length at the end stand behind it
-abbrev pub frame_of : Option Interface → ℕ → ℕ → ℕ → Holds
-frame_of None start count total = Err fault.NoInterface
-frame_of (Some interface) start count total =
+abbrev pub frame_of : Option Interface → ℕ → ℕ → Option FrameTime → ℕ → Holds
+frame_of None start count time total = Err fault.NoInterface
+frame_of (Some interface) start count time total =
     if nat_lt most_frame_bytes count then Err fault.TooLong
     else if nat_lt total (start + count + 4) then Err fault.Lengths
-    else Ok (part.Frame (record { link = interface.link; start = start; count = count }))
+    else Ok (part.Frame (record { link = interface.link; start = start; count = count; time = time }))
 
--- an enhanced packet: the number of the interface at 8, and the captured length at 20
+-- an enhanced packet: the number of the interface at 8, the time at 12, and the captured length at 20
 abbrev pub enhanced_in : ByteOrder → List Interface → List ℕ → Holds
 enhanced_in order interfaces bytes =
     if not (has_lengths order 32 bytes) then Err fault.Lengths
-    else frame_of (slice_get interfaces (long_at order bytes 8)) 28 (long_at order bytes 20) (length bytes)
+    else frame_of (slice_get interfaces (long_at order bytes 8)) 28 (long_at order bytes 20)
+    (time_by (slice_get interfaces (long_at order bytes 8)) (count_at order bytes 12)) (length bytes)
 
 -- the obsolete packet, whose interface has a number of two bytes
 abbrev pub old_in : ByteOrder → List Interface → List ℕ → Holds
 old_in order interfaces bytes =
     if not (has_lengths order 32 bytes) then Err fault.Lengths
-    else frame_of (slice_get interfaces (word_at order bytes 8)) 28 (long_at order bytes 20) (length bytes)
+    else frame_of (slice_get interfaces (word_at order bytes 8)) 28 (long_at order bytes 20)
+    (time_by (slice_get interfaces (word_at order bytes 8)) (count_at order bytes 12)) (length bytes)
 
 -- how many bytes of a frame of so many were kept
 abbrev pub kept_count : Option Interface → ℕ → ℕ
 kept_count None count = count
 kept_count (Some interface) count = if interface.most == 0 then count else min count interface.most
 
--- a simple packet, of the first interface: the original length at 8
+-- a simple packet, of the first interface, which has no time: the original length at 8
 abbrev pub simple_in : ByteOrder → List Interface → List ℕ → Holds
 simple_in order interfaces bytes =
     if not (has_lengths order 16 bytes) then Err fault.Lengths
-    else frame_of (slice_get interfaces 0) 12 (kept_count (slice_get interfaces 0) (long_at order bytes 8)) (length bytes)
+    else frame_of (slice_get interfaces 0) 12 (kept_count (slice_get interfaces 0) (long_at order bytes 8)) None (length bytes)
 
 -- blocks that are no packets, and have numbers as frames in Wireshark: a systemd journal entry, a system call, and custom blocks
 abbrev pub is_counted : ℕ → Bool
@@ -148,7 +167,7 @@ is_counted kind = kind == 9 || kind == 0x204 || kind == 0xbad || kind == 0x40000
 abbrev pub other_in : ℕ → ByteOrder → List ℕ → Holds
 other_in kind order bytes =
     if not (has_lengths order 12 bytes) then Err fault.Lengths
-    else if is_counted kind then Ok (part.Frame (record { link = 0; start = 0; count = 0 }))
+    else if is_counted kind then Ok (part.Frame (record { link = 0; start = 0; count = 0; time = None }))
     else Ok part.Other
 
 -- a block that is no section header, by its type
@@ -189,19 +208,19 @@ file_in interfaces bytes =
 
 -- the head of a part has so many bytes
 abbrev pub head_count : Format → ℕ
-head_count (Records order link) = 16
+head_count (Records order link is_nano) = 16
 head_count _ = 12
 
 -- how many bytes the part with this head has
 unfoldable pub size_of : Format → List ℕ → Size
 size_of Unread head = file_size head
-size_of (Records order link) head = record_size order head
+size_of (Records order link is_nano) head = record_size order head
 size_of (Blocks order) head = block_size order head
 
 -- what a part with these bytes holds, in a section with these interfaces
 unfoldable pub part_of : Format → List Interface → List ℕ → Holds
 part_of Unread interfaces bytes = file_in interfaces bytes
-part_of (Records order link) interfaces bytes = record_in link bytes
+part_of (Records order link is_nano) interfaces bytes = record_in order link is_nano bytes
 part_of (Blocks order) interfaces bytes = block_in order interfaces bytes
 
 -- the frame stands within so many bytes

@@ -11,3 +11,7 @@ word_at Little bytes i = slice_index bytes i + 256 * slice_index bytes (i + 1)
 abbrev pub long_at : ByteOrder → List ℕ → ℕ → ℕ
 long_at Big bytes i = 65536 * word_at Big bytes i + word_at Big bytes (i + 2)
 long_at Little bytes i = word_at Little bytes i + 65536 * word_at Little bytes (i + 2)
+
+-- the number of eight bytes, of which the four that count most come first in either order
+abbrev pub count_at : ByteOrder → List ℕ → ℕ → ℕ
+count_at order bytes i = long_at order bytes i * 4294967296 + long_at order bytes (i + 4)

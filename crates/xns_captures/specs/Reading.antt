@@ -2,6 +2,7 @@
 use Rattle.std.specs.Prelude.{◌≡◌, ◌≤◌, ℕ, List, [], ◌∷◌, ◌++◌, length, take, Option, Some, None, Ok}
 use Rattle.xns_lines.specs.declared.fault.RunFault.{RunFault}
 use Rattle.xns_lines.specs.declared.fault.RunFault.TheVariants as run
+use Rattle.std.specs.Option.{option_or}
 use Rattle.xns_captures.specs.Captures.{Contents, FrameBytes, NumberedPacket, contents, contents_of, ends_with, packets_in, packets_of, with_frame}
 use Rattle.xns_captures.specs.Captures.{fault_of}
 use Rattle.xns_captures.specs.declared.fault.CaptureFault.{CaptureFault}
@@ -9,6 +10,7 @@ use Rattle.xns_captures.specs.declared.fault.CaptureFault.TheVariants.{Cut}
 use Rattle.xns_captures.specs.declared.file_fault.FileFault.{FileFault}
 use Rattle.xns_captures.specs.declared.file_fault.FileFault.TheVariants.{Run, Capture}
 use Rattle.xns_captures.specs.declared.format.Format.{Format}
+use Rattle.xns_captures.specs.declared.frame_time.FrameTime.{FrameTime}
 use Rattle.xns_captures.specs.Parts.{head_count, size_of}
 use Rattle.xns_captures.specs.declared.reading.Reading.{Reading}
 
@@ -48,6 +50,11 @@ pub record IsWholePart (format : Format) (bytes : List ℕ) (size : ℕ) : Type 
   pub of_head : size_of format (take (head_count format) bytes) ≡ Ok size
   pub fits : size ≤ length bytes
 
+-- the first time of frames, behind others with this first one
+abbrev pub first_among : Option FrameTime → List FrameBytes → Option FrameTime
+first_among first [] = first
+first_among first (frame ∷ frames) = first_among (option_or first frame.2) frames
+
 -- frames, and what a capture holds behind them
 abbrev pub behind_frames : List FrameBytes → Contents → Contents
 behind_frames [] rest = rest
@@ -58,9 +65,10 @@ behind_frames (frame ∷ frames) rest = with_frame frame (behind_frames frames r
 pub record HasRead (reading : Reading) (read kept : List ℕ) (stands : Says) : Type 0 where
   pub frames : List FrameBytes
   pub count : reading.count ≡ length frames
+  pub first : reading.first ≡ first_among None frames
   pub whole : (rest : List ℕ)
       → contents_of (read ++ rest) ≡ behind_frames frames (contents reading.format reading.interfaces.items (kept ++ rest))
-  pub taken : stands (packets_in 1 frames)
+  pub taken : stands (packets_in None 1 frames)
 
 -- what the rest of a capture holds, where it can't be read on
 abbrev pub EndsBy : FileFault → (List ℕ → Contents) → Type 0
@@ -73,7 +81,7 @@ pub record HasStopped (fault : FileFault) (read : List ℕ) (left : Says) : Type
   pub more : List ℕ → Contents
   pub whole : (rest : List ℕ) → contents_of (read ++ rest) ≡ behind_frames frames (more rest)
   pub ends : EndsBy fault more
-  pub is_left : left (packets_in 1 frames)
+  pub is_left : left (packets_in None 1 frames)
 
 -- a fault of the capture comes behind all its packets, and any other behind some of them
 abbrev pub StopsBy : FileFault → List ℕ → Says → Type 0

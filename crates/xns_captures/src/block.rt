@@ -1,19 +1,23 @@
 //! The blocks of a pcapng file.
-ghost use Rattle.std.specs.Prelude.{◌≡◌, ◌≤◌, true, IfOk, length, slice_get};
+ghost use Rattle.std.specs.Prelude.{◌≡◌, ◌≤◌, ◌-◌, true, IfOk, drop, length, slice_get, take};
+ghost use Rattle.xns_captures.specs.Times.{resolution_of};
 ghost use Rattle.xns_captures.specs.Parts.{block_in, block_of_type, block_size as block_size_of, block_size_in, enhanced_in};
 ghost use Rattle.xns_captures.specs.Parts.{IsWithin, frame_of as frame_of_block, has_lengths as has_lengths_in, interface_in};
 ghost use Rattle.xns_captures.specs.Parts.{is_counted as is_counted_kind, kept_count as kept_count_of, old_in, other_in, section_in_order, simple_in};
+ghost use Rattle.xns_captures.specs.Parts.{time_by as time_of_interface};
 ghost use Rattle.xns_captures.specs.Parts.{section_order as section_order_of, size_in_order};
 
 use crate::byte_order::ByteOrder;
 use crate::fault::CaptureFault;
 use crate::format::Format;
 use crate::frame::Frame;
+use crate::frame_time::FrameTime;
 use crate::interface::Interface;
 use crate::limits::{MOST_BLOCK_BYTES, MOST_FRAME_BYTES, MOST_INTERFACES};
 use crate::magic::SECTION;
+use crate::options::read_resolution;
 use crate::part::Part;
-use crate::places::{read_long, read_word};
+use crate::places::{read_count, read_long, read_word};
 
 /// The bytes of the head of a block, and of the shortest block.
 pub const BLOCK_HEAD_BYTES: usize = 12;
@@ -171,7 +175,17 @@ fn read_interface(
     Ok(Part::Interface(Interface {
         link: read_word(order, bytes, 8),
         most: read_long(order, bytes, 12),
+        resolution: interface_resolution(order, bytes),
     }))
+}
+
+/// The resolution of the times of an interface, whose options stand before the length at the end of its description.
+fn interface_resolution(order: ByteOrder, bytes: &[u8]) -> u8
+    requires { 20 ≤ length bytes.now }
+    ensures { result ≡ resolution_of order (drop 16 (take (length bytes.now - 4) bytes.now)) }
+{
+    let total = bytes.len();
+    read_resolution(order, &bytes[..total - 4][16..])
 }
 
 /// An enhanced packet.
@@ -188,7 +202,14 @@ fn read_enhanced(
         return Err(CaptureFault::Lengths);
     }
     let interface = interface_at(interfaces, read_long(order, bytes, 8) as usize);
-    frame_of(interface, 28, read_long(order, bytes, 20), bytes.len())
+    let time = time_of(interface, read_count(order, bytes, 12));
+    frame_of(
+        interface,
+        28,
+        read_long(order, bytes, 20),
+        time,
+        bytes.len(),
+    )
 }
 
 /// The obsolete packet, whose interface has a number of two bytes.
@@ -201,7 +222,14 @@ fn read_old(order: ByteOrder, interfaces: &[Interface], bytes: &[u8]) -> Result<
         return Err(CaptureFault::Lengths);
     }
     let interface = interface_at(interfaces, usize::from(read_word(order, bytes, 8)));
-    frame_of(interface, 28, read_long(order, bytes, 20), bytes.len())
+    let time = time_of(interface, read_count(order, bytes, 12));
+    frame_of(
+        interface,
+        28,
+        read_long(order, bytes, 20),
+        time,
+        bytes.len(),
+    )
 }
 
 /// A simple packet, of the first interface, which does not say how much of it was captured.
@@ -219,7 +247,7 @@ fn read_simple(
     }
     let interface = interface_at(interfaces, 0);
     let count = kept_count(interface, read_long(order, bytes, 8));
-    frame_of(interface, 12, count, bytes.len())
+    frame_of(interface, 12, count, None, bytes.len())
 }
 
 /// A block of any other type. One that is counted is a frame of no bytes, of a link type that carries no packet.
@@ -236,6 +264,7 @@ fn pass_over(kind: u32, order: ByteOrder, bytes: &[u8]) -> Result<Part, CaptureF
             link: 0,
             start: 0,
             count: 0,
+            time: None,
         }));
     }
     Ok(Part::Other)
@@ -271,15 +300,26 @@ fn kept_count(interface: Option<Interface>, count: u32) -> u32
     }
 }
 
+/// When a frame of an interface was captured, by a count of units since 1970.
+fn time_of(interface: Option<Interface>, count: u64) -> Option<FrameTime>
+    ensures { result ≡ time_of_interface interface count }
+{
+    Some(FrameTime {
+        count,
+        resolution: interface?.resolution,
+    })
+}
+
 /// A frame of an interface, which begins at a place of a block of so many bytes.
 fn frame_of(
     interface: Option<Interface>,
     start: usize,
     count: u32,
+    time: Option<FrameTime>,
     total: usize,
 ) -> Result<Part, CaptureFault>
     requires { start ≤ 28 }
-    ensures value { result ≡ frame_of_block interface start count total }
+    ensures value { result ≡ frame_of_block interface start count time total }
     ensures fits { IfOk result (IsWithin total) }
 {
     let Some(interface) = interface else {
@@ -296,5 +336,6 @@ fn frame_of(
         link: interface.link,
         start,
         count,
+        time,
     }))
 }

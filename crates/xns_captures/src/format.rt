@@ -6,8 +6,14 @@ use crate::byte_order::ByteOrder;
 pub enum Format {
     /// Nothing was read yet.
     Unread,
-    /// Records of a classic capture, all of one link type.
-    Records { order: ByteOrder, link: u16 },
+    /// Records of a classic capture, all of one link type, with times in nanoseconds or in microseconds.
+    Records {
+        order: ByteOrder,
+        link: u16,
+        is_nano: bool,
+    },
     /// Blocks of a section.
-    Blocks { order: ByteOrder },
+    Blocks {
+        order: ByteOrder,
+    },
 }

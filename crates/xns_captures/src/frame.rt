@@ -1,4 +1,5 @@
 //! Where a frame stands.
+use crate::frame_time::FrameTime;
 
 /// Where a frame stands in the bytes of its part of a capture.
 #[derive(Clone, Copy, Debug, PartialEq, Eq)]
@@ -9,4 +10,6 @@ pub struct Frame {
     pub start: usize,
     /// How many bytes of it were captured.
     pub count: usize,
+    /// When it was captured; none where the capture does not say.
+    pub time: Option<FrameTime>,
 }

@@ -4,7 +4,7 @@ ghost use Rattle.xns_captures.specs.Links.{behind_llc, behind_number, behind_pro
 ghost use Rattle.xns_captures.specs.Links.{of_cooked, of_cooked_2, of_ethernet, of_old_ethernet, packet_of_frame};
 
 use crate::byte_order::ByteOrder;
-use crate::places::read_word;
+use crate::places::{behind, byte_at, read_word};
 
 /// Ethernet.
 const ETHERNET: u16 = 1;
@@ -141,17 +141,6 @@ fn front(bytes: &[u8], most: usize) -> &[u8]
     }
 }
 
-/// What stands behind so many bytes.
-fn behind(bytes: &[u8], count: usize) -> &[u8]
-    ensures { result.now ≡ drop count bytes.now }
-{
-    if bytes.len() <= count {
-        &[]
-    } else {
-        &bytes[count..]
-    }
-}
-
 fn is_tag(number: u16) -> bool
     ensures { result ≡ is_tag_of number }
 {
@@ -171,13 +160,6 @@ fn in_llc(bytes: &[u8]) -> Option<&[u8]>
     } else {
         None
     }
-}
-
-/// The byte at a place, or 0 behind the end.
-fn byte_at(bytes: &[u8], at: usize) -> u8
-    ensures { result ≡ slice_index bytes.now at }
-{
-    if at < bytes.len() { bytes[at] } else { 0 }
 }
 
 /// Whether a header of SNAP has the type.

@@ -10,7 +10,7 @@ pub const SECTION: u32 = 0x0a0d_0d0a;
 /// The magic numbers of classic captures, with times in microseconds and in nanoseconds.
 const MICROSECONDS: u32 = 0xa1b2_c3d4;
 
-const NANOSECONDS: u32 = 0xa1b2_3c4d;
+pub const NANOSECONDS: u32 = 0xa1b2_3c4d;
 
 /// Whether a file that begins with these bytes is a capture: four bytes tell.
 pub fn is_capture(bytes: &[u8]) -> bool

@@ -5,6 +5,7 @@ ghost use Rattle.xns_lines.specs.Printing.{HasFailed, StandsBehind, StopsInEnd};
 ghost use Rattle.xns_captures.specs.Reading.{most_frames};
 
 use crate::packet_printer::PacketPrinter;
+use crate::stamp::Stamp;
 use crate::taker::PacketTaker;
 use std::alloc::AllocError;
 use std::io::Write;
@@ -23,12 +24,12 @@ pub(crate) struct PacketPages<P> {
 
 impl<P: PacketPrinter> PacketPages<P> {
     /// Prints the packet. Where memory is refused, no text of it stays.
-    fn print_packet(&mut self, number: usize, packet: &[u8]) -> Result<(), AllocError>
-        requires few { number ≤ most_frames }
-        ensures ok { OnOk result ((before after : Option (List ℕ)) (packets : List NumberedPacket) → length packets < number
+    fn print_packet(&mut self, stamp: Stamp, packet: &[u8]) -> Result<(), AllocError>
+        requires few { stamp.number ≤ most_frames }
+        ensures ok { OnOk result ((before after : Option (List ℕ)) (packets : List NumberedPacket) → length packets < stamp.number
             → StandsBehind (P.prints self.old.printer) P.packets_text P.refuses 0 self.old.page self.old.is_lost before after packets
             → StandsBehind (P.prints self.new.printer) P.packets_text P.refuses 0
-            self.new.page self.new.is_lost before after (packets ++ (number, packet.now) ∷ [])) }
+            self.new.page self.new.is_lost before after (packets ++ (stamp, packet.now) ∷ [])) }
         ensures err { OnErr result ((before after : Option (List ℕ)) (packets : List NumberedPacket)
             → StandsBehind (P.prints self.old.printer) P.packets_text P.refuses 0 self.old.page self.old.is_lost before after packets
             → StandsBehind (P.prints self.new.printer) P.packets_text P.refuses 0 self.new.page self.new.is_lost before after packets) }
@@ -38,7 +39,7 @@ impl<P: PacketPrinter> PacketPages<P> {
         }
         self.page.text.begin_line();
         let was_refused = self.page.is_refused;
-        let printed = self.printer.print_packet(&mut self.page, number, packet);
+        let printed = self.printer.print_packet(&mut self.page, stamp, packet);
         if printed.is_err() {
             self.lose_line(was_refused);
         }
@@ -138,11 +139,11 @@ impl<P: PacketPrinter> PacketTaker for PacketPages<P> {
 
     fn take_packet<W: Write>(
         &mut self,
-        number: usize,
+        stamp: Stamp,
         packet: &[u8],
         writer: &mut W,
     ) -> Result<(), RunFault> {
-        let Ok(()) = self.print_packet(number, packet) else {
+        let Ok(()) = self.print_packet(stamp, packet) else {
             return Err(RunFault::NoMemory);
         };
         if self.page.is_full() {

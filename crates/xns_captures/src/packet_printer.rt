@@ -1,4 +1,5 @@
 //! What prints the packets of a capture.
+use crate::stamp::Stamp;
 use std::alloc::AllocError;
 use xns_lines::Page;
 
@@ -25,21 +26,21 @@ pub trait PacketPrinter {
     // How many parts the end of the file has behind these packets.
     ghost packet_ends: { List NumberedPacket → ℕ };
 
-    /// Appends what the packet in the frame of that number says to the page's latest line, and sets `is_refused` where it is
+    /// Appends what the packet in the frame of that stamp says to the page's latest line, and sets `is_refused` where it is
     /// refused.
     ///
     /// The only error is want of memory. What there is of the packet is then dropped, and no more packets come.
     fn print_packet(
         &mut self,
         page: &mut Page,
-        number: usize,
+        stamp: Stamp,
         packet: &[u8],
     ) -> Result<(), AllocError>
-        requires few { number ≤ most_frames }
+        requires few { stamp.number ≤ most_frames }
         ensures front { page.new.text.front ≡ page.old.text.front }
-        ensures ok { OnOk result ((packets : List NumberedPacket) → length packets < number → IsBegun (λ xs. refuses xs 0) page.old packets
+        ensures ok { OnOk result ((packets : List NumberedPacket) → length packets < stamp.number → IsBegun (λ xs. refuses xs 0) page.old packets
             → prints self.old packets 0
-            → IsPrinted (λ xs. prints self.new xs 0) (λ xs. packets_text xs 0) (λ xs. refuses xs 0) page.new packets (number, packet.now)) };
+            → IsPrinted (λ xs. prints self.new xs 0) (λ xs. packets_text xs 0) (λ xs. refuses xs 0) page.new packets (stamp, packet.now)) };
 
     /// How many parts the end of the file has, behind the packets that were printed.
     fn count_packet_ends(&self) -> usize

@@ -1,6 +1,6 @@
 //! Numbers at a place of a capture.
-ghost use Rattle.std.specs.Prelude.{◌≡◌, ◌+◌, ◌≤◌, length};
-ghost use Rattle.xns_captures.specs.Places.{long_at, word_at};
+ghost use Rattle.std.specs.Prelude.{◌≡◌, ◌+◌, ◌≤◌, drop, length, slice_index};
+ghost use Rattle.xns_captures.specs.Places.{count_at, long_at, word_at};
 
 use crate::byte_order::ByteOrder;
 
@@ -25,5 +25,32 @@ pub fn read_long(order: ByteOrder, bytes: &[u8], at: usize) -> u32
     match order {
         ByteOrder::Big => u32::from_be_bytes(four),
         ByteOrder::Little => u32::from_le_bytes(four),
+    }
+}
+
+/// The number of the eight bytes at a place, of which the four that count most come first in either order.
+pub fn read_count(order: ByteOrder, bytes: &[u8], at: usize) -> u64
+    requires { at + 8 ≤ length bytes.now }
+    ensures { result ≡ count_at order bytes.now at }
+{
+    u64::from(read_long(order, bytes, at)) * 4_294_967_296
+        + u64::from(read_long(order, bytes, at + 4))
+}
+
+/// The byte at a place, or 0 behind the end.
+pub fn byte_at(bytes: &[u8], at: usize) -> u8
+    ensures { result ≡ slice_index bytes.now at }
+{
+    if at < bytes.len() { bytes[at] } else { 0 }
+}
+
+/// What stands behind so many bytes.
+pub fn behind(bytes: &[u8], count: usize) -> &[u8]
+    ensures { result.now ≡ drop count bytes.now }
+{
+    if bytes.len() <= count {
+        &[]
+    } else {
+        &bytes[count..]
     }
 }

@@ -6,10 +6,12 @@ ghost use Rattle.xns_captures.specs.Parts.{head_count, size_of};
 use crate::fault::CaptureFault;
 use crate::file_fault::FileFault;
 use crate::format::Format;
+use crate::frame_time::FrameTime;
 use crate::interface::Interface;
 use crate::limits::MOST_FRAMES;
 use crate::link::packet_in;
 use crate::part::Part;
+use crate::stamp::Stamp;
 use crate::step::{head_bytes, part_bytes, read_part};
 use crate::taker::PacketTaker;
 use std::alloc::Global;
@@ -25,21 +27,25 @@ pub(crate) struct Reading {
     interfaces: Vec<Interface>,
     /// How many frames came.
     count: usize,
+    /// The first time that one of them has.
+    first: Option<FrameTime>,
 }
 
 impl Reading {
-    ghost use Rattle.xns_captures.specs.Reading.{HasRead, HasStopped, IsWholePart, StandsAfter, StopsAtFrame, cut_unless_empty};
+    ghost use Rattle.xns_captures.specs.Reading.{HasRead, HasStopped, IsWholePart, StandsAfter, StopsAtFrame, cut_unless_empty, first_among};
 
     /// Nothing was read yet.
     pub(crate) fn new(alloc: Global) -> Self
         ensures format { result.format ≡ Format.Unread }
         ensures interfaces { result.interfaces.items ≡ [] }
         ensures count { result.count ≡ 0 }
+        ensures first { result.first ≡ None }
     {
         Reading {
             format: Format::Unread,
             interfaces: Vec::new(alloc),
             count: 0,
+            first: None,
         }
     }
 
@@ -131,7 +137,13 @@ impl Reading {
             },
             Part::Frame(frame) => {
                 let end = frame.start + frame.count;
-                self.take_frame(frame.link, &bytes[frame.start..end], taker, writer)
+                self.take_frame(
+                    frame.link,
+                    &bytes[frame.start..end],
+                    frame.time,
+                    taker,
+                    writer,
+                )
             }
             Part::Other => Ok(()),
         }
@@ -142,34 +154,51 @@ impl Reading {
         &mut self,
         link: u16,
         frame: &[u8],
+        time: Option<FrameTime>,
         taker: &mut T,
         writer: &mut W,
     ) -> Result<(), FileFault>
         ensures format { self.new.format ≡ self.old.format }
         ensures interfaces { self.new.interfaces.items ≡ self.old.interfaces.items }
         ensures ok { OnOk result ((frames : List FrameBytes) (before : Option (List ℕ)) → self.old.count ≡ length frames
-            → T.stands taker.old before (W.contents writer.old) (packets_in 1 frames)
-            → (self.new.count ≡ length (frames ++ (link, frame.now) ∷ []))
-            × T.stands taker.new before (W.contents writer.new) (packets_in 1 (frames ++ (link, frame.now) ∷ []))) }
+            → self.old.first ≡ first_among None frames → T.stands taker.old before (W.contents writer.old) (packets_in None 1 frames)
+            → (self.new.count ≡ length (frames ++ (link, frame.now, time) ∷ []))
+            × (self.new.first ≡ first_among None (frames ++ (link, frame.now, time) ∷ []))
+            × T.stands taker.new before (W.contents writer.new) (packets_in None 1 (frames ++ (link, frame.now, time) ∷ []))) }
         ensures err { IfErr result (λ fault. (frames : List FrameBytes) (before : Option (List ℕ)) → self.old.count ≡ length frames
-            → T.stands taker.old before (W.contents writer.old) (packets_in 1 frames)
+            → self.old.first ≡ first_among None frames → T.stands taker.old before (W.contents writer.old) (packets_in None 1 frames)
             → StopsAtFrame fault (T.stands taker.new before (W.contents writer.new)) (T.fails taker.new before (W.contents writer.new))
-            (packets_in 1 frames) (packets_in 1 (frames ++ (link, frame.now) ∷ []))) }
+            (packets_in None 1 frames) (packets_in None 1 (frames ++ (link, frame.now, time) ∷ []))) }
     {
         if self.count >= MOST_FRAMES {
             return Err(FileFault::Run(RunFault::TooManyLines));
         }
-        let number = self.count + 1;
+        let stamp = Stamp {
+            number: self.count + 1,
+            time,
+            first: self.first.or(time),
+        };
         let Some(packet) = packet_in(link, frame) else {
-            self.count = number;
+            self.note(stamp);
             return Ok(());
         };
-        match taker.take_packet(number, packet, writer) {
+        match taker.take_packet(stamp, packet, writer) {
             Ok(()) => {
-                self.count = number;
+                self.note(stamp);
                 Ok(())
             }
             Err(fault) => Err(FileFault::Run(fault)),
         }
+    }
+
+    /// Notes that the frame of that stamp came.
+    fn note(&mut self, stamp: Stamp)
+        ensures format { self.new.format ≡ self.old.format }
+        ensures interfaces { self.new.interfaces.items ≡ self.old.interfaces.items }
+        ensures count { self.new.count ≡ stamp.number }
+        ensures first { self.new.first ≡ stamp.first }
+    {
+        self.count = stamp.number;
+        self.first = stamp.first;
     }
 }

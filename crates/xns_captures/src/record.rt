@@ -1,12 +1,14 @@
 //! Classic captures: the header of the file, and its records.
 ghost use Rattle.std.specs.Prelude.{◌≡◌, ◌≤◌, IfOk, Ok, length};
-ghost use Rattle.xns_captures.specs.Parts.{IsWithin, header_in, record_in, record_size as record_size_of};
+ghost use Rattle.xns_captures.specs.Parts.{IsWithin, header_in, record_in, record_size as record_size_of, record_time};
 
 use crate::byte_order::ByteOrder;
 use crate::fault::CaptureFault;
 use crate::format::Format;
 use crate::frame::Frame;
+use crate::frame_time::FrameTime;
 use crate::limits::MOST_FRAME_BYTES;
+use crate::magic::NANOSECONDS;
 use crate::part::Part;
 use crate::places::{read_long, read_word};
 
@@ -31,7 +33,12 @@ pub fn read_header(order: ByteOrder, bytes: &[u8]) -> Result<Part, CaptureFault>
         return Err(CaptureFault::Version);
     }
     let link = (read_long(order, bytes, 20) % 65536) as u16;
-    Ok(Part::Begins(Format::Records { order, link }))
+    let is_nano = read_long(order, bytes, 0) == NANOSECONDS;
+    Ok(Part::Begins(Format::Records {
+        order,
+        link,
+        is_nano,
+    }))
 }
 
 /// How many bytes a record has, by its head.
@@ -47,14 +54,35 @@ pub fn record_size(order: ByteOrder, head: &[u8]) -> Result<usize, CaptureFault>
 }
 
 /// The frame of a record.
-pub fn read_record(link: u16, bytes: &[u8]) -> Part
+pub fn read_record(order: ByteOrder, link: u16, is_nano: bool, bytes: &[u8]) -> Part
     requires { 16 ≤ length bytes.now }
-    ensures value { Ok result ≡ record_in link bytes.now }
+    ensures value { Ok result ≡ record_in order link is_nano bytes.now }
     ensures fits { IsWithin (length bytes.now) result }
 {
     Part::Frame(Frame {
         link,
         start: RECORD_HEAD_BYTES,
         count: bytes.len() - RECORD_HEAD_BYTES,
+        time: Some(read_time(order, is_nano, bytes)),
     })
+}
+
+/// When the frame of a record was captured: its head has the seconds since 1970, and then millionths or billionths of one.
+fn read_time(order: ByteOrder, is_nano: bool, bytes: &[u8]) -> FrameTime
+    requires { 16 ≤ length bytes.now }
+    ensures { result ≡ record_time order is_nano bytes.now }
+{
+    let seconds = u64::from(read_long(order, bytes, 0));
+    let fraction = u64::from(read_long(order, bytes, 4));
+    if is_nano {
+        FrameTime {
+            count: seconds * 1_000_000_000 + fraction,
+            resolution: 9,
+        }
+    } else {
+        FrameTime {
+            count: seconds * 1_000_000 + fraction,
+            resolution: 6,
+        }
+    }
 }

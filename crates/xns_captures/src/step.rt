@@ -48,7 +48,11 @@ pub fn read_part(
 {
     match format {
         Format::Unread => read_first(interfaces, bytes),
-        Format::Records { link, .. } => Ok(read_record(link, bytes)),
+        Format::Records {
+            order,
+            link,
+            is_nano,
+        } => Ok(read_record(order, link, is_nano, bytes)),
         Format::Blocks { order } => read_block(order, interfaces, bytes),
     }
 }

@@ -1,4 +1,5 @@
 //! What packets of a capture are handed to.
+use crate::stamp::Stamp;
 use std::io::Write;
 use xns_lines::RunFault;
 
@@ -17,24 +18,24 @@ pub trait PacketTaker {
     // So too, but that a write failed.
     ghost fails: { Self → Option (List ℕ) → Option (List ℕ) → List NumberedPacket → Type 0 };
 
-    /// Takes the packet in the frame of that number, which counts from 1, with all bytes of the frame behind it.
+    /// Takes the packet in the frame of that stamp, with all bytes of the frame behind it.
     ///
     /// # Errors
     /// `NoMemory` where memory is refused: it then stands for the packets before this one; `Write` where a write fails.
     fn take_packet<W: Write>(
         &mut self,
-        number: usize,
+        stamp: Stamp,
         packet: &[u8],
         writer: &mut W,
     ) -> Result<(), RunFault>
-        requires few { number ≤ most_frames }
-        ensures ok { OnOk result ((before : Option (List ℕ)) (packets : List NumberedPacket) → length packets < number
+        requires few { stamp.number ≤ most_frames }
+        ensures ok { OnOk result ((before : Option (List ℕ)) (packets : List NumberedPacket) → length packets < stamp.number
             → stands self.old before (W.contents writer.old) packets
-            → stands self.new before (W.contents writer.new) (packets ++ (number, packet.now) ∷ [])) }
-        ensures err { IfErr result (λ fault. (before : Option (List ℕ)) (packets : List NumberedPacket) → length packets < number
+            → stands self.new before (W.contents writer.new) (packets ++ (stamp, packet.now) ∷ [])) }
+        ensures err { IfErr result (λ fault. (before : Option (List ℕ)) (packets : List NumberedPacket) → length packets < stamp.number
             → stands self.old before (W.contents writer.old) packets
             → StandsAfterPacket fault (stands self.new before (W.contents writer.new))
-            (fails self.new before (W.contents writer.new)) packets (number, packet.now)) };
+            (fails self.new before (W.contents writer.new)) packets (stamp, packet.now)) };
 
     /// Does what is to be done before more of the file is awaited.
     ///

@@ -15,8 +15,8 @@ use xns_lines::RunFault;
 /// The file is read in pieces of so many bytes.
 const PIECE: usize = 65536;
 
-/// Reads a capture to its end, and hands the packets in its frames to the taker, in order, each with the number of its
-/// frame.
+/// Reads a capture to its end, and hands the packets in its frames to the taker, in order, each with the number and the
+/// time of its frame.
 ///
 /// The file is read in pieces of 65,536 bytes, of which one is held, and the bytes of one part of the capture that is not
 /// there whole.

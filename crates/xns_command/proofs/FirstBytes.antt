@@ -14,6 +14,7 @@ use Rattle.xns_command.specs.Commands.{StopsIn}
 use Rattle.xns_command.specs.Files.{FileStopsIn, StopsAs}
 use Rattle.xns_command.specs.declared.mode.Mode.{Mode}
 use Rattle.xns_command.specs.declared.mode.Mode.TheVariants.{Calls, Dump, Sim}
+use Rattle.xns_calls.specs.declared.times.Times.{Times}
 
 -- whether a file is a capture is told by its first four bytes, or by all where there are fewer
 short_tells : (xs ys : List ℕ) → ys ≡ [] → is_capture (xs ++ ys) ≡ is_capture xs
@@ -39,20 +40,20 @@ whole_file None new whole first b e c end is = tt
 whole_file (Some xs) None whole first b e c end is = absurd c
 whole_file (Some xs) (Some ys) whole first b e c end is = (e ∙ ap Some (sym c), ap is_capture c ∙ tells first ys end ∙ sym is)
 
-of_file : (mode : Mode) (b : Bool) (old whole left before after : Option (List ℕ)) (fault : FileFault) → IfSome old (λ file. (whole ≡ Some file) × (is_capture file ≡ b))
-    → IfSome whole (λ file. StopsAs b mode file left before after fault) → IfSome old (λ file. FileStopsIn mode file before after fault)
-of_file mode b None whole left before after fault same stops = tt
-of_file mode b (Some file) whole left before after fault same stops = (
+of_file : (times : Times) (mode : Mode) (b : Bool) (old whole left before after : Option (List ℕ)) (fault : FileFault) → IfSome old (λ file. (whole ≡ Some file) × (is_capture file ≡ b))
+    → IfSome whole (λ file. StopsAs b times mode file left before after fault) → IfSome old (λ file. FileStopsIn times mode file before after fault)
+of_file times mode b None whole left before after fault same stops = tt
+of_file times mode b (Some file) whole left before after fault same stops = (
   left,
-  subst (λ capture. StopsAs capture mode file left before after fault) (sym same.1)
-      (subst (λ o. IfSome o (λ xs. StopsAs b mode xs left before after fault)) same.0 stops),
+  subst (λ capture. StopsAs capture times mode file left before after fault) (sym same.1)
+      (subst (λ o. IfSome o (λ xs. StopsAs b times mode xs left before after fault)) same.0 stops),
 )
 
 -- where the whole stops, the file does
-pub stops_in_file : (mode : Mode) (b : Bool) (old whole left before after : Option (List ℕ)) (r : Result Bool FileFault) → IfSome old (λ file. (whole ≡ Some file) × (is_capture file ≡ b))
-    → IfErr r (λ fault. IfSome whole (λ file. StopsAs b mode file left before after fault)) → IfErr r (λ fault. IfSome old (λ file. FileStopsIn mode file before after fault))
-stops_in_file mode b old whole left before after (Ok refused) same stops = tt
-stops_in_file mode b old whole left before after (Err fault) same stops = of_file mode b old whole left before after fault same stops
+pub stops_in_file : (times : Times) (mode : Mode) (b : Bool) (old whole left before after : Option (List ℕ)) (r : Result Bool FileFault) → IfSome old (λ file. (whole ≡ Some file) × (is_capture file ≡ b))
+    → IfErr r (λ fault. IfSome whole (λ file. StopsAs b times mode file left before after fault)) → IfErr r (λ fault. IfSome old (λ file. FileStopsIn times mode file before after fault))
+stops_in_file times mode b old whole left before after (Ok refused) same stops = tt
+stops_in_file times mode b old whole left before after (Err fault) same stops = of_file times mode b old whole left before after fault same stops
 
 -- ---- where no more can be read
 
@@ -105,12 +106,12 @@ lines_at_first Sim file held = record {
   written = refl;
 }
 
-pub at_first : (b : Bool) (mode : Mode) (file : List ℕ) (held : Option (List ℕ)) → StopsAs b mode file (Some file) held held (Run run.Read)
-at_first true Dump file held = ([], 0, record { rest = packets_of file; joined = refl; few = omega arith; place = inl refl }, nothing_more held)
-at_first true Calls file held = ([], 0, record { rest = packets_of file; joined = refl; few = omega arith; place = inl refl }, nothing_more held)
-at_first true Sim file held = lines_at_first Sim file held
-at_first false mode file held = lines_at_first mode file held
+pub at_first : (b : Bool) (times : Times) (mode : Mode) (file : List ℕ) (held : Option (List ℕ)) → StopsAs b times mode file (Some file) held held (Run run.Read)
+at_first true times Dump file held = ([], 0, record { rest = packets_of file; joined = refl; few = omega arith; place = inl refl }, nothing_more held)
+at_first true times Calls file held = ([], 0, record { rest = packets_of file; joined = refl; few = omega arith; place = inl refl }, nothing_more held)
+at_first true times Sim file held = lines_at_first Sim file held
+at_first false times mode file held = lines_at_first mode file held
 
-pub stops_at_first : (mode : Mode) (old held : Option (List ℕ)) → IfSome old (λ file. FileStopsIn mode file held held (Run run.Read))
-stops_at_first mode None held = tt
-stops_at_first mode (Some file) held = (Some file, at_first (is_capture file) mode file held)
+pub stops_at_first : (times : Times) (mode : Mode) (old held : Option (List ℕ)) → IfSome old (λ file. FileStopsIn times mode file held held (Run run.Read))
+stops_at_first times mode None held = tt
+stops_at_first times mode (Some file) held = (Some file, at_first (is_capture file) times mode file held)

@@ -40,7 +40,7 @@ text_from-last earlier (x ∷ xs) packet =
     ∙ ap (λ e. first ++ packet_text (item_number e) packet) (append_assoc earlier (items_of_packet x) (items_among xs)))
     ∙ sym (append_assoc said first (packet_text (item_number (earlier ++ items_among (x ∷ xs))) packet))
 
-pub packet_printed : (m m' : BTreeMap Flow ℕ) (page page' : Page) (packets : List NumberedPacket) (packet : NumberedPacket) → length packets < packet.0 → packet.0 ≤ most_frames
+pub packet_printed : (m m' : BTreeMap Flow ℕ) (page page' : Page) (packets : List NumberedPacket) (packet : NumberedPacket) → length packets < packet.0.number → packet.0.number ≤ most_frames
     → IsBegun (list_any is_packet_refused) page packets → NumbersStandFor m (items_among packets)
     → page'.is_refused ≡ (page.is_refused || is_packet_refused packet) → page'.text.line ≡ page.text.line ++ packet_text (numbering m) packet
     → (numbering m ≡ item_number (items_among packets) → NumbersStandFor m' (items_among packets ++ items_of_packet packet))

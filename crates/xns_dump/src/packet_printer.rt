@@ -5,7 +5,7 @@ ghost use Rattle.xns_dump.specs.Flows.Numbers.{NumbersStandFor};
 
 use crate::printer::DumpPrinter;
 use std::alloc::AllocError;
-use xns_captures::PacketPrinter;
+use xns_captures::{PacketPrinter, Stamp};
 use xns_lines::Page;
 
 impl PacketPrinter for DumpPrinter {
@@ -20,12 +20,12 @@ impl PacketPrinter for DumpPrinter {
     fn print_packet(
         &mut self,
         page: &mut Page,
-        number: usize,
+        stamp: Stamp,
         packet: &[u8],
     ) -> Result<(), AllocError> {
         let said = self
             .appender
-            .report_packet(&mut page.text, number, packet, &self.numbers)?;
+            .report_packet(&mut page.text, stamp.number, packet, &self.numbers)?;
         self.numbers.note_item(said.item)?;
         page.is_refused |= said.is_refused;
         Ok(())

@@ -12,7 +12,9 @@ mod Fetching
 mod Fills
 mod Follows
 mod Foreign
+mod Given
 mod Giving
+mod Handed
 mod Handing
 mod Hearing
 mod Keeping

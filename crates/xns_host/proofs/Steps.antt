@@ -1,38 +1,29 @@
 -- A step of a connection, from what moved.
-use Rattle.std.proofs.Common.{◌≡◌, ◌≢◌, ◌∙◌, ap, refl, sym, subst, ℕ, List, [], ◌∷◌, ◌++◌, Bool, true, false, Option, Some, None, Result, Ok}
-use Rattle.std.specs.Prelude.{◌&&◌, ◌||◌, nat_lt, if◌then◌else◌}
-use Rattle.courier_sessions.specs.Answering.{answer_message, answer_refusal}
-use Rattle.courier_sessions.specs.declared.answer.Answer.{Answer}
+use Rattle.std.proofs.Common.{[], ◌≡◌, ◌≢◌, ◌∙◌, ap, refl, sym, subst, ℕ, List, Bool, true, false, Option, Some, None, Result}
+use Rattle.std.specs.Prelude.{◌&&◌, ◌||◌, nat_lt, not, if◌then◌else◌}
+use Rattle.std.proofs.Math.Logic.{∥∥₁_map}
+use Rattle.std.proofs.Props.{props}
 use Rattle.courier_sessions.specs.declared.feed_refusal.FeedRefusal.{FeedRefusal}
 use Rattle.xns_agenda.specs.Waiting.{HearsAt, Waiting, act_at, after_act, after_by, after_step, after_word, lingering}
 use Rattle.xns_agenda.specs.declared.act.Act.{Act}
 use Rattle.xns_agenda.specs.declared.act.Act.TheVariants.{Nothing, Again, Ask, GiveUp, Forget}
 use Rattle.xns_spp.specs.Held.{Held, StandsFor}
 use Rattle.xns_spp.specs.Receiving.{after_receive, input_answer}
-use Rattle.xns_spp.specs.Sending.{waiting_count}
+use Rattle.xns_spp.specs.Sending.{tick_answer, waiting_count}
 use Rattle.xns_spp.specs.Telling.{unacknowledged_count}
 use Rattle.xns_spp.specs.declared.input.Input.{Input}
 use Rattle.xns_spp.specs.State.{State}
-use Rattle.xns_host.specs.Connecting.{goes_again, is_foreign, owed_after, owed_heard, wait_heard, why_after}
-use Rattle.xns_host.specs.Moving.{Scene, scene, IsAt, Settles}
-use Rattle.xns_host.specs.Step.{HandsBy, HasReplied, May, Promises, Step, WaitsBy}
-use Rattle.xns_host.specs.Deeds.{Deed, Parts, acted, acted_by, gave, heard, Moved, GoesOnBy, closed_moved, done, is_starved, owed_by, owed_moved, shut, told_by, took, wait_by, wait_moved, wanted_by, with_answer}
-use Rattle.xns_host.specs.Reasons.{answer_fault_of}
-use Rattle.xns_host.specs.Refusing.{Answers, answer_fault, side_answer_fault}
-use Rattle.xns_host.specs.Closed.{ClosesBy}
+use Rattle.xns_host.specs.Connecting.{goes_again, is_again, is_closed_due, is_foreign, is_open_due, owed_after, owed_heard, wait_heard, why_after, why_given_up}
+use Rattle.xns_host.specs.Moving.{HasHistory, IsAt, Scene, Settles, is_calm, scene}
+use Rattle.xns_host.specs.Step.{May, Step, WaitsBy, is_calm_then, parts_of}
+use Rattle.xns_host.specs.Deeds.{Deed, Parts, acted, acted_by, given_up, heard, Moved, GoesOnBy, closed_moved, done, is_starved, owed_by, owed_moved, shut, took, wait_by, wait_moved}
 use Rattle.xns_host.specs.Closing.{drains}
-use Rattle.xns_host.specs.Story.{Story, asked_of}
-use Rattle.xns_host.specs.Telling.{Calm, Goes, HasSaidEnd, OwesRoom, ReadsAll, Tells, is_over, is_progress, waits}
+use Rattle.xns_host.specs.Telling.{is_over, is_progress, waits}
 use Rattle.xns_host.specs.declared.closing.Closing.{Closing}
 use Rattle.xns_host.specs.declared.connection.Connection.{Connection}
 use Rattle.xns_host.specs.declared.conversation.Conversation.{Conversation}
 use Rattle.xns_host.specs.declared.owed.Owed.{Owed}
-use Rattle.xns_host.specs.declared.host_fault.HostFault.TheVariants as faults
-use Rattle.xns_host.specs.declared.side.Side.{Side}
-use Rattle.xns_host.specs.declared.side.Side.TheVariants as sides
 use Rattle.xns_host.specs.declared.why.Why.{Why}
-use Rattle.xns_host.proofs.Closes.{closes_from}
-use Rattle.xns_host.proofs.Leading.{calm_from}
 use Rattle.xns_host.proofs.Scenes.{deaf_at, scene_at}
 
 at_by : (mid new : Conversation) (to : Scene) (was closed : Option Why) → IsAt mid to
@@ -80,6 +71,57 @@ goes_on_by now old mid new r o n was closed w v settles given stays end kept why
       };
 }
 
+-- ---- what is always so
+
+-- what is known of the parts of a connection
+record Known (t : Conversation) (w : Waiting) (closed : Option Why) : Type 0 where
+  timed : closed ≡ None → (s : State) → StandsFor t.endpoint s → tick_answer s ≢ [] → is_again w.due ≡ true
+  open_due : closed ≡ None → is_open_due w.due ≡ true
+  closed_due : closed ≢ None → is_closed_due w.due ≡ true
+  deaf : closed ≢ None → drains t.side t.closing ≡ true
+  stands : HasHistory t.endpoint
+
+known_one : (t : Conversation) (w : Waiting) (closed : Option Why) (a b : Known t w closed) → a ≡ b
+known_one t w closed a b = one a b where
+  one : IsProp (Known t w closed)
+  one = Prim.hlevel props
+
+abbrev with_known : (p : Parts) → Known p.conversation p.wait p.closed → Connection
+with_known p k = record {
+  conversation = p.conversation;
+  wait = p.wait;
+  owed = p.owed;
+  closed = p.closed;
+  told = p.told;
+  timed = k.timed;
+  open_due = k.open_due;
+  closed_due = k.closed_due;
+  deaf = k.deaf;
+  stands = k.stands;
+}
+
+abbrev known_of : (c : Connection) → Known c.conversation c.wait c.closed
+known_of c = record { timed = c.timed; open_due = c.open_due; closed_due = c.closed_due; deaf = c.deaf; stands = c.stands }
+
+-- a connection is its parts
+pub same_connection : (c d : Connection) → parts_of d ≡ parts_of c → d ≡ c
+same_connection c d same = by (parts_of d) (sym same) (known_of d) where
+  by : (q : Parts) → parts_of c ≡ q → (k : Known q.conversation q.wait q.closed) → with_known q k ≡ c
+  by q e = subst (λ (q : Parts). (k : Known q.conversation q.wait q.closed) → with_known q k ≡ c) e
+      (λ k. ap (with_known (parts_of c)) (known_one c.conversation c.wait c.closed k (known_of c)))
+
+-- an end keeps a history
+pub moved_history : (now : ℕ) (old new : Conversation) (o n : Owed) (was closed : Option Why) (w v : Waiting) → HasHistory old.endpoint
+    → GoesOnBy now old new o n was closed w v → HasHistory new.endpoint
+moved_history now old new o n was closed w v has goes =
+    ∥∥₁_map has (λ x. let m = goes.on x.0 x.1 in ((shut was closed m.to).state, m.at.stands))
+
+pub heard_history : (e f : Held) (bytes : List ℕ) → HasHistory e → ((s : State) → StandsFor e s → StandsFor f (after_receive s bytes)) → HasHistory f
+heard_history e f bytes has next = ∥∥₁_map has (λ x. (after_receive x.0 bytes, next x.0 x.1))
+
+pub same_history : (e f : Held) → e ≡ f → HasHistory f → HasHistory e
+same_history e f same has = subst HasHistory (sym same) has
+
 -- something was done at a connection, but that bytes came, and then what could move moved
 pub step_by : (now : ℕ) (deed : Deed) (old new : Connection) (mid : Conversation) → mid.endpoint ≡ old.conversation.endpoint
     → ((s : State) → scene mid s ≡ done deed (scene old.conversation s)) → ((s : State) → owed_by deed old.owed old.wait s ≡ old.owed)
@@ -100,62 +142,6 @@ step_by now deed old new mid end did owes waits_same goes may steps packets told
   told = told;
   stays = stays;
 }
-
--- what it had done goes on from where it is after that
-pub promised : (now : ℕ) (deed : Deed) (old new : Connection) (mid : Conversation)
-    → ((h : Story) → Tells old.conversation h → Tells mid (told_by deed old.conversation.side h)) → mid.endpoint ≡ old.conversation.endpoint
-    → drains mid.side mid.closing ≡ drains old.conversation.side old.conversation.closing
-    → mid.closing.wanted ≡ wanted_by deed old.conversation.closing.wanted → Goes mid new.conversation
-    → (new.owed.moving ≡ false → drains new.conversation.side new.conversation.closing ≡ false → Calm mid new.conversation)
-    → (new.owed.moving ≡ false → new.closed ≡ old.closed → ReadsAll mid new.conversation)
-    → (new.owed.moving ≡ false → HasSaidEnd new.conversation) → HasReplied old new
-    → ClosesBy mid (λ h. h) new.conversation new.owed.moving old.closed new.closed → WaitsBy deed now old.wait new.wait
-    → OwesRoom mid.endpoint new.conversation.endpoint new.owed.word → new.conversation.closing.wanted ≡ mid.closing.wanted
-    → Promises now deed old new
-promised now deed old new mid did end same_drains wanted goes calm read said replied why steps room kept = record {
-  story = λ h tells. goes.on (told_by deed old.conversation.side h) (did h tells);
-  wanted = kept ∙ wanted;
-  calm = λ still free. calm_from did (calm still free);
-  read = λ still same h tells yes. read still same (told_by deed old.conversation.side h) (did h tells) yes;
-  said = said;
-  replied = replied;
-  closes = closes_from (told_by deed old.conversation.side) did same_drains why;
-  steps = steps;
-  room = subst (λ (e : Held). OwesRoom e new.conversation.endpoint new.owed.word) end room;
-}
-
--- that a connection is asked to close is no part of its story
-pub asked_tells : (t u : Conversation) (h : Story) → u ≡ record t { closing = record t.closing { wanted = true } } → Tells t h → Tells u h
-asked_tells t u h same x =
-    let w : Conversation = record t { closing = record t.closing { wanted = true } } in
-    let there : Tells w h = record {
-      stands = x.stands;
-      has = x.has;
-      fed = x.fed;
-      all = x.all;
-      given = x.given;
-      knows = record { wanted = x.knows.wanted; heard = x.knows.heard };
-    } in
-    subst (λ (v : Conversation). Tells v h) (sym same) there
-
--- an answer that was given was to a call that was handed
-pub was_asked : (t : Conversation) (kind : Answer) (words : List ℕ) → Answers (answer_fault_of t kind words) (Ok tt) → (k : ℕ) × (asked_of t.side ≡ Some k)
-was_asked t kind words fine = by_drains (drains t.side t.closing) fine where
-  by_asked : (o : Option ℕ) → answer_fault (answer_refusal o kind words) ≡ None → (k : ℕ) × (o ≡ Some k)
-  by_asked None e = absurd (cc)
-  by_asked (Some k) e = (k, refl)
-
-  by_side : (side : Side) → side_answer_fault side kind words ≡ None → (k : ℕ) × (asked_of side ≡ Some k)
-  by_side (sides.Calls c) e = absurd (cc)
-  by_side (sides.Answers a) e = by_asked a.asked e
-
-  by_drains : (b : Bool) → (if b then Some faults.Closing else side_answer_fault t.side kind words) ≡ None → (k : ℕ) × (asked_of t.side ≡ Some k)
-  by_drains true e = absurd (cc)
-  by_drains false e = by_side t.side e
-
-pub answer_tells : (t u : Conversation) (kind : Answer) (words : List ℕ) (h : Story) (k : ℕ) → asked_of t.side ≡ Some k
-    → Tells u (record h { answers = h.answers ++ answer_message kind k words ∷ [] }) → Tells u (told_by (gave kind words) t.side h)
-answer_tells t u kind words h k asked tells = subst (λ (o : Option ℕ). Tells u (with_answer o kind words h)) (sym asked) tells
 
 -- bytes came, and then what could move moved
 pub heard_by : (now : ℕ) (bytes : List ℕ) (old new : Connection) (mid : Conversation) (o : Owed) (w : Waiting)
@@ -244,9 +230,9 @@ acts_by p a w o now is after owes stay =
 
 -- ---- a message that is handed
 
-pub hands_on : (now : ℕ) (old new : Connection) (b : Bool) → b ≡ false → Step now took old new → HandsBy b now old new
-hands_on now old new true e step = absurd (cc)
-hands_on now old new false e step = step
+pub calm_then : (c : Connection) (t : Conversation) (s : State) → c.owed.moving ≡ false → scene t s ≡ done took (scene c.conversation s)
+    → is_calm (scene t s) ≡ true → is_calm_then c s ≡ true
+calm_then c t s idle same calm = ap (λ (b : Bool). not b && is_calm (done took (scene c.conversation s))) idle ∙ ap is_calm (sym same) ∙ calm
 
 pub first_no : (a b : Bool) → a ≡ false → (a && b) ≡ false
 first_no true b e = absurd (cc)

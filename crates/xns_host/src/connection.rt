@@ -1,12 +1,11 @@
 //! A conversation with its waits.
 
-ghost use Rattle.std.specs.Prelude.{◌≡◌, ◌≢◌, ◌<◌, ◌≤◌, ◌&&◌, ◌||◌, ◌∷◌, ◌++◌, [], ℕ, List, not, nat_lt, if◌then◌else◌, true, false};
+ghost use Rattle.std.specs.Prelude.{◌≡◌, ◌≢◌, ◌<◌, ◌≤◌, ◌&&◌, ◌||◌, [], ℕ, List, not, nat_lt, if◌then◌else◌, true, false};
 ghost use Rattle.std.specs.Prelude.{IfOk, OnOk, OnErr, Some, None, Ok, Err};
 ghost use Rattle.courier_sessions.specs.declared.feed_refusal.FeedRefusal.TheVariants.{NoMemory};
 ghost use Rattle.std.specs.Option.{is_some};
 ghost use Rattle.courier_messages.specs.declared.message.Message.{Message};
 ghost use Rattle.courier_messages.specs.RawCalls.{words_call};
-ghost use Rattle.courier_sessions.specs.Answering.{answer_message};
 ghost use Rattle.xns_spp.specs.Ends.{is_open, is_ours_at};
 ghost use Rattle.xns_spp.specs.Held.{StandsFor};
 ghost use Rattle.xns_spp.specs.Packet.{IsSppPacket, spp_packet_of};
@@ -17,12 +16,13 @@ ghost use Rattle.xns_spp.specs.Telling.{own_name, peer_name, resend_answer, told
 ghost use Rattle.xns_host.specs.Closed.{ClosesBy};
 ghost use Rattle.xns_host.specs.Closing.{drains};
 ghost use Rattle.xns_host.specs.Connecting.{is_again, is_open_due, is_closed_due, why_given_up, why_after, owed_after, owed_heard, is_foreign, wait_heard};
-ghost use Rattle.xns_host.specs.Connecting.{StaysOwed, WaitsOn};
+ghost use Rattle.xns_host.specs.Connecting.{StaysOwed};
+ghost use Rattle.xns_host.specs.Moving.{HasHistory};
 ghost use Rattle.xns_host.specs.Reasons.{call_fault_of, answer_fault_of};
 ghost use Rattle.xns_host.specs.Refusing.{Answers};
 ghost use Rattle.xns_host.specs.Settings.{IsBegun, IsFit};
 ghost use Rattle.xns_host.specs.Deeds.{GoesOnBy, acted, asked, gave, heard, is_starved, made, nothing, unserved};
-ghost use Rattle.xns_host.specs.Story.{Story, GoesOn, new_story, asked_of, waiting_message, with_handed, has_message};
+ghost use Rattle.xns_host.specs.Story.{Story, GoesOn, new_story, waiting_message, with_handed, has_message};
 ghost use Rattle.xns_host.specs.Telling.{Tells, Goes, MovesAndGives, Rested, Calm, CalmFrom, HasSaidEnd, HasSaidReply, Hears, OwesRoom, ReadsAll, waits, is_over};
 ghost use Rattle.xns_agenda.specs.Waiting.{HearsAt, IsDueAfter, StepsAt, act_at, after_act, after_step, after_word, last_time, lingering, new_waiting};
 ghost use Rattle.xns_agenda.specs.declared.act.Act.TheVariants.{GiveUp};
@@ -57,6 +57,7 @@ pub struct Connection {
     ghost open_due: { closed ≡ None → is_open_due wait.due ≡ true },
     ghost closed_due: { closed ≢ None → is_closed_due wait.due ≡ true },
     ghost deaf: { closed ≢ None → drains conversation.side conversation.closing ≡ true },
+    ghost stands: { HasHistory conversation.endpoint },
 }
 
 /// Whether a packet is no word of the peer.
@@ -254,7 +255,7 @@ fn wait_unless(conversation: &Conversation, closed: Option<Why>, wait: &mut Wait
 
 impl Connection {
     ghost use Rattle.xns_host.specs.declared.closing.TheConstants.Closing.{NONE};
-    ghost use Rattle.xns_host.specs.Step.{GivesNext, Hands, MovesOwed, Promises, Step, parts_of};
+    ghost use Rattle.xns_host.specs.Step.{GivesNext, Hands, MovesOwed, Step, parts_of};
 
     fn new(
         alloc: Global,
@@ -264,6 +265,7 @@ impl Connection {
         again: bool,
         now: u64,
     ) -> Connection
+        requires { HasHistory endpoint }
         ensures endpoint { result.conversation.endpoint ≡ endpoint }
         ensures side { result.conversation.side ≡ side }
         ensures closing { result.conversation.closing ≡ NONE }
@@ -435,12 +437,10 @@ impl Connection {
         ensures quiet { OnOk result ((s v : State) (b : List ℕ) → StandsFor self.old.conversation.endpoint s → spp_packet_of b ≡ Ok packet.now
             → (owed_heard self.old.owed self.old.wait s b).word ≡ false → StandsFor self.new.conversation.endpoint v
             → waiting_count (after_receive s b) ≤ waiting_count v → self.new.owed.word ≡ false) }
-        ensures waits { OnOk result ((s v : State) (b : List ℕ) → StandsFor self.old.conversation.endpoint s → spp_packet_of b ≡ Ok packet.now
-            → self.new.closed ≡ None → StandsFor self.new.conversation.endpoint v
-            → self.new.wait ≡ after_step (wait_heard self.old.wait s b now) (waits v) now) }
         ensures unwanted { self.new.conversation.closing.wanted ≡ self.old.conversation.closing.wanted }
         ensures step { OnOk result ((b : List ℕ) → spp_packet_of b ≡ Ok packet.now → Step now (heard b) self.old self.new) }
     {
+        xns_spp::laws::written_packet_is_read_again();
         let before = self.conversation.endpoint.unacknowledged();
         let was_open = self.conversation.endpoint.is_open();
         let input = self.conversation.receive(alloc, packet)?;
@@ -610,7 +610,6 @@ impl Connection {
     ) -> Result<(), HostFault>
         ensures refused { Answers (call_fault_of self.old.conversation (words_call program version procedure words.now)) result }
         ensures step { OnOk result (Step now (made (words_call program version procedure words.now)) self.old self.new) }
-        ensures promises { OnOk result (Promises now (made (words_call program version procedure words.now)) self.old self.new) }
         ensures unchanged { OnErr result (self.new ≡ self.old) }
     {
         self.conversation
@@ -638,7 +637,6 @@ impl Connection {
     ) -> Result<(), HostFault>
         ensures refused { Answers (answer_fault_of self.old.conversation kind words.now) result }
         ensures step { OnOk result (Step now (gave kind words.now) self.old self.new) }
-        ensures promises { OnOk result (Promises now (gave kind words.now) self.old self.new) }
         ensures unchanged { OnErr result (self.new ≡ self.old) }
     {
         self.conversation.answer(alloc, kind, words)?;
@@ -656,7 +654,6 @@ impl Connection {
     /// Closes once all that it has to say is said.
     pub fn close(&mut self, alloc: Global, now: u64)
         ensures step { Step now asked self.old self.new }
-        ensures promises { Promises now asked self.old self.new }
     {
         self.conversation.close();
         settled(

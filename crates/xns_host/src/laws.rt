@@ -14,7 +14,7 @@ ghost use Rattle.xns_host.specs.Closing.{drains};
 ghost use Rattle.xns_host.specs.Following.{AConnectionHearsItsPackets, AQuotedOpeningIsNotServed, ASilentHostHasNothingToTell, AnIdleHostHasNoPacket};
 ghost use Rattle.xns_host.specs.Identifiers.{IsOrder, Ids, Turn, Given, HadTurn, most_id};
 ghost use Rattle.xns_host.specs.Living.{Deeds, no_deeds, Lives, IsLived, ProgramsAgree};
-ghost use Rattle.xns_host.specs.Step.{AStepHasOneEnd, AStepKeepsItsPromises};
+ghost use Rattle.xns_host.specs.Step.{AConnectionGivesWhatItMade, AMessageIsHandedAsByAStep, AStepHasOneEnd, AStepKeepsItsPromises};
 ghost use Rattle.xns_host.specs.Story.{Story, GoesOn, new_story};
 ghost use Rattle.xns_host.specs.Telling.{Tells};
 ghost use Rattle.xns_host.specs.declared.conversation.Conversation.{Conversation};
@@ -98,6 +98,28 @@ pub fn a_step_keeps_its_promises()
     xns_spp::laws::other_steps_accept_and_hand_up_nothing();
     courier_sessions::laws::a_session_is_its_conversation();
     courier_sessions::laws::a_server_session_is_its_conversation();
+}
+
+/// A message that is handed where nothing can move then is handed as by a step: what that promises is promised here too.
+pub fn a_message_is_handed_as_by_a_step()
+    ensures { AMessageIsHandedAsByAStep }
+{
+    a_step_keeps_its_promises();
+    xns_spp::laws::the_next_item_is_handed_up();
+    xns_spp::laws::an_end_only_grows();
+    xns_spp::laws::other_steps_accept_and_hand_up_nothing();
+    courier_sessions::laws::a_session_is_its_conversation();
+    courier_sessions::laws::a_server_session_is_its_conversation();
+}
+
+/// A connection that is asked for a packet goes on by itself, and gives the first of those that waited and of those that it made. Where it
+/// gives none, no item is left that may go out for the first time, and nothing is owed.
+pub fn a_connection_gives_what_it_made()
+    ensures { AConnectionGivesWhatItMade }
+{
+    a_step_keeps_its_promises();
+    xns_spp::laws::other_steps_accept_and_hand_up_nothing();
+    xns_spp::laws::other_steps_hear_nothing();
 }
 
 /// Where memory was not refused a step has one end only, whether items moved until none could or the side refused one.

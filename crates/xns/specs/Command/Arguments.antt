@@ -3,8 +3,11 @@ use Rattle.std.specs.Prelude.{List, ◌∷◌, [], Option, Some, None, option_an
 use Rattle.std.specs.Borrow.{Bor}
 use Rattle.std.specs.Str.{bytes_eq}
 use Rattle.clap.specs.Kinds.{or_else}
-use Rattle.clap.specs.Words.{App, Kinds, Rule, Text, fault_of, first_of, new_app, new_rule, subcommand_of, with_rule, with_subcommand}
+use Rattle.clap.specs.Words.{App, Kinds, Row, Rule, Text, fault_of, first_of, new_app, new_rule, subcommand_of, with_rule, with_subcommand}
 use Rattle.clap.specs.declared.error.kind.ErrorKind.TheVariants as kind
+use Rattle.clap.specs.declared.builder.action.ArgAction.TheVariants.{SetTrue}
+use Rattle.xns_calls.specs.declared.times.Times.{Times}
+use Rattle.xns_calls.specs.declared.times.Times.TheVariants.{Hidden, Absolute, Relative}
 use Rattle.xns_command.specs.declared.mode.Mode.{Mode}
 use Rattle.xns_command.specs.Modes.{name_of}
 
@@ -12,12 +15,20 @@ use Rattle.xns_command.specs.Modes.{name_of}
 abbrev pub file_rule : Rule
 file_rule = record (new_rule (codes "file")) { value_names = 1 }
 
+-- a flag, which stands for `true`
+abbrev pub flag_rule : Text → Rule
+flag_rule name = record (new_rule name) { long = Some name; action = Some SetTrue }
+
+-- `calls` with its file, and the flags for times
+abbrev pub calls_app : App
+calls_app = with_rule (with_rule (with_rule (new_app (codes "calls")) file_rule) (flag_rule (codes "times"))) (flag_rule (codes "relative"))
+
 -- `xns` with its version, and with the subcommands that read captures, `dump` and `calls`, each with an optional file; a subcommand is
 -- required
 abbrev pub reading_app : App
 reading_app =
     let subcommands = with_subcommand (with_subcommand (new_app (codes "xns")) (with_rule (new_app (codes "dump")) file_rule).top)
-    (with_rule (new_app (codes "calls")) file_rule).top in
+    calls_app.top in
     record subcommands { top = record subcommands.top { subcommand_required = true; has_version = true } }
 
 -- the program's command, with `sim` behind these
@@ -31,6 +42,26 @@ named_subcommand words = option_map (λ p. p.0) (subcommand_of program_app words
 -- and the file that they name, if they name one
 abbrev pub named_file : List Text → Option Text
 named_file words = option_and_then (λ p. first_of (codes "file") p.1) (subcommand_of program_app words)
+
+abbrev pub is_true : Option Text → Bool
+is_true None = false
+is_true (Some text) = bytes_eq text (codes "true")
+
+-- whether the words have the flag
+abbrev pub flag_in : Text → Option (Text × List Row) → Bool
+flag_in name found = is_true (option_and_then (λ p. first_of name p.1) found)
+
+abbrev pub times_by : Bool → Bool → Times
+times_by relative times = if relative then Relative else if times then Absolute else Hidden
+
+-- the times that they ask for
+abbrev pub named_times : List Text → Times
+named_times words =
+    times_by (flag_in (codes "relative") (subcommand_of program_app words)) (flag_in (codes "times") (subcommand_of program_app words))
+
+-- a word as the program reads it: `--times=relative` stands for the flag `--relative`
+abbrev pub plain_word : Text → Text
+plain_word word = if bytes_eq word (codes "--times=relative") then codes "--relative" else word
 
 abbrev pub is_mode : Option Text → Bool
 is_mode None = false

@@ -4,20 +4,32 @@ ghost use Rattle.clap.specs.Words.{FailsBy, app_of, fault_of, first_of, kind_of,
 ghost use Rattle.clap.specs.declared.builder.command.Command.TheViews.{out-Command as fields_of};
 ghost use Rattle.xns_command.specs.declared.mode.Mode.{Mode};
 ghost use Rattle.xns_command.specs.Modes.{name_of};
-ghost use Rattle.xns.specs.Command.Arguments.{file_rule, named_file, named_subcommand, program_app, reading_app, refusals_of, texts};
+ghost use Rattle.xns.specs.Command.Arguments.{calls_app, file_rule, flag_in, flag_rule, named_file, named_subcommand, named_times};
+ghost use Rattle.xns.specs.Command.Arguments.{is_true as is_true_text, plain_word as plain_word_of, program_app, reading_app, refusals_of, texts, times_by};
 ghost use Rattle.xns.specs.Command.Arguments.{words_of, words_with_file};
 
 use crate::command::help::{ABOUT, CALLS_HELP, DUMP_HELP, HELP, SIM_HELP, VERSION};
 use crate::command::request::Request;
 use clap::error::ErrorKind;
-use clap::{Arg, ArgMatches, Command, Error};
+use clap::{Arg, ArgAction, ArgMatches, Command, Error};
 use std::alloc::{AllocError, Global};
+use xns_calls::Times;
 use xns_command::{Mode, Refusal};
 
 /// The name of the argument for a file.
 const FILE: &str = "file";
 /// What the file of `dump` and `calls` is.
 const CAPTURE: &str = "A capture (pcap or pcapng), or lines of hex; - or no FILE is standard input";
+
+/// The names of the flags for times.
+const TIMES: &str = "times";
+
+const RELATIVE: &str = "relative";
+/// What they do.
+const TIMES_HELP: &str =
+    "Print when each frame was captured, in seconds since 1970, and how long each call took";
+
+const RELATIVE_HELP: &str = "The same as --times=relative: in seconds since the first frame";
 
 /// A command that takes an optional file in place of standard input.
 fn with_file<'a>(
@@ -32,6 +44,23 @@ fn with_file<'a>(
     command.arg(file)
 }
 
+/// A command that takes a flag more.
+fn with_flag<'a>(
+    alloc: Global,
+    command: Command<'a>,
+    name: &'a str,
+    help: &'a str,
+) -> Result<Command<'a>, AllocError>
+    ensures app { IfOk result (λ r. app_of r ≡ with_rule (app_of command.entry) (flag_rule name.entry.now)) }
+    ensures local { IfOk result (λ r. (fields_of r).has_globals ≡ (fields_of command.entry).has_globals) }
+{
+    let flag = Arg::new(alloc, name)
+        .long(name)
+        .action(ArgAction::SetTrue)
+        .help(help);
+    command.arg(flag)
+}
+
 /// `dump`, with its file.
 fn dump_command<'a>(alloc: Global) -> Result<Command<'a>, AllocError>
     ensures app { IfOk result (λ command. app_of command ≡ with_rule (new_app (codes "dump")) file_rule) }
@@ -43,15 +72,17 @@ fn dump_command<'a>(alloc: Global) -> Result<Command<'a>, AllocError>
     with_file(alloc, dump, CAPTURE)
 }
 
-/// `calls`, with its file.
+/// `calls`, with its file, and the flags for times.
 fn calls_command<'a>(alloc: Global) -> Result<Command<'a>, AllocError>
-    ensures app { IfOk result (λ command. app_of command ≡ with_rule (new_app (codes "calls")) file_rule) }
+    ensures app { IfOk result (λ command. app_of command ≡ calls_app) }
     ensures local { IfOk result (λ command. (fields_of command).has_globals ≡ false) }
 {
     let calls = Command::new(alloc, "calls")
         .about("Prints the calls that a capture or lines of hex carry, and what came back")
         .after_help(CALLS_HELP);
-    with_file(alloc, calls, CAPTURE)
+    let calls = with_file(alloc, calls, CAPTURE)?;
+    let calls = with_flag(alloc, calls, TIMES, TIMES_HELP)?;
+    with_flag(alloc, calls, RELATIVE, RELATIVE_HELP)
 }
 
 /// `sim`, with its file.
@@ -100,6 +131,7 @@ fn program<'a>(alloc: Global) -> Result<Command<'a>, AllocError>
 pub fn request<'a>(alloc: Global, words: &'a [&'a str]) -> Result<Request<'a>, Error>
     ensures named { IfOk result (λ request. named_subcommand (texts words.entry.now) ≡ Some (name_of request.mode)) }
     ensures file { IfOk result (λ request. option_map (λ text. text.now) request.file ≡ named_file (texts words.entry.now)) }
+    ensures times { IfOk result (λ request. request.times ≡ named_times (texts words.entry.now)) }
     // An error is one of memory, or has a kind that clap's meaning of the words gives.
     ensures kinds { FailsBy (refusals_of (texts words.entry.now)) result }
     // The mode's own words, and a file that is called x.pcap behind them, are refused for memory alone.
@@ -108,21 +140,22 @@ pub fn request<'a>(alloc: Global, words: &'a [&'a str]) -> Result<Request<'a>, E
     ensures of_file { IfErr result (λ error. (mode : Mode) → texts words.entry.now ≡ words_with_file mode
         → kind_of error ≡ ErrorKind.OutOfMemory) }
 {
-    let (name, file) = named_in(alloc, words)?;
+    let (name, file, times) = named_in(alloc, words)?;
     let Some(mode) = mode_named(name) else {
         let message = "a subcommand is required";
         return Err(program(alloc)?.error(ErrorKind::MissingSubcommand, message)?);
     };
-    Ok(Request { mode, file })
+    Ok(Request { mode, file, times })
 }
 
-/// The name of the subcommand that the words name, and its file.
+/// The name of the subcommand that the words name, its file, and the times that it prints.
 fn named_in<'a>(
     alloc: Global,
     words: &'a [&'a str],
-) -> Result<(Option<&'a str>, Option<&'a str>), Error>
+) -> Result<(Option<&'a str>, Option<&'a str>, Times), Error>
     ensures named { IfOk result (λ found. option_map (λ text. text.now) found.0 ≡ named_subcommand (texts words.entry.now)) }
     ensures file { IfOk result (λ found. option_map (λ text. text.now) found.1 ≡ named_file (texts words.entry.now)) }
+    ensures times { IfOk result (λ found. found.2 ≡ named_times (texts words.entry.now)) }
     ensures kinds { FailsBy (fault_of program_app (texts words.entry.now)) result }
     ensures alone { IfErr result (λ error. (mode : Mode) → texts words.entry.now ≡ words_of mode
         → kind_of error ≡ ErrorKind.OutOfMemory) }
@@ -130,7 +163,11 @@ fn named_in<'a>(
         → kind_of error ≡ ErrorKind.OutOfMemory) }
 {
     let matches = program(alloc)?.try_get_matches_from(words)?;
-    Ok((matches.subcommand_name(), file_of(&matches)))
+    Ok((
+        matches.subcommand_name(),
+        file_of(&matches),
+        times_of(&matches),
+    ))
 }
 
 /// The file that a subcommand was given, if it was given one.
@@ -140,6 +177,50 @@ fn file_of<'a>(matches: &ArgMatches<'a>) -> Option<&'a str>
     match matches.subcommand() {
         Some((_, found)) => found.get_str(FILE),
         None => None,
+    }
+}
+
+/// The times that a subcommand is to print.
+fn times_of(matches: &ArgMatches<'_>) -> Times
+    ensures { result ≡ times_by (flag_in (codes "relative") (subcommand_rows_of matches.now)) (flag_in (codes "times") (subcommand_rows_of matches.now)) }
+{
+    if has_flag(matches, RELATIVE) {
+        return Times::Relative;
+    }
+    if has_flag(matches, TIMES) {
+        return Times::Absolute;
+    }
+    Times::Hidden
+}
+
+/// Whether a subcommand was given the flag.
+fn has_flag(matches: &ArgMatches<'_>, name: &str) -> bool
+    ensures { result ≡ flag_in name.now (subcommand_rows_of matches.now) }
+{
+    match matches.subcommand() {
+        Some((_, found)) => is_true(found.get_str(name)),
+        None => false,
+    }
+}
+
+/// Whether a flag's value is that of one that was given.
+fn is_true(value: Option<&str>) -> bool
+    ensures { result ≡ is_true_text (option_map (λ text. text.now) value.entry) }
+{
+    match value {
+        Some(text) => text == "true",
+        None => false,
+    }
+}
+
+/// A word as the program reads it: `--times=relative` stands for the flag `--relative`.
+pub fn plain_word(word: &str) -> &str
+    ensures { result.now ≡ plain_word_of word.now }
+{
+    if word == "--times=relative" {
+        "--relative"
+    } else {
+        word
     }
 }
 

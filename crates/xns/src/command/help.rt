@@ -77,6 +77,9 @@ had not come by that line, which are repeats if they come later; and for what is
 Each begins with the number of the frame, or of the input line, and then, but for what
 is no packet, with the name of the flow: `1a` and `1b` are the two flows of the first
 connection. A return, a reject and an abort name the frame or line of their call.
+With --times, the time of the frame stands before each line of a capture, in seconds
+since 1970, or with --times=relative since the first frame; and behind each answer how
+long its call took. Lines of hex have no times.
 A line has at most 4,096 bytes.
 
 Exit status: 0 all is fine, 1 something was refused, 2 the command line is wrong,
@@ -85,6 +88,7 @@ was no memory.
 
 Examples:
   xns calls x.pcap
+  xns calls --times x.pcap
   echo ffff003c0005000000010000aa0001020005000000010000aa0003040400100012345678000000000003000300030000000100000007000200010005 | xns calls
 
 FORMATS.md has each line that is printed, CAPTURES.md says what is read of a capture:

@@ -1,4 +1,5 @@
 //! What the words of the command line ask for.
+use xns_calls::Times;
 use xns_command::Mode;
 
 /// What the words of the command line ask for.
@@ -8,4 +9,6 @@ pub struct Request<'a> {
     pub mode: Mode,
     /// The name of the file that it reads, if one is named; `-` stands for standard input.
     pub file: Option<&'a str>,
+    /// Which times it prints of a capture.
+    pub times: Times,
 }

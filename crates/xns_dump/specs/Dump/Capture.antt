@@ -20,7 +20,7 @@ items_among packets = flat_map items_of_packet packets
 
 -- what a packet says, where `number` gives the numbers of items
 abbrev pub packet_text : (DataPacket → ℕ) → NumberedPacket → List ℕ
-packet_text number packet = said_text packet.0 number (said_by_bytes packet.1)
+packet_text number packet = said_text packet.0.number number (said_by_bytes packet.1)
 
 abbrev pub is_packet_refused : NumberedPacket → Bool
 is_packet_refused packet = is_said_refused (said_by_bytes packet.1)
@@ -52,7 +52,7 @@ has_refused_packet file = list_any is_packet_refused (packets_of file)
 abbrev pub SpellFrom : ℕ → List (List ℕ) → List NumberedPacket → Type 0
 SpellFrom n [] [] = Unit {0}
 SpellFrom n (line ∷ lines) (packet ∷ packets) =
-    (packet.0 ≡ n) × (decode_of (digits_of line) ≡ Ok packet.1) × SpellFrom (n + 1) lines packets
+    (packet.0.number ≡ n) × (decode_of (digits_of line) ≡ Ok packet.1) × SpellFrom (n + 1) lines packets
 SpellFrom n _ _ = ⊥
 
 -- the input has a line of hex for each packet of the file, in the line of its frame's number

@@ -17,7 +17,7 @@ file-init g c = (
   consumes_nothing _,
   (λ before said. subst (λ kept. HasRead c.new-reading.result [] kept (g.T.PacketTaker.stands c.args.taker.now before (g.W.Write.contents c.args.writer.now)))
       (sym c.new-kept.ensures.items)
-      (begun c.new-reading.result _ c.new-reading.ensures.format c.new-reading.ensures.interfaces c.new-reading.ensures.count said)),
+      (begun c.new-reading.result _ c.new-reading.ensures.format c.new-reading.ensures.interfaces c.new-reading.ensures.count c.new-reading.ensures.first said)),
   rw c.new-kept.ensures.items (contents-none c.new-reading.result.format c.new-reading.result.interfaces.items),
 )
 
@@ -98,7 +98,7 @@ returns-in-Err-clause-err g c =
     (c.as_slice-in-file.ensures.value ∙ c.in-Ok-extend_from_slice.ensures.items)
     (grown c.file.reading so_far.0 c.file.kept.items (take c.in-Ok.count c.read.new.buf) _ (so_far.2 before said)) (λ said'. said')) in
     stops_in_run c.take_parts.new.self c.in-Err.fault _ _ _ _ h
-    (paused c.in-Err.fault _ _ _ c.in-Err.ensures.err.0 (c.in-Err.ensures.err.1 before (packets_in 1 h.frames) h.taken)))
+    (paused c.in-Err.fault _ _ _ c.in-Err.ensures.err.0 (c.in-Err.ensures.err.1 before (packets_in None 1 h.frames) h.taken)))
 
 pub file-preserved : goal.file-preserved
 file-preserved g c =
@@ -112,7 +112,7 @@ file-preserved g c =
           (anew c.file.reading (so_far.0 ++ take c.in-Ok.count c.read.new.buf) (c.file.kept.items ++ take c.in-Ok.count c.read.new.buf) _ _ _
           (c.as_slice-in-file.ensures.value ∙ c.in-Ok-extend_from_slice.ensures.items)
           (grown c.file.reading so_far.0 c.file.kept.items (take c.in-Ok.count c.read.new.buf) _ (so_far.2 before said)) (λ said'. said')) in
-          anew c.take_parts.new.self (so_far.0 ++ take c.in-Ok.count c.read.new.buf) _ _ _ _ kept h (c.in-Ok-pause.ensures.ok before (packets_in 1 h.frames))),
+          anew c.take_parts.new.self (so_far.0 ++ take c.in-Ok.count c.read.new.buf) _ _ _ _ kept h (c.in-Ok-pause.ensures.ok before (packets_in None 1 h.frames))),
       rw kept c.in_ok-taken.ensures.rest,
     )
 

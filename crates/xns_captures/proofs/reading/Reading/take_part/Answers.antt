@@ -15,14 +15,14 @@ returns-in-Err-clause-err g c = λ read tail before h.
 pub returns-in-Begins-clause-ok : goal.returns-in-Begins-clause-ok
 returns-in-Begins-clause-ok g c = λ read tail before h.
     let is_part = rw (c.as_slice.ensures.value, c.in-Begins.is) at c.in-Ok.ensures.value in
-    moves c.args.self.now _ read c.args.bytes.now tail _ refl
+    moves c.args.self.now _ read c.args.bytes.now tail _ refl refl
     (λ rest. at_part_as c.args.self.now.format c.args.self.now.interfaces.items c.args.bytes.now rest _ c.requires.head c.requires.size (sym is_part)
     ∙ ap (λ interfaces. contents c.in-Begins.format interfaces rest) (sym c.clear.ensures.items)) h
 
 pub returns-in-Ok-push-clause-ok : goal.returns-in-Ok-push-clause-ok
 returns-in-Ok-push-clause-ok g c = λ read tail before h.
     let is_part = rw (c.as_slice.ensures.value, c.in-Interface.is) at c.in-Ok.ensures.value in
-    moves c.args.self.now _ read c.args.bytes.now tail _ refl
+    moves c.args.self.now _ read c.args.bytes.now tail _ refl refl
     (λ rest. at_part_as c.args.self.now.format c.args.self.now.interfaces.items c.args.bytes.now rest _ c.requires.head c.requires.size (sym is_part)
     ∙ ap (λ interfaces. contents c.args.self.now.format interfaces rest) (sym c.in-Ok-push.ensures.items)) h
 
@@ -33,26 +33,26 @@ pub returns-in-Frame-clause-ok : goal.returns-in-Frame-clause-ok
 returns-in-Frame-clause-ok g c =
     let is_part = rw (c.as_slice.ensures.value, c.in-Frame.is) at c.in-Ok.ensures.value in
     on_ok_1 _ _ c.take_frame.result c.take_frame.ensures.ok (λ taken. λ read tail before h.
-    let t = taken h.frames before h.count h.taken in
+    let t = taken h.frames before h.count h.first h.taken in
     takes_frame c.args.self.now c.take_frame.new.self read c.args.bytes.now tail _ _
-    (c.in-Frame.frame.link, take (c.in-Frame.frame.start + c.in-Frame.frame.count - c.in-Frame.frame.start) (drop c.in-Frame.frame.start c.args.bytes.now))
+    (c.in-Frame.frame.link, take (c.in-Frame.frame.start + c.in-Frame.frame.count - c.in-Frame.frame.start) (drop c.in-Frame.frame.start c.args.bytes.now), c.in-Frame.frame.time)
     (λ rest. at_part_as c.args.self.now.format c.args.self.now.interfaces.items c.args.bytes.now rest _ c.requires.head c.requires.size (sym is_part)
     ∙ same_frame c.in-Frame.frame c.args.bytes.now (contents c.args.self.now.format c.args.self.now.interfaces.items rest)
-    ∙ ap (with_frame (c.in-Frame.frame.link, take (c.in-Frame.frame.start + c.in-Frame.frame.count - c.in-Frame.frame.start) (drop c.in-Frame.frame.start c.args.bytes.now)))
-    (same_rest c.take_frame.new.self c.args.self.now.format c.args.self.now.interfaces.items rest c.take_frame.ensures.format c.take_frame.ensures.interfaces)) h t.0 t.1)
+    ∙ ap (with_frame (c.in-Frame.frame.link, take (c.in-Frame.frame.start + c.in-Frame.frame.count - c.in-Frame.frame.start) (drop c.in-Frame.frame.start c.args.bytes.now), c.in-Frame.frame.time))
+    (same_rest c.take_frame.new.self c.args.self.now.format c.args.self.now.interfaces.items rest c.take_frame.ensures.format c.take_frame.ensures.interfaces)) h t.0 t.1 t.2)
 
 pub returns-in-Frame-clause-err : goal.returns-in-Frame-clause-err
 returns-in-Frame-clause-err g c =
     let is_part = rw (c.as_slice.ensures.value, c.in-Frame.is) at c.in-Ok.ensures.value in
     if_err_1 _ _ c.take_frame.result c.take_frame.ensures.err (λ fault stopped. λ read tail before h.
     stops_at_frame fault c.args.self.now read c.args.bytes.now tail _ _ _
-    (c.in-Frame.frame.link, take (c.in-Frame.frame.start + c.in-Frame.frame.count - c.in-Frame.frame.start) (drop c.in-Frame.frame.start c.args.bytes.now))
+    (c.in-Frame.frame.link, take (c.in-Frame.frame.start + c.in-Frame.frame.count - c.in-Frame.frame.start) (drop c.in-Frame.frame.start c.args.bytes.now), c.in-Frame.frame.time)
     (λ rest. contents c.args.self.now.format c.args.self.now.interfaces.items rest)
     (λ rest. at_part_as c.args.self.now.format c.args.self.now.interfaces.items c.args.bytes.now rest _ c.requires.head c.requires.size (sym is_part)
-    ∙ same_frame c.in-Frame.frame c.args.bytes.now (contents c.args.self.now.format c.args.self.now.interfaces.items rest)) h (stopped h.frames before h.count h.taken))
+    ∙ same_frame c.in-Frame.frame c.args.bytes.now (contents c.args.self.now.format c.args.self.now.interfaces.items rest)) h (stopped h.frames before h.count h.first h.taken))
 
 pub returns-in-Other-clause-ok : goal.returns-in-Other-clause-ok
 returns-in-Other-clause-ok g c = λ read tail before h.
     let is_part = rw (c.as_slice.ensures.value, c.in-Other.is) at c.in-Ok.ensures.value in
-    moves c.args.self.now _ read c.args.bytes.now tail _ refl
+    moves c.args.self.now _ read c.args.bytes.now tail _ refl refl
     (λ rest. at_part_as c.args.self.now.format c.args.self.now.interfaces.items c.args.bytes.now rest _ c.requires.head c.requires.size (sym is_part)) h

@@ -1,4 +1,4 @@
-use Rattle.std.proofs.Common.{List, [], Some, refl, sym, subst}
+use Rattle.std.proofs.Common.{[], List, Some, refl, sym, subst}
 use Rattle.courier_messages.specs.Conversation.{opening}
 use Rattle.courier_sessions.specs.Answering.{Answering, new_answering}
 use Rattle.xns_spp.specs.State.{State, responder_state}
@@ -19,3 +19,6 @@ returns-clause-tells c =
 
 pub returns-clause-begun : goal.returns-clause-begun
 returns-clause-begun c = record { pace = c.pace.result; paced = c.pace.ensures; began = c.new-2.ensures.begun }
+
+pub new-requires-2 : goal.new-requires-2
+new-requires-2 c = ∣ (responder_state c.args.own c.args.id c.args.peer c.args.peer_id c.args.settings.now.window c.args.settings.now.backlog, c.in_ok-endpoint.ensures) ∣₁

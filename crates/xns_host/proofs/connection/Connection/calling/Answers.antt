@@ -16,3 +16,6 @@ returns-clause-tells c =
 
 pub returns-clause-begun : goal.returns-clause-begun
 returns-clause-begun c = record { pace = c.pace.result; paced = c.pace.ensures; began = c.new-2.ensures.begun }
+
+pub new-requires-2 : goal.new-requires-2
+new-requires-2 c = ∣ (initiator_state c.args.own c.args.id c.args.peer c.args.settings.now.window c.args.settings.now.backlog, c.in_ok-endpoint.ensures) ∣₁

@@ -1,3 +1,6 @@
+use Rattle.std.proofs.Common.{subst}
+use Rattle.xns_spp.specs.Held.{Held}
+use Rattle.xns_host.specs.Closing.{drains}
 use Rattle.xns_spp.specs.Receiving.{after_receive}
 use Rattle.xns_host.proofs.Done.{hears_at}
 use Rattle.xns_host.proofs.Tellings.{still_wanted}
@@ -11,6 +14,11 @@ use Rattle.xns_spp.specs.Held.{StandsFor}
 use Rattle.xns_spp.specs.State.{State}
 use Rattle.xns_host.specs.Telling.{is_progress}
 use Rattle.xns_host.proofs.Steps.{heard_by, owed_is_heard, wait_is_heard}
+use Rattle.xns_host.proofs.Steps.{moved_history}
+use Rattle.xns_host.proofs.Steps.{heard_history, same_history}
+use Rattle.xns_spp.specs.Packet.{spp_packet_spelling}
+use Rattle.std.proofs.Common.{◌++◌, []}
+use Rattle.xns_host.specs.declared.conversation.Conversation.{Conversation}
 use Rattle.xns_host.proofs.connection.Connection.receive.Goals as goal
 
 pub returns-clause-tells : goal.returns-clause-tells
@@ -67,3 +75,22 @@ returns-clause-step c = λ b read.
     (λ s stands. wait_is_heard c.args.self.now.wait c.note.new.wait s b c.in_ok-input.input c.is_progress-more.result c.args.now
     (k.answer s b stands read) (more_is s stands) (λ yes. (n.foreign yes).0) n.wait)
     c.settled.ensures.moved (hears_at _ _ _ _ _ _ (λ yes. (n.foreign yes).0) n.wait c.settled.ensures.steps) (c.settled.ensures.packets ∙ k.packets) refl c.settled.ensures.closed
+
+pub invariant_of-self : goal.invariant_of-self
+invariant_of-self c =
+    let end = ap (λ (t : Conversation). t.endpoint) c.in_err-input.ensures.unchanged in
+    record {
+      timed = λ none s stands some. c.args.self.now.timed none s (subst (λ (e : Held). StandsFor e s) end stands) some;
+      open_due = c.args.self.now.open_due;
+      closed_due = c.args.self.now.closed_due;
+      deaf = λ some. ap (λ (t : Conversation). drains t.side t.closing) c.in_err-input.ensures.unchanged ∙ c.args.self.now.deaf some;
+      stands = same_history _ _ end c.args.self.now.stands;
+    }
+
+pub invariant_of-self-2-clause-stands : goal.invariant_of-self-2-clause-stands
+invariant_of-self-2-clause-stands c =
+    let p = c.args.packet.now in
+    let read = c.written_packet_is_read_again.ensures.again p [] c.requires in
+    moved_history _ _ _ _ _ _ _ _ _
+    (heard_history c.args.self.now.conversation.endpoint _ (spp_packet_spelling p ++ []) c.args.self.now.stands
+    (λ s stands. c.in_ok-input.ensures.stands s (spp_packet_spelling p ++ []) stands read)) c.settled.ensures.moved

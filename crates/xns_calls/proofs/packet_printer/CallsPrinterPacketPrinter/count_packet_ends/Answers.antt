@@ -1,5 +1,0 @@
-use Rattle.std.proofs.Common.{◌∙◌, ap, length}
-use Rattle.xns_calls.proofs.packet_printer.CallsPrinterPacketPrinter.count_packet_ends.Goals as goal
-
-pub returns : goal.returns
-returns c = λ packets h. c.flow_count.ensures ∙ ap length h.keeps.flows

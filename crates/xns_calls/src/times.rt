@@ -1,0 +1,12 @@
+//! Which times are printed.
+
+/// Which times are printed before the lines of a capture, and behind answers how long they took.
+#[derive(Clone, Copy, Debug, PartialEq, Eq)]
+pub enum Times {
+    /// None.
+    Hidden,
+    /// Those of the frames, in seconds since 1970.
+    Absolute,
+    /// The same, in seconds since the first frame that has a time.
+    Relative,
+}
