@@ -200,7 +200,7 @@ pair_hears p c d side bytes is same hears = record {
 }
 
 -- where nothing is done, a meeting is as it was
-stays_so : (m : Meeting) (side : Side) → Does m m side no_more []
+pub stays_so : (m : Meeting) (side : Side) → Does m m side no_more []
 stays_so m side = record { deeds = refl; given = sym (append-nil (at m side).given); other = refl; kept = kept_itself m.world.bag }
 
 -- ---- what each call's clauses make of that

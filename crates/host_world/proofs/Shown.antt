@@ -1,6 +1,6 @@
 -- What a program sees of one connection, and by which steps what is done at it changes that.
 use Rattle.std.proofs.Common.{◌≡◌, ◌≢◌, ◌∙◌, ap, refl, sym, subst, ℕ, ◌+◌, Bool, true, false, List, [], ◌∷◌, ◌++◌, length, Option, Some, None, Result}
-use Rattle.std.specs.Prelude.{cond, not, ◌&&◌, ◌||◌, if◌then◌else◌}
+use Rattle.std.specs.Prelude.{cond, ◌||◌, if◌then◌else◌}
 use Rattle.std.specs.List.{filter}
 use Rattle.std.specs.Option.{is_some, is_none}
 use Rattle.courier_messages.specs.RawCalls.{RawCall, call_message, transaction_of}
@@ -341,7 +341,7 @@ news_there number (messages.Reject transaction reason words) = refl
 news_there number (messages.Return transaction words) = refl
 news_there number (messages.Abort transaction error words) = refl
 
-why_by : (number : ℕ) (told : Bool) (closed : Option Why) (event : Event) → event_by number None (if told then None else closed) ≡ Some event
+pub why_by : (number : ℕ) (told : Bool) (closed : Option Why) (event : Event) → event_by number None (if told then None else closed) ≡ Some event
     → (why : Why) × (told ≡ false) × (closed ≡ Some why) × (events.Closed number why ≡ event)
 why_by number true closed event e = absurd (cc)
 why_by number false None event e = absurd (cc)

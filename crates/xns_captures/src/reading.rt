@@ -171,7 +171,7 @@ impl Reading {
             (packets_in None 1 frames) (packets_in None 1 (frames ++ (link, frame.now, time) ∷ []))) }
     {
         if self.count >= MOST_FRAMES {
-            return Err(FileFault::Run(RunFault::TooManyLines));
+            return Err(FileFault::TooManyFrames);
         }
         let stamp = Stamp {
             number: self.count + 1,

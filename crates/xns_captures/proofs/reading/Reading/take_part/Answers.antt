@@ -1,4 +1,4 @@
-use Rattle.std.proofs.Common.{◌≡◌, ◌+◌, ◌-◌, ◌∷◌, [], ◌++◌, ap, arith, sym, ◌∙◌, subst, length, take, drop, refl, Ok, Err}
+use Rattle.std.proofs.Common.{◌+◌, ◌-◌, ◌++◌, ap, sym, ◌∙◌, take, drop, refl, Err}
 use Rattle.xns_captures.specs.Captures.{contents, with_frame}
 use Rattle.xns_captures.proofs.Consumed.{if_err_1, on_ok_1}
 use Rattle.xns_captures.proofs.Steps.{at_part_as}
