@@ -116,6 +116,7 @@ module _ (under : Underneath) (next : TheNextItemIsHandedUp) (now : ℕ) (old ne
         (∥∥₁_elim old.stands (Prim.hlevel props) (λ x. ap (λ (c : Conversation). drains c.side c.closing) same ∙ (unmoved x.0 x.1).free))
         (∥∥₁_elim old.stands (Prim.hlevel props) (λ x. ap (λ (p : Parts). p.owed.moving) is ∙ (unmoved x.0 x.1).idle))
         (ap (λ (p : Parts). p.closed) is);
+    packets = ap (λ (c : Conversation). c.packets) same;
     steps = subst (λ (w : Waiting). StepsAt now old.wait w) (sym (ap (λ (p : Parts). p.wait) is)) still;
     room = same_room _ _ _ end;
   } where

@@ -280,6 +280,7 @@ module _ (below : Below) (under : Underneath) (law : ItemsAreAcceptedOrChangeNot
       short = λ yes. starved step.moved (sym (∥∥₁_elim old.stands (Prim.hlevel props) (λ x. starves x.0 x.1)) ∙ yes);
       noted = λ is. ∥∥₁_elim old.stands (Prim.hlevel props) (λ x. starves x.0 x.1) ∙ ap is_starved is;
     };
+    packets = step.packets;
     steps = step.steps;
     room = room;
   }

@@ -21,6 +21,7 @@ mod Keeping
 mod Leading
 mod Listing
 mod Lives
+mod Meant
 mod Nexts
 mod Noting
 mod Once

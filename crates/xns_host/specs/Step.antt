@@ -117,6 +117,7 @@ pub record Promises (now : ℕ) (deed : Deed) (old new : Connection) : Type 0 wh
   pub said : new.owed.moving ≡ false → HasSaidEnd new.conversation
   pub replied : HasReplied old new
   pub closes : ClosesFrom old new (told_by deed old.conversation.side)
+  pub packets : new.conversation.packets ≡ old.conversation.packets
   pub steps : WaitsBy deed now old.wait new.wait
   pub room : OwesRoom old.conversation.endpoint new.conversation.endpoint new.owed.word
 

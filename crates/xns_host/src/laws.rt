@@ -53,10 +53,10 @@ pub fn connections_agree()
 
 /// A connection has a story at every moment, whatever steps led to it, in any order: `Tells`, from which the laws above say what it has
 /// done. Its end came from a new one by an end's steps and by packets alone. The calls made and the messages handed in it are those of the
-/// program's own steps, and the answers that the program gave are those to the listed calls. The steps are those that the clauses of
-/// `Connection` name: `calling` and `answering`: `tells`; `receive`: `tells`; `call`: `called`; `answer`: `answered`; `take_message`:
-/// `message`, `handed`; `act`, `not_served`, `next_packet` and `close`: `goes`. A call that is refused and `take_why` leave the
-/// conversation as it was.
+/// program's own steps, and the answers that the program gave are those to the listed calls. Each function of `Connection` is such a step:
+/// `calling` and `answering` by `tells`, `act` and `not_served` by `goes`, and the others by `a_step_keeps_its_promises`,
+/// `a_message_is_handed_as_by_a_step` and `a_connection_gives_what_it_made`. A call that is refused and `take_why` leave the conversation as
+/// it was.
 pub fn a_connection_always_has_a_story()
     ensures { (programs : Option (List Program)) (start : State) (c : Conversation) (l : Deeds) → Lives programs start c l
         → IsLived programs start c l }

@@ -26,6 +26,7 @@ ghost use Rattle.xns_host.specs.declared.outgoing.Outgoing.{Outgoing};
 
 use crate::event::Event;
 use crate::guest::Guest;
+use crate::laws::{a_connection_gives_what_it_made, a_message_is_handed_as_by_a_step};
 use crate::opening_quote::OpeningQuote;
 use crate::outgoing::Outgoing;
 use crate::register::Register;
@@ -269,6 +270,7 @@ pub fn event_in(slot: &mut Option<Guest>, alloc: Global, now: u64, number: usize
     ensures not_done { is_done slot.new ≡ false → IsNotDoneIn slot.old → IsNotDoneIn slot.new }
     ensures turn { result ≢ None → InPlace (GuestTells now) slot.old slot.new }
 {
+    a_message_is_handed_as_by_a_step();
     let Some(guest) = slot else {
         return None;
     };
@@ -303,6 +305,7 @@ pub fn packet_in(
     ensures not_done { IsNotDoneIn slot.old → IsNotDoneIn slot.new }
     ensures turn { InPlace (GuestGives now (as_fault result)) slot.old slot.new }
 {
+    a_connection_gives_what_it_made();
     let Some(guest) = slot else {
         return Ok(None);
     };

@@ -18,36 +18,6 @@ use Rattle.xns_host.proofs.Steps.{moved_history}
 use Rattle.xns_host.proofs.Steps.{same_history}
 use Rattle.xns_host.proofs.connection.Connection.take_message.Goals as goal
 
-pub returns-then-is_calm-clause-handed : goal.returns-then-is_calm-clause-handed
-returns-then-is_calm-clause-handed c = λ h m tells is.
-    let next = with_handed c.args.self.now.conversation.side h m in
-    (next, c.in_ok-message.ensures.handed h m tells is, stays next)
-
-pub returns-then-is_calm-clause-calm : goal.returns-then-is_calm-clause-calm
-returns-then-is_calm-clause-calm c = λ m is still free.
-    calm_from (λ h tells. c.in_ok-message.ensures.handed h m tells is) (c.is_calm.ensures.calm c.if-is_calm.true)
-
-pub returns-clause-handed : goal.returns-clause-handed
-returns-clause-handed c = λ h m tells is. c.settled.ensures.goes.on (with_handed c.args.self.now.conversation.side h m) (c.in_ok-message.ensures.handed h m tells is)
-
-pub returns-clause-calm : goal.returns-clause-calm
-returns-clause-calm c = λ m is still free. calm_from (λ h tells. c.in_ok-message.ensures.handed h m tells is) (c.settled.ensures.calm still free)
-
-pub returns-clause-read : goal.returns-clause-read
-returns-clause-read c = λ m is still same h tells yes. c.settled.ensures.read still same (with_handed c.args.self.now.conversation.side h m) (c.in_ok-message.ensures.handed h m tells is) yes
-
-pub returns-clause-room : goal.returns-clause-room
-returns-clause-room c = subst (λ (e : Held). OwesRoom e c.settled.new.conversation.endpoint c.settled.new.owed.word) c.in_ok-message.ensures.endpoint c.settled.ensures.room
-
-pub returns-then-is_calm-clause-room : goal.returns-then-is_calm-clause-room
-returns-then-is_calm-clause-room c = same_room _ _ _ c.in_ok-message.ensures.endpoint
-
-pub returns-then-is_calm-clause-why : goal.returns-then-is_calm-clause-why
-returns-then-is_calm-clause-why c = λ m is. closes_calm (λ (h : Story). with_handed c.args.self.now.conversation.side h m) (c.is_calm.ensures.open c.if-is_calm.true) c.if-not-self.true refl
-
-pub returns-clause-why : goal.returns-clause-why
-returns-clause-why c = λ m is. closes_from (λ (h : Story). with_handed c.args.self.now.conversation.side h m) (λ h tells. c.in_ok-message.ensures.handed h m tells is) c.in_ok-message.ensures.drains c.settled.ensures.why
-
 pub returns-in_err-message-clause-step : goal.returns-in_err-message-clause-step
 returns-in_err-message-clause-step c =
     let none : c.take_message.result ≡ None = search rules in
@@ -74,7 +44,16 @@ returns-clause-step c =
       | else-not-self-via-else-not-self w ↦ first_no (not c.args.self.now.owed.moving) _ (cc)
     ])
     (step_by c.args.now took c.args.self.now _ c.take_message.new.self k.endpoint (λ s. ap (λ (t : Conversation). scene t s) k.is) (λ s. refl) (λ s. refl)
-    c.settled.ensures.moved tt c.settled.ensures.steps (c.settled.ensures.packets ∙ k.packets) refl c.settled.ensures.closed)
+    c.settled.ensures.moved tt (λ steps. steps) k.packets refl)
+
+pub invariant_of-self-then-is_calm-clause-stands : goal.invariant_of-self-then-is_calm-clause-stands
+invariant_of-self-then-is_calm-clause-stands c = same_history _ _ c.in_ok-message.ensures.endpoint c.args.self.now.stands
+
+pub invariant_of-self-2-clause-stands : goal.invariant_of-self-2-clause-stands
+invariant_of-self-2-clause-stands c = c.settled.ensures.stands
+
+pub settled-requires-clause-stands : goal.settled-requires-clause-stands
+settled-requires-clause-stands c = same_history _ _ c.in_ok-message.ensures.endpoint c.args.self.now.stands
 
 pub invariant_of-self : goal.invariant_of-self
 invariant_of-self c = record {
@@ -84,10 +63,3 @@ invariant_of-self c = record {
   deaf = λ some. c.take_message.ensures.drains ∙ c.args.self.now.deaf some;
   stands = same_history _ _ c.take_message.ensures.endpoint c.args.self.now.stands;
 }
-
-pub invariant_of-self-then-is_calm-clause-stands : goal.invariant_of-self-then-is_calm-clause-stands
-invariant_of-self-then-is_calm-clause-stands c = same_history _ _ c.in_ok-message.ensures.endpoint c.args.self.now.stands
-
-pub invariant_of-self-2-clause-stands : goal.invariant_of-self-2-clause-stands
-invariant_of-self-2-clause-stands c =
-    moved_history _ _ _ _ _ _ _ _ _ (same_history _ _ c.in_ok-message.ensures.endpoint c.args.self.now.stands) c.settled.ensures.moved
