@@ -5,6 +5,7 @@ import enum
 import os
 import pathlib
 import pydoc
+import random
 import subprocess
 import threading
 import unittest
@@ -12,6 +13,7 @@ import unittest
 import xns
 from relay import bound
 from test_tally import C, Serving, total
+from xns import _types
 
 EXAMPLES = pathlib.Path(__file__).resolve().parents[2] / "examples"
 TALLY = EXAMPLES / "courier" / "tally.courier"
@@ -111,6 +113,60 @@ class ReadingTest(unittest.TestCase):
         self.assertIn("Draw(self, points: List[Shapes.Point], color: Shapes.Color) -> Shapes.DrawResults", told)
         self.assertIn("Ask(self, from_: int)", told)
         self.assertIn("Nothing(self) -> None", told)
+
+
+class ValuesTest(unittest.TestCase):
+    """Values that are made at random, of each procedure and each error of the examples: the words that the module writes have a text, which C makes of them, and the text
+    has the value again, and so have the words."""
+
+    def value(self, one):
+        """A value of the type."""
+        if isinstance(one, _types.Record):
+            return one.python(*[self.value(part) for _, part in one.components])
+        if isinstance(one, _types.Choice):
+            name, (_, part) = self.chance.choice(list(one._candidates.items()))
+            return name, self.value(part)
+        if isinstance(one, _types.Enumeration):
+            return self.chance.choice(list(one.python))
+        if isinstance(one, _types._Elements):
+            return [self.value(one._element) for _ in range(one._count if one._is_array else self.chance.randint(0, min(one._count, 4)))]
+        if isinstance(one, _types._Boolean):
+            return self.chance.random() < 0.5
+        if isinstance(one, _types._String):
+            return bytes(self.chance.choice((34, 92, 0, 10, 32, 126, 127, 255, 65)) for _ in range(self.chance.randint(0, 9)))
+        return self.chance.choice((one._low, one._high, self.chance.randint(one._low, one._high)))
+
+    def is_the_same(self, record, value, text):
+        """The text, behind its name, is of the value."""
+        constant = _types.Constant(text)
+        self.assertEqual(record.parse(constant), value)
+        constant.end()
+
+    def test_values(self):
+        self.chance = random.Random(1)
+        programs = xns.read_programs(*sorted(path for path in (EXAMPLES / "courier").iterdir()))
+        programs.read(SHAPES)
+        count = 0
+        for program in programs.all:
+            numbers = program.number, program.version
+            for procedure in program.procedures.values():
+                for record, text in ((procedure.arguments, programs.call_text), (procedure.results, programs.return_text)):
+                    for _ in range(30):
+                        value = self.value(record)
+                        writer = xns.Writer()
+                        record.write(writer, value, "")
+                        told = text(*numbers, procedure.number, writer.words)
+                        self.is_the_same(record, value, told[told.index("[") :])
+                        reader = xns.Reader(writer.words)
+                        self.assertEqual(record.read(reader), value)
+                        reader.end()
+                        count += 1
+            for error in program._errors.values():
+                value = self.value(error._record)
+                told = programs.abort_text(*numbers, error._number, error(*value)._words)
+                self.is_the_same(error._record, value, told[told.index("[") :])
+                count += 1
+        self.assertGreater(count, 500)
 
 
 class Served(unittest.TestCase):

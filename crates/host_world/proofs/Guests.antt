@@ -17,7 +17,7 @@ use Rattle.xns_host.specs.Acting.{Acts, idling, calling, handing, answering}
 use Rattle.xns_host.specs.Deeds as deeds
 use Rattle.xns_host.specs.Deeds.{Deed, Parts, acted_by, done, given_up, side_taken, told_by, unserved, with_answer}
 use Rattle.xns_host.specs.Living.{Deeds}
-use Rattle.xns_host.specs.Step.{AStepKeepsItsPromises, HandsBy, MovesOwed, parts_of}
+use Rattle.xns_host.specs.Step.{AStepKeepsItsPromises, Hands, MovesOwed, calmly, moving_on, none_waits, parts_of}
 use Rattle.xns_host.specs.Story.{GoesOn as StoryGoesOn, Story, asked_of, start, waiting_message, with_handed}
 use Rattle.xns_host.specs.Telling.{Gives, Hears, Tells}
 use Rattle.xns_host.specs.Went.{GuestActs, GuestGives, GuestHears, GuestStep, GuestTells, GuestUnserved, given_by, hears, lost}
@@ -61,12 +61,12 @@ stays h = record { programs = refl; path = start; made = refl; handed = refl; ta
 pub calls : (now : ℕ) (c : RawCall) (g h : Guest) → AStepKeepsItsPromises → GuestStep now (deeds.made c) g h → GoesOn g h (one_call_more c) []
 calls now c g h law s a b programs m side meets here =
     leads h (acts_so g.connection.conversation h.connection.conversation (λ k. record k { made = k.made ++ c ∷ [] }) (one_call_more c) s.step.packets (λ k l. calling c)
-    (λ k t. (law now (deeds.made c) g.connection h.connection k.state t.stands s.step).story k t) a b programs m side meets here)
+    (λ k t. (law now (deeds.made c) g.connection h.connection s.step).story k t) a b programs m side meets here)
 
 pub closes : (now : ℕ) (g h : Guest) → AStepKeepsItsPromises → GuestStep now deeds.asked g h → GoesOn g h no_more []
 closes now g h law s a b programs m side meets here =
     leads h (acts_so g.connection.conversation h.connection.conversation (λ k. k) no_more s.step.packets (λ k l. idling)
-    (λ k t. (law now deeds.asked g.connection h.connection k.state t.stands s.step).story k t) a b programs m side meets here)
+    (λ k t. (law now deeds.asked g.connection h.connection s.step).story k t) a b programs m side meets here)
 
 pub answers : (now : ℕ) (kind : Answer) (k : ℕ) (words : List ℕ) (g h : Guest) → AStepKeepsItsPromises → GuestStep now (deeds.gave kind words) g h → asked_of g.connection.conversation.side ≡ Some k
     → GoesOn g h (one_answer_more (answer_message kind k words)) []
@@ -74,37 +74,38 @@ answers now kind k words g h law s asked a b programs m side meets here =
     leads h (acts_so g.connection.conversation h.connection.conversation (λ n. record n { answers = n.answers ++ answer_message kind k words ∷ [] }) (one_answer_more (answer_message kind k words)) s.step.packets
     (λ n l. answering kind k words asked)
     (λ n t. subst (λ (o : Option ℕ). (v : Story) × Tells h.connection.conversation v × StoryGoesOn (with_answer o kind words n) v) asked
-    ((law now (deeds.gave kind words) g.connection h.connection n.state t.stands s.step).story n t)) a b programs m side meets here)
+    ((law now (deeds.gave kind words) g.connection h.connection s.step).story n t)) a b programs m side meets here)
 
 -- ---- what is told
-
-by_hands : (b : Bool) (now : ℕ) (c d : Connection) (m : Message) (h : Story) → AStepKeepsItsPromises → waiting_message c.conversation.side ≡ Some m → Tells c.conversation h → HandsBy b now c d
-    → (v : Story) × Tells d.conversation v × StoryGoesOn (with_handed c.conversation.side h m) v
-by_hands true now c d m h law is t same =
-    let of : d.conversation ≡ record c.conversation { side = side_taken c.conversation.side } = ap (λ (p : Parts). p.conversation) same in
-    (with_handed c.conversation.side h m, subst (λ (k : Conversation). Tells k (with_handed c.conversation.side h m)) (sym of) (tells_handed c.conversation h m is t), stays (with_handed c.conversation.side h m))
-by_hands false now c d m h law is t step =
-    let on = (law now deeds.took c d h.state t.stands step).story h t in
-    subst (λ (o : Option Message). (v : Story) × Tells d.conversation v × StoryGoesOn (deeds.with_taken o c.conversation.side h) v) is on
-
-packets_by : (b : Bool) (now : ℕ) (c d : Connection) → HandsBy b now c d → d.conversation.packets ≡ c.conversation.packets
-packets_by true now c d same = ap (λ (p : Parts). p.conversation.packets) same
-packets_by false now c d step = step.packets
 
 some_waits : (o : Option Message) (m : Message) → o ≡ Some m → o ≢ None
 some_waits None m e z = absurd (cc)
 some_waits (Some n) m e z = absurd (cc)
 
+by_hands : (now : ℕ) (c d : Connection) (m : Message) (h : Story) → AStepKeepsItsPromises → waiting_message c.conversation.side ≡ Some m → Tells c.conversation h → Hands now c d
+    → (v : Story) × Tells d.conversation v × StoryGoesOn (with_handed c.conversation.side h m) v
+by_hands now c d m h law is t (none_waits none alike) = absurd (some_waits (waiting_message c.conversation.side) m is none)
+by_hands now c d m h law is t (calmly waits calm same) =
+    let of : d.conversation ≡ record c.conversation { side = side_taken c.conversation.side } = ap (λ (p : Parts). p.conversation) same in
+    (with_handed c.conversation.side h m, subst (λ (k : Conversation). Tells k (with_handed c.conversation.side h m)) (sym of) (tells_handed c.conversation h m is t), stays (with_handed c.conversation.side h m))
+by_hands now c d m h law is t (moving_on waits busy step) =
+    let on = (law now deeds.took c d step).story h t in
+    subst (λ (o : Option Message). (v : Story) × Tells d.conversation v × StoryGoesOn (deeds.with_taken o c.conversation.side h) v) is on
+
+packets_by : (now : ℕ) (c d : Connection) → Hands now c d → d.conversation.packets ≡ c.conversation.packets
+packets_by now c d (none_waits none alike) = ap (λ (k : Connection). k.conversation.packets) alike
+packets_by now c d (calmly waits calm same) = ap (λ (p : Parts). p.conversation.packets) same
+packets_by now c d (moving_on waits busy step) = step.packets
+
 pub hands : (now : ℕ) (m : Message) (g h : Guest) → AStepKeepsItsPromises → GuestTells now g h → waiting_message g.connection.conversation.side ≡ Some m → GoesOn g h (one_message_more m) []
 hands now m g h law t is a b programs x side meets here =
     let c = g.connection in
     let some = some_waits (waiting_message c.conversation.side) m is in
-    let hand = λ (k : Story) (told_it : Tells c.conversation k). (t.handed some).some some k.state told_it.stands in
-    let first = hand (at x side).story (subst (λ (k : Conversation). Tells k (at x side).story) here (told meets side)) in
+    let hand = t.handed some in
     leads h (acts_so c.conversation h.connection.conversation (λ k. with_handed c.conversation.side k m) (one_message_more m)
-    (packets_by _ now c h.connection first)
+    (packets_by now c h.connection hand)
     (λ k l. handing m is)
-    (λ k told_it. by_hands _ now c h.connection m k law is told_it (hand k told_it)) a b programs x side meets here)
+    (λ k told_it. by_hands now c h.connection m k law is told_it hand) a b programs x side meets here)
 
 pub tells : (now : ℕ) (g h : Guest) → GuestTells now g h → waiting_message g.connection.conversation.side ≡ None → GoesOn g h no_more []
 tells now g h t is a b programs m side meets here =
@@ -150,7 +151,7 @@ not_served now g h s a b programs m side meets here =
 
 owed_on : (b : Bool) (now : ℕ) (c d : Connection) → AStepKeepsItsPromises → MovesOwed b now c d
     → (d.conversation.packets ≡ c.conversation.packets) × ((h : Story) → Tells c.conversation h → (m : Story) × Tells d.conversation m × StoryGoesOn h m)
-owed_on true now c d law step = (step.packets, λ h t. (law now deeds.nothing c d h.state t.stands step).story h t)
+owed_on true now c d law step = (step.packets, λ h t. (law now deeds.nothing c d step).story h t)
 owed_on false now c d law same =
     let is = ap (λ (k : Connection). k.conversation) same in
     (ap (λ (k : Conversation). k.packets) is, λ h t. acted_on c.conversation d.conversation h t is)
@@ -177,7 +178,7 @@ pub hears_it : (now : ℕ) (bytes : List ℕ) (confirming : Bool) (g h : Guest) 
 hears_it now bytes confirming g h law (hears {h = k} s) a b programs m side meets here may =
     let n = (at m side).story in
     let t = subst (λ (c : Conversation). Tells c n) here (told meets side) in
-    let p = law now (deeds.heard bytes) g.connection k.connection n.state t.stands s.step in
+    let p = law now (deeds.heard bytes) g.connection k.connection s.step in
     let heard_so : Hears g.connection.conversation k.connection.conversation bytes = record { wanted = λ z. p.wanted ∙ z; on = p.story } in
     leads k (hears_on m meets side bytes k.connection.conversation (subst (λ (c : Conversation). Hears c k.connection.conversation bytes) (sym here) heard_so)
     (s.step.packets ∙ sym (ap (λ (c : Conversation). c.packets) here)) may)

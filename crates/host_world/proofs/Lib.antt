@@ -8,6 +8,9 @@ mod Hosts
 mod Telling
 mod Gives
 mod Guests
+mod Following
+mod Followed
+mod Agreed
 mod Kept
 mod Led
 mod Paired

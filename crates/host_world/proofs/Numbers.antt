@@ -49,13 +49,13 @@ passes_then xs ys v a b p next =
 
 -- ---- a place among places
 
-same_or_other : (a b : ℕ) → (a ≡ b) ⊎ (a ≢ b)
+pub same_or_other : (a b : ℕ) → (a ≡ b) ⊎ (a ≢ b)
 same_or_other a b = grind arith
 
-at_place : {X : Type 0} (xs : List X) (n : ℕ) (v : X) → n < length xs → slice_get (slice_set xs n v) n ≡ Some v
+pub at_place : {X : Type 0} (xs : List X) (n : ℕ) (v : X) → n < length xs → slice_get (slice_set xs n v) n ≡ Some v
 at_place xs n v less = slice_get-get_or (slice_set xs n v) n v (omega (arith, length-set xs n v, less)) ∙ ap Some (get_or-set_same xs n v v less)
 
-beside : {X : Type 0} (xs : List X) (n k : ℕ) (v : X) → k ≢ n → slice_get (slice_set xs n v) k ≡ slice_get xs k
+pub beside : {X : Type 0} (xs : List X) (n k : ℕ) (v : X) → k ≢ n → slice_get (slice_set xs n v) k ≡ slice_get xs k
 beside [] n k v other = refl
 beside (x ∷ xs) zero zero v other = absurd (other refl)
 beside (x ∷ xs) zero (suc k) v other = refl
@@ -141,7 +141,7 @@ and_true : (a b : Bool) → (a && b) ≡ true → (a ≡ true) × (b ≡ true)
 and_true true b e = (refl, e)
 and_true false b e = absurd (cc)
 
-may_be_told : (c : Connection) → may_go c ≡ true → c.told ≡ true
+pub may_be_told : (c : Connection) → may_go c ≡ true → c.told ≡ true
 may_be_told c e = (and_true c.told (is_none (due_time c.wait.due)) (and_true (is_some c.closed) (c.told && is_none (due_time c.wait.due)) e).1).0
 
 goes_from : (v : View) (g : Guest) → ((d : Dialogue) → Shows d g → MayGo d) → ShowsIn v (Some (Some g)) → Passes [] v (Some None)
@@ -273,18 +273,18 @@ opened_shows {programs = programs} g c = record {
 
 -- ---- its place
 
-place_there : (gs : List (Option Guest)) {n : ℕ} → IsPlace gs n → (o : Option Guest) × (slice_get gs n ≡ Some o)
+pub place_there : (gs : List (Option Guest)) {n : ℕ} → IsPlace gs n → (o : Option Guest) × (slice_get gs n ≡ Some o)
 place_there gs (free_place k at) = (None, at)
 place_there gs (of_closed k t g full at since first) = (Some g, at)
 place_there gs (of_stranger k t g full none at since first) = (Some g, at)
 
-since_told : (a b : Bool) (o : Option ℕ) (t : ℕ) → (if a && b then o else None) ≡ Some t → b ≡ true
+pub since_told : (a b : Bool) (o : Option ℕ) (t : ℕ) → (if a && b then o else None) ≡ Some t → b ≡ true
 since_told true true o t e = refl
 since_told true false o t e = absurd (cc)
 since_told false b o t e = absurd (cc)
 
 -- what is so of one whose peer is silent
-since_stranger : (a b c d e : Bool) (t n : ℕ) → (if a && (not b && (not c && (not d && not e))) then Some n else None) ≡ Some t → (a ≡ true) × (c ≡ false) × (d ≡ false)
+pub since_stranger : (a b c d e : Bool) (t n : ℕ) → (if a && (not b && (not c && (not d && not e))) then Some n else None) ≡ Some t → (a ≡ true) × (c ≡ false) × (d ≡ false)
 since_stranger true false false false false t n e = (refl, refl, refl)
 since_stranger false b c d e t n x = absurd (cc)
 since_stranger true true c d e t n x = absurd (cc)

@@ -16,8 +16,8 @@ use Rattle.item_world.specs.declared.side.Side.{Side}
 use Rattle.item_world.specs.declared.side.Side.TheVariants.{A, B}
 use Rattle.xns_spp.specs.Packet.{SppPacketModel, spp_packet_of}
 use Rattle.xns_host.specs.Deeds as deeds
-use Rattle.xns_host.specs.Deeds.{Deed, with_answer}
-use Rattle.xns_host.specs.Step.{Promises, Step, WaitsBy}
+use Rattle.xns_host.specs.Deeds.{Deed, with_answer, with_taken}
+use Rattle.xns_host.specs.Step.{AMessageIsHandedAsByAStep, AStepKeepsItsPromises, Hands, Step, WaitsBy, calmly, moving_on, none_waits}
 use Rattle.xns_host.specs.Acting.{Acts, idling, calling, handing, answering}
 use Rattle.xns_host.specs.Closing.{drains}
 use Rattle.xns_host.specs.Living.{Deeds, GoesFrom}
@@ -25,7 +25,7 @@ use Rattle.xns_host.specs.Reasons.{answer_fault_of}
 use Rattle.xns_host.specs.Refusing.{answer_fault, side_answer_fault, Answers as Refusals}
 use Rattle.xns_host.specs.Story.{Story, GoesOn, asked_of, waiting_message, with_handed}
 use Rattle.xns_host.specs.Telling.{Tells, Goes, Gives, MovesAndGives, Hears}
-use Rattle.xns_agenda.specs.Waiting.{HearsAt, StepsAt, still}
+use Rattle.xns_agenda.specs.Waiting.{StepsAt, still}
 use Rattle.xns_host.specs.declared.connection.Connection.{Connection}
 use Rattle.xns_host.specs.declared.conversation.Conversation.{Conversation}
 use Rattle.xns_host.specs.declared.host_fault.HostFault.{HostFault}
@@ -200,7 +200,7 @@ pair_hears p c d side bytes is same hears = record {
 }
 
 -- where nothing is done, a meeting is as it was
-stays_so : (m : Meeting) (side : Side) → Does m m side no_more []
+pub stays_so : (m : Meeting) (side : Side) → Does m m side no_more []
 stays_so m side = record { deeds = refl; given = sym (append-nil (at m side).given); other = refl; kept = kept_itself m.world.bag }
 
 -- ---- what each call's clauses make of that
@@ -218,15 +218,17 @@ pub pair_unchanged : {X E : Type 0} (p : Pair) (c d : Connection) (side : Side) 
 pair_unchanged p c d side (Ok x) is same = tt
 pair_unchanged p c d side (Err e) is same = put_back p side d (same ∙ is)
 
-pub pair_calls : (p : Pair) (c d : Connection) (side : Side) (now : ℕ) (call : RawCall) (r : Result (Unit {0}) HostFault) → c ≡ connection_at p side
-    → OnOk r (Step now (deeds.made call) c d) → OnOk r (Promises now (deeds.made call) c d) → OnOk r (Steps p (with_connection p side d) side (one_call_more call) [])
-pair_calls p c d side now call (Ok u) is step promises =
-    pair_acts p c d side (one_call_more call) (λ h. record h { made = h.made ++ call ∷ [] }) is step.packets (λ h l. calling call) promises.story
-pair_calls p c d side now call (Err e) is step promises = tt
+pub pair_calls : AStepKeepsItsPromises → (p : Pair) (c d : Connection) (side : Side) (now : ℕ) (call : RawCall) (r : Result (Unit {0}) HostFault) → c ≡ connection_at p side
+    → OnOk r (Step now (deeds.made call) c d) → OnOk r (Steps p (with_connection p side d) side (one_call_more call) [])
+pair_calls law p c d side now call (Ok u) is step =
+    pair_acts p c d side (one_call_more call) (λ h. record h { made = h.made ++ call ∷ [] }) is step.packets (λ h l. calling call)
+    (law now (deeds.made call) c d step).story
+pair_calls law p c d side now call (Err e) is step = tt
 
-pub pair_closes : (p : Pair) (c d : Connection) (side : Side) (now : ℕ) → c ≡ connection_at p side → Step now deeds.asked c d → Promises now deeds.asked c d
+pub pair_closes : AStepKeepsItsPromises → (p : Pair) (c d : Connection) (side : Side) (now : ℕ) → c ≡ connection_at p side → Step now deeds.asked c d
     → Steps p (with_connection p side d) side no_more []
-pair_closes p c d side now is step promises = pair_acts p c d side no_more (λ h. h) is step.packets (λ h l. idling) promises.story
+pair_closes law p c d side now is step =
+    pair_acts p c d side no_more (λ h. h) is step.packets (λ h l. idling) (law now deeds.asked c d step).story
 
 -- its waits come by steps of that moment, or stay
 pub waits_on : {E : Type 0} (now : ℕ) (deed : Deed) (c d : Connection) (r : Result (Unit {0}) E)
@@ -256,24 +258,45 @@ asked c kind words e = by (drains c.side c.closing) e where
   by true e = absurd (cc)
   by false e = side_asked c.side kind words e
 
-pub pair_answers : (p : Pair) (c d : Connection) (side : Side) (now : ℕ) (kind : Answer) (words : List ℕ) (r : Result (Unit {0}) HostFault) → c ≡ connection_at p side
-    → Refusals (answer_fault_of c.conversation kind words) r → OnOk r (Step now (deeds.gave kind words) c d) → OnOk r (Promises now (deeds.gave kind words) c d)
+pub pair_answers : AStepKeepsItsPromises → (p : Pair) (c d : Connection) (side : Side) (now : ℕ) (kind : Answer) (words : List ℕ) (r : Result (Unit {0}) HostFault) → c ≡ connection_at p side
+    → Refusals (answer_fault_of c.conversation kind words) r → OnOk r (Step now (deeds.gave kind words) c d)
     → OnOk r ((k : ℕ) × (asked_of (connection_at p side).conversation.side ≡ Some k) × Steps p (with_connection p side d) side (one_answer_more (answer_message kind k words)) [])
-pair_answers p c d side now kind words (Ok u) is none step promises =
+pair_answers law p c d side now kind words (Ok u) is none step =
     let some = asked c.conversation kind words none in (
       some.0,
       subst (λ (k : Connection). asked_of k.conversation.side ≡ Some some.0) is some.1,
       pair_acts p c d side (one_answer_more (answer_message kind some.0 words)) (λ h. record h { answers = h.answers ++ answer_message kind some.0 words ∷ [] }) is step.packets
           (λ h l. answering kind some.0 words some.1)
-          (λ h tells. subst (λ (o : Option ℕ). (m : Story) × Tells d.conversation m × GoesOn (with_answer o kind words h) m) some.1 (promises.story h tells)),
+          (λ h tells. subst (λ (o : Option ℕ). (m : Story) × Tells d.conversation m × GoesOn (with_answer o kind words h) m) some.1 ((law now (deeds.gave kind words) c d step).story h tells)),
     )
-pair_answers p c d side now kind words (Err e) is none step promises = tt
+pair_answers law p c d side now kind words (Err e) is none step = tt
 
-pub pair_hands : (p : Pair) (c d : Connection) (side : Side) (r : Option Message) → c ≡ connection_at p side → d.conversation.packets ≡ c.conversation.packets → r ≡ waiting_message c.conversation.side
-    → ((h : Story) (m : Message) → Tells c.conversation h → r ≡ Some m → (n : Story) × Tells d.conversation n × GoesOn (with_handed c.conversation.side h m) n)
-    → IfSome r (λ m. Steps p (with_connection p side d) side (one_message_more m) [])
-pair_hands p c d side None is same waits on = tt
-pair_hands p c d side (Some m) is same waits on = pair_acts p c d side (one_message_more m) (λ h. with_handed c.conversation.side h m) is same (λ h l. handing m (sym waits)) (λ h tells. on h m tells refl)
+pub pair_hands : AMessageIsHandedAsByAStep → (p : Pair) (c d : Connection) (side : Side) (now : ℕ) (r : Option Message) → c ≡ connection_at p side
+    → r ≡ waiting_message c.conversation.side → Hands now c d → IfSome r (λ m. Steps p (with_connection p side d) side (one_message_more m) [])
+pair_hands law p c d side now None is waits hands = tt
+pair_hands law p c d side now (Some m) is waits hands =
+    let k = law now c d (λ none. cc) hands in
+    pair_acts p c d side (one_message_more m) (λ h. with_handed c.conversation.side h m) is k.packets (λ h l. handing m (sym waits))
+    (λ h tells. subst (λ (o : Option Message). (n : Story) × Tells d.conversation n × GoesOn (with_taken o c.conversation.side h) n) (sym waits) (k.story h tells))
+
+pub hands_steps : AMessageIsHandedAsByAStep → (now : ℕ) (c d : Connection) → Hands now c d → StepsAt now c.wait d.wait
+hands_steps law now c d (none_waits none same) = subst (λ (x : Connection). StepsAt now c.wait x.wait) (sym same) still
+hands_steps law now c d (calmly some calm same) = (law now c d some (calmly some calm same)).steps
+hands_steps law now c d (moving_on some busy step) = step.steps
+
+hands_none : (now : ℕ) (c d : Connection) → Hands now c d → waiting_message c.conversation.side ≡ None → d ≡ c
+hands_none now c d (none_waits none same) waits = same
+hands_none now c d (calmly some calm same) waits = absurd (some waits)
+hands_none now c d (moving_on some busy step) waits = absurd (some waits)
+
+pub pair_hands_none : (p : Pair) (c d : Connection) (side : Side) (now : ℕ) (r : Option Message) → c ≡ connection_at p side
+    → r ≡ waiting_message c.conversation.side → Hands now c d → r ≡ None → with_connection p side d ≡ p
+pair_hands_none p c d side now r is waits hands none = put_back p side d (hands_none now c d hands (sym waits ∙ none) ∙ is)
+
+-- of what became of the one at a side
+pub at_side : (P : Connection → Connection → Type 0) (p : Pair) (c d : Connection) (side : Side) → c ≡ connection_at p side → P c d
+    → P (connection_at p side) (connection_at (with_connection p side d) side)
+at_side P p c d side is here = subst (λ (x : Connection). P (connection_at p side) x) (sym (put p side d)) (subst (λ (x : Connection). P x d) is here)
 
 pub pair_gives_ok : {E : Type 0} (p : Pair) (c d : Connection) (side : Side) (r : Result (Option (List ℕ)) E) → c ≡ connection_at p side → IfOk r (λ o. MovesAndGives c.conversation d.conversation o) → IfOk r (λ o. Steps p (with_connection p side d) side no_more (option_to_list o))
 pair_gives_ok p c d side (Ok o) is gave = pair_gives p c d side o is gave
@@ -283,10 +306,25 @@ pub pair_gives_none : {X E : Type 0} (p : Pair) (c d : Connection) (side : Side)
 pair_gives_none p c d side (Ok x) is gave = tt
 pair_gives_none p c d side (Err e) is gave = pair_gives p c d side None is gave
 
-pub pair_takes_in : {E : Type 0} (p : Pair) (c d : Connection) (side : Side) (bytes : List ℕ) (packet : SppPacketModel) (r : Result (Unit {0}) E) → c ≡ connection_at p side → d.conversation.packets ≡ c.conversation.packets → spp_packet_of bytes ≡ Ok packet
-    → OnOk r ((b : List ℕ) → spp_packet_of b ≡ Ok packet → Hears c.conversation d.conversation b) → OnOk r (TakesIn p (with_connection p side d) side bytes)
-pair_takes_in p c d side bytes packet (Ok u) is same reads hears = pair_hears p c d side bytes is same (hears bytes reads)
-pair_takes_in p c d side bytes packet (Err e) is same reads hears = tt
+-- bytes came
+pub heard_there : AStepKeepsItsPromises → (now : ℕ) (bytes : List ℕ) (c d : Connection) → Step now (deeds.heard bytes) c d
+    → Hears c.conversation d.conversation bytes
+heard_there law now bytes c d step = let k = law now (deeds.heard bytes) c d step in record { wanted = λ z. k.wanted ∙ z; on = k.story }
+
+pub pair_takes_in : {E : Type 0} → AStepKeepsItsPromises → (p : Pair) (c d : Connection) (side : Side) (now : ℕ) (bytes : List ℕ) (packet : SppPacketModel) (r : Result (Unit {0}) E)
+    → c ≡ connection_at p side → spp_packet_of bytes ≡ Ok packet → OnOk r ((b : List ℕ) → spp_packet_of b ≡ Ok packet → Step now (deeds.heard b) c d)
+    → OnOk r (TakesIn p (with_connection p side d) side bytes)
+pair_takes_in law p c d side now bytes packet (Ok u) is reads step =
+    pair_hears p c d side bytes is (step bytes reads).packets (heard_there law now bytes c d (step bytes reads))
+pair_takes_in law p c d side now bytes packet (Err e) is reads step = tt
+
+-- and what follows of a step of the one at that side
+pub pair_heard : {E : Type 0} (P : Connection → Connection → Type 0) (p : Pair) (c d : Connection) (side : Side) (now : ℕ) (bytes : List ℕ) (packet : SppPacketModel)
+    (r : Result (Unit {0}) E) → c ≡ connection_at p side → spp_packet_of bytes ≡ Ok packet → (Step now (deeds.heard bytes) c d → P c d)
+    → OnOk r ((b : List ℕ) → spp_packet_of b ≡ Ok packet → Step now (deeds.heard b) c d)
+    → OnOk r ((q : SppPacketModel) → spp_packet_of bytes ≡ Ok q → P (connection_at p side) (connection_at (with_connection p side d) side))
+pair_heard P p c d side now bytes packet (Ok u) is reads next step = λ q read. at_side P p c d side is (next (step bytes reads))
+pair_heard P p c d side now bytes packet (Err e) is reads next step = tt
 
 pub pair_rests : (p : Pair) (c d : Connection) (side : Side) → c ≡ connection_at p side → d.conversation ≡ c.conversation → Steps p (with_connection p side d) side no_more []
 pair_rests p c d side is same = record {
@@ -295,10 +333,3 @@ pair_rests p c d side is same = record {
       (m, record { calls = stands.calls; called = stands.called; meets = stands.meets; same = same_after p d side m m stands.same here refl }, stays_so m side);
   beside = beside p side d;
 }
-
-pub pair_waits : {E : Type 0} (p : Pair) (c d : Connection) (side : Side) (now : ℕ) (bytes : List ℕ) (r : Result (Unit {0}) E) → c ≡ connection_at p side → OnOk r (HearsAt now c.wait d.wait)
-    → OnOk r ((q : SppPacketModel) → spp_packet_of bytes ≡ Ok q → HearsAt now (connection_at p side).wait (connection_at (with_connection p side d) side).wait)
-pair_waits p c d side now bytes (Ok u) is hears = λ q reads.
-    subst (λ (k : Connection). HearsAt now (connection_at p side).wait k.wait) (sym (put p side d))
-    (subst (λ (k : Connection). HearsAt now k.wait d.wait) is hears)
-pair_waits p c d side now bytes (Err e) is hears = tt

@@ -1,6 +1,6 @@
 -- What a program sees of one connection, and by which steps what is done at it changes that.
 use Rattle.std.proofs.Common.{◌≡◌, ◌≢◌, ◌∙◌, ap, refl, sym, subst, ℕ, ◌+◌, Bool, true, false, List, [], ◌∷◌, ◌++◌, length, Option, Some, None, Result}
-use Rattle.std.specs.Prelude.{cond, not, ◌&&◌, ◌||◌, if◌then◌else◌}
+use Rattle.std.specs.Prelude.{cond, ◌||◌, if◌then◌else◌}
 use Rattle.std.specs.List.{filter}
 use Rattle.std.specs.Option.{is_some, is_none}
 use Rattle.courier_messages.specs.RawCalls.{RawCall, call_message, transaction_of}
@@ -12,11 +12,10 @@ use Rattle.xns_spp.specs.Held.{StandsFor}
 use Rattle.xns_spp.specs.State.{State}
 use Rattle.xns_host.specs.Closing.{drains}
 use Rattle.xns_host.specs.Deeds as deeds
-use Rattle.xns_host.specs.Deeds.{done, side_answered, side_called, side_taken}
+use Rattle.xns_host.specs.Deeds.{side_answered, side_called, side_taken}
 use Rattle.xns_host.specs.Events.{event_by, event_in, event_of}
-use Rattle.xns_host.specs.Moving.{is_calm, scene}
 use Rattle.xns_host.specs.Refusing.{side_answer_fault, side_call_fault}
-use Rattle.xns_host.specs.Step.{HandsBy}
+use Rattle.xns_host.specs.Step.{Hands, calmly, moving_on, none_waits}
 use Rattle.xns_host.specs.Story.{waiting_message}
 use Rattle.xns_host.specs.Went.{GuestActs, GuestGives, GuestHears, GuestStep, GuestTells, GuestUnserved, hears, lost}
 use Rattle.xns_host.specs.declared.connection.Connection.{Connection}
@@ -267,10 +266,11 @@ giving_out now result d g h s a =
 
 -- ---- the program is told
 
-hands_by : (b : Bool) (now : ℕ) (c e : Connection) (s : State) → StandsFor c.conversation.endpoint s → HandsBy b now c e
+hands_by : (now : ℕ) (c e : Connection) (s : State) → StandsFor c.conversation.endpoint s → waiting_message c.conversation.side ≢ None → Hands now c e
     → Changes (side_taken c.conversation.side) c.conversation.closing.wanted c e
-hands_by true now c e s stands is = by_parts c e _ s (side_taken c.conversation.side) stands is refl refl refl refl (λ k. refl)
-hands_by false now c e s stands step = steps now deeds.took c e s (side_taken c.conversation.side) c.conversation.closing.wanted stands step refl refl refl
+hands_by now c e s stands some (none_waits none alike) = absurd (some none)
+hands_by now c e s stands some (calmly waits calm is) = by_parts c e _ s (side_taken c.conversation.side) stands is refl refl refl refl (λ k. refl)
+hands_by now c e s stands some (moving_on waits busy step) = steps now deeds.took c e s (side_taken c.conversation.side) c.conversation.closing.wanted stands step refl refl refl
 
 pub after_hand : (now : ℕ) (d : Dialogue) (g h : Guest) (m : Message) → Shows d g → GuestTells now g h → waiting_message g.connection.conversation.side ≡ Some m
     → Passes (hands m ∷ []) (held d) (Some (Some h))
@@ -279,7 +279,7 @@ after_hand now d g h m s t is = by d.ours refl where
   some none = absurd (cc)
 
   change : Changes (side_taken g.connection.conversation.side) g.connection.conversation.closing.wanted g.connection h.connection
-  change = hands_by (not g.connection.owed.moving && is_calm (done deeds.took (scene g.connection.conversation s.state))) now g.connection h.connection s.state s.stands ((t.handed some).some some s.state s.stands)
+  change = hands_by now g.connection h.connection s.state s.stands some (t.handed some)
 
   not_told : d.told ≡ false
   not_told = not_true d.told (λ z. some (s.over z).1)
@@ -341,7 +341,7 @@ news_there number (messages.Reject transaction reason words) = refl
 news_there number (messages.Return transaction words) = refl
 news_there number (messages.Abort transaction error words) = refl
 
-why_by : (number : ℕ) (told : Bool) (closed : Option Why) (event : Event) → event_by number None (if told then None else closed) ≡ Some event
+pub why_by : (number : ℕ) (told : Bool) (closed : Option Why) (event : Event) → event_by number None (if told then None else closed) ≡ Some event
     → (why : Why) × (told ≡ false) × (closed ≡ Some why) × (events.Closed number why ≡ event)
 why_by number true closed event e = absurd (cc)
 why_by number false None event e = absurd (cc)

@@ -6,3 +6,4 @@ pub mod Going
 pub mod Dialogue
 pub mod Seen
 pub mod Guests
+pub mod Following

@@ -9,8 +9,10 @@ ghost use Rattle.courier_sessions.specs.declared.program.Program.{Program};
 ghost use Rattle.item_world.specs.Side.{other};
 ghost use Rattle.item_world.specs.World.{lifetime};
 ghost use Rattle.item_world.specs.declared.side.Side.{Side};
+ghost use Rattle.item_world.specs.declared.side.Side.TheVariants.{A, B};
 ghost use Rattle.host_world.specs.Dialogue.{Course, Dialogue, Happened, Happening, IsInOrder, IsOpening, IsUnheard, View, WasTold};
 ghost use Rattle.host_world.specs.Dialogue.{closes, free, goes, held, is_going, is_news, tells};
+ghost use Rattle.host_world.specs.Following.{EachFollowed, HasDone, HasGiven, HostsStandFor, MayTake, StandsOn, gave_none};
 ghost use Rattle.host_world.specs.Going.{CanFinish};
 ghost use Rattle.host_world.specs.Guests.{GoesOn, HearsOn, packets_in};
 ghost use Rattle.host_world.specs.Meeting.{Meeting, at};
@@ -20,7 +22,9 @@ ghost use Rattle.host_world.specs.Seen.{HasHistory, Lives};
 ghost use Rattle.host_world.specs.Station.{IsStation};
 ghost use Rattle.host_world.specs.declared.station.Station.{Station};
 ghost use Rattle.xns_host.specs.Deeds as deeds;
+ghost use Rattle.xns_host.specs.Living.{Deeds};
 ghost use Rattle.xns_host.specs.Story.{asked_of, waiting_message};
+ghost use Rattle.xns_host.specs.Turn.{GivesOut, TakesIn};
 ghost use Rattle.xns_host.specs.Went.{GuestActs, GuestGives, GuestHears, GuestStep, GuestTells, GuestUnserved};
 ghost use Rattle.xns_host.specs.declared.guest.Guest.{Guest};
 ghost use Rattle.xns_host.specs.declared.host.Host.{Host};
@@ -90,6 +94,37 @@ pub fn what_a_host_does_is_a_step_of_the_meeting()
         → HearsOn g h no_more bytes }
 {
     xns_host::laws::a_step_keeps_its_promises();
+}
+
+/// Whatever is called of a host, it goes on with the meetings that its connections are in: by what the program does (`done`), by a packet that
+/// goes out, which one of them gave or none (`gives`), and by bytes that come, where they may come to the connection (`hears`). At each
+/// number the connection is led on by steps of the meeting until it is forgotten.
+pub fn a_host_goes_on_with_its_meetings()
+    ensures done { (h j : Host) (did : ℕ → Deeds → Deeds) → HasDone h j did → EachFollowed (MayTake None) did gave_none h j }
+    ensures gives { (now : ℕ) (result : Result (Option Outgoing) HostFault) (h j : Host) → GivesOut now result h j
+        → (gave : ℕ → List (List ℕ)) × HasGiven result gave × EachFollowed (MayTake None) (λ k. no_more) gave h j }
+    ensures hears { (now way : ℕ) (bytes : List ℕ) (result : Bool) (h j : Host) → TakesIn now way bytes result h j
+        → EachFollowed (MayTake (Some bytes)) (λ k. no_more) gave_none h j }
+{
+    xns_host::laws::a_step_keeps_its_promises();
+}
+
+/// Two hosts of which each has a connection of one meeting at a number. Their programs agree, and what each end handed up begins what the
+/// other's accepted (`agree`). Whatever is called of the host that calls (`calls`), or of the one that is called (`called`), the hosts stand for
+/// a meeting to which that led, until the host forgets the connection: so their programs agree on.
+pub fn two_hosts_agree()
+    ensures agree { (h k : Host) (here there : ℕ) (a b : Station) (programs : List Program) (m : Meeting)
+        → HostsStandFor h k here there a b programs m → IsMet programs m }
+    ensures calls { (h j k : Host) (here there : ℕ) (a b : Station) (programs : List Program) (m : Meeting)
+        (taken : Option (List ℕ)) (did : ℕ → Deeds → Deeds) (gave : ℕ → List (List ℕ))
+        → HostsStandFor h k here there a b programs m → EachFollowed (MayTake taken) did gave h j → MayTake taken m A
+        → StandsOn m A (did here) (gave here) (HostsStandFor j k here there a b programs) }
+    ensures called { (h j k : Host) (here there : ℕ) (a b : Station) (programs : List Program) (m : Meeting)
+        (taken : Option (List ℕ)) (did : ℕ → Deeds → Deeds) (gave : ℕ → List (List ℕ))
+        → HostsStandFor h k here there a b programs m → EachFollowed (MayTake taken) did gave k j → MayTake taken m B
+        → StandsOn m B (did there) (gave there) (HostsStandFor h j here there a b programs) }
+{
+    two_connections_over_a_network_agree();
 }
 
 /// From every meeting, whatever was lost, repeated and reordered, some further steps of the world that it goes through lead to one in which

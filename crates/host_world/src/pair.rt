@@ -11,13 +11,14 @@ ghost use Rattle.xns_spp.specs.Packet.{SppPacketModel, spp_packet_of};
 ghost use Rattle.xns_spp.specs.Receiving.{StoresBytes};
 ghost use Rattle.xns_spp.specs.State.{State};
 ghost use Rattle.xns_spp.specs.declared.dropped.Dropped.{Dropped};
-ghost use Rattle.xns_host.specs.Connecting.{owed_after};
+ghost use Rattle.xns_host.specs.Deeds.{acted};
 ghost use Rattle.xns_host.specs.Reasons.{call_fault_of, answer_fault_of};
 ghost use Rattle.xns_host.specs.Refusing.{Answers};
 ghost use Rattle.xns_host.specs.Settings.{IsBegun, IsFit};
+ghost use Rattle.xns_host.specs.Step.{parts_of};
 ghost use Rattle.xns_host.specs.Story.{asked_of, waiting_message};
 ghost use Rattle.xns_host.specs.Telling.{Hears, Rested};
-ghost use Rattle.xns_agenda.specs.Waiting.{HearsAt, StepsAt, act_at, after_act};
+ghost use Rattle.xns_agenda.specs.Waiting.{HearsAt, StepsAt, act_at};
 ghost use Rattle.host_world.specs.Meeting.{Meeting, new_meeting};
 ghost use Rattle.host_world.specs.declared.station.Station.{Station};
 ghost use Rattle.host_world.specs.Meets.{IsMet};
@@ -30,6 +31,9 @@ use courier_messages::PiecedMessage;
 use courier_sessions::{Answer, Program};
 use item_world::Side;
 use std::alloc::{AllocError, Global};
+use xns_host::laws::{
+    a_connection_gives_what_it_made, a_message_is_handed_as_by_a_step, a_step_keeps_its_promises,
+};
 use xns_host::{Act, Connection, Due, HostFault, Why};
 use xns_spp::{Bytes, read_packet};
 
@@ -109,6 +113,7 @@ impl Pair {
         ensures waits { StepsAt now (connection_at self.old side).wait (connection_at self.new side).wait }
         ensures unchanged { OnErr result (self.new ≡ self.old) }
     {
+        a_step_keeps_its_promises();
         self.at(side)
             .call(alloc, now, program, version, procedure, words)
     }
@@ -128,6 +133,7 @@ impl Pair {
         ensures waits { StepsAt now (connection_at self.old side).wait (connection_at self.new side).wait }
         ensures unchanged { OnErr result (self.new ≡ self.old) }
     {
+        a_step_keeps_its_promises();
         self.at(side).answer(alloc, now, kind, words)
     }
 
@@ -137,6 +143,7 @@ impl Pair {
         ensures asked { (connection_at self.new side).conversation.closing.wanted ≡ true }
         ensures waits { StepsAt now (connection_at self.old side).wait (connection_at self.new side).wait }
     {
+        a_step_keeps_its_promises();
         self.at(side).close(alloc, now);
     }
 
@@ -147,6 +154,7 @@ impl Pair {
         ensures waits { StepsAt now (connection_at self.old side).wait (connection_at self.new side).wait }
         ensures none { result ≡ None → self.new ≡ self.old }
     {
+        a_message_is_handed_as_by_a_step();
         self.at(side).take_message(alloc, now)
     }
 
@@ -174,8 +182,7 @@ impl Pair {
     pub fn act(&mut self, now: u64, side: Side) -> Act
         ensures steps { Steps self.old self.new side no_more [] }
         ensures act { result ≡ act_at (connection_at self.old side).wait now }
-        ensures wait { (connection_at self.new side).wait ≡ after_act (connection_at self.old side).wait now }
-        ensures owed { (connection_at self.new side).owed ≡ owed_after (connection_at self.old side).owed result }
+        ensures step { parts_of (connection_at self.new side) ≡ acted (parts_of (connection_at self.old side)) now }
     {
         self.at(side).act(now)
     }
@@ -195,6 +202,7 @@ impl Pair {
         ensures none { result ≡ Ok None → ((connection_at self.new side).owed.again ≡ false)
             × ((connection_at self.new side).owed.asks ≡ false) × ((connection_at self.new side).owed.word ≡ false) }
     {
+        a_connection_gives_what_it_made();
         self.at(side).next_packet(alloc, now)
     }
 
@@ -219,6 +227,7 @@ impl Pair {
         let Ok(packet) = read_packet(bytes) else {
             return Ok(());
         };
+        a_step_keeps_its_promises();
         self.at(side).receive(alloc, now, &packet)
     }
 

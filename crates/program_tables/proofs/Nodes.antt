@@ -1,7 +1,9 @@
 -- Parts counted and appended, and types as they are seen.
-use Rattle.std.proofs.Common.{◌≡◌, ℕ, List, [], ◌∷◌, ◌++◌, Vec, Global, Result, Ok, Err, OnOk, map, length, refl, sym, ap, ◌∙◌, append_assoc, arith, rules}
+use Rattle.std.proofs.Common.{◌≡◌, ◌≢◌, ◌<◌, ℕ, zero, suc, ◌+◌, List, [], ◌∷◌, ◌++◌, drop, get_or, Vec, Global, Result, Ok, Err, OnErr, OnOk, map, length, refl, sym, ap, ◌∙◌, append_assoc, arith, rules}
 use Rattle.courier_texts.specs.declared.named.Named.{Named, Record, Choice, the_lemmas}
 use Rattle.courier_texts.specs.Named.{NamedModel, component_and, variant_and, component_models, variant_models, named_model, components_seen as level_components, variants_seen as level_variants}
+use Rattle.std.proofs.lemmas.List.{drop_more}
+use Rattle.std.specs.List.{flat_map}
 use Rattle.courier_programs.specs.Meanings.{components_seen, components_from}
 use Rattle.program_tables.specs.Tables.{NodeModel, component_count, component_nodes, node, type_nodes, variant_count, variant_nodes}
 use Rattle.program_tables.specs.declared.node.NodeKind.TheVariants as kinds
@@ -44,6 +46,10 @@ pub on_ok : {A E P Q : Type 0} (r : Result A E) → (P → Q) → OnOk r P → O
 on_ok (Ok v) f h = f h
 on_ok (Err e) f h = h
 
+pub on_err : {A E P : Type 0} (r : Result A E) → P → OnErr r P
+on_err (Ok v) p = tt
+on_err (Err e) p = p
+
 pub record_there : (old mid new : List NodeModel) (name : List ℕ) (cs : List (Vec ℕ Global × Named)) → mid ≡ old ++ node kinds.Record 0 (length cs) name ∷ [] → new ≡ mid ++ component_nodes (component_models cs)
     → new ≡ old ++ type_nodes name (NamedModel.components (component_models cs))
 unfolding type_nodes
@@ -59,3 +65,36 @@ choice_there old mid new name vs first rest =
     rest ∙ ap (λ ns. ns ++ variant_nodes (variant_models vs)) first
     ∙ append_assoc old (node kinds.Choice 0 (length vs) name ∷ []) (variant_nodes (variant_models vs))
     ∙ ap (λ n. old ++ (node kinds.Choice 0 n name ∷ variant_nodes (variant_models vs))) (sym (variants_counted vs))
+
+-- ---- a program that has a node
+
+pub type_is_there : (name : List ℕ) (type : NamedModel) → type_nodes name type ≢ []
+unfolding type_nodes
+type_is_there name NamedModel.boolean = λ e. absurd cc
+type_is_there name NamedModel.cardinal = λ e. absurd cc
+type_is_there name NamedModel.long_cardinal = λ e. absurd cc
+type_is_there name NamedModel.integer = λ e. absurd cc
+type_is_there name NamedModel.long_integer = λ e. absurd cc
+type_is_there name NamedModel.unspecified = λ e. absurd cc
+type_is_there name NamedModel.text = λ e. absurd cc
+type_is_there name (NamedModel.enumeration members) = λ e. absurd cc
+type_is_there name (NamedModel.array n element) = λ e. absurd cc
+type_is_there name (NamedModel.sequence most element) = λ e. absurd cc
+type_is_there name (NamedModel.components parts) = λ e. absurd cc
+type_is_there name (NamedModel.choice parts) = λ e. absurd cc
+
+pub both_empty : {A : Type 0} (xs ys : List A) → xs ++ ys ≡ [] → (xs ≡ []) × (ys ≡ [])
+both_empty [] ys e = (refl, e)
+both_empty (x ∷ xs) ys e = absurd cc
+
+pub item_here : {X : Type 0} (xs : List X) (i : ℕ) (x : X) → i < length xs → x ≡ get_or xs i x → drop i xs ≡ x ∷ drop (i + 1) xs
+item_here xs i x lt e = drop_more xs i x lt ∙ ap (λ y. y ∷ drop (i + 1) xs) (sym e)
+
+-- what one of them has, all of them have
+pub one_of_them : {A B C : Type 0} (f : B → List C) (g : A → B) (xs : List A) (i : ℕ) (x : A) (rest : List A) → drop i xs ≡ x ∷ rest → f (g x) ≢ [] → flat_map f (map g xs) ≢ []
+one_of_them f g [] zero x rest here some = λ e. absurd cc
+one_of_them f g [] (suc i) x rest here some = λ e. absurd cc
+one_of_them f g (y ∷ ys) zero x rest here some = λ e.
+    let same : y ≡ x = cc in
+    some (sym (ap (λ z. f (g z)) same) ∙ (both_empty (f (g y)) (flat_map f (map g ys)) e).0)
+one_of_them f g (y ∷ ys) (suc i) x rest here some = λ e. one_of_them f g ys i x rest here some (both_empty (f (g y)) (flat_map f (map g ys)) e).1

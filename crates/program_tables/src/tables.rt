@@ -1,6 +1,6 @@
 //! Programs as tables.
 
-ghost use Rattle.std.specs.Prelude.{◌≡◌, ◌++◌, ◌∷◌, [], IfOk, OnOk, map};
+ghost use Rattle.std.specs.Prelude.{◌≡◌, ◌≢◌, ◌++◌, ◌∷◌, [], IfOk, OnErr, OnOk, map};
 ghost use Rattle.std.specs.List.{flat_map};
 ghost use Rattle.courier_texts.specs.Named.{NamedModel, component_models, members_seen, named_model, variant_models};
 ghost use Rattle.courier_programs.specs.Meanings.{error_model, fields_model, meaning_model, meanings_seen, procedure_model, resolved_model};
@@ -187,7 +187,8 @@ fn append_meaning(
     name: &[u8],
     meaning: &Meaning,
 ) -> Result<(), AllocError>
-    ensures { OnOk result (nodes_seen out.new.items ≡ nodes_seen out.old.items ++ meaning_nodes (name.now, meaning_model meaning.now)) }
+    ensures nodes { OnOk result (nodes_seen out.new.items ≡ nodes_seen out.old.items ++ meaning_nodes (name.now, meaning_model meaning.now)) }
+    ensures memory { OnErr result (meaning_nodes (name.now, meaning_model meaning.now) ≢ []) }
 {
     match meaning {
         Meaning::Type { named, size: _ } => append_type(alloc, out, name, named),
@@ -205,7 +206,8 @@ fn append_meanings(
     out: &mut Vec<Node>,
     meanings: &[(Vec<u8>, Meaning)],
 ) -> Result<(), AllocError>
-    ensures { OnOk result (nodes_seen out.new.items ≡ nodes_seen out.old.items ++ flat_map meaning_nodes (meanings_seen meanings.now)) }
+    ensures nodes { OnOk result (nodes_seen out.new.items ≡ nodes_seen out.old.items ++ flat_map meaning_nodes (meanings_seen meanings.now)) }
+    ensures memory { OnErr result (flat_map meaning_nodes (meanings_seen meanings.now) ≢ []) }
 {
     for meaning in meanings {
         append_meaning(alloc, out, &meaning.0, &meaning.1)?;
@@ -237,8 +239,9 @@ fn append_procedures(
     out: &mut Vec<Node>,
     procedures: &[Procedure],
 ) -> Result<(), AllocError>
-    ensures { OnOk result (nodes_seen out.new.items
+    ensures nodes { OnOk result (nodes_seen out.new.items
         ≡ nodes_seen out.old.items ++ flat_map procedure_nodes (map procedure_model procedures.now)) }
+    ensures memory { OnErr result (flat_map procedure_nodes (map procedure_model procedures.now) ≢ []) }
 {
     for procedure in procedures {
         append_procedure(alloc, out, procedure)?;
@@ -265,7 +268,8 @@ fn append_errors(
     out: &mut Vec<Node>,
     errors: &[RemoteError],
 ) -> Result<(), AllocError>
-    ensures { OnOk result (nodes_seen out.new.items ≡ nodes_seen out.old.items ++ flat_map error_nodes (map error_model errors.now)) }
+    ensures nodes { OnOk result (nodes_seen out.new.items ≡ nodes_seen out.old.items ++ flat_map error_nodes (map error_model errors.now)) }
+    ensures memory { OnErr result (flat_map error_nodes (map error_model errors.now) ≢ []) }
 {
     for error in errors {
         append_error(alloc, out, error)?;
@@ -273,10 +277,12 @@ fn append_errors(
     Ok(())
 }
 
-/// The table of a program: its constants and types, then its procedures, then its errors. The only error is want of memory.
+/// The table of a program: its constants and types, then its procedures, then its errors. The only error is want of memory, where there is
+/// a node.
 #[tactic(auto, unfolding(crate::specs::Tables::program_nodes))]
 pub fn table_of(alloc: Global, program: &Program) -> Result<Vec<Node>, AllocError>
-    ensures { IfOk result (λ nodes. nodes_seen nodes.items ≡ program_nodes (resolved_model program.now)) }
+    ensures nodes { IfOk result (λ nodes. nodes_seen nodes.items ≡ program_nodes (resolved_model program.now)) }
+    ensures memory { OnErr result (program_nodes (resolved_model program.now) ≢ []) }
 {
     let mut nodes = Vec::new(alloc);
     append_meanings(alloc, &mut nodes, &program.meanings)?;

@@ -4,16 +4,16 @@ use std::alloc::{AllocError, Global};
 use std::fmt::Write;
 use test_setting::{WIDE_SETUP, numbered};
 
-/// So many items go out each way in a round.
+/// How many items go out each way in a round.
 const ITEMS: usize = 8;
 
-/// So many rounds are played.
+/// How many rounds are played.
 const ROUNDS: usize = 17_500;
 
-/// So many rounds ago a packet was sent that is delivered again: 24,000 items, within its lifetime.
+/// How many rounds ago a packet was sent that is delivered again: 24,000 items, within its lifetime.
 const LATE: usize = 3_000;
 
-/// So many rounds ago one was sent that lives no longer: 32,000 items.
+/// How many rounds ago a packet was sent that lives no longer: 32,000 items.
 const PAST: usize = 4_000;
 
 /// Prints how many items went out and were handed up, and in how many packets.
@@ -80,7 +80,7 @@ fn events(alloc: Global) -> Result<Vec<Event>, AllocError> {
     Ok(events)
 }
 
-/// Both sides send; the first packet of one side is lost, all others come in reverse, one of them twice; an old packet comes again;
+/// In a round both sides send; the first packet of one side is lost, all others come in reverse, one of them twice; an old packet comes again;
 /// what was lost is sent again with all that followed; and the items are handed up.
 fn push_round(
     alloc: Global,
@@ -137,7 +137,7 @@ fn push_again(events: &mut Vec<Event>, next: usize) -> Result<(), AllocError> {
     push_packet(events, next, 15)
 }
 
-/// Both sides hand up the items of a round.
+/// Lets both sides hand up the items of a round.
 fn push_takes(events: &mut Vec<Event>) -> Result<(), AllocError> {
     for _ in 0..ITEMS {
         events.push(Event::Take(Side::A))?;
@@ -161,7 +161,7 @@ fn push_sends(
     Ok(())
 }
 
-/// So many packets come, the last of them first.
+/// Delivers this many packets, the last of them first.
 fn push_reversed(events: &mut Vec<Event>, first: usize, count: usize) -> Result<(), AllocError> {
     for back in 1..=count {
         events.push(Event::Deliver(first.saturating_add(count - back)))?;

@@ -5,8 +5,8 @@ pub enum Way {
     Silent,
     /// The receiver also tells its room once it has taken items.
     Telling,
-    /// And at a timeout the sender sends its first item again alone, and the next one as long as the replies acknowledge more.
+    /// As `Telling`; at a timeout the sender sends its first item again alone, and the next one as long as the replies acknowledge more.
     Alone,
-    /// And the receiver replies once to the packets that came together, after it has taken their items.
+    /// As `Alone`; the receiver replies once to the packets that came together, after it has taken their items.
     Once,
 }

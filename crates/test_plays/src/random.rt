@@ -14,7 +14,7 @@ use xns_idp::{MOST_PACKET, decode};
 use xns_spp::{Bytes, Header, read_header};
 use xns_world::ServeTrace;
 
-/// So many packets are made before it is looked again at what the server has made of all of them.
+/// How many packets are made before the program looks again at what the server has made of all of them.
 const BLOCK: u16 = 8;
 
 /// A tally comes to at most so much.

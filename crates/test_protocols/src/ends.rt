@@ -10,7 +10,7 @@ use std::fmt::Write;
 use test_setting::{CALLER, CALLER_ID, SERVER, SERVER_ID, caller, server};
 use xns_spp::{Bytes, Endpoint, Item, Received};
 
-/// So many items may be unacknowledged at an end.
+/// How many items may be unacknowledged at an end.
 const BACKLOG: usize = 16;
 
 /// Another identifier that a server may have.

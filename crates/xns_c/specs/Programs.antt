@@ -165,3 +165,8 @@ GivesTable (Some p) was told nodes after names names_after had sizes result =
     × (result ≡ ok → told ≡ (p.number, p.version)) × (result ≢ ok → told ≡ was)
 GivesTable None was told nodes after names names_after had sizes result =
     (result ≡ nothing) × (told ≡ was) × (after ≡ nodes) × (names_after ≡ names) × (sizes ≡ had)
+
+-- giving a table wants memory: there is such a program, and it has a node
+abbrev pub TableWants : Option Program → Type 0
+TableWants (Some p) = program_nodes (resolved_model p) ≢ []
+TableWants None = ⊥

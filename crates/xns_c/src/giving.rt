@@ -1,6 +1,6 @@
 //! What was found of programs, given to C.
 
-ghost use Rattle.std.specs.Prelude.{◌≡◌, ◌≢◌, ◌<◌, ◌≤◌, ◌⊎◌, length as length_of, Err, IfOk, List, MatchOption, None, Ok, Option, Result, Some, ℕ};
+ghost use Rattle.std.specs.Prelude.{◌≡◌, ◌≢◌, ◌<◌, ◌≤◌, ◌⊎◌, length as length_of, [], Err, IfOk, List, MatchOption, None, Ok, OnErr, Option, Result, Some, ℕ};
 ghost use Rattle.call_texts.specs.Calls.{ShowsDeclared};
 ghost use Rattle.call_texts.specs.Showing.{UnreadModel};
 ghost use Rattle.call_texts.specs.declared.unread.Unshown.TheVariants.{NoMemory};
@@ -110,6 +110,7 @@ pub fn give_text(
 pub fn nodes_out(alloc: Global, nodes: &[Node]) -> Result<(Vec<XnsNode>, Vec<u8>), AllocError>
     ensures nodes { IfOk result (λ t. t.0.items ≡ nodes_given 0 (nodes_seen nodes.now)) }
     ensures names { IfOk result (λ t. t.1.items ≡ names_given (nodes_seen nodes.now)) }
+    ensures memory { OnErr result (nodes_seen nodes.now ≢ []) }
 {
     let mut table = Vec::new(alloc);
     let mut names = Vec::new(alloc);
@@ -166,6 +167,7 @@ pub fn give_program(
         (count.new, length.new) result }
     ensures told { result ≡ ok → (number.new ≡ program.now.number) × (version.new ≡ program.now.version) }
     ensures untold { result ≢ ok → (number.new ≡ number.old) × (version.new ≡ version.old) }
+    ensures wants { result ≡ no_memory → program_nodes (resolved_model program.now) ≢ [] }
     ensures memory { result ≡ no_memory → (nodes.new ≡ nodes.old) × (names.new ≡ names.old) × (count.new ≡ count.old) × (length.new ≡ length.old) }
 {
     let Ok(table) = table_of(alloc, program) else {

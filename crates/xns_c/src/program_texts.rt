@@ -1,8 +1,8 @@
 //! The texts of calls, returns and aborts by name and value, and the tables of programs.
 
-ghost use Rattle.std.specs.Prelude.{◌≡◌, ◌≢◌, None, slice_get};
+ghost use Rattle.std.specs.Prelude.{◌≡◌, ◌≢◌, slice_get};
 ghost use Rattle.call_texts.specs.Calls.{AbortWants, CallWants, ReturnWants, abort_shown, call_shown, return_shown};
-ghost use Rattle.xns_c.specs.Programs.{GivesTable, GivesText, programs_of};
+ghost use Rattle.xns_c.specs.Programs.{GivesTable, GivesText, TableWants, programs_of};
 ghost use Rattle.xns_c.specs.Results.{no_memory};
 
 use crate::giving::{give_program, give_text};
@@ -124,7 +124,7 @@ pub extern "C" fn xns_programs_table(
 ) -> u32
     ensures given { result ≢ no_memory → GivesTable (slice_get (programs_of handle.old) index) (number.old, version.old)
         (number.new, version.new) nodes.old nodes.new names.old names.new (count.old, length.old) (count.new, length.new) result }
-    ensures wants { result ≡ no_memory → slice_get (programs_of handle.old) index ≢ None }
+    ensures wants { result ≡ no_memory → TableWants (slice_get (programs_of handle.old) index) }
     ensures memory { result ≡ no_memory → (nodes.new ≡ nodes.old) × (names.new ≡ names.old) × (count.new ≡ count.old) × (length.new ≡ length.old)
         × (number.new ≡ number.old) × (version.new ≡ version.old) }
     ensures same { programs_of handle.new ≡ programs_of handle.old }

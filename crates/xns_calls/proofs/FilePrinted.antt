@@ -1,5 +1,5 @@
 -- A packet of a capture more, or a part of the end, is printed.
-use Rattle.std.proofs.Common.{◌≡◌, ◌∙◌, ap, sym, refl, arith, subst, ℕ, suc, ◌+◌, List, [], ◌∷◌, ◌++◌, length, append-nil, append_assoc}
+use Rattle.std.proofs.Common.{◌≡◌, ◌∙◌, ap, sym, refl, arith, subst, ℕ, suc, ◌+◌, List, [], ◌∷◌, ◌++◌, append-nil, append_assoc}
 use Rattle.xns_lines.specs.Printing.{IsBegun, IsEndPrinted, IsPrinted}
 use Rattle.xns_lines.specs.declared.page.Page.{Page}
 use Rattle.xns_captures.specs.Captures.{NumberedPacket}

@@ -1,12 +1,12 @@
 -- Lines that spell packets say what the packets say.
-use Rattle.std.proofs.Common.{◌≡◌, ◌∙◌, ap, ap₂, sym, ℕ, zero, suc, ◌+◌, arith, refl, List, [], ◌∷◌, ◌++◌, length, Ok}
+use Rattle.std.proofs.Common.{◌≡◌, ◌∙◌, ap, ap₂, ℕ, zero, suc, ◌+◌, arith, refl, List, [], ◌∷◌, ◌++◌, length, Ok}
 use Rattle.hex.specs.Hex.{decode_of}
 use Rattle.xns_captures.specs.Captures.{NumberedPacket}
 use Rattle.xns_dump.specs.Dump.Capture.{SpellFrom}
 use Rattle.xns_dump.specs.Dump.Line.{digits_of}
-use Rattle.xns_calls.specs.Calls.{after_digits, end_count, has_refused, known_from, known_of, known_with_end, line_taken, nothing_known, text_from, text_of, text_with_end, after_line}
+use Rattle.xns_calls.specs.Calls.{end_count, has_refused, known_from, known_of, known_with_end, line_taken, nothing_known, text_from, text_with_end, after_line}
 use Rattle.xns_calls.specs.Capture.{Known, after_end}
-use Rattle.xns_calls.specs.Files.{known_behind, last_after, last_frame, packet_end_count, packet_taken, packets_known, packets_known_with_end, packets_refused, packets_text, packets_text_with_end, text_behind}
+use Rattle.xns_calls.specs.Files.{known_behind, last_after, last_frame, packet_end_count, packet_taken, packets_known, packets_known_with_end, packets_refused, packets_text_with_end, text_behind}
 use Rattle.xns_calls.specs.Origins.{line_origin}
 use Rattle.xns_calls.specs.declared.times.Times.TheVariants.{Hidden}
 

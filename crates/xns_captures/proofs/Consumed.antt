@@ -1,7 +1,7 @@
 -- What a read consumes, and what follows from a result.
 use Rattle.std.proofs.Common.{◌≡◌, refl, ap, sym, subst, ◌∙◌, ℕ, List, [], ◌++◌, append_assoc, append-nil, Ok, Err, Option, Some, None, Result}
 use Rattle.std.specs.Prelude.{IfErr, OnOk}
-use Rattle.std.specs.Io.KnownBytes.{Consumes, IsAtEnd, Keeps}
+use Rattle.std.specs.Io.KnownBytes.{Consumes, Keeps}
 
 pub on_ok_1 : {T E : Type 0} (A X : Type 0) (r : Result T E) → OnOk r A → (A → X) → OnOk r X
 on_ok_1 A X (Ok x) a f = f a

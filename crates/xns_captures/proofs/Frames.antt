@@ -1,5 +1,5 @@
 -- What was read of a capture, as one more part is taken.
-use Rattle.std.proofs.Common.{◌≡◌, refl, ap, sym, ◌∙◌, subst, arith, ℕ, ◌+◌, ◌-◌, ◌≤◌, ◌<◌, add-zero, take, drop, List, [], ◌∷◌, ◌++◌, length, length-append, append_assoc, append-nil, Ok, Err, Option, Some, None}
+use Rattle.std.proofs.Common.{◌≡◌, refl, ap, sym, ◌∙◌, subst, arith, ℕ, ◌+◌, ◌-◌, ◌≤◌, add-zero, take, drop, List, [], ◌∷◌, ◌++◌, length, append_assoc, append-nil, Option, Some, None}
 use Rattle.std.proofs.lemmas.List.{drop-drop, take-append-drop, take_rest}
 use Rattle.std.specs.Option.{option_or}
 use Rattle.xns_captures.specs.Captures.{Contents, FrameBytes, NumberedPacket, contents, contents_of, ends_with, frame_in, packets_in, stamp_of, with_frame, with_packet}
@@ -7,7 +7,7 @@ use Rattle.xns_captures.specs.Links.{packet_of_frame}
 use Rattle.xns_captures.specs.Reading.{HasRead, HasStopped, Says, StandsAfter, StandsAfterPacket, StopsAtFrame, behind_frames, first_among}
 use Rattle.xns_captures.specs.declared.fault.CaptureFault.{CaptureFault}
 use Rattle.xns_captures.specs.declared.file_fault.FileFault.{FileFault}
-use Rattle.xns_captures.specs.declared.file_fault.FileFault.TheVariants.{Run, Capture}
+use Rattle.xns_captures.specs.declared.file_fault.FileFault.TheVariants.{Run, Capture, TooManyFrames}
 use Rattle.xns_lines.specs.declared.fault.RunFault.{RunFault}
 use Rattle.xns_lines.specs.declared.fault.RunFault.TheVariants as run
 use Rattle.xns_captures.specs.declared.format.Format.{Format}
@@ -140,6 +140,16 @@ stops_in_run old f read kept stands left h is_left = record {
   is_left = is_left;
 }
 
+stops_at_limit : (old : Reading) (read kept : List ℕ) (stands left : Says)
+    → (h : HasRead old read kept stands) → left (packets_in None 1 h.frames) → HasStopped TooManyFrames read left
+stops_at_limit old read kept stands left h is_left = record {
+  frames = h.frames;
+  more = λ rest. rest_of old (kept ++ rest);
+  whole = h.whole;
+  ends = tt;
+  is_left = is_left;
+}
+
 pub stops_behind_frame : (old : Reading) (f : RunFault) (read bytes tail : List ℕ) (stands left : Says) (frame : FrameBytes)
     (more : List ℕ → Contents)
     → ((rest : List ℕ) → rest_of old (bytes ++ rest) ≡ with_frame frame (more rest))
@@ -172,6 +182,8 @@ stops_at_frame (Run run.TooManyLines) old read bytes tail stands stands' fails f
 stops_at_frame (Run run.NoMemory) old read bytes tail stands stands' fails frame more step h is_left =
     stops_in_run old run.NoMemory read (bytes ++ tail) stands stands' h is_left
 stops_at_frame (Capture why) old read bytes tail stands stands' fails frame more step h is_left = absurd is_left
+stops_at_frame TooManyFrames old read bytes tail stands stands' fails frame more step h is_left =
+    stops_at_limit old read (bytes ++ tail) stands stands' h is_left
 
 -- a taker's fault at the packet of a frame
 pub failed_at : (fault : RunFault) (stands fails : Says) (packets more : List NumberedPacket) (packet : NumberedPacket)

@@ -1,12 +1,11 @@
 -- What a capture holds does not depend on the bound on its parts.
-use Rattle.std.proofs.Common.{◌≡◌, refl, ap, sym, ◌∙◌, arith, ℕ, zero, suc, ◌+◌, ◌-◌, ◌<◌, ◌≤◌, Bool, true, false, cond, nat_lt, ◌||◌, ◌==◌, ◌%◌, not, lit≤, List, [], ◌∷◌, ◌++◌, length, take, drop, length-drop, Ok, Err, Option, Some, None}
+use Rattle.std.proofs.Common.{◌≡◌, refl, ap, arith, ℕ, zero, suc, ◌+◌, ◌≤◌, Bool, cond, nat_lt, ◌||◌, ◌==◌, ◌%◌, not, lit≤, List, [], ◌∷◌, ◌++◌, length, take, drop, length-drop, Ok, Err, Option, Some, None}
 use Rattle.std.proofs.lemmas.Bool.{cond_both, ltb-false, or_parts}
 use Rattle.xns_captures.specs.Places.{long_at}
-use Rattle.xns_captures.specs.Captures.{Contents, More, behind_head, behind_part, behind_size, behind_whole, contents, contents_in, ends_with, frame_in, with_frame}
-use Rattle.xns_captures.specs.Parts.{Holds, Size, head_count, part_of, size_of, block_size, block_size_in, record_size, size_in_order, classic_size, file_size, section_order, classic_order, section_type, most_block_bytes, most_frame_bytes}
+use Rattle.xns_captures.specs.Captures.{More, behind_head, behind_part, behind_size, behind_whole, contents, contents_in, ends_with, frame_in, with_frame}
+use Rattle.xns_captures.specs.Parts.{Holds, Size, head_count, part_of, size_of, block_size, block_size_in, size_in_order, classic_size, section_order, classic_order, section_type, most_block_bytes, most_frame_bytes}
 use Rattle.xns_captures.specs.declared.byte_order.ByteOrder.{ByteOrder}
-use Rattle.xns_captures.specs.declared.byte_order.ByteOrder.TheVariants.{Big, Little}
-use Rattle.xns_captures.specs.declared.fault.CaptureFault.{CaptureFault}
+use Rattle.xns_captures.specs.declared.byte_order.ByteOrder.TheVariants.{Big}
 use Rattle.xns_captures.specs.declared.fault.CaptureFault.TheVariants as fault
 use Rattle.xns_captures.specs.declared.format.Format.{Format}
 use Rattle.xns_captures.specs.declared.format.Format.TheVariants.{Unread, Records, Blocks}

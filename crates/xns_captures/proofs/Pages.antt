@@ -1,5 +1,5 @@
 -- What is printed of packets, as they are taken and written.
-use Rattle.std.proofs.Common.{◌≡◌, ◌∙◌, ap, sym, refl, arith, ℕ, ◌+◌, ◌≤◌, ◌⊎◌, inl, inr, Bool, false, List, [], ◌∷◌, ◌++◌, append-nil, subst, Option, Some, None, Result, Ok, Err}
+use Rattle.std.proofs.Common.{◌≡◌, sym, refl, arith, ℕ, ◌≤◌, inl, inr, Bool, List, [], append-nil, subst, Option, Some, None, Result, Ok, Err}
 use Rattle.std.specs.Prelude.{IfErr, IfSome, OnOk}
 use Rattle.std.specs.Io.KnownBytes.{Appends}
 use Rattle.xns_lines.specs.Faults.{AppendsPart}
@@ -14,7 +14,7 @@ use Rattle.xns_lines.specs.Printing.{EndCount, HasFailed, StandsBehind, StopsInE
 use Rattle.xns_captures.specs.Printing.{IsFront, StopsIn, StopsWith, WritesBy}
 use Rattle.xns_captures.specs.Reading.{Says, StandsAfter, StopsBy}
 use Rattle.xns_captures.specs.declared.file_fault.FileFault.{FileFault}
-use Rattle.xns_captures.specs.declared.file_fault.FileFault.TheVariants.{Run, Capture}
+use Rattle.xns_captures.specs.declared.file_fault.FileFault.TheVariants.{Run, Capture, TooManyFrames}
 
 -- ---- where it stopped
 
@@ -23,6 +23,8 @@ pub stops_with : (fault : FileFault) (ends : EndCount NumberedPacket) (file : Li
     → StopsBy fault file (λ packets. left packets 0) → StopsWith fault ends file left
 stops_with (Capture why) ends file left h = h
 stops_with (Run f) ends file left h =
+    (h.0, 0, record { rest = h.1; joined = h.2; few = omega arith; place = inl refl }, h.3)
+stops_with TooManyFrames ends file left h =
     (h.0, 0, record { rest = h.1; joined = h.2; few = omega arith; place = inl refl }, h.3)
 
 -- behind all packets
@@ -44,6 +46,7 @@ stops_map : (fault : FileFault) (ends : EndCount NumberedPacket) (file : List �
     → StopsWith fault ends file L → StopsWith fault ends file M
 stops_map (Capture why) ends file L M f h = (h.0, f (packets_of file) 0 h.1)
 stops_map (Run r) ends file L M f h = (h.0, h.1, h.2, f h.0 h.1 h.3)
+stops_map TooManyFrames ends file L M f h = (h.0, h.1, h.2, f h.0 h.1 h.3)
 
 -- after another fault a write fails
 stops_writing : (fault : FileFault) (ends : EndCount NumberedPacket) (file : List ℕ) (L M : List NumberedPacket → ℕ → Type 0)
@@ -52,6 +55,7 @@ stops_writing : (fault : FileFault) (ends : EndCount NumberedPacket) (file : Lis
 stops_writing (Capture why) ends file L M f h =
     (packets_of file, 0, at_end ends file 0 (omega arith), f (packets_of file) 0 h.1)
 stops_writing (Run r) ends file L M f h = (h.0, h.1, h.2, f h.0 h.1 h.3)
+stops_writing TooManyFrames ends file L M f h = (h.0, h.1, h.2, f h.0 h.1 h.3)
 
 module _ (has_printed : List NumberedPacket → ℕ → Type 0) (text_of : TextWithEnd NumberedPacket) (has_refused : List NumberedPacket → ℕ → Bool) (ends : EndCount NumberedPacket)
     (p : Page) (is_lost : Bool) (before mid after : Option (List ℕ)) where
@@ -64,6 +68,7 @@ module _ (has_printed : List NumberedPacket → ℕ → Type 0) (text_of : TextW
   -- what is pending is written
   written : (fault : FileFault) (packets : List NumberedPacket) (part : ℕ) → Appends mid after (whole p.text)
       → StandsAfter fault (Stands part) (Fails part) packets → WritesBy fault before after (text_of packets part)
+  written TooManyFrames packets part text h = all_left _ _ _ p is_lost mid after before packets text h
   written (Capture why) packets part text h = all_left _ _ _ p is_lost mid after before packets text h
   written (Run run.Write) packets part text h =
       none_left before mid after (whole p.text) (text_of packets part) h.0 (whole_front mid after (whole p.text) text) h.1
@@ -75,6 +80,7 @@ module _ (has_printed : List NumberedPacket → ℕ → Type 0) (text_of : TextW
   -- a part of it is
   unwritten : (fault : FileFault) (packets : List NumberedPacket) (part : ℕ) → AppendsPart mid after (whole p.text)
       → StandsAfter fault (Stands part) (Fails part) packets → AppendsPart before after (text_of packets part)
+  unwritten TooManyFrames packets part text h = part_left _ _ _ p is_lost mid after before packets text h
   unwritten (Capture why) packets part text h = part_left _ _ _ p is_lost mid after before packets text h
   unwritten (Run run.Write) packets part text h =
       none_left before mid after (whole p.text) (text_of packets part) h.0 (text.0, text.1, (text.2.0, text.2.2)) h.1

@@ -1,8 +1,8 @@
 -- What a capture holds, by its next part.
-use Rattle.std.proofs.Common.{◌≡◌, refl, ap, sym, subst, ◌∙◌, arith, ℕ, ◌+◌, ◌<◌, ◌≤◌, true, false, cond, nat_lt, List, [], ◌∷◌, ◌++◌, length, take, drop, length-append, Ok, Err, Option, Some, None, Result}
+use Rattle.std.proofs.Common.{◌≡◌, refl, ap, subst, ◌∙◌, arith, ℕ, ◌<◌, ◌≤◌, nat_lt, List, [], ◌∷◌, ◌++◌, length, take, drop, length-append, Ok, Err, Some}
 use Rattle.std.proofs.lemmas.List.{take-append-le, take_at, drop_at}
 use Rattle.std.proofs.lemmas.Bool.{cond-true, cond-false, lt-ltb, le-ltb}
-use Rattle.xns_captures.specs.Captures.{Contents, behind_head, behind_size, behind_whole, contents, ends_with}
+use Rattle.xns_captures.specs.Captures.{behind_size, behind_whole, contents, ends_with}
 use Rattle.xns_captures.specs.Reading.{cut_unless_empty}
 use Rattle.xns_captures.specs.Parts.{Holds, head_count, part_of, size_of}
 use Rattle.xns_captures.specs.declared.fault.CaptureFault.{CaptureFault}

@@ -1,7 +1,7 @@
 -- The packet behind a type or a length, where it is that of a tag and where it is not.
-use Rattle.std.proofs.Common.{◌≡◌, refl, arith, ℕ, ◌+◌, ◌<◌, ◌≤◌, Bool, true, false, List, [], ◌∷◌, length, drop, Option, None}
+use Rattle.std.proofs.Common.{◌≡◌, refl, arith, ℕ, ◌<◌, ◌≤◌, true, false, List, [], ◌∷◌, length, drop, Option, None}
 use Rattle.std.proofs.lemmas.Bool.Decides.{nat_tests}
-use Rattle.xns_captures.specs.Links.{behind_llc, behind_number, by_number, is_tag, xns_type}
+use Rattle.xns_captures.specs.Links.{behind_number, by_number, is_tag}
 use Rattle.xns_captures.specs.Places.{word_at}
 use Rattle.xns_captures.specs.declared.byte_order.ByteOrder.TheVariants.{Big}
 

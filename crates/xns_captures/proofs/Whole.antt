@@ -1,17 +1,17 @@
 -- What a file holds, where its reading ends.
-use Rattle.std.proofs.Common.{◌≡◌, refl, ap, sym, ◌∙◌, subst, arith, ℕ, ◌+◌, ◌≤◌, ◌==◌, true, false, add-zero, List, [], ◌∷◌, ◌++◌, length, append_assoc, append-nil, Ok, Err, Option, Some, None}
+use Rattle.std.proofs.Common.{◌≡◌, refl, ap, sym, ◌∙◌, subst, arith, ℕ, ◌+◌, ◌==◌, true, false, add-zero, List, [], ◌∷◌, ◌++◌, length, append_assoc, append-nil, Option, Some, None}
 use Rattle.std.specs.Prelude.{IfSome}
-use Rattle.std.specs.Io.KnownBytes.{Consumes, IsAtEnd, Keeps}
+use Rattle.std.specs.Io.KnownBytes.{Consumes, IsAtEnd}
 use Rattle.std.proofs.lemmas.Bool.{eqb-false, eqb-true}
 use Rattle.std.specs.Option.{option_or}
-use Rattle.xns_captures.specs.Captures.{Contents, FrameBytes, NumberedPacket, contents, contents_of, ends_with, fault_of, frames_of, packets_in, packets_of, stamp_of, with_packet}
+use Rattle.xns_captures.specs.Captures.{Contents, FrameBytes, NumberedPacket, contents, contents_of, ends_with, fault_of, packets_in, packets_of, stamp_of, with_packet}
 use Rattle.xns_captures.specs.Links.{packet_of_frame}
 use Rattle.xns_captures.specs.Reading.{HasRead, HasStopped, Says, StandsAfter, StopsBy, behind_frames, cut_unless_empty, first_among}
 use Rattle.xns_captures.specs.declared.fault.CaptureFault.{CaptureFault}
 use Rattle.xns_captures.specs.declared.fault.CaptureFault.TheVariants.{Cut}
 use Rattle.xns_lines.specs.declared.fault.RunFault.TheVariants as run
 use Rattle.xns_captures.specs.declared.file_fault.FileFault.{FileFault}
-use Rattle.xns_captures.specs.declared.file_fault.FileFault.TheVariants.{Run, Capture}
+use Rattle.xns_captures.specs.declared.file_fault.FileFault.TheVariants.{Run, Capture, TooManyFrames}
 use Rattle.xns_lines.specs.declared.fault.RunFault.{RunFault}
 use Rattle.xns_captures.specs.declared.format.Format.TheVariants.{Unread}
 use Rattle.xns_captures.specs.declared.frame_time.FrameTime.{FrameTime}
@@ -125,6 +125,8 @@ stopped (Capture why) read xs left h =
     let e : contents_of (read ++ xs) ≡ behind_frames h.frames (ends_with (Some why)) = h.whole xs ∙ ap (behind_frames h.frames) (h.ends xs) in
     (fault-of (read ++ xs) h.frames (ends_with (Some why)) e, subst left (sym (packets-end (read ++ xs) h.frames (Some why) e)) h.is_left)
 stopped (Run fault) read xs left h =
+    (packets_in None 1 h.frames, packets_in (first_among None h.frames) (1 + length h.frames) (h.more xs).frames, sym (packets-of (read ++ xs) h.frames (h.more xs) (h.whole xs)), h.is_left)
+stopped TooManyFrames read xs left h =
     (packets_in None 1 h.frames, packets_in (first_among None h.frames) (1 + length h.frames) (h.more xs).frames, sym (packets-of (read ++ xs) h.frames (h.more xs) (h.whole xs)), h.is_left)
 
 pub stops_by : (fault : FileFault) (left after : Option (List ℕ)) (read : List ℕ) (first leaves : Option (List ℕ) → Says)

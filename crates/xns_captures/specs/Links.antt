@@ -1,5 +1,5 @@
 -- The internet packet that a frame carries, by its link type.
-use Rattle.std.specs.Prelude.{ℕ, ◌+◌, ◌*◌, ◌==◌, ◌||◌, ◌&&◌, nat_lt, ◌%◌, not, Bool, if◌then◌else◌, List, [], ◌∷◌, length, take, drop}
+use Rattle.std.specs.Prelude.{ℕ, ◌+◌, ◌*◌, ◌==◌, ◌||◌, ◌&&◌, nat_lt, ◌%◌, not, Bool, if◌then◌else◌, List, ◌∷◌, length, take, drop}
 use Rattle.std.specs.Prelude.{slice_index, Option, Some, None}
 use Rattle.xns_captures.specs.Places.{word_at}
 use Rattle.xns_captures.specs.declared.byte_order.ByteOrder.TheVariants.{Big}

@@ -19,13 +19,13 @@ pub record IsFront (end_count : EndCount NumberedPacket) (file : List ℕ) (fron
 -- a fault of the capture comes behind all its packets and before the end, and any other behind a front of them
 abbrev pub StopsWith : FileFault → EndCount NumberedPacket → List ℕ → (List NumberedPacket → ℕ → Type 0) → Type 0
 StopsWith (Capture why) end_count file left = (fault_of file ≡ Some why) × left (packets_of file) 0
-StopsWith (Run f) end_count file left =
+StopsWith _ end_count file left =
     (front : List NumberedPacket) × (part : ℕ) × IsFront end_count file front part × left front part
 
 -- after a failed write a prefix of the text is written and not all, and else the text
 abbrev pub WritesBy : FileFault → Option (List ℕ) → Option (List ℕ) → List ℕ → Type 0
-WritesBy (Capture why) before after text = Appends before after text
 WritesBy (Run f) before after text = HasWritten f before after text
+WritesBy _ before after text = Appends before after text
 
 -- after a fault the text of the packets before it is written
 abbrev pub StopsIn : TextWithEnd NumberedPacket → EndCount NumberedPacket → FileFault → List ℕ → Option (List ℕ) → Option (List ℕ) → Type 0

@@ -8,7 +8,7 @@ use Rattle.xns_captures.specs.Captures.{fault_of}
 use Rattle.xns_captures.specs.declared.fault.CaptureFault.{CaptureFault}
 use Rattle.xns_captures.specs.declared.fault.CaptureFault.TheVariants.{Cut}
 use Rattle.xns_captures.specs.declared.file_fault.FileFault.{FileFault}
-use Rattle.xns_captures.specs.declared.file_fault.FileFault.TheVariants.{Run, Capture}
+use Rattle.xns_captures.specs.declared.file_fault.FileFault.TheVariants.{Run, Capture, TooManyFrames}
 use Rattle.xns_captures.specs.declared.format.Format.{Format}
 use Rattle.xns_captures.specs.declared.frame_time.FrameTime.{FrameTime}
 use Rattle.xns_captures.specs.Parts.{head_count, size_of}
@@ -32,6 +32,7 @@ StandsAfterPacket _ stands fails packets packet = ⊥
 abbrev pub StopsAtFrame : FileFault → Says → Says → List NumberedPacket → List NumberedPacket → Type 0
 StopsAtFrame (Run run.Write) stands fails packets more = fails more
 StopsAtFrame (Run _) stands fails packets more = stands packets
+StopsAtFrame TooManyFrames stands fails packets more = stands packets
 StopsAtFrame (Capture fault) stands fails packets more = ⊥
 
 -- what is left of a taker after a fault: after a failed write what `fails` says, else it stands for the packets
@@ -74,6 +75,7 @@ pub record HasRead (reading : Reading) (read kept : List ℕ) (stands : Says) : 
 abbrev pub EndsBy : FileFault → (List ℕ → Contents) → Type 0
 EndsBy (Capture fault) more = (rest : List ℕ) → more rest ≡ ends_with (Some fault)
 EndsBy (Run fault) more = Unit {0}
+EndsBy TooManyFrames more = Unit {0}
 
 -- it stopped by this fault behind some frames of the capture, and of the packets in these this is so
 pub record HasStopped (fault : FileFault) (read : List ℕ) (left : Says) : Type 0 where
@@ -86,5 +88,5 @@ pub record HasStopped (fault : FileFault) (read : List ℕ) (left : Says) : Type
 -- a fault of the capture comes behind all its packets, and any other behind some of them
 abbrev pub StopsBy : FileFault → List ℕ → Says → Type 0
 StopsBy (Capture fault) file left = (fault_of file ≡ Some fault) × left (packets_of file)
-StopsBy (Run fault) file left =
+StopsBy _ file left =
     (front : List NumberedPacket) × (rest : List NumberedPacket) × (front ++ rest ≡ packets_of file) × left front

@@ -1,5 +1,5 @@
 -- When frames were captured.
-use Rattle.std.specs.Prelude.{ℕ, zero, suc, ◌+◌, ◌-◌, ◌*◌, ◌/◌, ◌^◌, ◌==◌, ◌&&◌, min, nat_lt, Bool, if◌then◌else◌, List, length, drop, slice_index}
+use Rattle.std.specs.Prelude.{ℕ, zero, suc, ◌+◌, ◌-◌, ◌*◌, ◌/◌, ◌^◌, ◌==◌, ◌&&◌, min, nat_lt, if◌then◌else◌, List, length, drop, slice_index}
 use Rattle.std.specs.Prelude.{Option, Some, None, option_and_then}
 use Rattle.xns_captures.specs.Places.{word_at}
 use Rattle.xns_captures.specs.declared.byte_order.ByteOrder.{ByteOrder}

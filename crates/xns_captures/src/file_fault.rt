@@ -9,6 +9,9 @@ pub enum FileFault {
     /// Reading, writing or memory failed.
     #[error(transparent)]
     Run(RunFault),
+    /// The capture has over [`crate::MOST_FRAMES`].
+    #[error("the capture has over 4,294,967,295 frames")]
+    TooManyFrames,
     /// The capture can't be read on.
     #[error(transparent)]
     Capture(CaptureFault),

@@ -22,7 +22,8 @@ const PIECE: usize = 65536;
 /// there whole.
 ///
 /// # Errors
-/// `Capture` where the capture can't be read on: all packets before that are handed on; `Read` where a read fails; `NoMemory`
+/// `Capture` where the capture can't be read on: all packets before that are handed on; `TooManyFrames` where it has over
+/// 4,294,967,295 frames; `Read` where a read fails; `NoMemory`
 /// where a growth is refused; and the taker's own faults, `NoMemory` and `Write`.
 pub fn take_packets<R: Read, T: PacketTaker, W: Write>(
     alloc: Global,

@@ -4,7 +4,7 @@ use Rattle.xns_calls.specs.Files as calls
 use Rattle.xns_calls.specs.declared.times.Times.{Times}
 use Rattle.xns_captures.specs.Parts.{is_capture}
 use Rattle.xns_captures.specs.declared.file_fault.FileFault.{FileFault}
-use Rattle.xns_captures.specs.declared.file_fault.FileFault.TheVariants.{Run, Capture}
+use Rattle.xns_captures.specs.declared.file_fault.FileFault.TheVariants.{Run}
 use Rattle.xns_command.specs.Commands.{StopsIn, is_refused, text_of}
 use Rattle.xns_command.specs.declared.mode.Mode.{Mode}
 use Rattle.xns_command.specs.declared.mode.Mode.TheVariants.{Calls, Dump}
@@ -25,7 +25,7 @@ is_refused_as _ times mode = is_refused mode
 -- after a fault of lines
 abbrev pub StopsInLines : Mode → List ℕ → Option (List ℕ) → Option (List ℕ) → Option (List ℕ) → FileFault → Type 0
 StopsInLines mode file left before after (Run fault) = StopsIn mode file left before after fault
-StopsInLines mode file left before after (Capture fault) = ⊥
+StopsInLines mode file left before after _ = ⊥
 
 -- after a fault: the file, what is left of it, what the writer had before and has after
 abbrev pub StopsAs : Bool → Times → Mode → List ℕ → Option (List ℕ) → Option (List ℕ) → Option (List ℕ) → FileFault → Type 0

@@ -1,5 +1,5 @@
 -- The packets that a connection gives are those that waited and those that were made on the way.
-use Rattle.std.proofs.Common.{◌≡◌, ◌∙◌, ap, sym, refl, subst, ℕ, List, [], ◌++◌, Bool, false, append-nil, append_assoc, Option, None, Result, Ok, Err, OnOk, OnErr, IfOk}
+use Rattle.std.proofs.Common.{[], ◌≡◌, ◌∙◌, ap, sym, refl, subst, ℕ, List, ◌++◌, Bool, false, append-nil, append_assoc, Option, None, Result, Ok, Err, OnOk, OnErr, IfOk}
 use Rattle.std.specs.Option.{option_to_list}
 use Rattle.xns_spp.specs.Held.{Held, StandsFor}
 use Rattle.xns_spp.specs.Laws.{OtherStepsAcceptAndHandUpNothing, OtherStepsHearNothing}
@@ -15,10 +15,10 @@ use Rattle.xns_host.specs.declared.side.Side.{Side}
 use Rattle.xns_host.proofs.Leading.{runs_on, same_messages, goes_on}
 use Rattle.xns_host.proofs.Tellings.{Carries, carried, same_items}
 
-abbrev Packets : Type 0
+abbrev pub Packets : Type 0
 Packets = List (List ℕ)
 
-made_then : {s t u : State} (p : Runs s t) (q : Runs t u) → made_on (runs_on p q) ≡ made_on p ++ made_on q
+pub made_then : {s t u : State} (p : Runs s t) (q : Runs t u) → made_on (runs_on p q) ≡ made_on p ++ made_on q
 unfolding runs_on
 made_then p start = sym (append-nil (made_on p))
 made_then p (sends q x) = made_then p q
@@ -27,7 +27,7 @@ made_then p (flushes {v = v} q) = ap (λ (bs : Packets). bs ++ flush_answer v) (
 made_then p (resends {v = v} q) = ap (λ (bs : Packets). bs ++ option_to_list (resend_answer v)) (made_then p q) ∙ append_assoc (made_on p) (made_on q) (option_to_list (resend_answer v))
 made_then p (tells {v = v} q asks) = ap (λ (bs : Packets). bs ++ option_to_list (told_answer v asks)) (made_then p q) ∙ append_assoc (made_on p) (made_on q) (option_to_list (told_answer v asks))
 
-gives_by : (t u : Conversation) (o : Option (List ℕ)) → u.side ≡ t.side → u.closing ≡ t.closing
+pub gives_by : (t u : Conversation) (o : Option (List ℕ)) → u.side ≡ t.side → u.closing ≡ t.closing
     → ((s : State) → StandsFor t.endpoint s → (v : State) × Carries t u s v × (p : Runs s v) × (option_to_list o ++ u.packets.items ≡ t.packets.items ++ made_on p)) → Gives t u o
 unfolding same_messages
 gives_by t u o same closing step = record {
@@ -65,7 +65,7 @@ pub gives_none : (t u : Conversation) → u ≡ t → Gives t u None
 gives_none t u same = fetched t u None (ap (λ (c : Conversation). c.side) same) (ap (λ (c : Conversation). c.closing) same) (ap (λ (c : Conversation). c.endpoint) same) (ap (λ (c : Conversation). c.packets.items) (sym same))
 
 -- where none waited, what is made goes out
-alone : (old new made : Packets) (o : Option (List ℕ)) → old ≡ [] → new ≡ [] → option_to_list o ≡ made → option_to_list o ++ new ≡ old ++ made
+pub alone : (old new made : Packets) (o : Option (List ℕ)) → old ≡ [] → new ≡ [] → option_to_list o ≡ made → option_to_list o ++ new ≡ old ++ made
 alone old new made o none after is = ap (λ (bs : Packets). option_to_list o ++ bs) after ∙ append-nil (option_to_list o) ∙ is ∙ ap (λ (bs : Packets). bs ++ made) (sym none)
 
 pub gives_first : OtherStepsAcceptAndHandUpNothing → OtherStepsHearNothing → (t u : Conversation) (o : Option (List ℕ)) → u.side ≡ t.side → u.closing ≡ t.closing → u.packets.items ≡ t.packets.items → t.packets.items ≡ []

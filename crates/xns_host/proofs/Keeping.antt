@@ -1,6 +1,8 @@
 -- A step keeps its promises.
-use Rattle.std.proofs.Common.{◌≡◌, ◌≢◌, ◌∙◌, ap, sym, refl, subst, ℕ, ◌<◌, [], Bool, true, false, ◌||◌, Option, Some, None, Result, Ok, Err, IfErr, arith}
+use Rattle.std.proofs.Common.{[], ◌≡◌, ◌≢◌, ◌∙◌, ap, sym, refl, subst, ℕ, ◌<◌, Bool, true, false, ◌||◌, Option, Some, None, Result, Ok, Err, IfErr, arith}
 use Rattle.std.specs.Prelude.{◌&&◌, ◌==◌, ◌-◌, nat_lt, is_ok}
+use Rattle.std.proofs.Math.Logic.{∥∥₁_elim}
+use Rattle.std.proofs.Props.{props}
 use Rattle.std.proofs.lemmas.Bool.{lt-ltb}
 use Rattle.courier_sessions.specs.declared.feed_refusal.FeedRefusal.{FeedRefusal}
 use Rattle.courier_sessions.specs.declared.feed_refusal.FeedRefusal.TheVariants.{Stopped, Busy, TooLong, Attention, Fault, NoMemory}
@@ -13,7 +15,7 @@ use Rattle.xns_spp.specs.Telling.{unacknowledged_count}
 use Rattle.xns_spp.specs.declared.item.Item.{Item}
 use Rattle.xns_host.specs.Closing.{closing_item, closing_items, drains, end_reply_stream, end_stream}
 use Rattle.xns_host.specs.Connecting.{why_after}
-use Rattle.xns_host.specs.Deeds.{Deed, Moved, closed_moved, done, is_starved, owed_by, shut, told_by, wait_by}
+use Rattle.xns_host.specs.Deeds.{Deed, Moved, closed_moved, done, is_starved, owed_by, shut, told_by, wait_by, wanted_by}
 use Rattle.xns_host.specs.Moving.{IsAt, Scene, may_end, may_reply, scene}
 use Rattle.xns_host.specs.Step.{AStepKeepsItsPromises, Promises, Step}
 use Rattle.xns_host.specs.Story.{GoesOn, IsListed, IsMoved, Runs, Story}
@@ -91,7 +93,7 @@ starved (Err (Fault f)) e = absurd (cc)
 
 -- ---- a story
 
-goes_from : (h m : Story) (s : State) → s ≡ h.state → GoesOn (at_end s h) m → GoesOn h m
+pub goes_from : (h m : Story) (s : State) → s ≡ h.state → GoesOn (at_end s h) m → GoesOn h m
 goes_from h m s same g = record {
   programs = g.programs;
   path = subst (λ (v : State). Runs v m.state) same g.path;
@@ -244,30 +246,44 @@ module _ (below : Below) (under : Underneath) (law : ItemsAreAcceptedOrChangeNot
       let fewer : waiting_count m.to.state < waiting_count (first s).state = omega (arith, less, more, same) in
       ap (λ o. o.word) m.owes ∙ or_more (owed_by deed old.owed old.wait s).word (nat_lt (waiting_count m.to.state) (waiting_count (first s).state)) (lt-ltb (waiting_count m.to.state) (waiting_count (first s).state) fewer)
 
-  pub kept_by : (s : State) → StandsFor t.endpoint s → Promises now deed old new
-  kept_by s stands = record {
+  wanted : (s : State) → StandsFor t.endpoint s → new.conversation.closing.wanted ≡ wanted_by deed old.conversation.closing.wanted
+  wanted s stands =
+      let m = moves s stands in
+      ap (λ (c : Closing). c.wanted) m.at.closing ∙ (shut_follows old.closed new.closed m.to).wanted ∙ (settles s stands).wanted ∙ done_wanted deed (scene t s)
+
+  why : (s : State) → StandsFor t.endpoint s → old.closed ≡ None → (v : State) → StandsFor new.conversation.endpoint v
+      → new.closed ≡ why_after new.conversation.closing (is_over new.conversation.closing v) step.moved
+  why s stands none v there =
+      let m = moves s stands in
+      why_then old.closed new.closed step.moved m.to v new.conversation.closing none m.why
+      (same_unacknowledged v (last s stands).state there m.at.stands ∙ ap unacknowledged_count (shut_state old.closed new.closed m.to)) m.at.closing
+
+  still : (s : State) → StandsFor t.endpoint s → drains new.conversation.side new.conversation.closing ≡ false → drains t.side t.closing ≡ false
+  still s stands free =
+      let there = subst (λ (y : Scene). drains y.side y.closing ≡ false) (free_last s stands free) (same_drain s stands ∙ free) in
+      sym (done_drains deed (scene t s)) ∙ (settles s stands).still there
+
+  pub kept_by : Promises now deed old new
+  kept_by = record {
     story = λ h tells. (at_end (last h.state tells.stands).state (story h tells).story, tells_last h tells, goes_last h tells);
-    wanted =
-        let m = moves s stands in
-        ap (λ (c : Closing). c.wanted) m.at.closing ∙ (shut_follows old.closed new.closed m.to).wanted ∙ (settles s stands).wanted ∙ done_wanted deed (scene t s);
+    still = λ free. ∥∥₁_elim old.stands (Prim.hlevel props) (λ x. still x.0 x.1 free);
+    wanted = ∥∥₁_elim old.stands (Prim.hlevel props) (λ x. wanted x.0 x.1);
     calm = λ still free. record { on = calm still free };
     read = λ still kept h tells yes. read still kept h tells yes;
-    said = λ still. said s stands still;
-    replied = λ still kept. replied s stands still kept;
+    said = λ still owes v there. ∥∥₁_elim old.stands (Prim.hlevel props) (λ x. said x.0 x.1 still owes v there);
+    replied = λ still kept owes v there. ∥∥₁_elim old.stands (Prim.hlevel props) (λ x. replied x.0 x.1 still kept owes v there);
     closes = record {
       moved = step.moved;
       refused = until step.moved (λ h tells. (story h tells).until);
       reads = λ fine kept h tells free none. reads h tells fine kept free none;
-      why = λ none v there.
-          let m = moves s stands in
-          why_then old.closed new.closed step.moved m.to v new.conversation.closing none m.why
-          (same_unacknowledged v (last s stands).state there m.at.stands ∙ ap unacknowledged_count (shut_state old.closed new.closed m.to)) m.at.closing;
-      short = λ yes. starved step.moved (sym (starves s stands) ∙ yes);
-      noted = λ is. starves s stands ∙ ap is_starved is;
+      why = λ none v there. ∥∥₁_elim old.stands (Prim.hlevel props) (λ x. why x.0 x.1 none v there);
+      short = λ yes. starved step.moved (sym (∥∥₁_elim old.stands (Prim.hlevel props) (λ x. starves x.0 x.1)) ∙ yes);
+      noted = λ is. ∥∥₁_elim old.stands (Prim.hlevel props) (λ x. starves x.0 x.1) ∙ ap is_starved is;
     };
+    packets = step.packets;
     steps = step.steps;
     room = room;
   }
 
 pub keeps : Below → Underneath → ItemsAreAcceptedOrChangeNothing → AStepKeepsItsPromises
-keeps below under law now deed old new s stands step = kept_by below under law now deed old new step s stands
+keeps below under law now deed old new step = kept_by below under law now deed old new step

@@ -12,13 +12,16 @@ mod Fetching
 mod Fills
 mod Follows
 mod Foreign
+mod Given
 mod Giving
+mod Handed
 mod Handing
 mod Hearing
 mod Keeping
 mod Leading
 mod Listing
 mod Lives
+mod Meant
 mod Nexts
 mod Noting
 mod Once

@@ -1,11 +1,13 @@
 -- Which packet a connection gives next.
 use Rattle.std.proofs.Common.{◌≡◌, ◌≢◌, ◌⊎◌, ◌∙◌, inl, inr, ap, refl, sym, subst, ℕ, List, Option, Some, None, Result, Ok, Err, IfOk, OnErr}
+use Rattle.std.proofs.Math.Logic.{∥∥₁_map}
 use Rattle.std.specs.declared.alloc.AllocError.{AllocError}
 use Rattle.xns_agenda.specs.Waiting.{Waiting, after_step}
 use Rattle.xns_spp.specs.Held.{Held, StandsFor}
 use Rattle.xns_spp.specs.State.{State}
 use Rattle.xns_host.specs.Deeds.{wait_moved}
 use Rattle.xns_host.specs.Giving.{Giving, GivesAs, IsGiving, IsShort, at_flush, at_word, else_newer, flushed, giving, newer, next_of, older}
+use Rattle.xns_host.specs.Moving.{HasHistory}
 use Rattle.xns_host.specs.Telling.{waits}
 use Rattle.xns_host.specs.declared.conversation.Conversation.{Conversation}
 use Rattle.xns_host.specs.declared.owed.Owed.{Owed}
@@ -48,3 +50,10 @@ pub unless_closed : (end : Held) (s : State) (closed : Option Why) (w v : Waitin
     → v ≡ wait_moved closed closed w s now
 unless_closed end s (Some x) w v now stands going kept = kept (λ z. cc)
 unless_closed end s None w v now stands going kept = going refl s stands
+
+-- whichever it was, the end keeps a history
+pub given_history : (r : Result (Option (List ℕ)) AllocError) (t u : Conversation) (o v : Owed) → HasHistory t.endpoint
+    → IfOk r (λ p. (s : State) → StandsFor t.endpoint s → GivesAs (next_of (giving t o s)) p u v)
+    → OnErr r ((s : State) → StandsFor t.endpoint s → (y : Giving) × IsShort (giving t o s) y × IsGiving u v y) → HasHistory u.endpoint
+given_history (Ok p) t u o v has gave short = ∥∥₁_map has (λ x. let g = gave x.0 x.1 in ((next_of (giving t o x.0)).1.state, g.1.stands))
+given_history (Err e) t u o v has gave short = ∥∥₁_map has (λ x. let y = short x.0 x.1 in (y.0.state, y.2.stands))

@@ -346,3 +346,37 @@ deaf_follows x = record {
   wanted = refl;
   still = λ z. absurd (deafens (is_stopped x.side) x.closing.end_sent x.closing.reply_sent z);
 }
+
+-- ---- one that reads no more does so for good
+
+taken_drained : (n : ℕ) (x : Scene) → drains x.side x.closing ≡ true → drains (taken_many n x).side (taken_many n x).closing ≡ true
+unfolding taken_many
+taken_drained zero x drain = drain
+taken_drained (suc n) x drain = let y : Scene = taken_many n x in noting_drains y (take_answer y.state) ∙ taken_drained n x drain
+
+ended_drained : (x : Scene) (b : Bool) → drains x.side x.closing ≡ true
+    → (let y : Scene = if b then record x { closing = record x.closing { end_sent = true }; state = after_send x.state (closing_item end_stream) } else x in drains y.side y.closing)
+    ≡ true
+ended_drained x true drain = second_true (is_stopped x.side) (x.closing.reply_sent || x.closing.deaf)
+ended_drained x false drain = drain
+
+out_drained : (x : Scene) (b : Bool) → drains x.side x.closing ≡ true
+    → (let y : Scene = if b then taken_many (waiting_count x.state) x else x in drains y.side y.closing) ≡ true
+out_drained x true drain = taken_drained (waiting_count x.state) x drain
+out_drained x false drain = drain
+
+pub closed_drained : (x : Scene) → drains x.side x.closing ≡ true → drains (closed_up x).side (closed_up x).closing ≡ true
+closed_drained x drain =
+    let a : Scene = ended x in
+    let b : Scene = drained_out a in
+    reply_drains b (may_reply b) (is_ok (send_answer b.state (closing_item end_reply_stream))) refl
+    ∙ out_drained a (drains a.side a.closing) (ended_drained x (may_end x && is_ok (send_answer x.state (closing_item end_stream))) drain)
+
+last_true : (a b c : Bool) → (a || (b || (c || true))) ≡ true
+last_true true b c = refl
+last_true false true c = refl
+last_true false false true = refl
+last_true false false false = refl
+
+pub deaf_drained : (x : Scene) → drains (deafened x).side (deafened x).closing ≡ true
+deaf_drained x = last_true (is_stopped x.side) x.closing.end_sent x.closing.reply_sent

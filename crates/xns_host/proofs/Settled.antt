@@ -1,5 +1,5 @@
 -- What all that can move does to what a scene says of a story.
-use Rattle.std.proofs.Common.{◌≡◌, ◌≢◌, ◌∙◌, ap, sym, refl, subst, List, [], ◌++◌, append-nil, take, drop, length, Bool, true, false, Result, Ok, Err, OnOk, IfErr}
+use Rattle.std.proofs.Common.{[], ◌≡◌, ◌≢◌, ◌∙◌, ap, sym, refl, subst, List, ◌++◌, append-nil, take, drop, length, Bool, true, false, Result, Ok, Err, OnOk, IfErr}
 use Rattle.std.specs.Prelude.{◌||◌}
 use Rattle.std.proofs.Math.Seq.{drop-length}
 use Rattle.courier_sessions.specs.declared.feed_refusal.FeedRefusal.{FeedRefusal}
@@ -8,15 +8,16 @@ use Rattle.xns_spp.specs.Laws.{ItemsAreAcceptedOrChangeNothing}
 use Rattle.xns_spp.specs.State.{State, IsState}
 use Rattle.xns_spp.specs.declared.item.Item.{Item}
 use Rattle.xns_host.specs.Closing.{drains, closing_items, Knows}
-use Rattle.xns_host.specs.Moving.{Scene, Moves, drains_only, converses, Pumps, Rounds, once, again, Converses, calms, starves, refuses, refuses_on, closed_up, deafened, settled_by}
+use Rattle.xns_host.specs.Moving.{IsAt, Scene, Settles, Moves, drains_only, converses, Pumps, Rounds, once, again, Converses, calms, starves, refuses, refuses_on, closed_up, deafened, settled_by}
 use Rattle.xns_host.specs.Story.{Story, GoesOn, IsMoved, IsListed, IsHeld, is_stopped}
 use Rattle.xns_host.specs.Telling.{IsUnrefused}
 use Rattle.xns_host.specs.declared.closing.Closing.{Closing}
+use Rattle.xns_host.specs.declared.conversation.Conversation.{Conversation}
 use Rattle.xns_host.specs.declared.side.Side.{Side}
 use Rattle.xns_host.specs.declared.side.Side.TheVariants.{Calls, Answers}
 use Rattle.xns_host.proofs.Fills.{Below, Fills, HasConversed, Until, at_end, has_conversed}
 use Rattle.xns_host.proofs.Leading.{goes_on, same_messages, stays}
-use Rattle.xns_host.proofs.Says.{Says, Follows, IsSaid, closes_up, deaf_follows, follows_then}
+use Rattle.xns_host.proofs.Says.{Says, Follows, IsSaid, closed_drained, closes_up, deaf_drained, deaf_follows, follows_then}
 use Rattle.xns_host.proofs.Tellings.{nothing_said, reads_by, unsaid, on_ok, if_err, deafened as deafens}
 
 -- ---- the side of a scene
@@ -160,6 +161,11 @@ reads_closed side c d free deaf none =
       parts false false true d z = absurd (cc)
       parts false false false d z = (refl, z)
 
+-- one that reads no more does so for good
+never : (mid to : Scene) → Follows (deafened mid) to → drains to.side to.closing ≡ false → ⊥
+never mid to f free =
+    deafens (is_stopped mid.side) mid.closing.end_sent mid.closing.reply_sent (subst (λ (y : Scene). drains y.side y.closing ≡ false) (f.still free) free)
+
 pub has_settled : Below → ItemsAreAcceptedOrChangeNothing → {x mid to : Scene} {r : Result (Unit {0}) FeedRefusal} (h : Story) → Says x h
     → Moves x r mid → How r mid to → HasSettled x r to h
 has_settled below law {x} h s moves (good u mid) =
@@ -193,23 +199,55 @@ has_settled below law {x} h s moves (bad e mid other) =
       calm = λ some free. absurd (never mid (closed_up (deafened mid)) p.closes.follows free);
       until = k.until;
       reads = λ fine free none. absurd (other (let is = fine (λ z. cc) in cc));
-    } where
-      never : (mid to : Scene) → Follows (deafened mid) to → drains to.side to.closing ≡ false → ⊥
-      never mid to f free =
-          deafens (is_stopped mid.side) mid.closing.end_sent mid.closing.reply_sent (subst (λ (y : Scene). drains y.side y.closing ≡ false) (f.still free) free)
+    }
 
 -- ---- what needs no story
 
 pub record IsSettled (x : Scene) (r : Result (Unit {0}) FeedRefusal) (to : Scene) : Type 0 where
   pub said : r ≢ Err NoMemory → IsSaid to
   pub wanted : to.closing.wanted ≡ x.closing.wanted
+  pub still : drains to.side to.closing ≡ false → drains x.side x.closing ≡ false
+
+moves_still : {x y : Scene} {r : Result (Unit {0}) FeedRefusal} → Moves x r y → drains y.side y.closing ≡ false → drains x.side x.closing ≡ false
+moves_still (drains_only drain) free = free
+moves_still (converses free c) z = free
 
 pub is_settled : Below → ItemsAreAcceptedOrChangeNothing → {x mid to : Scene} {r : Result (Unit {0}) FeedRefusal} → Moves x r mid → How r mid to
     → IsSettled x r to
 is_settled below law moves (good u mid) =
     let p = closes_up below.next law mid in
-    record { said = λ some. p.said; wanted = p.closes.follows.wanted ∙ ap (λ (c : Closing). c.wanted) (moves_closing moves) }
-is_settled below law moves (short mid) = record { said = λ some. absurd (some refl); wanted = ap (λ (c : Closing). c.wanted) (moves_closing moves) }
+    record {
+      said = λ some. p.said;
+      wanted = p.closes.follows.wanted ∙ ap (λ (c : Closing). c.wanted) (moves_closing moves);
+      still = λ free. moves_still moves (subst (λ (y : Scene). drains y.side y.closing ≡ false) (p.closes.follows.still free) free);
+    }
+is_settled below law moves (short mid) = record {
+  said = λ some. absurd (some refl);
+  wanted = ap (λ (c : Closing). c.wanted) (moves_closing moves);
+  still = moves_still moves;
+}
 is_settled below law moves (bad e mid other) =
     let p = closes_up below.next law (deafened mid) in
-    record { said = λ some. p.said; wanted = p.closes.follows.wanted ∙ ap (λ (c : Closing). c.wanted) (moves_closing moves) }
+    record {
+      said = λ some. p.said;
+      wanted = p.closes.follows.wanted ∙ ap (λ (c : Closing). c.wanted) (moves_closing moves);
+      still = λ free. absurd (never mid (closed_up (deafened mid)) p.closes.follows free);
+    }
+
+-- ---- one that reads no more does so for good
+
+moves_drained : {x y : Scene} {r : Result (Unit {0}) FeedRefusal} → Moves x r y → drains x.side x.closing ≡ true → drains y.side y.closing ≡ true
+moves_drained (drains_only drain) d = d
+moves_drained (converses free c) d = absurd (cc)
+
+how_drained : {r : Result (Unit {0}) FeedRefusal} {mid to : Scene} → How r mid to → drains mid.side mid.closing ≡ true → drains to.side to.closing ≡ true
+how_drained (good u mid) d = closed_drained mid d
+how_drained (short mid) d = d
+how_drained (bad e mid other) d = closed_drained (deafened mid) (deaf_drained mid)
+
+-- so does a conversation
+pub still_drained : (t : Conversation) (x to : Scene) (r : Result (Unit {0}) FeedRefusal) → IsAt t to → Settles x r to → drains x.side x.closing ≡ true
+    → drains t.side t.closing ≡ true
+still_drained t x to r at k d =
+    ap (λ (c : Closing). drains t.side c) at.closing ∙ ap (λ (y : Side). drains y to.closing) at.side
+    ∙ how_drained (subst (λ (y : Scene). How r k.mid y) (sym k.is) (how r k.mid)) (moves_drained k.moves d)

@@ -1,161 +1,170 @@
 -- A step of a connection, from what moved.
-use Rattle.std.proofs.Common.{◌≡◌, ◌≢◌, ◌∙◌, ap, refl, sym, subst, ℕ, List, [], ◌∷◌, ◌++◌, Bool, true, false, Option, Some, None, Result, Ok}
-use Rattle.std.specs.Prelude.{◌&&◌, ◌||◌, nat_lt, if◌then◌else◌}
-use Rattle.courier_sessions.specs.Answering.{answer_message, answer_refusal}
-use Rattle.courier_sessions.specs.declared.answer.Answer.{Answer}
+use Rattle.std.proofs.Common.{[], ◌≡◌, ◌≢◌, ◌∙◌, ap, refl, sym, subst, ℕ, List, Bool, true, false, Option, Some, None, Result}
+use Rattle.std.specs.Prelude.{◌&&◌, ◌||◌, nat_lt, not, if◌then◌else◌}
+use Rattle.std.specs.Option.{is_some}
+use Rattle.std.proofs.Math.Logic.{∥∥₁_map}
+use Rattle.std.proofs.Props.{props}
 use Rattle.courier_sessions.specs.declared.feed_refusal.FeedRefusal.{FeedRefusal}
-use Rattle.xns_agenda.specs.Waiting.{HearsAt, Waiting, act_at, after_act, after_by, after_step, after_word, lingering}
+use Rattle.xns_agenda.specs.Waiting.{HearsAt, StepsAt, Waiting, close, still, act_at, after_act, after_by, after_step, after_word, lingering}
 use Rattle.xns_agenda.specs.declared.act.Act.{Act}
 use Rattle.xns_agenda.specs.declared.act.Act.TheVariants.{Nothing, Again, Ask, GiveUp, Forget}
 use Rattle.xns_spp.specs.Held.{Held, StandsFor}
 use Rattle.xns_spp.specs.Receiving.{after_receive, input_answer}
-use Rattle.xns_spp.specs.Sending.{waiting_count}
+use Rattle.xns_spp.specs.Sending.{tick_answer, waiting_count}
 use Rattle.xns_spp.specs.Telling.{unacknowledged_count}
 use Rattle.xns_spp.specs.declared.input.Input.{Input}
 use Rattle.xns_spp.specs.State.{State}
-use Rattle.xns_host.specs.Connecting.{goes_again, is_foreign, owed_after, owed_heard, wait_heard, why_after}
-use Rattle.xns_host.specs.Moving.{Scene, scene, IsAt, Settles}
-use Rattle.xns_host.specs.Step.{HandsBy, HasReplied, May, Promises, Step, WaitsBy}
-use Rattle.xns_host.specs.Deeds.{Deed, Parts, acted, acted_by, gave, heard, Moved, GoesOnBy, closed_moved, done, is_starved, owed_by, owed_moved, shut, told_by, took, wait_by, wait_moved, wanted_by, with_answer}
-use Rattle.xns_host.specs.Reasons.{answer_fault_of}
-use Rattle.xns_host.specs.Refusing.{Answers, answer_fault, side_answer_fault}
-use Rattle.xns_host.specs.Closed.{ClosesBy}
+use Rattle.xns_host.specs.Connecting.{goes_again, is_again, is_closed_due, is_foreign, is_open_due, owed_after, owed_heard, wait_heard, why_after, why_given_up}
+use Rattle.xns_host.specs.Moving.{HasHistory, IsAt, Scene, Settles, is_calm, scene}
+use Rattle.xns_host.specs.Step.{May, MovesOwed, Step, WaitsBy, is_calm_then, parts_of}
+use Rattle.xns_host.specs.Deeds.{Deed, Parts, acted, acted_by, given_up, heard, Moved, ClosesThen, GoesOnBy, closed_moved, done, given_up_by, is_starved, owed_by, owed_moved, shut, took, wait_by, wait_moved}
 use Rattle.xns_host.specs.Closing.{drains}
-use Rattle.xns_host.specs.Story.{Story, asked_of}
-use Rattle.xns_host.specs.Telling.{Calm, Goes, HasSaidEnd, OwesRoom, ReadsAll, Tells, is_over, is_progress, waits}
+use Rattle.xns_host.specs.Telling.{is_over, is_progress, waits}
 use Rattle.xns_host.specs.declared.closing.Closing.{Closing}
 use Rattle.xns_host.specs.declared.connection.Connection.{Connection}
 use Rattle.xns_host.specs.declared.conversation.Conversation.{Conversation}
 use Rattle.xns_host.specs.declared.owed.Owed.{Owed}
-use Rattle.xns_host.specs.declared.host_fault.HostFault.TheVariants as faults
-use Rattle.xns_host.specs.declared.side.Side.{Side}
-use Rattle.xns_host.specs.declared.side.Side.TheVariants as sides
 use Rattle.xns_host.specs.declared.why.Why.{Why}
-use Rattle.xns_host.proofs.Closes.{closes_from}
-use Rattle.xns_host.proofs.Leading.{calm_from}
 use Rattle.xns_host.proofs.Scenes.{deaf_at, scene_at}
 
-at_by : (mid new : Conversation) (to : Scene) (was closed : Option Why) → IsAt mid to
-    → (was ≡ None → closed ≢ None → new ≡ record mid { closing = record mid.closing { deaf = true } }) → (closed ≡ was → new ≡ mid)
-    → (was ≢ None → closed ≡ was) → IsAt new (shut was closed to)
-at_by mid new to (Some w) closed at given stays kept = subst (λ (t : Conversation). IsAt t to) (sym (stays (kept (λ z. cc)))) at
-at_by mid new to None None at given stays kept = subst (λ (t : Conversation). IsAt t to) (sym (stays refl)) at
-at_by mid new to None (Some y) at given stays kept = deaf_at at (given refl (λ z. cc))
+-- one that was closed stays so
+pub then_kept : (now : ℕ) (t : Conversation) (r : Result (Unit {0}) FeedRefusal) (closed : Option Why) (w : Waiting) → is_some closed ≡ true
+    → ClosesThen now t r t closed closed w w
+then_kept now t r None w some = absurd (cc)
+then_kept now t r (Some y) w some = record { why = λ s stands. refl; stays = λ z. refl; is = refl; waits = λ s stands. refl; steps = still }
 
-why_by : (mid : Conversation) (to : Scene) (was closed : Option Why) (r : Result (Unit {0}) FeedRefusal) → IsAt mid to
-    → (was ≢ None → closed ≡ was) → (was ≡ None → (s : State) → StandsFor mid.endpoint s → closed ≡ why_after mid.closing (is_over mid.closing s) r)
-    → closed ≡ closed_moved was r to
-why_by mid to (Some w) closed r at kept why = kept (λ z. cc)
-why_by mid to None closed r at kept why =
-    subst (λ (c : Closing). closed ≡ why_after c (is_over c to.state) r) at.closing (why refl to.state at.stands)
+-- it is closed now
+pub then_shut : (now : ℕ) (t : Conversation) (r : Result (Unit {0}) FeedRefusal) (was closed : Option Why) (w : Waiting) → is_some was ≡ false
+    → is_some closed ≡ true → ((s : State) → StandsFor t.endpoint s → closed ≡ why_after t.closing (is_over t.closing s) r)
+    → ClosesThen now t r (given_up t) was closed w (lingering w now)
+then_shut now t r (Some x) closed w none some why = absurd (cc)
+then_shut now t r None None w none some why = absurd (cc)
+then_shut now t r None (Some y) w none some why =
+    record { why = why; stays = λ z. absurd (z refl); is = refl; waits = λ s stands. refl; steps = close still }
 
-waits_by : (end : Held) (s : State) (was closed : Option Why) (w v : Waiting) (now : ℕ) → StandsFor end s
-    → (closed ≡ None → (s : State) → StandsFor end s → v ≡ after_step w (waits s) now) → (was ≢ None → v ≡ w)
-    → (was ≡ None → closed ≢ None → v ≡ lingering w now) → v ≡ wait_moved was closed w s now
-waits_by end s (Some x) closed w v now stands going kept lingers = kept (λ z. cc)
-waits_by end s None None w v now stands going kept lingers = going refl s stands
-waits_by end s None (Some x) w v now stands going kept lingers = lingers refl (λ z. cc)
+-- it is not
+pub then_open : (now : ℕ) (t : Conversation) (r : Result (Unit {0}) FeedRefusal) (was why : Option Why) (w v : Waiting) → is_some was ≡ false
+    → is_some why ≡ false → ((s : State) → StandsFor t.endpoint s → why ≡ why_after t.closing (is_over t.closing s) r)
+    → ((s : State) → StandsFor t.endpoint s → v ≡ after_step w (waits s) now) → StepsAt now w v → ClosesThen now t r t was was w v
+then_open now t r (Some x) why w v none not why_is waits_then steps = absurd (cc)
+then_open now t r None (Some y) w v none not why_is waits_then steps = absurd (cc)
+then_open now t r None None w v none not why_is waits_then steps =
+    record { why = why_is; stays = λ z. refl; is = refl; waits = waits_then; steps = steps }
+
+-- a connection is closed, or not, at the scene that its items moved to
+at_left : (t : Conversation) (x : Scene) (was closed : Option Why) → IsAt t x → IsAt (given_up_by was closed t) (shut was closed x)
+at_left t x (Some w) closed at = at
+at_left t x None None at = at
+at_left t x None (Some w) at = deaf_at at refl
+
+packets_left : (t : Conversation) (was closed : Option Why) → (given_up_by was closed t).packets ≡ t.packets
+packets_left t (Some w) closed = refl
+packets_left t None None = refl
+packets_left t None (Some w) = refl
+
+end_left : (t : Conversation) (was closed : Option Why) → (given_up_by was closed t).endpoint ≡ t.endpoint
+end_left t (Some w) closed = refl
+end_left t None None = refl
+end_left t None (Some w) = refl
+
+pub left_history : (now : ℕ) (mid new : Conversation) (r : Result (Unit {0}) FeedRefusal) (was closed : Option Why) (w v : Waiting)
+    → HasHistory mid.endpoint → ClosesThen now mid r new was closed w v → HasHistory new.endpoint
+left_history now mid new r was closed w v has next =
+    subst HasHistory (sym (ap (λ (t : Conversation). t.endpoint) next.is ∙ end_left mid was closed)) has
 
 pub goes_on_by : (now : ℕ) (old mid new : Conversation) (r : Result (Unit {0}) FeedRefusal) (o n : Owed) (was closed : Option Why) (w v : Waiting)
-    → ((s : State) → StandsFor old.endpoint s → (x : Scene) × IsAt mid x × Settles (scene old s) r x)
-    → (was ≡ None → closed ≢ None → new ≡ record mid { closing = record mid.closing { deaf = true } }) → (closed ≡ was → new ≡ mid)
-    → new.endpoint ≡ mid.endpoint → (was ≢ None → closed ≡ was)
-    → (was ≡ None → (s : State) → StandsFor mid.endpoint s → closed ≡ why_after mid.closing (is_over mid.closing s) r)
-    → (closed ≡ None → (s : State) → StandsFor new.endpoint s → v ≡ after_step w (waits s) now) → (was ≢ None → v ≡ w)
-    → (was ≡ None → closed ≢ None → v ≡ lingering w now)
+    → ((s : State) → StandsFor old.endpoint s → (x : Scene) × IsAt mid x × Settles (scene old s) r x) → mid.packets ≡ old.packets
+    → ClosesThen now mid r new was closed w v
     → ((s u : State) → StandsFor old.endpoint s → StandsFor mid.endpoint u → n ≡ owed_moved o (is_starved r) (waiting_count s) (waiting_count u))
     → GoesOnBy now old new o n was closed w v
-goes_on_by now old mid new r o n was closed w v settles given stays end kept why going still lingers owes = record {
+goes_on_by now old mid new r o n was closed w v settles packets next owes = record {
   moved = r;
   on = λ s stands.
       let x = settles s stands in
-      let here : StandsFor new.endpoint x.0.state = subst (λ (e : Held). StandsFor e x.0.state) (sym end) x.1.stands in
       record {
         to = x.0;
         settles = x.2;
-        at = at_by mid new x.0 was closed x.1 given stays kept;
-        why = why_by mid x.0 was closed r x.1 kept why;
+        at = subst (λ (t : Conversation). IsAt t (shut was closed x.0)) (sym next.is) (at_left mid x.0 was closed x.1);
+        why = next.why x.0.state x.1.stands ∙ ap (closed_moved was r) (scene_at x.1);
         owes = owes s x.0.state stands x.1.stands;
-        waits = waits_by new.endpoint x.0.state was closed w v now here going still lingers;
+        waits = next.waits x.0.state x.1.stands;
       };
+  packets = ap (λ (t : Conversation). t.packets) next.is ∙ packets_left mid was closed ∙ packets;
+  stays = next.stays;
+  steps = next.steps;
 }
+
+-- ---- what is always so
+
+-- what is known of the parts of a connection
+record Known (t : Conversation) (w : Waiting) (closed : Option Why) : Type 0 where
+  timed : closed ≡ None → (s : State) → StandsFor t.endpoint s → tick_answer s ≢ [] → is_again w.due ≡ true
+  open_due : closed ≡ None → is_open_due w.due ≡ true
+  closed_due : closed ≢ None → is_closed_due w.due ≡ true
+  deaf : closed ≢ None → drains t.side t.closing ≡ true
+  stands : HasHistory t.endpoint
+
+known_one : (t : Conversation) (w : Waiting) (closed : Option Why) (a b : Known t w closed) → a ≡ b
+known_one t w closed a b = one a b where
+  one : IsProp (Known t w closed)
+  one = Prim.hlevel props
+
+abbrev with_known : (p : Parts) → Known p.conversation p.wait p.closed → Connection
+with_known p k = record {
+  conversation = p.conversation;
+  wait = p.wait;
+  owed = p.owed;
+  closed = p.closed;
+  told = p.told;
+  timed = k.timed;
+  open_due = k.open_due;
+  closed_due = k.closed_due;
+  deaf = k.deaf;
+  stands = k.stands;
+}
+
+abbrev known_of : (c : Connection) → Known c.conversation c.wait c.closed
+known_of c = record { timed = c.timed; open_due = c.open_due; closed_due = c.closed_due; deaf = c.deaf; stands = c.stands }
+
+-- a connection is its parts
+pub same_connection : (c d : Connection) → parts_of d ≡ parts_of c → d ≡ c
+same_connection c d same = by (parts_of d) (sym same) (known_of d) where
+  by : (q : Parts) → parts_of c ≡ q → (k : Known q.conversation q.wait q.closed) → with_known q k ≡ c
+  by q e = subst (λ (q : Parts). (k : Known q.conversation q.wait q.closed) → with_known q k ≡ c) e
+      (λ k. ap (with_known (parts_of c)) (known_one c.conversation c.wait c.closed k (known_of c)))
+
+-- an end keeps a history
+pub moved_history : (now : ℕ) (old new : Conversation) (o n : Owed) (was closed : Option Why) (w v : Waiting) → HasHistory old.endpoint
+    → GoesOnBy now old new o n was closed w v → HasHistory new.endpoint
+moved_history now old new o n was closed w v has goes =
+    ∥∥₁_map has (λ x. let m = goes.on x.0 x.1 in ((shut was closed m.to).state, m.at.stands))
+
+pub heard_history : (e f : Held) (bytes : List ℕ) → HasHistory e → ((s : State) → StandsFor e s → StandsFor f (after_receive s bytes)) → HasHistory f
+heard_history e f bytes has next = ∥∥₁_map has (λ x. (after_receive x.0 bytes, next x.0 x.1))
+
+pub same_history : (e f : Held) → e ≡ f → HasHistory f → HasHistory e
+same_history e f same has = subst HasHistory (sym same) has
 
 -- something was done at a connection, but that bytes came, and then what could move moved
 pub step_by : (now : ℕ) (deed : Deed) (old new : Connection) (mid : Conversation) → mid.endpoint ≡ old.conversation.endpoint
     → ((s : State) → scene mid s ≡ done deed (scene old.conversation s)) → ((s : State) → owed_by deed old.owed old.wait s ≡ old.owed)
     → ((s : State) → wait_by deed old.wait s now ≡ old.wait)
     → GoesOnBy now mid new.conversation old.owed new.owed old.closed new.closed old.wait new.wait
-    → May old.conversation deed → WaitsBy deed now old.wait new.wait
-    → new.conversation.packets ≡ old.conversation.packets → new.told ≡ old.told → (old.closed ≢ None → new.closed ≡ old.closed) → Step now deed old new
-step_by now deed old new mid end did owes waits_same goes may steps packets told stays = record {
+    → May old.conversation deed → (StepsAt now old.wait new.wait → WaitsBy deed now old.wait new.wait) → mid.packets ≡ old.conversation.packets
+    → new.told ≡ old.told → Step now deed old new
+step_by now deed old new mid end did owes waits_same goes may steps packets told = record {
   moved = goes.moved;
   may = may;
-  steps = steps;
+  steps = steps goes.steps;
   on = λ s stands.
       let first = goes.on s (subst (λ (e : Held). StandsFor e s) (sym end) stands) in
       subst (λ (x : Scene). Moved now x goes.moved new.conversation (owed_by deed old.owed old.wait s) new.owed old.closed new.closed (wait_by deed old.wait s now) new.wait) (did s)
       (subst (λ (o : Owed). Moved now (scene mid s) goes.moved new.conversation o new.owed old.closed new.closed (wait_by deed old.wait s now) new.wait) (sym (owes s))
       (subst (λ (w : Waiting). Moved now (scene mid s) goes.moved new.conversation old.owed new.owed old.closed new.closed w new.wait) (sym (waits_same s)) first));
-  packets = packets;
+  packets = goes.packets ∙ packets;
   told = told;
-  stays = stays;
+  stays = goes.stays;
 }
-
--- what it had done goes on from where it is after that
-pub promised : (now : ℕ) (deed : Deed) (old new : Connection) (mid : Conversation)
-    → ((h : Story) → Tells old.conversation h → Tells mid (told_by deed old.conversation.side h)) → mid.endpoint ≡ old.conversation.endpoint
-    → drains mid.side mid.closing ≡ drains old.conversation.side old.conversation.closing
-    → mid.closing.wanted ≡ wanted_by deed old.conversation.closing.wanted → Goes mid new.conversation
-    → (new.owed.moving ≡ false → drains new.conversation.side new.conversation.closing ≡ false → Calm mid new.conversation)
-    → (new.owed.moving ≡ false → new.closed ≡ old.closed → ReadsAll mid new.conversation)
-    → (new.owed.moving ≡ false → HasSaidEnd new.conversation) → HasReplied old new
-    → ClosesBy mid (λ h. h) new.conversation new.owed.moving old.closed new.closed → WaitsBy deed now old.wait new.wait
-    → OwesRoom mid.endpoint new.conversation.endpoint new.owed.word → new.conversation.closing.wanted ≡ mid.closing.wanted
-    → Promises now deed old new
-promised now deed old new mid did end same_drains wanted goes calm read said replied why steps room kept = record {
-  story = λ h tells. goes.on (told_by deed old.conversation.side h) (did h tells);
-  wanted = kept ∙ wanted;
-  calm = λ still free. calm_from did (calm still free);
-  read = λ still same h tells yes. read still same (told_by deed old.conversation.side h) (did h tells) yes;
-  said = said;
-  replied = replied;
-  closes = closes_from (told_by deed old.conversation.side) did same_drains why;
-  steps = steps;
-  room = subst (λ (e : Held). OwesRoom e new.conversation.endpoint new.owed.word) end room;
-}
-
--- that a connection is asked to close is no part of its story
-pub asked_tells : (t u : Conversation) (h : Story) → u ≡ record t { closing = record t.closing { wanted = true } } → Tells t h → Tells u h
-asked_tells t u h same x =
-    let w : Conversation = record t { closing = record t.closing { wanted = true } } in
-    let there : Tells w h = record {
-      stands = x.stands;
-      has = x.has;
-      fed = x.fed;
-      all = x.all;
-      given = x.given;
-      knows = record { wanted = x.knows.wanted; heard = x.knows.heard };
-    } in
-    subst (λ (v : Conversation). Tells v h) (sym same) there
-
--- an answer that was given was to a call that was handed
-pub was_asked : (t : Conversation) (kind : Answer) (words : List ℕ) → Answers (answer_fault_of t kind words) (Ok tt) → (k : ℕ) × (asked_of t.side ≡ Some k)
-was_asked t kind words fine = by_drains (drains t.side t.closing) fine where
-  by_asked : (o : Option ℕ) → answer_fault (answer_refusal o kind words) ≡ None → (k : ℕ) × (o ≡ Some k)
-  by_asked None e = absurd (cc)
-  by_asked (Some k) e = (k, refl)
-
-  by_side : (side : Side) → side_answer_fault side kind words ≡ None → (k : ℕ) × (asked_of side ≡ Some k)
-  by_side (sides.Calls c) e = absurd (cc)
-  by_side (sides.Answers a) e = by_asked a.asked e
-
-  by_drains : (b : Bool) → (if b then Some faults.Closing else side_answer_fault t.side kind words) ≡ None → (k : ℕ) × (asked_of t.side ≡ Some k)
-  by_drains true e = absurd (cc)
-  by_drains false e = by_side t.side e
-
-pub answer_tells : (t u : Conversation) (kind : Answer) (words : List ℕ) (h : Story) (k : ℕ) → asked_of t.side ≡ Some k
-    → Tells u (record h { answers = h.answers ++ answer_message kind k words ∷ [] }) → Tells u (told_by (gave kind words) t.side h)
-answer_tells t u kind words h k asked tells = subst (λ (o : Option ℕ). Tells u (with_answer o kind words h)) (sym asked) tells
 
 -- bytes came, and then what could move moved
 pub heard_by : (now : ℕ) (bytes : List ℕ) (old new : Connection) (mid : Conversation) (o : Owed) (w : Waiting)
@@ -164,13 +173,12 @@ pub heard_by : (now : ℕ) (bytes : List ℕ) (old new : Connection) (mid : Conv
     → ((s : State) → StandsFor old.conversation.endpoint s → o ≡ owed_heard old.owed old.wait s bytes)
     → ((s : State) → StandsFor old.conversation.endpoint s → w ≡ wait_heard old.wait s bytes now)
     → GoesOnBy now mid new.conversation o new.owed old.closed new.closed w new.wait
-    → HearsAt now old.wait new.wait
-    → new.conversation.packets ≡ old.conversation.packets → new.told ≡ old.told → (old.closed ≢ None → new.closed ≡ old.closed)
+    → (StepsAt now w new.wait → HearsAt now old.wait new.wait) → mid.packets ≡ old.conversation.packets → new.told ≡ old.told
     → Step now (heard bytes) old new
-heard_by now bytes old new mid o w stands_then side closing owes waits_then goes steps packets told stays = record {
+heard_by now bytes old new mid o w stands_then side closing owes waits_then goes steps packets told = record {
   moved = goes.moved;
   may = tt;
-  steps = steps;
+  steps = steps goes.steps;
   on = λ s stands.
       let v = after_receive s bytes in
       let first = goes.on v (stands_then s stands) in
@@ -179,39 +187,30 @@ heard_by now bytes old new mid o w stands_then side closing owes waits_then goes
       subst (λ (y : Scene). Moved now y goes.moved new.conversation (owed_heard old.owed old.wait s bytes) new.owed old.closed new.closed (wait_heard old.wait s bytes now) new.wait) (scene_at here)
       (subst (λ (u : Owed). Moved now (scene mid v) goes.moved new.conversation u new.owed old.closed new.closed (wait_heard old.wait s bytes now) new.wait) (owes s stands)
       (subst (λ (u : Waiting). Moved now (scene mid v) goes.moved new.conversation o new.owed old.closed new.closed u new.wait) (waits_then s stands) first));
-  packets = packets;
+  packets = goes.packets ∙ packets;
   told = told;
-  stays = stays;
+  stays = goes.stays;
 }
 
 -- what a packet makes owed and waited for
-owed_parts : (o m : Owed) (word again : Bool) → m.word ≡ word → m.again ≡ again → m.asks ≡ o.asks → m.moving ≡ o.moving → m.fresh ≡ o.fresh
-    → m ≡ record o { word = word; again = again }
-owed_parts o m word again w a asks moving fresh =
-    ap (λ (x : Bool). let y : Owed = record { word = x; again = m.again; asks = m.asks; moving = m.moving; fresh = m.fresh } in y) w
-    ∙ (ap (λ (x : Bool). let y : Owed = record { word = word; again = x; asks = m.asks; moving = m.moving; fresh = m.fresh } in y) a
-    ∙ (ap (λ (x : Bool). let y : Owed = record { word = word; again = again; asks = x; moving = m.moving; fresh = m.fresh } in y) asks
-    ∙ (ap (λ (x : Bool). let y : Owed = record { word = word; again = again; asks = o.asks; moving = x; fresh = m.fresh } in y) moving
-    ∙ ap (λ (x : Bool). let y : Owed = record { word = word; again = again; asks = o.asks; moving = o.moving; fresh = x } in y) fresh)))
+owed_both : (foreign : Bool) (o m n : Owed) → (foreign ≡ true → m ≡ o) → (foreign ≡ false → m ≡ n) → m ≡ (if foreign then o else n)
+owed_both true o m n same next = same refl
+owed_both false o m n same next = next refl
 
-owed_both : (foreign : Bool) (o m : Owed) (word again : Bool) → (foreign ≡ true → m ≡ o) → (foreign ≡ false → m.word ≡ word) → (foreign ≡ false → m.again ≡ again)
-    → m.asks ≡ o.asks → m.moving ≡ o.moving → m.fresh ≡ o.fresh → m ≡ (if foreign then o else record o { word = word; again = again })
-owed_both true o m word again same w a asks moving fresh = same refl
-owed_both false o m word again same w a asks moving fresh =
-    owed_parts o m word again (w refl) (a refl) asks moving fresh
+abbrev owed_so : Owed → (word again : Bool) → Owed
+owed_so o word again = record o { word = word; again = again }
 
 pub owed_is_heard : (o m : Owed) (w : Waiting) (s : State) (b : List ℕ) (i : Input) (more left : Bool) → i ≡ input_answer s b
     → more ≡ is_progress s (after_receive s b) → left ≡ nat_lt 0 (unacknowledged_count (after_receive s b)) → (is_foreign i.dropped ≡ true → m ≡ o)
-    → (is_foreign i.dropped ≡ false → m.word ≡ o.word || i.owes_reply)
-    → (is_foreign i.dropped ≡ false → m.again ≡ o.again || (more && (w.vain && left))) → m.asks ≡ o.asks → m.moving ≡ o.moving → m.fresh ≡ o.fresh
+    → (is_foreign i.dropped ≡ false → m ≡ record o { word = o.word || i.owes_reply; again = o.again || (more && (w.vain && left)) })
     → m ≡ owed_heard o w s b
-owed_is_heard o m w s b i more left is progress some same word again asks moving fresh =
+owed_is_heard o m w s b i more left is progress some same next =
     let drops : is_foreign i.dropped ≡ is_foreign (input_answer s b).dropped = ap (λ (x : Input). is_foreign x.dropped) is in
-    owed_both (is_foreign (input_answer s b).dropped) o m (o.word || (input_answer s b).owes_reply) (o.again || goes_again w s b) (λ yes. same (drops ∙ yes))
-    (λ z. word (drops ∙ z) ∙ ap (λ (x : Input). o.word || x.owes_reply) is)
-    (λ z. again (drops ∙ z) ∙ ap (λ (x : Bool). o.again || (x && (w.vain && left))) progress
-    ∙ ap (λ (x : Bool). o.again || (is_progress s (after_receive s b) && (w.vain && x))) some)
-    asks moving fresh
+    owed_both (is_foreign (input_answer s b).dropped) o m (owed_so o (o.word || (input_answer s b).owes_reply) (o.again || goes_again w s b))
+    (λ yes. same (drops ∙ yes))
+    (λ z. next (drops ∙ z) ∙ ap (λ (x : Input). owed_so o (o.word || x.owes_reply) (o.again || (more && (w.vain && left)))) is
+    ∙ ap (λ (x : Bool). owed_so o (o.word || (input_answer s b).owes_reply) (o.again || (x && (w.vain && left)))) progress
+    ∙ ap (λ (x : Bool). owed_so o (o.word || (input_answer s b).owes_reply) (o.again || (is_progress s (after_receive s b) && (w.vain && x)))) some)
 
 wait_both : (foreign : Bool) (w v x : Waiting) → (foreign ≡ true → v ≡ w) → (foreign ≡ false → v ≡ x) → v ≡ (if foreign then w else x)
 wait_both true w v x same after = same refl
@@ -244,9 +243,9 @@ acts_by p a w o now is after owes stay =
 
 -- ---- a message that is handed
 
-pub hands_on : (now : ℕ) (old new : Connection) (b : Bool) → b ≡ false → Step now took old new → HandsBy b now old new
-hands_on now old new true e step = absurd (cc)
-hands_on now old new false e step = step
+pub calm_then : (c : Connection) (t : Conversation) (s : State) → c.owed.moving ≡ false → scene t s ≡ done took (scene c.conversation s)
+    → is_calm (scene t s) ≡ true → is_calm_then c s ≡ true
+calm_then c t s idle same calm = ap (λ (b : Bool). not b && is_calm (done took (scene c.conversation s))) idle ∙ ap is_calm (sym same) ∙ calm
 
 pub first_no : (a b : Bool) → a ≡ false → (a && b) ≡ false
 first_no true b e = absurd (cc)
@@ -255,3 +254,9 @@ first_no false b e = refl
 pub second_no : (a b : Bool) → b ≡ false → (a && b) ≡ false
 second_no true b e = e
 second_no false b e = refl
+
+-- ---- a packet
+
+pub moved_steps : (b : Bool) (now : ℕ) (old mid : Connection) → MovesOwed b now old mid → StepsAt now old.wait mid.wait
+moved_steps true now old mid step = step.steps
+moved_steps false now old mid same = subst (λ (c : Connection). StepsAt now old.wait c.wait) (sym same) still

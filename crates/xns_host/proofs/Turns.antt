@@ -5,6 +5,7 @@ use Rattle.xns_host.specs.Deeds.{Deed, gave, told_by, with_answer}
 use Rattle.xns_host.specs.Hosting.{HasNoneDone, IsApart, IsNotDoneIn, has_guest}
 use Rattle.xns_host.specs.Knowing.{known_in, known_of}
 use Rattle.xns_host.specs.Registered.{FitsEnd, FitsEndIn, IsAllRegistered}
+use Rattle.xns_host.specs.Step.{AStepKeepsItsPromises}
 use Rattle.xns_host.specs.Story.{Story, asked_of}
 use Rattle.xns_host.specs.Went.{GuestStep, Went}
 use Rattle.xns_host.specs.declared.guest.Guest.{Guest}
@@ -38,11 +39,12 @@ known_went now deed None v w = absurd w
 known_went now deed (Some g) None w = absurd w
 known_went now deed (Some g) (Some h) w = ap (λ (x : Guest). Some (known_of x)) w.same
 
-fits_went : (now : ℕ) (deed : Deed) (old v : Option Guest) → IsStill deed → Went now deed (Some old) (Some v) → (g : Guest) → old ≡ Some g → FitsEnd g → FitsEndIn v
-fits_went now deed None v still w g is fits = absurd w
-fits_went now deed (Some f) None still w g is fits = absurd w
-fits_went now deed (Some f) (Some h) still w g is fits =
-    from_fits (Some f) g f h (told_by deed f.connection.conversation.side) (still f.connection.conversation.side) refl is (ap known_of w.same) w.promises.story fits
+fits_went : AStepKeepsItsPromises → (now : ℕ) (deed : Deed) (old v : Option Guest) → IsStill deed → Went now deed (Some old) (Some v) → (g : Guest) → old ≡ Some g → FitsEnd g → FitsEndIn v
+fits_went law now deed None v still w g is fits = absurd w
+fits_went law now deed (Some f) None still w g is fits = absurd w
+fits_went law now deed (Some f) (Some h) still w g is fits =
+    from_fits (Some f) g f h (told_by deed f.connection.conversation.side) (still f.connection.conversation.side) refl is (ap known_of w.same)
+    (law now deed f.connection h.connection w.step).story fits
 
 undone_went : (now : ℕ) (deed : Deed) (old v : Option Guest) → Went now deed (Some old) (Some v) → IsNotDoneIn old → IsNotDoneIn v
 undone_went now deed None v w was = absurd w
@@ -56,21 +58,21 @@ pub slot_known : (now : ℕ) (deed : Deed) (r : Result (Unit {0}) HostFault) (ol
 slot_known now deed (Ok u) old v w same = known_went now deed old v w
 slot_known now deed (Err e) old v w same = ap known_in same
 
-slot_fits : (now : ℕ) (deed : Deed) (r : Result (Unit {0}) HostFault) (old v : Option Guest) → IsStill deed → OnOk r (Went now deed (Some old) (Some v))
+slot_fits : AStepKeepsItsPromises → (now : ℕ) (deed : Deed) (r : Result (Unit {0}) HostFault) (old v : Option Guest) → IsStill deed → OnOk r (Went now deed (Some old) (Some v))
     → OnErr r (v ≡ old) → (g : Guest) → old ≡ Some g → FitsEnd g → FitsEndIn v
-slot_fits now deed (Ok u) old v still w same g is fits = fits_went now deed old v still w g is fits
-slot_fits now deed (Err e) old v still w same g is fits = subst FitsEndIn (sym (same ∙ is)) fits
+slot_fits law now deed (Ok u) old v still w same g is fits = fits_went law now deed old v still w g is fits
+slot_fits law now deed (Err e) old v still w same g is fits = subst FitsEndIn (sym (same ∙ is)) fits
 
 slot_undone : (now : ℕ) (deed : Deed) (r : Result (Unit {0}) HostFault) (old v : Option Guest) → OnOk r (Went now deed (Some old) (Some v)) → OnErr r (v ≡ old)
     → IsNotDoneIn old → IsNotDoneIn v
 slot_undone now deed (Ok u) old v w same was = undone_went now deed old v w was
 slot_undone now deed (Err e) old v w same was = subst IsNotDoneIn (sym same) was
 
-pub slot_registered : (now : ℕ) (deed : Deed) (r : Result (Unit {0}) HostFault) (reg : Register) (gs : Places) (n : ℕ) (old v : Option Guest) → IsAllRegistered reg gs
+pub slot_registered : AStepKeepsItsPromises → (now : ℕ) (deed : Deed) (r : Result (Unit {0}) HostFault) (reg : Register) (gs : Places) (n : ℕ) (old v : Option Guest) → IsAllRegistered reg gs
     → IsStill deed → OnOk r (Went now deed (Some old) (Some v)) → OnErr r (v ≡ old) → old ≡ get_or gs n old → n < length gs
     → IsAllRegistered reg (slice_set gs n v)
-slot_registered now deed r reg gs n old v all still w same read less =
-    still_registered reg gs n old v all (slot_known now deed r old v w same) (slot_fits now deed r old v still w same) read less
+slot_registered law now deed r reg gs n old v all still w same read less =
+    still_registered reg gs n old v all (slot_known now deed r old v w same) (slot_fits law now deed r old v still w same) read less
 
 pub slot_not_done : (now : ℕ) (deed : Deed) (r : Result (Unit {0}) HostFault) (gs : Places) (n : ℕ) (old v : Option Guest) → HasNoneDone gs
     → OnOk r (Went now deed (Some old) (Some v)) → OnErr r (v ≡ old) → old ≡ get_or gs n old → n < length gs → HasNoneDone (slice_set gs n v)

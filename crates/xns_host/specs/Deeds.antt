@@ -1,5 +1,5 @@
 -- What is done at a connection, and what comes of it when what can move has moved.
-use Rattle.std.specs.Prelude.{◌≡◌, ℕ, List, [], ◌∷◌, ◌++◌, Bool, true, false, ◌||◌, if◌then◌else◌, nat_lt, Option, Some, None, Result, Ok, Err}
+use Rattle.std.specs.Prelude.{◌≡◌, ◌≢◌, ℕ, List, [], ◌∷◌, ◌++◌, Bool, true, false, ◌||◌, if◌then◌else◌, nat_lt, Option, Some, None, Result, Ok, Err}
 use Rattle.courier_messages.specs.RawCalls.{RawCall}
 use Rattle.courier_messages.specs.declared.message.Message.{Message}
 use Rattle.courier_sessions.specs.Answering as answering
@@ -9,7 +9,7 @@ use Rattle.courier_sessions.specs.declared.answer.Answer.{Answer}
 use Rattle.courier_sessions.specs.declared.feed_refusal.FeedRefusal.{FeedRefusal}
 use Rattle.courier_sessions.specs.declared.feed_refusal.FeedRefusal.TheVariants.{Stopped, Busy, TooLong, Attention, Fault, NoMemory}
 use Rattle.std.specs.Option.{is_some}
-use Rattle.xns_agenda.specs.Waiting.{Waiting, act_at, after_by, after_step, lingering}
+use Rattle.xns_agenda.specs.Waiting.{StepsAt, Waiting, act_at, after_by, after_step, lingering}
 use Rattle.xns_agenda.specs.declared.act.Act.{Act}
 use Rattle.xns_agenda.specs.declared.act.Act.TheVariants.{Nothing, Again, Ask, GiveUp, Forget}
 use Rattle.xns_spp.specs.Ends.{is_open}
@@ -152,6 +152,25 @@ wait_moved (Some why) closed w s now = w
 wait_moved None None w s now = after_step w (waits s) now
 wait_moved None (Some why) w s now = lingering w now
 
+-- what comes is read no more, but for the closing exchange
+abbrev pub given_up : Conversation → Conversation
+given_up t = record t { closing = record t.closing { deaf = true } }
+
+-- where that closed it
+abbrev pub given_up_by : (was closed : Option Why) → Conversation → Conversation
+given_up_by (Some why) closed t = t
+given_up_by None None t = t
+given_up_by None (Some why) t = given_up t
+
+-- so a connection whose items moved was closed, if it was
+pub record ClosesThen (now : ℕ) (old : Conversation) (moved : Result (Unit {0}) FeedRefusal) (new : Conversation) (was closed : Option Why)
+    (wait wait_new : Waiting) : Type 0 where
+  pub why : (s : State) → StandsFor old.endpoint s → closed ≡ closed_moved was moved (scene old s)
+  pub stays : was ≢ None → closed ≡ was
+  pub is : new ≡ given_up_by was closed old
+  pub waits : (s : State) → StandsFor old.endpoint s → wait_new ≡ wait_moved was closed wait s now
+  pub steps : StepsAt now wait wait_new
+
 -- from this scene, and from what is owed, waited for and told then, what can move moved, and this came of it
 pub record Moved (now : ℕ) (x : Scene) (moved : Result (Unit {0}) FeedRefusal) (new : Conversation) (owed owed_new : Owed)
     (was closed : Option Why) (wait wait_new : Waiting) : Type 0 where
@@ -167,6 +186,9 @@ pub record GoesOnBy (now : ℕ) (old new : Conversation) (owed owed_new : Owed) 
     : Type 0 where
   pub moved : Result (Unit {0}) FeedRefusal
   pub on : (s : State) → StandsFor old.endpoint s → Moved now (scene old s) moved new owed owed_new was closed wait wait_new
+  pub packets : new.packets ≡ old.packets
+  pub stays : was ≢ None → closed ≡ was
+  pub steps : StepsAt now wait wait_new
 
 -- ---- steps that move nothing
 
@@ -177,10 +199,6 @@ pub record Parts : Type 0 where
   pub owed : Owed
   pub closed : Option Why
   pub told : Bool
-
--- what comes is read no more, but for the closing exchange
-abbrev pub given_up : Conversation → Conversation
-given_up t = record t { closing = record t.closing { deaf = true } }
 
 -- nobody hears the packet that was to open the connection: it is closed, unless it is open or closed, and lingers
 abbrev pub unserved : Parts → State → (now : ℕ) → Parts

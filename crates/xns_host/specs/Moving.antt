@@ -7,7 +7,7 @@ use Rattle.courier_sessions.specs.Pumping.{caller_side, server_side}
 use Rattle.courier_sessions.specs.declared.feed_refusal.FeedRefusal.{FeedRefusal}
 use Rattle.courier_sessions.specs.declared.feed_refusal.FeedRefusal.TheVariants.{Stopped, Busy, TooLong, Attention, Fault, NoMemory}
 use Rattle.courier_sessions.specs.declared.unlisted.Unlisted.{Unlisted}
-use Rattle.xns_spp.specs.Held.{StandsFor}
+use Rattle.xns_spp.specs.Held.{Held, StandsFor}
 use Rattle.xns_spp.specs.Sending.{after_send, after_take, send_answer, take_answer, waiting_count}
 use Rattle.xns_spp.specs.State.{State, IsState}
 use Rattle.xns_spp.specs.declared.item.Item.{Item}
@@ -17,6 +17,10 @@ use Rattle.xns_host.specs.declared.closing.Closing.{Closing}
 use Rattle.xns_host.specs.declared.conversation.Conversation.{Conversation}
 use Rattle.xns_host.specs.declared.side.Side.{Side}
 use Rattle.xns_host.specs.declared.side.Side.TheVariants.{Calls, Answers}
+
+-- an end has a history
+abbrev pub HasHistory : Held → Type 0
+HasHistory e = ∥ ((s : State) × StandsFor e s) ∥₁
 
 -- a conversation with the whole history of its end
 pub record Scene : Type 0 where

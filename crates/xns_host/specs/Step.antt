@@ -1,5 +1,5 @@
 -- One step of a connection: something is done, and then what can move moves. It determines every part of the new connection.
-use Rattle.std.specs.Prelude.{◌≡◌, ◌≢◌, ℕ, List, Bool, true, false, not, ◌&&◌, Option, None, Result, IfOk, OnErr}
+use Rattle.std.specs.Prelude.{◌≡◌, ◌≢◌, ℕ, List, Bool, true, false, not, ◌&&◌, Option, None, Result, Ok, IfOk, OnErr}
 use Rattle.courier_sessions.specs.declared.feed_refusal.FeedRefusal.{FeedRefusal}
 use Rattle.xns_agenda.specs.Waiting.{HearsAt, StepsAt, Waiting}
 use Rattle.xns_spp.specs.Held.{StandsFor}
@@ -13,7 +13,7 @@ use Rattle.xns_host.specs.Living.{GoesFrom}
 use Rattle.xns_host.specs.Moving.{is_calm, scene}
 use Rattle.xns_host.specs.Reasons.{answer_fault_of, call_fault_of}
 use Rattle.xns_host.specs.Story.{Story, waiting_message}
-use Rattle.xns_host.specs.Telling.{CalmFrom, HasSaidEnd, HasSaidReply, OwesRoom, ReadsAll}
+use Rattle.xns_host.specs.Telling.{CalmFrom, Goes, HasSaidEnd, HasSaidReply, MovesAndGives, OwesRoom, ReadsAll, Rested}
 use Rattle.xns_host.specs.declared.connection.Connection.{Connection}
 use Rattle.xns_host.specs.declared.conversation.Conversation.{Conversation}
 
@@ -55,17 +55,18 @@ pub record Step (now : ℕ) (deed : Deed) (old new : Connection) : Type 0 where
 abbrev pub parts_of : Connection → Parts
 parts_of c = record { conversation = c.conversation; wait = c.wait; owed = c.owed; closed = c.closed; told = c.told }
 
--- the message that waits was handed, and where nothing can move then, that is all
-abbrev pub HandsBy : Bool → (now : ℕ) → (old new : Connection) → Type 0
-HandsBy true now old new =
-    parts_of new ≡ record (parts_of old) { conversation = record old.conversation { side = side_taken old.conversation.side } }
-HandsBy false now old new = Step now took old new
+-- nothing can move when the message that waits was handed
+abbrev pub is_calm_then : Connection → State → Bool
+is_calm_then c s = not c.owed.moving && is_calm (done took (scene c.conversation s))
 
--- the message that waits was handed, if one does
-pub record Hands (now : ℕ) (old new : Connection) : Type 0 where
-  pub none : waiting_message old.conversation.side ≡ None → new ≡ old
-  pub some : waiting_message old.conversation.side ≢ None → (s : State) → StandsFor old.conversation.endpoint s
-      → HandsBy (not old.owed.moving && is_calm (done took (scene old.conversation s))) now old new
+-- no message waits, and nothing was done; or the one that waits was handed, and where nothing can move then, that is all
+pub data Hands (now : ℕ) (old new : Connection) : Type 0 where
+  none_waits : waiting_message old.conversation.side ≡ None → new ≡ old → Hands now old new
+  calmly : waiting_message old.conversation.side ≢ None → ((s : State) → StandsFor old.conversation.endpoint s → is_calm_then old s ≡ true)
+      → parts_of new ≡ record (parts_of old) { conversation = record old.conversation { side = side_taken old.conversation.side } }
+      → Hands now old new
+  moving_on : waiting_message old.conversation.side ≢ None → ((s : State) → StandsFor old.conversation.endpoint s → is_calm_then old s ≡ false)
+      → Step now took old new → Hands now old new
 
 -- ---- a packet that goes out
 
@@ -87,6 +88,7 @@ pub record GivesNext (now : ℕ) (result : Result (Option (List ℕ)) AllocError
   pub closed : new.closed ≡ mid.closed
   pub told : new.told ≡ mid.told
   pub waits : (s : State) → StandsFor new.conversation.endpoint s → new.wait ≡ wait_moved mid.closed mid.closed mid.wait s now
+  pub steps : StepsAt now old.wait new.wait
 
 -- once it was asked to close it stays asked
 abbrev pub StaysAsked : (old new : Conversation) → Type 0
@@ -107,19 +109,41 @@ ClosesFrom old new deed = ClosesBy old.conversation deed new.conversation new.ow
 pub record Promises (now : ℕ) (deed : Deed) (old new : Connection) : Type 0 where
   pub story : GoesFrom old.conversation new.conversation (told_by deed old.conversation.side)
   pub wanted : new.conversation.closing.wanted ≡ wanted_by deed old.conversation.closing.wanted
+  pub still : drains new.conversation.side new.conversation.closing ≡ false
+      → drains old.conversation.side old.conversation.closing ≡ false
   pub calm : new.owed.moving ≡ false → drains new.conversation.side new.conversation.closing ≡ false
       → CalmFrom old.conversation new.conversation (told_by deed old.conversation.side)
   pub read : new.owed.moving ≡ false → new.closed ≡ old.closed → ReadsAll old.conversation new.conversation
   pub said : new.owed.moving ≡ false → HasSaidEnd new.conversation
   pub replied : HasReplied old new
   pub closes : ClosesFrom old new (told_by deed old.conversation.side)
+  pub packets : new.conversation.packets ≡ old.conversation.packets
   pub steps : WaitsBy deed now old.wait new.wait
   pub room : OwesRoom old.conversation.endpoint new.conversation.endpoint new.owed.word
 
--- a connection whose end has a history keeps its promises at each step
+-- a connection keeps its promises at each step
 abbrev pub AStepKeepsItsPromises : Type 0
-AStepKeepsItsPromises = (now : ℕ) (deed : Deed) (old new : Connection) (s : State) → StandsFor old.conversation.endpoint s
-    → Step now deed old new → Promises now deed old new
+AStepKeepsItsPromises = (now : ℕ) (deed : Deed) (old new : Connection) → Step now deed old new → Promises now deed old new
+
+-- a message that is handed where nothing can move then is handed as by a step
+abbrev pub AMessageIsHandedAsByAStep : Type 0
+AMessageIsHandedAsByAStep = (now : ℕ) (old new : Connection) → waiting_message old.conversation.side ≢ None → Hands now old new
+    → Promises now took old new
+
+-- asked for a packet the connection went on by itself and gave this one, or none: the first of those that waited and of those that were made
+-- on the way. Where there is none, no item is left that may go out for the first time, and nothing is owed
+pub record GivesOn (result : Result (Option (List ℕ)) AllocError) (old new : Connection) : Type 0 where
+  pub goes : Goes old.conversation new.conversation
+  pub gives : IfOk result (λ o. MovesAndGives old.conversation new.conversation o)
+  pub given_none : OnErr result (MovesAndGives old.conversation new.conversation None)
+  pub rested : result ≡ Ok None → Rested old.conversation new.conversation
+  pub none : result ≡ Ok None
+      → (new.owed.again ≡ false) × (new.owed.asks ≡ false) × (new.owed.word ≡ false) × (new.owed.fresh ≡ new.owed.moving)
+
+-- what a connection gives waited, or it made it
+abbrev pub AConnectionGivesWhatItMade : Type 0
+AConnectionGivesWhatItMade = (now : ℕ) (result : Result (Option (List ℕ)) AllocError) (old new : Connection) → GivesNext now result old new
+    → GivesOn result old new
 
 -- where memory was not refused a step has one end only: the same connection, time and deed give the same parts
 abbrev pub AStepHasOneEnd : Type 0

@@ -6,7 +6,7 @@ use Rattle.xns_spp.specs.Held.{StandsFor}
 use Rattle.xns_spp.specs.Receiving.{StoresBytes}
 use Rattle.xns_spp.specs.State.{State}
 use Rattle.xns_host.specs.Deeds.{Deed, acted, heard, unserved}
-use Rattle.xns_host.specs.Step.{GivesNext, Hands, Promises, Step, parts_of}
+use Rattle.xns_host.specs.Step.{GivesNext, Hands, Step, parts_of}
 use Rattle.xns_host.specs.Story.{waiting_message}
 use Rattle.xns_host.specs.declared.guest.Guest.{Guest}
 use Rattle.xns_host.specs.declared.host_fault.HostFault.{HostFault}
@@ -26,7 +26,6 @@ InPlace P (Some g) (Some h) = P g h
 pub record GuestStep (now : ℕ) (deed : Deed) (g h : Guest) : Type 0 where
   pub same : h ≡ record g { connection = h.connection }
   pub step : Step now deed g.connection h.connection
-  pub promises : Promises now deed g.connection h.connection
 
 -- the one in the old place did, and is in the new one
 abbrev pub Went : ℕ → Deed → (old new : Option (Option Guest)) → Type 0

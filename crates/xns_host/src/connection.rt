@@ -1,30 +1,27 @@
 //! A conversation with its waits.
 
-ghost use Rattle.std.specs.Prelude.{◌≡◌, ◌≢◌, ◌<◌, ◌≤◌, ◌&&◌, ◌||◌, ◌∷◌, ◌++◌, [], ℕ, List, not, nat_lt, if◌then◌else◌, true, false};
+ghost use Rattle.std.specs.Prelude.{◌≡◌, ◌≢◌, ◌<◌, ◌&&◌, ◌||◌, [], ℕ, List, not, nat_lt, if◌then◌else◌, true, false};
 ghost use Rattle.std.specs.Prelude.{IfOk, OnOk, OnErr, Some, None, Ok, Err};
 ghost use Rattle.courier_sessions.specs.declared.feed_refusal.FeedRefusal.TheVariants.{NoMemory};
 ghost use Rattle.std.specs.Option.{is_some};
-ghost use Rattle.courier_messages.specs.declared.message.Message.{Message};
 ghost use Rattle.courier_messages.specs.RawCalls.{words_call};
-ghost use Rattle.courier_sessions.specs.Answering.{answer_message};
 ghost use Rattle.xns_spp.specs.Ends.{is_open, is_ours_at};
 ghost use Rattle.xns_spp.specs.Held.{StandsFor};
 ghost use Rattle.xns_spp.specs.Packet.{IsSppPacket, spp_packet_of};
-ghost use Rattle.xns_spp.specs.Receiving.{after_receive, StoresBytes};
-ghost use Rattle.xns_spp.specs.Sending.{tick_answer, waiting_count, flush_answer};
+ghost use Rattle.xns_spp.specs.Receiving.{StoresBytes};
+ghost use Rattle.xns_spp.specs.Sending.{tick_answer};
 ghost use Rattle.xns_spp.specs.State.{State, initiator_state, responder_state};
-ghost use Rattle.xns_spp.specs.Telling.{own_name, peer_name, resend_answer, told_answer, unacknowledged_count};
-ghost use Rattle.xns_host.specs.Closed.{ClosesBy};
+ghost use Rattle.xns_spp.specs.Telling.{own_name, peer_name, unacknowledged_count};
 ghost use Rattle.xns_host.specs.Closing.{drains};
-ghost use Rattle.xns_host.specs.Connecting.{is_again, is_open_due, is_closed_due, why_given_up, why_after, owed_after, owed_heard, is_foreign, wait_heard};
-ghost use Rattle.xns_host.specs.Connecting.{StaysOwed, WaitsOn};
+ghost use Rattle.xns_host.specs.Connecting.{is_again, is_open_due, is_closed_due, why_given_up, why_after, owed_after, is_foreign};
+ghost use Rattle.xns_host.specs.Moving.{HasHistory};
 ghost use Rattle.xns_host.specs.Reasons.{call_fault_of, answer_fault_of};
 ghost use Rattle.xns_host.specs.Refusing.{Answers};
 ghost use Rattle.xns_host.specs.Settings.{IsBegun, IsFit};
-ghost use Rattle.xns_host.specs.Deeds.{GoesOnBy, acted, asked, gave, heard, is_starved, made, nothing, unserved};
-ghost use Rattle.xns_host.specs.Story.{Story, GoesOn, new_story, asked_of, waiting_message, with_handed, has_message};
-ghost use Rattle.xns_host.specs.Telling.{Tells, Goes, MovesAndGives, Rested, Calm, CalmFrom, HasSaidEnd, HasSaidReply, Hears, OwesRoom, ReadsAll, waits, is_over};
-ghost use Rattle.xns_agenda.specs.Waiting.{HearsAt, IsDueAfter, StepsAt, act_at, after_act, after_step, after_word, last_time, lingering, new_waiting};
+ghost use Rattle.xns_host.specs.Deeds.{ClosesThen, GoesOnBy, acted, asked, gave, heard, is_starved, made, nothing, unserved};
+ghost use Rattle.xns_host.specs.Story.{new_story, waiting_message, has_message};
+ghost use Rattle.xns_host.specs.Telling.{Tells, Goes, waits};
+ghost use Rattle.xns_agenda.specs.Waiting.{IsDueAfter, StepsAt, act_at, after_step, after_word, last_time, new_waiting};
 ghost use Rattle.xns_agenda.specs.declared.act.Act.TheVariants.{GiveUp};
 ghost use Rattle.xns_host.specs.declared.why.Why.TheVariants.{NotServed};
 
@@ -57,6 +54,7 @@ pub struct Connection {
     ghost open_due: { closed ≡ None → is_open_due wait.due ≡ true },
     ghost closed_due: { closed ≢ None → is_closed_due wait.due ≡ true },
     ghost deaf: { closed ≢ None → drains conversation.side conversation.closing ≡ true },
+    ghost stands: { HasHistory conversation.endpoint },
 }
 
 /// Whether a packet is no word of the peer.
@@ -93,30 +91,12 @@ fn after_moving(
     requires deaf { closed.old ≢ None → drains conversation.old.side conversation.old.closing ≡ true }
     requires open_due { closed.old ≡ None → is_open_due wait.old.due ≡ true }
     requires closed_due { closed.old ≢ None → is_closed_due wait.old.due ≡ true }
-    ensures goes { Goes conversation.old conversation.new }
-    ensures steps { StepsAt now wait.old wait.new }
-    ensures packets { conversation.new.packets ≡ conversation.old.packets }
-    ensures closed { closed.old ≢ None → closed.new ≡ closed.old }
-    ensures why { closed.old ≡ None → (s : State) → StandsFor conversation.old.endpoint s
-        → closed.new ≡ why_after conversation.old.closing (is_over conversation.old.closing s) moved }
+    ensures closes { ClosesThen now conversation.old moved conversation.new closed.old closed.new wait.old wait.new }
     ensures timed { closed.new ≡ None → (s : State) → StandsFor conversation.new.endpoint s → tick_answer s ≢ []
         → is_again wait.new.due ≡ true }
     ensures open_due { closed.new ≡ None → is_open_due wait.new.due ≡ true }
     ensures closed_due { closed.new ≢ None → is_closed_due wait.new.due ≡ true }
     ensures deaf { closed.new ≢ None → drains conversation.new.side conversation.new.closing ≡ true }
-    ensures kept { closed.old ≢ None → wait.new ≡ wait.old }
-    ensures waits { closed.new ≡ None → (s : State) → StandsFor conversation.new.endpoint s → wait.new ≡ after_step wait.old (waits s) now }
-    ensures lingers { closed.old ≡ None → closed.new ≢ None → wait.new ≡ lingering wait.old now }
-    ensures idle { drains conversation.new.side conversation.new.closing ≡ false → conversation.new ≡ conversation.old }
-    ensures stays { closed.new ≡ closed.old → conversation.new ≡ conversation.old }
-    ensures endpoint { conversation.new.endpoint ≡ conversation.old.endpoint }
-    ensures rest { conversation.new ≡ record conversation.old {
-      closing = record conversation.old.closing {
-        deaf = conversation.new.closing.deaf;
-      };
-    } }
-    ensures given_up { closed.old ≡ None → closed.new ≢ None
-        → conversation.new ≡ record conversation.old { closing = record conversation.old.closing { deaf = true } } }
 {
     if closed.is_some() {
         return;
@@ -133,9 +113,7 @@ fn after_moving(
 
 /// Whether memory was refused while items moved.
 fn is_starved(moved: Result<(), FeedRefusal>) -> bool
-    ensures value { result ≡ is_starved moved }
-    ensures yes { result ≡ true → moved ≡ Err NoMemory }
-    ensures none { result ≡ false → moved ≢ Err NoMemory }
+    ensures { result ≡ is_starved moved }
 {
     matches!(moved, Err(FeedRefusal::NoMemory))
 }
@@ -152,32 +130,14 @@ fn settled(
     requires deaf { closed.old ≢ None → drains conversation.old.side conversation.old.closing ≡ true }
     requires open_due { closed.old ≡ None → is_open_due wait.old.due ≡ true }
     requires closed_due { closed.old ≢ None → is_closed_due wait.old.due ≡ true }
-    ensures goes { Goes conversation.old conversation.new }
-    ensures steps { StepsAt now wait.old wait.new }
-    ensures packets { conversation.new.packets ≡ conversation.old.packets }
-    ensures closed { closed.old ≢ None → closed.new ≡ closed.old }
+    requires stands { HasHistory conversation.old.endpoint }
+    ensures moved { GoesOnBy now conversation.old conversation.new owed.old owed.new closed.old closed.new wait.old wait.new }
     ensures timed { closed.new ≡ None → (s : State) → StandsFor conversation.new.endpoint s → tick_answer s ≢ []
         → is_again wait.new.due ≡ true }
     ensures open_due { closed.new ≡ None → is_open_due wait.new.due ≡ true }
     ensures closed_due { closed.new ≢ None → is_closed_due wait.new.due ≡ true }
     ensures deaf { closed.new ≢ None → drains conversation.new.side conversation.new.closing ≡ true }
-    ensures kept { closed.old ≢ None → wait.new ≡ wait.old }
-    ensures waits { closed.new ≡ None → (s : State) → StandsFor conversation.new.endpoint s → wait.new ≡ after_step wait.old (waits s) now }
-    ensures lingers { closed.old ≡ None → closed.new ≢ None → wait.new ≡ lingering wait.old now }
-    ensures owed { (owed.new.again ≡ owed.old.again) × (owed.new.asks ≡ owed.old.asks) × (owed.new.fresh ≡ true) }
-    ensures word { owed.old.word ≡ true → owed.new.word ≡ true }
-    ensures room { OwesRoom conversation.old.endpoint conversation.new.endpoint owed.new.word }
-    ensures calm { owed.new.moving ≡ false → drains conversation.new.side conversation.new.closing ≡ false
-        → Calm conversation.old conversation.new }
-    ensures read { owed.new.moving ≡ false → closed.new ≡ closed.old → ReadsAll conversation.old conversation.new }
-    ensures said { owed.new.moving ≡ false → HasSaidEnd conversation.new }
-    ensures replied { owed.new.moving ≡ false → closed.new ≡ closed.old → HasSaidReply conversation.new }
-    ensures why { ClosesBy conversation.old (λ h. h) conversation.new owed.new.moving closed.old closed.new }
-    ensures quiet { owed.old.word ≡ false → (s v : State) → StandsFor conversation.old.endpoint s → StandsFor conversation.new.endpoint v
-        → waiting_count s ≤ waiting_count v → owed.new.word ≡ false }
-    ensures wanted { conversation.new.closing.wanted ≡ conversation.old.closing.wanted }
-    ensures unasked { conversation.old.closing.wanted ≡ false → conversation.new.closing.end_sent ≡ conversation.old.closing.end_sent }
-    ensures moved { GoesOnBy now conversation.old conversation.new owed.old owed.new closed.old closed.new wait.old wait.new }
+    ensures stands { HasHistory conversation.new.endpoint }
 {
     let waiting = conversation.endpoint.waiting();
     let moved = conversation.settle(alloc);
@@ -201,12 +161,12 @@ fn is_progress(conversation: &Conversation, before: usize, was_open: bool) -> bo
 fn note(input: Input, more: bool, left: bool, owed: &mut Owed, wait: &mut Wait, now: u64)
     ensures foreign { is_foreign input.dropped ≡ true → (wait.new ≡ wait.old) × (owed.new ≡ owed.old) }
     ensures wait { is_foreign input.dropped ≡ false → wait.new ≡ after_word wait.old more now }
-    ensures word { is_foreign input.dropped ≡ false → owed.new.word ≡ owed.old.word || input.owes_reply }
-    ensures again { is_foreign input.dropped ≡ false → owed.new.again ≡ owed.old.again || (more && (wait.old.vain && left)) }
-    ensures beside { (owed.new.asks ≡ owed.old.asks) × (owed.new.moving ≡ owed.old.moving) }
+    ensures owed { is_foreign input.dropped ≡ false → owed.new ≡ record owed.old {
+      word = owed.old.word || input.owes_reply;
+      again = owed.old.again || (more && (wait.old.vain && left));
+    } }
     ensures open_due { is_open_due wait.old.due ≡ true → is_open_due wait.new.due ≡ true }
     ensures closed_due { is_closed_due wait.old.due ≡ true → is_closed_due wait.new.due ≡ true }
-    ensures fresh { owed.new.fresh ≡ owed.old.fresh }
 {
     if is_foreign(input.dropped) {
         return;
@@ -254,7 +214,7 @@ fn wait_unless(conversation: &Conversation, closed: Option<Why>, wait: &mut Wait
 
 impl Connection {
     ghost use Rattle.xns_host.specs.declared.closing.TheConstants.Closing.{NONE};
-    ghost use Rattle.xns_host.specs.Step.{GivesNext, Hands, MovesOwed, Promises, Step, parts_of};
+    ghost use Rattle.xns_host.specs.Step.{GivesNext, Hands, MovesOwed, Step, parts_of};
 
     fn new(
         alloc: Global,
@@ -264,15 +224,14 @@ impl Connection {
         again: bool,
         now: u64,
     ) -> Connection
-        ensures endpoint { result.conversation.endpoint ≡ endpoint }
-        ensures side { result.conversation.side ≡ side }
-        ensures closing { result.conversation.closing ≡ NONE }
-        ensures packets { result.conversation.packets.items ≡ [] }
+        requires { HasHistory endpoint }
+        ensures ends { (result.conversation.endpoint ≡ endpoint) × (result.conversation.side ≡ side) }
+        ensures said { (result.conversation.closing ≡ NONE) × (result.conversation.packets.items ≡ []) }
         ensures open { (result.closed ≡ None) × (result.told ≡ false) }
-        ensures owed { (result.owed.again ≡ again) × (result.owed.fresh ≡ true) }
+        ensures owed { (result.owed.again ≡ again) × (result.owed.fresh ≡ true) × (result.owed.word ≡ false) × (result.owed.asks ≡ false)
+            × (result.owed.moving ≡ false) }
         ensures wait { (s : State) → StandsFor endpoint s → result.wait ≡ after_step (new_waiting pace now) (waits s) now }
         ensures begun { StepsAt now (new_waiting pace now) result.wait }
-        ensures owes { (result.owed.word ≡ false) × (result.owed.asks ≡ false) × (result.owed.moving ≡ false) }
     {
         let conversation = Conversation::new(alloc, endpoint, side);
         let mut wait = Wait::new(pace, now);
@@ -377,25 +336,7 @@ impl Connection {
 
     /// Moves what can move.
     fn go_on(&mut self, alloc: Global, now: u64)
-        ensures goes { Goes self.old.conversation self.new.conversation }
-        ensures packets { self.new.conversation.packets ≡ self.old.conversation.packets }
-        ensures calm { self.new.owed.moving ≡ false → drains self.new.conversation.side self.new.conversation.closing ≡ false
-            → Calm self.old.conversation self.new.conversation }
-        ensures closed { self.old.closed ≢ None → self.new.closed ≡ self.old.closed }
-        ensures told { self.new.told ≡ self.old.told }
-        ensures owed { (self.new.owed.again ≡ self.old.owed.again) × (self.new.owed.asks ≡ self.old.owed.asks)
-            × (self.new.owed.fresh ≡ true) }
-        ensures word { self.old.owed.word ≡ true → self.new.owed.word ≡ true }
-        ensures steps { StepsAt now self.old.wait self.new.wait }
-        ensures why { ClosesBy self.old.conversation (λ h. h) self.new.conversation self.new.owed.moving
-            self.old.closed self.new.closed }
-        ensures room { OwesRoom self.old.conversation.endpoint self.new.conversation.endpoint self.new.owed.word }
-        ensures read { self.new.owed.moving ≡ false → self.new.closed ≡ self.old.closed
-            → ReadsAll self.old.conversation self.new.conversation }
-        ensures said { self.new.owed.moving ≡ false → HasSaidEnd self.new.conversation }
-        ensures replied { self.new.owed.moving ≡ false → self.new.closed ≡ self.old.closed → HasSaidReply self.new.conversation }
         ensures step { Step now nothing self.old self.new }
-        ensures unwanted { self.new.conversation.closing.wanted ≡ self.old.conversation.closing.wanted }
     {
         settled(
             &mut self.conversation,
@@ -410,37 +351,12 @@ impl Connection {
     /// Takes in a packet that was read from bytes, at this time. Where memory is refused it is as if the packet were lost.
     pub fn receive(&mut self, alloc: Global, now: u64, packet: &SppPacket) -> Result<(), AllocError>
         requires { IsSppPacket packet.now }
-        ensures tells { OnOk result ((b : List ℕ) → spp_packet_of b ≡ Ok packet.now → Hears self.old.conversation self.new.conversation b) }
-        ensures said { OnOk result (self.new.owed.moving ≡ false → HasSaidEnd self.new.conversation) }
-        ensures replied { OnOk result (self.new.owed.moving ≡ false → self.new.closed ≡ self.old.closed
-            → HasSaidReply self.new.conversation) }
-        ensures closed { self.old.closed ≢ None → self.new.closed ≡ self.old.closed }
-        ensures packets { self.new.conversation.packets ≡ self.old.conversation.packets }
-        ensures told { self.new.told ≡ self.old.told }
-        ensures steps { OnOk result (HearsAt now self.old.wait self.new.wait) }
-        ensures heard { OnOk result ((s : State) (b : List ℕ) → StandsFor self.old.conversation.endpoint s → spp_packet_of b ≡ Ok packet.now
-            → StepsAt now (wait_heard self.old.wait s b now) self.new.wait) }
-        ensures again { OnOk result ((s : State) (b : List ℕ) → StandsFor self.old.conversation.endpoint s → spp_packet_of b ≡ Ok packet.now
-            → self.new.owed.again ≡ (owed_heard self.old.owed self.old.wait s b).again) }
-        ensures asks { self.new.owed.asks ≡ self.old.owed.asks }
-        ensures word { OnOk result ((s : State) (b : List ℕ) → StandsFor self.old.conversation.endpoint s → spp_packet_of b ≡ Ok packet.now
-            → (owed_heard self.old.owed self.old.wait s b).word ≡ true → self.new.owed.word ≡ true) }
-        ensures fresh { OnOk result (self.new.owed.fresh ≡ true) }
-        ensures why { OnOk result ((b : List ℕ) → spp_packet_of b ≡ Ok packet.now
-            → ClosesBy self.old.conversation (λ h. record h { state = after_receive h.state b }) self.new.conversation
-            self.new.owed.moving self.old.closed self.new.closed) }
         ensures unchanged { OnErr result (self.new ≡ self.old) }
         ensures memory { OnErr result ((s : State) (b : List ℕ) → StandsFor self.old.conversation.endpoint s
             → spp_packet_of b ≡ Ok packet.now → StoresBytes s b) }
-        ensures quiet { OnOk result ((s v : State) (b : List ℕ) → StandsFor self.old.conversation.endpoint s → spp_packet_of b ≡ Ok packet.now
-            → (owed_heard self.old.owed self.old.wait s b).word ≡ false → StandsFor self.new.conversation.endpoint v
-            → waiting_count (after_receive s b) ≤ waiting_count v → self.new.owed.word ≡ false) }
-        ensures waits { OnOk result ((s v : State) (b : List ℕ) → StandsFor self.old.conversation.endpoint s → spp_packet_of b ≡ Ok packet.now
-            → self.new.closed ≡ None → StandsFor self.new.conversation.endpoint v
-            → self.new.wait ≡ after_step (wait_heard self.old.wait s b now) (waits v) now) }
-        ensures unwanted { self.new.conversation.closing.wanted ≡ self.old.conversation.closing.wanted }
         ensures step { OnOk result ((b : List ℕ) → spp_packet_of b ≡ Ok packet.now → Step now (heard b) self.old self.new) }
     {
+        xns_spp::laws::written_packet_is_read_again();
         let before = self.conversation.endpoint.unacknowledged();
         let was_open = self.conversation.endpoint.is_open();
         let input = self.conversation.receive(alloc, packet)?;
@@ -461,27 +377,7 @@ impl Connection {
     /// Moves what memory was refused for.
     #[tactic(auto, using(crate::proofs::Done::no_step))]
     fn move_owed(&mut self, alloc: Global, now: u64)
-        ensures goes { Goes self.old.conversation self.new.conversation }
-        ensures packets { self.new.conversation.packets ≡ self.old.conversation.packets }
-        ensures closed { self.old.closed ≢ None → self.new.closed ≡ self.old.closed }
-        ensures told { self.new.told ≡ self.old.told }
-        ensures owed { (self.new.owed.again ≡ self.old.owed.again) × (self.new.owed.asks ≡ self.old.owed.asks) }
-        ensures word { self.old.owed.word ≡ true → self.new.owed.word ≡ true }
-        ensures idle { self.old.owed.moving ≡ false → self.new ≡ self.old }
-        ensures why { self.old.owed.moving ≡ true → ClosesBy self.old.conversation (λ h. h) self.new.conversation self.new.owed.moving
-            self.old.closed self.new.closed }
-        ensures fresh { self.old.owed.fresh ≡ true → self.new.owed.fresh ≡ true }
-        ensures steps { StepsAt now self.old.wait self.new.wait }
-        ensures room { OwesRoom self.old.conversation.endpoint self.new.conversation.endpoint self.new.owed.word }
-        ensures calm { self.old.owed.moving ≡ true → self.new.owed.moving ≡ false
-            → drains self.new.conversation.side self.new.conversation.closing ≡ false → Calm self.old.conversation self.new.conversation }
-        ensures read { self.old.owed.moving ≡ true → self.new.owed.moving ≡ false → self.new.closed ≡ self.old.closed
-            → ReadsAll self.old.conversation self.new.conversation }
-        ensures said { self.old.owed.moving ≡ true → self.new.owed.moving ≡ false → HasSaidEnd self.new.conversation }
-        ensures replied { self.old.owed.moving ≡ true → self.new.owed.moving ≡ false → self.new.closed ≡ self.old.closed
-            → HasSaidReply self.new.conversation }
         ensures moved { MovesOwed self.old.owed.moving now self.old self.new }
-        ensures unwanted { self.new.conversation.closing.wanted ≡ self.old.conversation.closing.wanted }
     {
         if !self.owed.moving {
             return;
@@ -493,18 +389,9 @@ impl Connection {
     /// program was told that it is closed.
     pub fn act(&mut self, now: u64) -> Act
         ensures act { result ≡ act_at self.old.wait now }
-        ensures wait { self.new.wait ≡ after_act self.old.wait now }
         ensures later { now < last_time → IsDueAfter now self.new.wait.due }
-        ensures owed { self.new.owed ≡ owed_after self.old.owed result }
         ensures goes { Goes self.old.conversation self.new.conversation }
         ensures packets { self.new.conversation.packets ≡ self.old.conversation.packets }
-        ensures same { result ≢ GiveUp → (self.new.conversation ≡ self.old.conversation) × (self.new.closed ≡ self.old.closed) }
-        ensures given_up { result ≡ GiveUp → (self.old.closed ≡ None)
-            × (self.new.closed ≡ Some (why_given_up self.old.conversation.closing)) }
-        ensures told { self.new.told ≡ self.old.told }
-        ensures left { result ≡ GiveUp → self.new.conversation ≡ record self.old.conversation {
-          closing = record self.old.conversation.closing { deaf = true };
-        } }
         ensures step { parts_of self.new ≡ acted (parts_of self.old) now }
     {
         let act = self.wait.act(now);
@@ -522,16 +409,9 @@ impl Connection {
     pub fn not_served(&mut self, now: u64)
         ensures goes { Goes self.old.conversation self.new.conversation }
         ensures owed { self.new.owed ≡ self.old.owed }
-        ensures packets { self.new.conversation.packets ≡ self.old.conversation.packets }
         ensures closed { self.old.closed ≢ None → self.new ≡ self.old }
-        ensures open { (s : State) → StandsFor self.old.conversation.endpoint s → is_open s.ends ≡ true → self.new ≡ self.old }
-        ensures not_served { (s : State) → StandsFor self.old.conversation.endpoint s → is_open s.ends ≡ false → self.old.closed ≡ None
-            → (self.new.closed ≡ Some NotServed) × (self.new.wait ≡ lingering self.old.wait now) }
         ensures steps { StepsAt now self.old.wait self.new.wait }
         ensures told { self.new.told ≡ self.old.told }
-        ensures left { self.old.closed ≡ None → self.new.closed ≢ None → self.new.conversation ≡ record self.old.conversation {
-          closing = record self.old.conversation.closing { deaf = true };
-        } }
         ensures step { (s : State) → StandsFor self.old.conversation.endpoint s → parts_of self.new ≡ unserved (parts_of self.old) s now }
     {
         if self.conversation.endpoint.is_open() {
@@ -548,47 +428,7 @@ impl Connection {
     /// The next packet that is to go out. `None` where there is none, until something is done again. The only error is want of memory:
     /// what is to go out stays so.
     pub fn next_packet(&mut self, alloc: Global, now: u64) -> Result<Option<Bytes>, AllocError>
-        ensures goes { Goes self.old.conversation self.new.conversation }
-        ensures gives { IfOk result (λ o. MovesAndGives self.old.conversation self.new.conversation o) }
-        ensures given_none { OnErr result (MovesAndGives self.old.conversation self.new.conversation None) }
-        ensures rested { result ≡ Ok None → Rested self.old.conversation self.new.conversation }
-        ensures none { result ≡ Ok None → (self.new.owed.again ≡ false) × (self.new.owed.asks ≡ false) × (self.new.owed.word ≡ false)
-            × (self.new.owed.fresh ≡ self.new.owed.moving) }
-        ensures rests { self.old.owed.fresh ≡ true → self.new.owed.fresh ≡ false
-            → Rested self.old.conversation self.new.conversation }
-        ensures left { self.old.owed.fresh ≡ true → self.new.owed.fresh ≡ false → (self.new.conversation.packets.items ≡ [])
-            × (self.new.owed.again ≡ false) × (self.new.owed.asks ≡ false) × (self.new.owed.word ≡ false)
-            × (self.new.owed.moving ≡ false) }
-        // What is owed is owed until it is given, from where the connection is when what can move has moved.
-        ensures again { self.old.owed.again ≡ true → self.new.owed.again ≡ false → (mid : Conversation) × Goes self.old.conversation mid
-            × ((s : State) (b : List ℕ) → StandsFor mid.endpoint s → resend_answer s ≡ Some b → result ≡ Ok (Some b)) }
-        ensures asks { self.old.owed.asks ≡ true → self.new.owed.asks ≡ false → (s : State) → StandsFor self.new.conversation.endpoint s
-            → result ≡ Ok (told_answer s true) }
-        ensures word { self.old.owed.word ≡ true → result ≡ Ok None → (s : State) → StandsFor self.new.conversation.endpoint s
-            → told_answer s self.old.owed.asks ≡ None }
-        ensures idle { self.old.owed.moving ≡ false → (self.new.conversation.side ≡ self.old.conversation.side)
-            × (self.new.conversation.closing ≡ self.old.conversation.closing) × (self.new.closed ≡ self.old.closed) }
-        ensures why { self.old.owed.moving ≡ true → (mid : Conversation) × Goes mid self.new.conversation
-            × ClosesBy self.old.conversation (λ h. h) mid self.new.owed.moving self.old.closed self.new.closed }
-        ensures closed { self.old.closed ≢ None → self.new.closed ≡ self.old.closed }
-        ensures told { self.new.told ≡ self.old.told }
-        ensures steps { StepsAt now self.old.wait self.new.wait }
-        ensures moved { self.old.owed.moving ≡ true → self.new.owed.moving ≡ false → (mid : Conversation) × Goes self.old.conversation mid
-            × (drains mid.side mid.closing ≡ false → Calm self.old.conversation mid) × HasSaidEnd mid
-            × (self.new.closed ≡ self.old.closed → ReadsAll self.old.conversation mid × HasSaidReply mid)
-            × Goes mid self.new.conversation }
-        ensures silent { self.old.owed.moving ≡ false → self.old.owed.again ≡ false → self.old.owed.asks ≡ false → self.old.owed.word ≡ false
-            → self.old.conversation.packets.items ≡ [] → (s : State) → StandsFor self.old.conversation.endpoint s → flush_answer s ≡ []
-            → IfOk result (λ o. o ≡ None) }
-        ensures waits { self.old.owed.moving ≡ false → self.new.closed ≡ None → (s : State)
-            → StandsFor self.new.conversation.endpoint s → self.new.wait ≡ after_step self.old.wait (waits s) now }
-        ensures kept { self.old.owed.moving ≡ false → self.new.closed ≢ None → self.new.wait ≡ self.old.wait }
-        ensures unwanted { self.new.conversation.closing.wanted ≡ self.old.conversation.closing.wanted }
-        ensures kept_word { self.old.owed.word ≡ true → self.new.owed.word ≡ false → self.old.conversation.packets.items ≡ [] }
-        ensures refused { OnErr result ((self.old.owed.word ≡ true → self.new.owed.word ≡ true) × (self.new.owed.asks ≡ self.old.owed.asks)
-            × (self.old.owed.fresh ≡ true → self.new.owed.fresh ≡ true)) }
         ensures step { GivesNext now result self.old self.new }
-        ensures unasked { (self.old.owed.again ≡ false → self.new.owed.again ≡ false) × (self.old.owed.asks ≡ false → self.new.owed.asks ≡ false) }
     {
         self.move_owed(alloc, now);
         let packet = self.conversation.next_packet(alloc, &mut self.owed);
@@ -610,7 +450,6 @@ impl Connection {
     ) -> Result<(), HostFault>
         ensures refused { Answers (call_fault_of self.old.conversation (words_call program version procedure words.now)) result }
         ensures step { OnOk result (Step now (made (words_call program version procedure words.now)) self.old self.new) }
-        ensures promises { OnOk result (Promises now (made (words_call program version procedure words.now)) self.old self.new) }
         ensures unchanged { OnErr result (self.new ≡ self.old) }
     {
         self.conversation
@@ -638,7 +477,6 @@ impl Connection {
     ) -> Result<(), HostFault>
         ensures refused { Answers (answer_fault_of self.old.conversation kind words.now) result }
         ensures step { OnOk result (Step now (gave kind words.now) self.old self.new) }
-        ensures promises { OnOk result (Promises now (gave kind words.now) self.old self.new) }
         ensures unchanged { OnErr result (self.new ≡ self.old) }
     {
         self.conversation.answer(alloc, kind, words)?;
@@ -656,7 +494,6 @@ impl Connection {
     /// Closes once all that it has to say is said.
     pub fn close(&mut self, alloc: Global, now: u64)
         ensures step { Step now asked self.old self.new }
-        ensures promises { Promises now asked self.old self.new }
     {
         self.conversation.close();
         settled(
@@ -673,35 +510,6 @@ impl Connection {
     #[tactic(auto, using(crate::proofs::Done::no_step))]
     pub fn take_message(&mut self, alloc: Global, now: u64) -> Option<PiecedMessage>
         ensures message { result ≡ waiting_message self.old.conversation.side }
-        ensures handed { (h : Story) (m : Message) → Tells self.old.conversation h → result ≡ Some m → (n : Story)
-            × Tells self.new.conversation n × GoesOn (with_handed self.old.conversation.side h m) n }
-        ensures wanted { self.old.conversation.closing.wanted ≡ true → self.new.conversation.closing.wanted ≡ true }
-        ensures calm { (m : Message) → result ≡ Some m → self.new.owed.moving ≡ false
-            → drains self.new.conversation.side self.new.conversation.closing ≡ false
-            → CalmFrom self.old.conversation self.new.conversation (λ h. with_handed self.old.conversation.side h m) }
-        ensures read { (m : Message) → result ≡ Some m → self.new.owed.moving ≡ false → self.new.closed ≡ self.old.closed
-            → ReadsAll self.old.conversation self.new.conversation }
-        ensures said { result ≢ None → self.new.owed.moving ≡ false → HasSaidEnd self.new.conversation }
-        ensures replied { result ≢ None → self.new.owed.moving ≡ false → self.new.closed ≡ self.old.closed
-            → HasSaidReply self.new.conversation }
-        ensures why { (m : Message) → result ≡ Some m
-            → ClosesBy self.old.conversation (λ h. with_handed self.old.conversation.side h m) self.new.conversation
-            self.new.owed.moving self.old.closed self.new.closed }
-        ensures closed { self.old.closed ≢ None → self.new.closed ≡ self.old.closed }
-        ensures packets { self.new.conversation.packets ≡ self.old.conversation.packets }
-        ensures told { self.new.told ≡ self.old.told }
-        ensures steps { StepsAt now self.old.wait self.new.wait }
-        ensures room { OwesRoom self.old.conversation.endpoint self.new.conversation.endpoint self.new.owed.word }
-        // Where no packet may be to go out, nothing has moved.
-        ensures fresh { self.new.owed.fresh ≡ false → (self.new.owed ≡ self.old.owed)
-            × (self.new.conversation.endpoint ≡ self.old.conversation.endpoint) }
-        ensures none { result ≡ None → self.new ≡ self.old }
-        ensures owed { StaysOwed self.old.owed self.new.owed }
-        ensures unwanted { self.new.conversation.closing.wanted ≡ self.old.conversation.closing.wanted }
-        ensures waits { self.new.closed ≡ None → self.new.wait ≢ self.old.wait → (s : State)
-            → StandsFor self.new.conversation.endpoint s → self.new.wait ≡ after_step self.old.wait (waits s) now }
-        ensures kept { self.old.closed ≢ None → self.new.wait ≡ self.old.wait }
-        ensures lingers { self.old.closed ≡ None → self.new.closed ≢ None → self.new.wait ≡ lingering self.old.wait now }
         ensures step { Hands now self.old self.new }
     {
         let message = self.conversation.take_message()?;

@@ -1,24 +1,22 @@
 //! An endpoint, its side, and the closing exchange between both.
 
-ghost use Rattle.std.specs.Prelude.{◌≡◌, ◌≢◌, ◌⊎◌, ◌||◌, ◌≤◌, ◌-◌, ℕ, [], ◌∷◌, ◌++◌, List, true, false, is_ok, IfErr, IfOk, OnOk, OnErr, Some, None, Ok, Err};
-ghost use Rattle.courier_messages.specs.declared.message.Message.{Message};
+ghost use Rattle.std.specs.Prelude.{◌≡◌, ◌≢◌, ◌⊎◌, ◌||◌, ◌-◌, ℕ, [], ◌++◌, List, true, false, is_ok, IfOk, OnOk, OnErr, Some, None, Ok, Err};
 ghost use Rattle.courier_messages.specs.RawCalls.{words_call};
 ghost use Rattle.courier_sessions.specs.declared.feed_refusal.FeedRefusal.TheVariants.{NoMemory};
-ghost use Rattle.courier_sessions.specs.Answering.{answer_message};
 ghost use Rattle.xns_spp.specs.Held.{StandsFor};
 ghost use Rattle.xns_spp.specs.Packet.{IsSppPacket, spp_packet_of};
 ghost use Rattle.xns_spp.specs.Receiving.{input_answer, after_receive, StoresBytes};
 ghost use Rattle.xns_spp.specs.Sending.{send_answer, after_flush, after_send, flush_answer, tick_answer, waiting_count};
 ghost use Rattle.std.specs.Option.{option_to_list};
 ghost use Rattle.xns_spp.specs.State.{State};
-ghost use Rattle.xns_spp.specs.Telling.{after_resend, resend_answer, told_answer};
-ghost use Rattle.xns_host.specs.Closing.{StaysSaid, closing_item, noted, drains};
+ghost use Rattle.xns_spp.specs.Telling.{after_resend, resend_answer};
+ghost use Rattle.xns_host.specs.Closing.{closing_item, noted, drains};
 ghost use Rattle.xns_host.specs.Giving.{Giving, GivesAs, IsGiving, IsShort, flushed, giving, has_packets, newer, next_of, older};
 ghost use Rattle.xns_host.specs.Moving.{IsAt, Moves, Scene, Settles, closed_up, drained_out, ended, is_calm, replied, scene, taken_many, taken_one};
 ghost use Rattle.xns_host.specs.Deeds.{side_answered, side_called, side_taken};
 ghost use Rattle.xns_host.specs.Refusing.{Answers};
 ghost use Rattle.xns_host.specs.declared.closing.TheConstants.Closing.{NONE};
-ghost use Rattle.xns_host.specs.Story.{Story, asked_of, waiting_message, with_handed};
+ghost use Rattle.xns_host.specs.Story.{waiting_message};
 
 use crate::closing::Closing;
 use crate::host_fault::HostFault;
@@ -74,8 +72,7 @@ fn noted(closing: Closing, stream: u8) -> Closing
 
 impl Conversation {
     ghost use Rattle.xns_host.specs.Reasons.{call_fault_of, answer_fault_of};
-    ghost use Rattle.xns_host.specs.Telling.{Tells, Goes, GoesUntil, Gives, Rested, Calm, HasSaidEnd, HasSaidReply, IsUnrefused, NoneWaits, ReadsAll, ReadsOn, owes_end, owes_reply};
-    ghost use Rattle.xns_host.specs.Telling.{waits, is_over, word_answer};
+    ghost use Rattle.xns_host.specs.Telling.{is_over, owes_end, owes_reply, waits, word_answer};
 
     /// One in which nothing was said.
     pub fn new(alloc: Global, endpoint: Endpoint, side: Side) -> Conversation
@@ -105,16 +102,10 @@ impl Conversation {
     /// Takes the item that waits first, if one does, and notes what it says of closing.
     fn take_one(&mut self)
         requires { drains self.old.side self.old.closing ≡ true }
-        ensures goes { Goes self.old self.new }
         ensures packets { self.new.packets ≡ self.old.packets }
         ensures drains { drains self.new.side self.new.closing ≡ true }
-        ensures fewer { (s v : State) → StandsFor self.old.endpoint s → StandsFor self.new.endpoint v
-            → waiting_count v ≤ waiting_count s - 1 }
-        ensures side { self.new.side ≡ self.old.side }
         ensures at { (s : State) → StandsFor self.old.endpoint s → IsAt self.new (taken_one (scene self.old s)) }
-        ensures kept { StaysSaid self.old.closing self.new.closing }
     {
-        xns_spp::laws::the_next_item_is_handed_up();
         let Some(item) = self.endpoint.take() else {
             return;
         };
@@ -124,12 +115,8 @@ impl Conversation {
     /// Takes all that waits, and notes what is said of closing.
     fn drain(&mut self)
         requires { drains self.old.side self.old.closing ≡ true }
-        ensures goes { Goes self.old self.new }
         ensures packets { self.new.packets ≡ self.old.packets }
-        ensures read { (h : Story) → Tells self.old h → NoneWaits self.new.endpoint }
-        ensures side { self.new.side ≡ self.old.side }
         ensures at { (s : State) → StandsFor self.old.endpoint s → IsAt self.new (taken_many (waiting_count s) (scene self.old s)) }
-        ensures kept { StaysSaid self.old.closing self.new.closing }
     {
         for turn in 0..self.endpoint.waiting() {
             self.take_one();
@@ -138,13 +125,8 @@ impl Conversation {
 
     /// Takes all that waits, where it is looked at for the closing exchange alone.
     fn drain_out(&mut self)
-        ensures goes { Goes self.old self.new }
         ensures packets { self.new.packets ≡ self.old.packets }
-        ensures idle { drains self.new.side self.new.closing ≡ false → self.new ≡ self.old }
-        ensures read { ReadsAll self.old self.new }
-        ensures side { self.new.side ≡ self.old.side }
         ensures at { (s : State) → StandsFor self.old.endpoint s → IsAt self.new (drained_out (scene self.old s)) }
-        ensures kept { StaysSaid self.old.closing self.new.closing }
     {
         if self.drains() {
             self.drain();
@@ -181,19 +163,9 @@ impl Conversation {
 
     /// Answers an End, once.
     fn say_reply(&mut self, alloc: Global)
-        ensures goes { Goes self.old self.new }
         ensures packets { self.new.packets ≡ self.old.packets }
-        ensures idle { drains self.new.side self.new.closing ≡ false → self.new ≡ self.old }
-        ensures drains { drains self.new.side self.new.closing ≡ drains self.old.side self.old.closing }
-        ensures waiting { (s v : State) → StandsFor self.old.endpoint s → StandsFor self.new.endpoint v
-            → waiting_count v ≡ waiting_count s }
-        ensures replied { HasSaidReply self.new }
-        ensures side { self.new.side ≡ self.old.side }
-        ensures unasked { owes_reply self.old ≡ false → self.new ≡ self.old }
         ensures at { (s : State) → StandsFor self.old.endpoint s → IsAt self.new (replied (scene self.old s)) }
-        ensures closing { self.new.closing ≡ record self.old.closing { reply_sent = self.new.closing.reply_sent } }
     {
-        xns_spp::laws::items_are_accepted_or_change_nothing();
         if !self.owes_reply() {
             return;
         }
@@ -204,16 +176,9 @@ impl Conversation {
 
     /// Asks for an end, once, where that is wanted: behind all that is out, and after the answer to a call that waits.
     fn say_end(&mut self, alloc: Global)
-        ensures goes { Goes self.old self.new }
         ensures packets { self.new.packets ≡ self.old.packets }
-        ensures idle { drains self.new.side self.new.closing ≡ false → self.new ≡ self.old }
-        ensures said { HasSaidEnd self.new }
-        ensures side { self.new.side ≡ self.old.side }
-        ensures unasked { owes_end self.old ≡ false → self.new ≡ self.old }
         ensures at { (s : State) → StandsFor self.old.endpoint s → IsAt self.new (ended (scene self.old s)) }
-        ensures closing { self.new.closing ≡ record self.old.closing { end_sent = self.new.closing.end_sent } }
     {
-        xns_spp::laws::items_are_accepted_or_change_nothing();
         if !self.owes_end() {
             return;
         }
@@ -224,14 +189,8 @@ impl Conversation {
 
     /// Moves items between the side and the endpoint, unless what comes is looked at for the closing exchange alone.
     fn converse(&mut self, alloc: Global) -> Result<(), FeedRefusal>
-        ensures goes { Goes self.old self.new }
         ensures packets { self.new.packets ≡ self.old.packets }
-        ensures calm { result ≡ Ok tt → drains self.new.side self.new.closing ≡ false → Calm self.old self.new }
-        ensures reads { IsUnrefused result → (h : Story) → Tells self.old h → drains self.old.side self.old.closing ≡ false
-            → drains self.new.side self.new.closing ≡ false }
-        ensures refused { IfErr result (λ e. GoesUntil self.old (λ h. h) e) }
         ensures moves { (s : State) → StandsFor self.old.endpoint s → (x : Scene) × IsAt self.new x × Moves (scene self.old s) result x }
-        ensures closing { self.new.closing ≡ self.old.closing }
     {
         if self.drains() {
             return Ok(());
@@ -241,16 +200,8 @@ impl Conversation {
 
     /// Says what is to be said of closing, and looks at what waits where it is looked at for that alone.
     fn close_up(&mut self, alloc: Global)
-        ensures goes { Goes self.old self.new }
         ensures packets { self.new.packets ≡ self.old.packets }
-        ensures idle { drains self.new.side self.new.closing ≡ false → self.new ≡ self.old }
-        ensures read { ReadsAll self.old self.new }
-        ensures said { HasSaidEnd self.new }
-        ensures replied { HasSaidReply self.new }
-        ensures side { self.new.side ≡ self.old.side }
         ensures at { (s : State) → StandsFor self.old.endpoint s → IsAt self.new (closed_up (scene self.old s)) }
-        ensures kept { (self.new.closing.wanted ≡ self.old.closing.wanted) × (self.new.closing.deaf ≡ self.old.closing.deaf) }
-        ensures unasked { owes_end self.old ≡ false → self.new.closing.end_sent ≡ self.old.closing.end_sent }
     {
         self.say_end(alloc);
         self.drain_out();
@@ -259,8 +210,6 @@ impl Conversation {
 
     /// What comes is read no more, but for the closing exchange.
     pub fn give_up(&mut self)
-        ensures goes { Goes self.old self.new }
-        ensures packets { self.new.packets ≡ self.old.packets }
         ensures drains { drains self.new.side self.new.closing ≡ true }
         ensures rest { self.new ≡ record self.old { closing = record self.old.closing { deaf = true } } }
     {
@@ -269,10 +218,8 @@ impl Conversation {
 
     /// The side reads no more where it refused an item, unless memory was refused.
     fn mark(&mut self, moved: Result<(), FeedRefusal>)
-        ensures goes { Goes self.old self.new }
         ensures packets { self.new.packets ≡ self.old.packets }
         ensures good { moved ≡ Ok tt → self.new ≡ self.old }
-        ensures deaf { moved ≢ Ok tt → moved ≢ Err NoMemory → drains self.new.side self.new.closing ≡ true }
         ensures memory { moved ≡ Err NoMemory → self.new ≡ self.old }
         ensures given_up { moved ≢ Ok tt → moved ≢ Err NoMemory
             → self.new ≡ record self.old { closing = record self.old.closing { deaf = true } } }
@@ -286,19 +233,8 @@ impl Conversation {
     /// Moves what can move. An `Err` is why the side refused an item: it reads no more then, unless it is `NoMemory`, after which the
     /// same call goes on.
     pub fn settle(&mut self, alloc: Global) -> Result<(), FeedRefusal>
-        ensures goes { Goes self.old self.new }
         ensures packets { self.new.packets ≡ self.old.packets }
-        ensures calm { result ≢ Err NoMemory → drains self.new.side self.new.closing ≡ false → Calm self.old self.new }
-        ensures read { result ≢ Err NoMemory → ReadsAll self.old self.new }
-        ensures said { result ≢ Err NoMemory → HasSaidEnd self.new }
-        ensures replied { result ≢ Err NoMemory → HasSaidReply self.new }
-        ensures reads { IsUnrefused result → ReadsOn self.old self.new }
-        ensures refused { IfErr result (λ e. GoesUntil self.old (λ h. h) e) }
         ensures settles { (s : State) → StandsFor self.old.endpoint s → (x : Scene) × IsAt self.new x × Settles (scene self.old s) result x }
-        ensures wanted { self.new.closing.wanted ≡ self.old.closing.wanted }
-        ensures heard { (result ≡ Ok tt → self.new.closing.deaf ≡ self.old.closing.deaf)
-            × (result ≡ Err NoMemory → self.new.closing.deaf ≡ self.old.closing.deaf) }
-        ensures unasked { self.old.closing.wanted ≡ false → self.new.closing.end_sent ≡ self.old.closing.end_sent }
     {
         let moved = self.converse(alloc);
         self.mark(moved);
@@ -312,11 +248,7 @@ impl Conversation {
     /// Whether nothing can move, and nothing is to be said or read of closing.
     pub fn is_calm(&self) -> bool
         ensures value { (s : State) → StandsFor self.now.endpoint s → result ≡ is_calm (scene self.now s) }
-        ensures calm { result ≡ true → Calm self.now self.now }
-        ensures open { result ≡ true → drains self.now.side self.now.closing ≡ false }
-        ensures closing { result ≡ true → (owes_end self.now ≡ false) × (owes_reply self.now ≡ false) }
     {
-        xns_spp::laws::the_next_item_is_handed_up();
         if self.drains() || self.closing.wanted {
             return false;
         }
@@ -328,8 +260,6 @@ impl Conversation {
 
     /// The program wants an end.
     pub fn close(&mut self)
-        ensures goes { Goes self.old self.new }
-        ensures packets { self.new.packets ≡ self.old.packets }
         ensures rest { self.new ≡ record self.old { closing = record self.old.closing { wanted = true } } }
     {
         self.closing.wanted = true;
@@ -340,8 +270,6 @@ impl Conversation {
         requires { IsSppPacket packet.now }
         ensures answer { IfOk result (λ i. (s : State) (b : List ℕ) → StandsFor self.old.endpoint s → spp_packet_of b ≡ Ok packet.now
             → i ≡ input_answer s b) }
-        ensures tells { OnOk result ((h : Story) (b : List ℕ) → Tells self.old h → spp_packet_of b ≡ Ok packet.now
-            → Tells self.new (record h { state = after_receive h.state b })) }
         ensures stands { OnOk result ((s : State) (b : List ℕ) → StandsFor self.old.endpoint s → spp_packet_of b ≡ Ok packet.now
             → StandsFor self.new.endpoint (after_receive s b)) }
         ensures beside { (self.new.side ≡ self.old.side) × (self.new.closing ≡ self.old.closing) }
@@ -350,8 +278,6 @@ impl Conversation {
         ensures memory { OnErr result ((s : State) (b : List ℕ) → StandsFor self.old.endpoint s → spp_packet_of b ≡ Ok packet.now
             → StoresBytes s b) }
     {
-        xns_spp::laws::an_end_only_grows();
-        xns_spp::laws::other_steps_accept_and_hand_up_nothing();
         self.endpoint.input_packet(alloc, packet)
     }
 
@@ -381,11 +307,8 @@ impl Conversation {
         words: &[u16],
     ) -> Result<(), HostFault>
         ensures answer { Answers (call_fault_of self.old (words_call program version procedure words.now)) result }
-        ensures called { (h : Story) → Tells self.old h → result ≡ Ok tt
-            → Tells self.new (record h { made = h.made ++ words_call program version procedure words.now ∷ [] }) }
         ensures is { result ≡ Ok tt
             → self.new ≡ record self.old { side = side_called self.old.side (words_call program version procedure words.now) } }
-        ensures closing { self.new.closing ≡ self.old.closing }
         ensures drains { drains self.new.side self.new.closing ≡ drains self.old.side self.old.closing }
         ensures endpoint { self.new.endpoint ≡ self.old.endpoint }
         ensures packets { self.new.packets ≡ self.old.packets }
@@ -404,10 +327,7 @@ impl Conversation {
     /// `TooLong`; `NoMemory`.
     pub fn answer(&mut self, alloc: Global, answer: Answer, words: &[u16]) -> Result<(), HostFault>
         ensures answer { Answers (answer_fault_of self.old answer words.now) result }
-        ensures answered { (h : Story) (k : ℕ) → Tells self.old h → asked_of self.old.side ≡ Some k → result ≡ Ok tt
-            → Tells self.new (record h { answers = h.answers ++ answer_message answer k words.now ∷ [] }) }
         ensures is { result ≡ Ok tt → self.new ≡ record self.old { side = side_answered self.old.side answer words.now } }
-        ensures closing { self.new.closing ≡ self.old.closing }
         ensures drains { drains self.new.side self.new.closing ≡ drains self.old.side self.old.closing }
         ensures endpoint { self.new.endpoint ≡ self.old.endpoint }
         ensures packets { self.new.packets ≡ self.old.packets }
@@ -422,9 +342,7 @@ impl Conversation {
     /// The message that waits for the program, once.
     pub fn take_message(&mut self) -> Option<PiecedMessage>
         ensures message { result ≡ waiting_message self.old.side }
-        ensures handed { (h : Story) (m : Message) → Tells self.old h → result ≡ Some m → Tells self.new (with_handed self.old.side h m) }
         ensures is { self.new ≡ record self.old { side = side_taken self.old.side } }
-        ensures closing { self.new.closing ≡ self.old.closing }
         ensures drains { drains self.new.side self.new.closing ≡ drains self.old.side self.old.closing }
         ensures endpoint { self.new.endpoint ≡ self.old.endpoint }
         ensures packets { self.new.packets ≡ self.old.packets }
@@ -436,39 +354,28 @@ impl Conversation {
     /// Makes the packets that go out for the first time, where none that were made wait.
     fn flush(&mut self, alloc: Global) -> Result<(), AllocError>
         requires { self.old.packets.items ≡ [] }
-        ensures goes { Goes self.old self.new }
-        ensures gives { Gives self.old self.new None }
         ensures side { (self.new.side ≡ self.old.side) × (self.new.closing ≡ self.old.closing) }
-        ensures rested { OnOk result (Rested self.old self.new) }
         ensures packets { OnOk result ((s : State) → StandsFor self.old.endpoint s → self.new.packets.items ≡ flush_answer s) }
         ensures stands { OnOk result ((s : State) → StandsFor self.old.endpoint s → StandsFor self.new.endpoint (after_flush s)) }
         ensures unchanged { OnErr result (self.new ≡ self.old) }
     {
-        xns_spp::laws::other_steps_accept_and_hand_up_nothing();
-        xns_spp::laws::other_steps_hear_nothing();
         self.packets = VecDeque::from(self.endpoint.flush(alloc)?);
         Ok(())
     }
 
     /// Makes the packet of the first item again; `None` where there is none.
     fn again(&mut self, alloc: Global) -> Result<Option<Bytes>, AllocError>
-        ensures goes { Goes self.old self.new }
         ensures answer { IfOk result (λ o. (s : State) → StandsFor self.old.endpoint s → o ≡ resend_answer s) }
         ensures side { (self.new.side ≡ self.old.side) × (self.new.closing ≡ self.old.closing) }
         ensures packets { self.new.packets.items ≡ self.old.packets.items }
-        ensures gives { self.old.packets.items ≡ [] → IfOk result (λ o. Gives self.old self.new o) }
         ensures stands { OnOk result ((s : State) → StandsFor self.old.endpoint s → StandsFor self.new.endpoint (after_resend s)) }
         ensures unchanged { OnErr result (self.new ≡ self.old) }
     {
-        xns_spp::laws::other_steps_accept_and_hand_up_nothing();
-        xns_spp::laws::other_steps_hear_nothing();
         self.endpoint.resend_first(alloc)
     }
 
     /// The next packet of those that were made.
     fn fetch(&mut self) -> Option<Bytes>
-        ensures goes { Goes self.old self.new }
-        ensures gives { Gives self.old self.new result }
         ensures packets { self.old.packets.items ≡ option_to_list result ++ self.new.packets.items }
         ensures none { result ≡ None → self.new.packets.items ≡ [] }
         ensures rest { self.new ≡ record self.old { packets = self.new.packets } }
@@ -478,24 +385,10 @@ impl Conversation {
 
     /// The next packet of those that were made, or that is to go out again.
     fn older_packet(&mut self, alloc: Global, owed: &mut Owed) -> Result<Option<Bytes>, AllocError>
-        ensures goes { Goes self.old self.new }
-        ensures gives { IfOk result (λ o. Gives self.old self.new o) }
-        ensures given_none { OnErr result (Gives self.old self.new None) }
         ensures side { (self.new.side ≡ self.old.side) × (self.new.closing ≡ self.old.closing) }
-        ensures none { result ≡ Ok None → (self.new.packets.items ≡ []) × (owed.new.again ≡ false) }
-        ensures again { owed.old.again ≡ true → owed.new.again ≡ false → (s : State) → StandsFor self.old.endpoint s
-            → result ≡ Ok (resend_answer s) }
-        ensures word { owed.old.word ≡ true → result ≡ Ok None → owed.new.word ≡ true }
-        ensures beside { (owed.new.asks ≡ owed.old.asks) × (owed.new.moving ≡ owed.old.moving) × (owed.new.fresh ≡ owed.old.fresh) }
-        ensures refused { OnErr result (owed.new ≡ owed.old) }
-        ensures kept { owed.old.word ≡ true → owed.new.word ≡ false → (owed.old.again ≡ true) × (owed.new.again ≡ false)
-            × (self.old.packets.items ≡ []) }
-        ensures unasked { (owed.old.again ≡ false → owed.new.again ≡ false) × (owed.old.word ≡ false → owed.new.word ≡ false) }
-        ensures idle { owed.old.again ≡ false → self.new ≡ record self.old { packets = self.new.packets } }
-        ensures silent { self.old.packets.items ≡ [] → owed.old.again ≡ false → result ≡ Ok None }
+        ensures none { result ≡ Ok None → self.new.packets.items ≡ [] }
         ensures at { IfOk result (λ p. (s : State) → StandsFor self.old.endpoint s → GivesAs (older (giving self.old owed.old s)) p self.new owed.new) }
         ensures stays { OnErr result ((s : State) → StandsFor self.old.endpoint s → IsGiving self.new owed.new (giving self.old owed.old s)) }
-        ensures empty { result ≡ Ok None → (self.old.packets.items ≡ []) × (owed.new.word ≡ owed.old.word) }
     {
         if let Some(packet) = self.fetch() {
             return Ok(Some(packet));
@@ -513,10 +406,8 @@ impl Conversation {
     fn system_packet(&self, alloc: Global, owed: &mut Owed) -> Result<Option<Bytes>, AllocError>
         ensures done { OnOk result ((owed.new.asks ≡ false) × (owed.new.word ≡ false) × (owed.new.fresh ≡ owed.new.moving)) }
         ensures answer { (s : State) → StandsFor self.now.endpoint s → IfOk result (λ o. o ≡ word_answer owed.old s) }
-        ensures gives { self.now.packets.items ≡ [] → IfOk result (λ o. Gives self.now self.now o) }
         ensures beside { (owed.new.again ≡ owed.old.again) × (owed.new.moving ≡ owed.old.moving) }
         ensures refused { OnErr result (owed.new ≡ owed.old) }
-        ensures silent { owed.old.asks ≡ false → owed.old.word ≡ false → result ≡ Ok None }
     {
         if !owed.asks && !owed.word {
             owed.fresh = owed.moving;
@@ -532,7 +423,6 @@ impl Conversation {
     /// Whether another packet is to go out after one that went out for the first time.
     fn has_more(&self, owed: &Owed) -> bool
         ensures value { result ≡ owed.now.moving || (owed.now.asks || has_packets self.now.packets.items) }
-        ensures none { result ≡ false → (self.now.packets.items ≡ []) × (owed.now.asks ≡ false) × (owed.now.moving ≡ false) }
     {
         owed.moving || owed.asks || !self.packets.is_empty()
     }
@@ -540,27 +430,10 @@ impl Conversation {
     /// The next packet that goes out for the first time, or a packet without an item that is owed.
     fn newer_packet(&mut self, alloc: Global, owed: &mut Owed) -> Result<Option<Bytes>, AllocError>
         requires { self.old.packets.items ≡ [] }
-        ensures goes { Goes self.old self.new }
-        ensures gives { IfOk result (λ o. Gives self.old self.new o) }
-        ensures given_none { OnErr result (Gives self.old self.new None) }
-        ensures rested { result ≡ Ok None → Rested self.old self.new }
         ensures side { (self.new.side ≡ self.old.side) × (self.new.closing ≡ self.old.closing) }
-        ensures none { result ≡ Ok None → (owed.new.asks ≡ false) × (owed.new.word ≡ false) × (owed.new.fresh ≡ owed.new.moving) }
-        ensures rests { owed.old.fresh ≡ true → owed.new.fresh ≡ false → Rested self.old self.new }
-        ensures left { owed.old.fresh ≡ true → owed.new.fresh ≡ false → (self.new.packets.items ≡ []) × (owed.new.asks ≡ false)
-            × (owed.new.word ≡ false) × (owed.new.moving ≡ false) }
-        ensures asks { owed.old.asks ≡ true → owed.new.asks ≡ false → (s : State) → StandsFor self.new.endpoint s
-            → result ≡ Ok (told_answer s true) }
-        ensures word { owed.old.word ≡ true → result ≡ Ok None → (s : State) → StandsFor self.new.endpoint s
-            → told_answer s owed.old.asks ≡ None }
-        ensures beside { (owed.new.again ≡ owed.old.again) × (owed.new.moving ≡ owed.old.moving) }
-        ensures refused { OnErr result (owed.new ≡ owed.old) }
-        ensures unasked { (owed.old.asks ≡ false → owed.new.asks ≡ false) × (owed.old.word ≡ false → owed.new.word ≡ false) }
         ensures at { IfOk result (λ p. (s : State) → StandsFor self.old.endpoint s → GivesAs (newer (giving self.old owed.old s)) p self.new owed.new) }
         ensures short { OnErr result ((s : State) → StandsFor self.old.endpoint s → IsGiving self.new owed.new (giving self.old owed.old s)
             ⊎ IsGiving self.new owed.new (flushed (giving self.old owed.old s))) }
-        ensures silent { owed.old.asks ≡ false → owed.old.word ≡ false → (s : State) → StandsFor self.old.endpoint s → flush_answer s ≡ []
-            → IfOk result (λ o. o ≡ None) }
     {
         self.flush(alloc)?;
         if let Some(packet) = self.fetch() {
@@ -577,32 +450,10 @@ impl Conversation {
         alloc: Global,
         owed: &mut Owed,
     ) -> Result<Option<Bytes>, AllocError>
-        ensures goes { Goes self.old self.new }
-        ensures gives { IfOk result (λ o. Gives self.old self.new o) }
-        ensures given_none { OnErr result (Gives self.old self.new None) }
-        ensures rested { result ≡ Ok None → Rested self.old self.new }
         ensures side { (self.new.side ≡ self.old.side) × (self.new.closing ≡ self.old.closing) }
-        ensures none { result ≡ Ok None → (owed.new.again ≡ false) × (owed.new.asks ≡ false) × (owed.new.word ≡ false)
-            × (owed.new.fresh ≡ owed.new.moving) }
-        ensures rests { owed.old.fresh ≡ true → owed.new.fresh ≡ false → Rested self.old self.new }
-        ensures left { owed.old.fresh ≡ true → owed.new.fresh ≡ false → (self.new.packets.items ≡ []) × (owed.new.again ≡ false)
-            × (owed.new.asks ≡ false) × (owed.new.word ≡ false) × (owed.new.moving ≡ false) }
-        ensures again { owed.old.again ≡ true → owed.new.again ≡ false → (s : State) (b : List ℕ) → StandsFor self.old.endpoint s
-            → resend_answer s ≡ Some b → result ≡ Ok (Some b) }
-        ensures asks { owed.old.asks ≡ true → owed.new.asks ≡ false → (s : State) → StandsFor self.new.endpoint s
-            → result ≡ Ok (told_answer s true) }
-        ensures word { owed.old.word ≡ true → result ≡ Ok None → (s : State) → StandsFor self.new.endpoint s
-            → told_answer s owed.old.asks ≡ None }
-        ensures moving { owed.new.moving ≡ owed.old.moving }
-        ensures unasked { (owed.old.again ≡ false → owed.new.again ≡ false) × (owed.old.asks ≡ false → owed.new.asks ≡ false)
-            × (owed.old.word ≡ false → owed.new.word ≡ false) }
-        ensures silent { self.old.packets.items ≡ [] → owed.old.again ≡ false → owed.old.asks ≡ false → owed.old.word ≡ false
-            → (s : State) → StandsFor self.old.endpoint s → flush_answer s ≡ [] → IfOk result (λ o. o ≡ None) }
         ensures at { IfOk result (λ p. (s : State) → StandsFor self.old.endpoint s → GivesAs (next_of (giving self.old owed.old s)) p self.new owed.new) }
         ensures short { OnErr result ((s : State) → StandsFor self.old.endpoint s → (y : Giving) × IsShort (giving self.old owed.old s) y
             × IsGiving self.new owed.new y) }
-        ensures kept { owed.old.word ≡ true → owed.new.word ≡ false → self.old.packets.items ≡ [] }
-        ensures refused { OnErr result ((owed.new.word ≡ owed.old.word) × (owed.new.asks ≡ owed.old.asks) × (owed.new.fresh ≡ owed.old.fresh)) }
     {
         if let Some(packet) = self.older_packet(alloc, owed)? {
             return Ok(Some(packet));

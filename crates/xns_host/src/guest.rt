@@ -17,6 +17,7 @@ ghost use Rattle.xns_host.specs.Telling.{Goes, Hears};
 
 use crate::connection::Connection;
 use crate::host_fault::HostFault;
+use crate::laws::a_step_keeps_its_promises;
 use crate::opening_quote::OpeningQuote;
 use crate::peer::Peer;
 use courier_sessions::Answer;
@@ -62,6 +63,8 @@ impl Guest {
         ensures not_done { IsNotDone self.old.connection → IsNotDone self.new.connection }
         ensures heard { OnOk result ((b : List ℕ) → spp_packet_of b ≡ Ok packet.now → GuestHeard now b confirms self.old self.new) }
     {
+        a_step_keeps_its_promises();
+        xns_spp::laws::written_packet_is_read_again();
         self.connection.receive(alloc, now, packet)?;
         if confirms {
             self.confirmed = true;

@@ -19,6 +19,7 @@ mod receiving;
 use crate::connection::Connection;
 use crate::guest::Guest;
 use crate::host_fault::HostFault;
+use crate::laws::a_step_keeps_its_promises;
 use crate::register::Register;
 use crate::services::Services;
 use crate::settings::Settings;
@@ -201,6 +202,7 @@ impl Host {
             → Answers (call_fault_of g.connection.conversation (words_call program version procedure words.now)) result }
         ensures turn { Turn now number (made (words_call program version procedure words.now)) result self.old self.new }
     {
+        a_step_keeps_its_promises();
         let now = self.clock.tell(now);
         if number >= self.guests.len() {
             return Err(HostFault::NoConnection { number });
@@ -231,6 +233,7 @@ impl Host {
             → Answers (answer_fault_of g.connection.conversation answer words.now) result }
         ensures turn { Turn now number (gave answer words.now) result self.old self.new }
     {
+        a_step_keeps_its_promises();
         let now = self.clock.tell(now);
         if number >= self.guests.len() {
             return Err(HostFault::NoConnection { number });
@@ -250,6 +253,7 @@ impl Host {
         ensures some { (g : Guest) → slice_get self.old.guests.items number ≡ Some (Some g) → result ≡ Ok tt }
         ensures turn { Turn now number asked result self.old self.new }
     {
+        a_step_keeps_its_promises();
         let now = self.clock.tell(now);
         if number >= self.guests.len() {
             return Err(HostFault::NoConnection { number });

@@ -14,7 +14,7 @@ ghost use Rattle.xns_host.specs.Closing.{drains};
 ghost use Rattle.xns_host.specs.Following.{AConnectionHearsItsPackets, AQuotedOpeningIsNotServed, ASilentHostHasNothingToTell, AnIdleHostHasNoPacket};
 ghost use Rattle.xns_host.specs.Identifiers.{IsOrder, Ids, Turn, Given, HadTurn, most_id};
 ghost use Rattle.xns_host.specs.Living.{Deeds, no_deeds, Lives, IsLived, ProgramsAgree};
-ghost use Rattle.xns_host.specs.Step.{AStepHasOneEnd, AStepKeepsItsPromises};
+ghost use Rattle.xns_host.specs.Step.{AConnectionGivesWhatItMade, AMessageIsHandedAsByAStep, AStepHasOneEnd, AStepKeepsItsPromises};
 ghost use Rattle.xns_host.specs.Story.{Story, GoesOn, new_story};
 ghost use Rattle.xns_host.specs.Telling.{Tells};
 ghost use Rattle.xns_host.specs.declared.conversation.Conversation.{Conversation};
@@ -53,10 +53,10 @@ pub fn connections_agree()
 
 /// A connection has a story at every moment, whatever steps led to it, in any order: `Tells`, from which the laws above say what it has
 /// done. Its end came from a new one by an end's steps and by packets alone. The calls made and the messages handed in it are those of the
-/// program's own steps, and the answers that the program gave are those to the listed calls. The steps are those that the clauses of
-/// `Connection` name: `calling` and `answering`: `tells`; `receive`: `tells`; `call`: `called`; `answer`: `answered`; `take_message`:
-/// `message`, `handed`; `act`, `not_served`, `next_packet` and `close`: `goes`. A call that is refused and `take_why` leave the
-/// conversation as it was.
+/// program's own steps, and the answers that the program gave are those to the listed calls. Each function of `Connection` is such a step:
+/// `calling` and `answering` by `tells`, `act` and `not_served` by `goes`, and the others by `a_step_keeps_its_promises`,
+/// `a_message_is_handed_as_by_a_step` and `a_connection_gives_what_it_made`. A call that is refused and `take_why` leave the conversation as
+/// it was.
 pub fn a_connection_always_has_a_story()
     ensures { (programs : Option (List Program)) (start : State) (c : Conversation) (l : Deeds) → Lives programs start c l
         → IsLived programs start c l }
@@ -98,6 +98,28 @@ pub fn a_step_keeps_its_promises()
     xns_spp::laws::other_steps_accept_and_hand_up_nothing();
     courier_sessions::laws::a_session_is_its_conversation();
     courier_sessions::laws::a_server_session_is_its_conversation();
+}
+
+/// A message that is handed where nothing can move then is handed as by a step: what that promises is promised here too.
+pub fn a_message_is_handed_as_by_a_step()
+    ensures { AMessageIsHandedAsByAStep }
+{
+    a_step_keeps_its_promises();
+    xns_spp::laws::the_next_item_is_handed_up();
+    xns_spp::laws::an_end_only_grows();
+    xns_spp::laws::other_steps_accept_and_hand_up_nothing();
+    courier_sessions::laws::a_session_is_its_conversation();
+    courier_sessions::laws::a_server_session_is_its_conversation();
+}
+
+/// A connection that is asked for a packet goes on by itself, and gives the first of those that waited and of those that it made. Where it
+/// gives none, no item is left that may go out for the first time, and nothing is owed.
+pub fn a_connection_gives_what_it_made()
+    ensures { AConnectionGivesWhatItMade }
+{
+    a_step_keeps_its_promises();
+    xns_spp::laws::other_steps_accept_and_hand_up_nothing();
+    xns_spp::laws::other_steps_hear_nothing();
 }
 
 /// Where memory was not refused a step has one end only, whether items moved until none could or the side refused one.

@@ -1,14 +1,13 @@
 //! A side of a conversation: the one that calls or the one that is called.
 
-ghost use Rattle.std.specs.Prelude.{◌≡◌, ◌≤◌, ℕ, [], ◌∷◌, ◌++◌, true, false, IfErr, OnOk, OnErr, Some, None, Ok};
-ghost use Rattle.courier_messages.specs.declared.message.Message.{Message};
+ghost use Rattle.std.specs.Prelude.{◌≡◌, ◌≤◌, true, false, OnOk, OnErr, None, Ok};
 ghost use Rattle.courier_messages.specs.RawCalls.{words_call};
-ghost use Rattle.courier_sessions.specs.Answering.{answer_message, has_items};
-ghost use Rattle.xns_spp.specs.Held.{Held, StandsFor};
+ghost use Rattle.courier_sessions.specs.Answering.{has_items};
+ghost use Rattle.xns_spp.specs.Held.{StandsFor};
 ghost use Rattle.xns_spp.specs.Sending.{waiting_count};
 ghost use Rattle.xns_spp.specs.State.{State};
-ghost use Rattle.xns_host.specs.Story.{Story, SideHas, Moves, MovesAll, Calms, IsListed, IsUnlisted, MovesUntil, is_stopped, out_of, asked_of, has_call};
-ghost use Rattle.xns_host.specs.Story.{has_message, waiting_message, with_handed};
+ghost use Rattle.xns_host.specs.Story.{IsListed, IsUnlisted, is_stopped, out_of, has_call};
+ghost use Rattle.xns_host.specs.Story.{has_message, waiting_message};
 ghost use Rattle.xns_host.specs.Moving.{Converses, Pumps, Rejects};
 ghost use Rattle.xns_host.specs.Deeds.{side_answered, side_called, side_taken};
 ghost use Rattle.xns_host.specs.Refusing.{Answers, side_call_fault, side_answer_fault, call_result, answer_result};
@@ -107,13 +106,10 @@ impl Side {
         words: &[u16],
     ) -> Result<(), HostFault>
         ensures answer { Answers (side_call_fault self.old (words_call program version procedure words.now)) result }
-        ensures called { (h : Story) → SideHas h self.old → is_stopped self.old ≡ false → result ≡ Ok tt
-            → SideHas (record h { made = h.made ++ words_call program version procedure words.now ∷ [] }) self.new }
         ensures is { result ≡ Ok tt → self.new ≡ side_called self.old (words_call program version procedure words.now) }
         ensures stopped { is_stopped self.new ≡ is_stopped self.old }
         ensures unchanged { OnErr result (self.new ≡ self.old) }
     {
-        courier_sessions::laws::a_session_is_its_conversation();
         match self {
             Side::Calls(caller) => {
                 call_result(caller.call(alloc, program, version, procedure, words))
@@ -125,13 +121,10 @@ impl Side {
     /// Answers the call that was handed.
     pub fn answer(&mut self, alloc: Global, answer: Answer, words: &[u16]) -> Result<(), HostFault>
         ensures answer { Answers (side_answer_fault self.old answer words.now) result }
-        ensures answered { (h : Story) (k : ℕ) → SideHas h self.old → is_stopped self.old ≡ false → asked_of self.old ≡ Some k
-            → result ≡ Ok tt → SideHas (record h { answers = h.answers ++ answer_message answer k words.now ∷ [] }) self.new }
         ensures is { result ≡ Ok tt → self.new ≡ side_answered self.old answer words.now }
         ensures stopped { is_stopped self.new ≡ is_stopped self.old }
         ensures unchanged { OnErr result (self.new ≡ self.old) }
     {
-        courier_sessions::laws::a_server_session_is_its_conversation();
         match self {
             Side::Calls(_) => Err(HostFault::NoCall),
             Side::Answers(server) => answer_result(server.answer(alloc, answer, words)),
@@ -141,13 +134,10 @@ impl Side {
     /// The message that is there for the program, once: an answer, or a call whose program is listed.
     pub fn take_message(&mut self) -> Option<PiecedMessage>
         ensures message { result ≡ waiting_message self.old }
-        ensures handed { (h : Story) (m : Message) → SideHas h self.old → result ≡ Some m → SideHas (with_handed self.old h m) self.new }
         ensures is { self.new ≡ side_taken self.old }
         ensures stopped { is_stopped self.new ≡ is_stopped self.old }
         ensures none { result ≡ None → self.new ≡ self.old }
     {
-        courier_sessions::laws::a_session_is_its_conversation();
-        courier_sessions::laws::a_server_session_is_its_conversation();
         match self {
             Side::Calls(caller) => caller.take_outcome(),
             Side::Answers(server) => server.take_call(),
@@ -157,17 +147,12 @@ impl Side {
     /// Moves items both ways between the side and its endpoint until nothing moves.
     fn pump(&mut self, alloc: Global, endpoint: &mut Endpoint) -> Result<(), FeedRefusal>
         requires { is_stopped self.old ≡ false }
-        ensures moves { Moves self.old endpoint.old self.new endpoint.new }
-        ensures all { OnOk result (MovesAll self.old endpoint.old self.new endpoint.new) }
-        ensures refused { IfErr result (λ e. MovesUntil self.old endpoint.old e self.new endpoint.new) }
         ensures pumps { (s : State) → StandsFor endpoint.old s → (v : State) × StandsFor endpoint.new v × Pumps self.old s result self.new v }
         // A call comes only with an item: where as many wait as before, none came.
         ensures calls { has_message self.old ≡ false → OnOk result ((s v : State) → StandsFor endpoint.old s → StandsFor endpoint.new v
             → waiting_count s ≤ waiting_count v → IsListed self.new) }
     {
         xns_spp::laws::the_next_item_is_handed_up();
-        courier_sessions::laws::a_session_is_its_conversation();
-        courier_sessions::laws::a_server_session_is_its_conversation();
         match self {
             Side::Calls(caller) => pump(caller, alloc, endpoint),
             Side::Answers(server) => pump(server, alloc, endpoint),
@@ -176,7 +161,6 @@ impl Side {
 
     /// Rejects a call that waits and whose program is not listed; whether there was one.
     fn reject_unlisted(&mut self, alloc: Global) -> Result<bool, AllocError>
-        ensures moves { (e : Held) → Moves self.old e self.new e }
         ensures listed { result ≡ Ok false → (self.new ≡ self.old) × IsListed self.old }
         ensures gone { result ≡ Ok true → has_message self.new ≡ false }
         ensures rejects { result ≡ Ok true → Rejects self.old self.new }
@@ -184,7 +168,6 @@ impl Side {
         ensures memory { OnErr result (IsUnlisted self.old) }
         ensures unchanged { OnErr result (self.new ≡ self.old) }
     {
-        courier_sessions::laws::a_server_session_is_its_conversation();
         match self {
             Side::Calls(_) => Ok(false),
             Side::Answers(server) => server.reject_unlisted(alloc),
@@ -195,9 +178,6 @@ impl Side {
     /// same call goes on.
     pub fn converse(&mut self, alloc: Global, endpoint: &mut Endpoint) -> Result<(), FeedRefusal>
         requires { is_stopped self.old ≡ false }
-        ensures moves { Moves self.old endpoint.old self.new endpoint.new }
-        ensures calms { OnOk result (Calms self.old endpoint.old self.new endpoint.new) }
-        ensures refused { IfErr result (λ e. MovesUntil self.old endpoint.old e self.new endpoint.new) }
         ensures converses { (s : State) → StandsFor endpoint.old s → (v : State) × StandsFor endpoint.new v
             × Converses self.old s result self.new v }
     {

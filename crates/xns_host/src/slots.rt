@@ -26,6 +26,7 @@ ghost use Rattle.xns_host.specs.declared.outgoing.Outgoing.{Outgoing};
 
 use crate::event::Event;
 use crate::guest::Guest;
+use crate::laws::{a_connection_gives_what_it_made, a_message_is_handed_as_by_a_step};
 use crate::opening_quote::OpeningQuote;
 use crate::outgoing::Outgoing;
 use crate::register::Register;
@@ -163,10 +164,6 @@ pub fn settle_in(
     ensures sized { length agenda.new.dues ≡ length agenda.old.dues }
     ensures room { length guests.new.items ≡ length guests.old.items }
     ensures registered { IsAllRegistered register.new guests.new.items }
-    ensures apart { IsApart guests.old.items guests.new.items number }
-    ensures gone { done ≡ true → slice_get guests.new.items number ≡ Some None }
-    ensures left { done ≡ true → HasLeft register.old register.new (slice_get guests.old.items number) }
-    ensures kept { done ≡ false → (guests.new.items ≡ guests.old.items) × (register.new ≡ register.old) }
     ensures order { StaysInOrder register.old.identifiers register.new.identifiers }
     ensures places { places_with guests.new.items agenda.new ≡ vacated_if done (places_with guests.old.items agenda.old) number }
 {
@@ -190,7 +187,6 @@ pub fn put_in(
     ensures noted { IsAllNoted agenda.new guests.new.items }
     ensures sized { length agenda.new.dues ≡ length agenda.old.dues }
     ensures room { length guests.new.items ≡ length guests.old.items }
-    ensures apart { IsApart guests.old.items guests.new.items number }
     ensures there { slice_get guests.new.items number ≡ Some (Some guest) }
     ensures registered { IsAllRegistered register.new guests.new.items }
     ensures order { StaysInOrder register.old.identifiers register.new.identifiers }
@@ -274,6 +270,7 @@ pub fn event_in(slot: &mut Option<Guest>, alloc: Global, now: u64, number: usize
     ensures not_done { is_done slot.new ≡ false → IsNotDoneIn slot.old → IsNotDoneIn slot.new }
     ensures turn { result ≢ None → InPlace (GuestTells now) slot.old slot.new }
 {
+    a_message_is_handed_as_by_a_step();
     let Some(guest) = slot else {
         return None;
     };
@@ -308,6 +305,7 @@ pub fn packet_in(
     ensures not_done { IsNotDoneIn slot.old → IsNotDoneIn slot.new }
     ensures turn { InPlace (GuestGives now (as_fault result)) slot.old slot.new }
 {
+    a_connection_gives_what_it_made();
     let Some(guest) = slot else {
         return Ok(None);
     };

@@ -1,4 +1,4 @@
-use Rattle.std.proofs.Common.{◌≡◌, ◌∙◌, ◌^◌, ap, arith, subst, sym, ◌<◌, Some}
+use Rattle.std.proofs.Common.{◌∙◌, ◌^◌, ap, arith, subst, sym, ◌<◌, Some}
 use Rattle.xns_captures.proofs.Resolutions.{binary_units, decimal_units, no_units_behind, no_units_between, ten_pos}
 use Rattle.xns_captures.proofs.frame_time.units_of_second.Goals as goal
 

@@ -1,6 +1,4 @@
-use Rattle.std.proofs.Common.{◌≡◌, ◌∙◌, ◌+◌, ◌*◌, ◌/◌, ◌==◌, ap, ap₂, sym, subst, arith, drop, true, false, ◌&&◌}
-use Rattle.std.proofs.lemmas.Bool.Decides.{nat_tests}
-use Rattle.xns_captures.specs.Places.{word_at}
+use Rattle.std.proofs.Common.{◌∙◌, ◌+◌, ◌*◌, ◌/◌, ◌==◌, ap, ap₂, sym, subst, arith, drop, ◌&&◌}
 use Rattle.xns_captures.specs.Times.{resolution_of}
 use Rattle.xns_captures.proofs.Resolutions.{Gives, gives-end, gives-first, gives-rest, gives-short, gives-value}
 use Rattle.xns_captures.proofs.options.read_resolution.Goals as goal

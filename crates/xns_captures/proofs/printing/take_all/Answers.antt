@@ -1,6 +1,5 @@
-use Rattle.std.proofs.Common.{List, ℕ, Option, []}
 use Rattle.xns_lines.proofs.Pages.{if_some}
-use Rattle.xns_captures.specs.Captures.{NumberedPacket, packets_of}
+use Rattle.xns_captures.specs.Captures.{packets_of}
 use Rattle.xns_lines.specs.Printing.{HasFailed, StandsBehind}
 use Rattle.xns_captures.specs.Reading.{StandsAfter}
 use Rattle.xns_captures.proofs.Pages.{stops_in_end, stops_with}

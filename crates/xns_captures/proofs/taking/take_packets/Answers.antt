@@ -1,9 +1,9 @@
-use Rattle.std.proofs.Common.{rules, ◌≡◌, ◌∙◌, ◌++◌, ap, arith, sym, subst, take, drop, List, ℕ, [], Option, Some, None}
+use Rattle.std.proofs.Common.{rules, ◌≡◌, ◌∙◌, ◌++◌, ap, sym, subst, take, drop, ℕ, [], None}
 use Rattle.std.proofs.lemmas.Result.{err_from_is_err_and}
-use Rattle.xns_captures.specs.Captures.{contents, ends_with, packets_in}
-use Rattle.xns_captures.specs.Reading.{HasRead, StandsAfter, cut_unless_empty}
+use Rattle.xns_captures.specs.Captures.{ends_with, packets_in}
+use Rattle.xns_captures.specs.Reading.{HasRead, StandsAfter}
 use Rattle.xns_captures.specs.declared.fault.CaptureFault.TheVariants.{Cut}
-use Rattle.xns_captures.specs.declared.file_fault.FileFault.TheVariants.{Run, Capture}
+use Rattle.xns_captures.specs.declared.file_fault.FileFault.TheVariants.{Run}
 use Rattle.xns_lines.specs.declared.fault.RunFault.TheVariants as run
 use Rattle.xns_captures.proofs.Consumed.{consumes_kept, consumes_none, consumes_nothing, consumes_trans}
 use Rattle.xns_captures.proofs.Frames.{stops_in_run}

@@ -6,6 +6,8 @@ use Rattle.xns_host.proofs.Undone.{not_done_act}
 use Rattle.xns_host.specs.Went.{GuestActs}
 use Rattle.xns_host.specs.declared.guest.Guest.{Guest}
 use Rattle.xns_host.proofs.Placed.{placed, nobody_in}
+use Rattle.xns_agenda.specs.Waiting.{act_at}
+use Rattle.xns_host.proofs.Meant.{acts_so}
 use Rattle.xns_host.proofs.slots.act_in.Goals as goal
 
 pub returns-clause-fits : goal.returns-clause-fits
@@ -16,8 +18,9 @@ returns-in_default-clause-not_done c = λ left was. was
 
 pub returns-clause-not_done : goal.returns-clause-not_done
 returns-clause-not_done c = λ left was.
-    not_done_act c.args.now c.in-Some.guest.connection c.act.new.self c.act.result c.act.ensures.act c.act.ensures.told (λ not. (c.act.ensures.same not).1)
-    c.act.ensures.wait left (subst IsNotDoneIn c.in-Some.is was)
+    let k = acts_so c.args.now c.in-Some.guest.connection c.act.new.self c.act.ensures.step in
+    not_done_act c.args.now c.in-Some.guest.connection c.act.new.self (act_at c.in-Some.guest.connection.wait c.args.now) refl k.told k.closed k.wait left
+    (subst IsNotDoneIn c.in-Some.is was)
 
 pub returns-in_default-clause-turn : goal.returns-in_default-clause-turn
 returns-in_default-clause-turn c = nobody_in (λ (g h : Guest). GuestActs c.args.now g h) c.args.slot.now (search rules)

@@ -9,42 +9,47 @@ use Rattle.std.specs.Prelude.{alloc_error}
 use Rattle.xns_host.specs.declared.outgoing.Outgoing.{Outgoing}
 use Rattle.xns_host.specs.declared.guest.Guest.{Guest}
 use Rattle.xns_host.proofs.Placed.{gives_by, nobody_in, placed}
+use Rattle.xns_host.proofs.Meant.{given_so}
 use Rattle.xns_host.proofs.slots.packet_in.Goals as goal
 
 pub returns-in_err-packet-clause-fits : goal.returns-in_err-packet-clause-fits
-returns-in_err-packet-clause-fits c = λ g is fits. goes_fits c.args.slot.now g c.in-Some.guest _ c.in-Some.is is refl c.next_packet.ensures.goes fits
+returns-in_err-packet-clause-fits c = λ g is fits. goes_fits c.args.slot.now g c.in-Some.guest _ c.in-Some.is is refl (c.a_connection_gives_what_it_made.ensures c.args.now c.next_packet.result c.in-Some.guest.connection c.next_packet.new.self c.next_packet.ensures.step).goes fits
 
 pub returns-in-Some-2-clause-fits : goal.returns-in-Some-2-clause-fits
-returns-in-Some-2-clause-fits c = λ g is fits. goes_fits c.args.slot.now g c.in-Some.guest _ c.in-Some.is is refl c.next_packet.ensures.goes fits
+returns-in-Some-2-clause-fits c = λ g is fits. goes_fits c.args.slot.now g c.in-Some.guest _ c.in-Some.is is refl (c.a_connection_gives_what_it_made.ensures c.args.now c.next_packet.result c.in-Some.guest.connection c.next_packet.new.self c.next_packet.ensures.step).goes fits
 
 pub returns-in-None-clause-fits : goal.returns-in-None-clause-fits
-returns-in-None-clause-fits c = λ g is fits. goes_fits c.args.slot.now g c.in-Some.guest _ c.in-Some.is is refl c.next_packet.ensures.goes fits
+returns-in-None-clause-fits c = λ g is fits. goes_fits c.args.slot.now g c.in-Some.guest _ c.in-Some.is is refl (c.a_connection_gives_what_it_made.ensures c.args.now c.next_packet.result c.in-Some.guest.connection c.next_packet.new.self c.next_packet.ensures.step).goes fits
 
 pub returns-in-None-2-clause-fits : goal.returns-in-None-2-clause-fits
-returns-in-None-2-clause-fits c = λ g is fits. goes_fits c.args.slot.now g c.in-Some.guest _ c.in-Some.is is refl c.next_packet.ensures.goes fits
+returns-in-None-2-clause-fits c = λ g is fits. goes_fits c.args.slot.now g c.in-Some.guest _ c.in-Some.is is refl (c.a_connection_gives_what_it_made.ensures c.args.now c.next_packet.result c.in-Some.guest.connection c.next_packet.new.self c.next_packet.ensures.step).goes fits
 
 pub returns-in_default-clause-not_done : goal.returns-in_default-clause-not_done
 returns-in_default-clause-not_done c = λ was. was
 
 pub returns-in_err-packet-clause-not_done : goal.returns-in_err-packet-clause-not_done
 returns-in_err-packet-clause-not_done c = λ was.
-    not_done_steps _ c.in-Some.guest.connection c.next_packet.new.self c.next_packet.ensures.told c.next_packet.ensures.closed
-    c.next_packet.ensures.steps (subst IsNotDoneIn c.in-Some.is was)
+    not_done_steps _ c.in-Some.guest.connection c.next_packet.new.self (given_so c.args.now c.next_packet.result c.in-Some.guest.connection c.next_packet.new.self c.next_packet.ensures.step).0
+    (given_so c.args.now c.next_packet.result c.in-Some.guest.connection c.next_packet.new.self c.next_packet.ensures.step).1
+    c.next_packet.ensures.step.steps (subst IsNotDoneIn c.in-Some.is was)
 
 pub returns-in-Some-2-clause-not_done : goal.returns-in-Some-2-clause-not_done
 returns-in-Some-2-clause-not_done c = λ was.
-    not_done_steps _ c.in-Some.guest.connection c.next_packet.new.self c.next_packet.ensures.told c.next_packet.ensures.closed
-    c.next_packet.ensures.steps (subst IsNotDoneIn c.in-Some.is was)
+    not_done_steps _ c.in-Some.guest.connection c.next_packet.new.self (given_so c.args.now c.next_packet.result c.in-Some.guest.connection c.next_packet.new.self c.next_packet.ensures.step).0
+    (given_so c.args.now c.next_packet.result c.in-Some.guest.connection c.next_packet.new.self c.next_packet.ensures.step).1
+    c.next_packet.ensures.step.steps (subst IsNotDoneIn c.in-Some.is was)
 
 pub returns-in-None-clause-not_done : goal.returns-in-None-clause-not_done
 returns-in-None-clause-not_done c = λ was.
-    not_done_steps _ c.in-Some.guest.connection c.next_packet.new.self c.next_packet.ensures.told c.next_packet.ensures.closed
-    c.next_packet.ensures.steps (subst IsNotDoneIn c.in-Some.is was)
+    not_done_steps _ c.in-Some.guest.connection c.next_packet.new.self (given_so c.args.now c.next_packet.result c.in-Some.guest.connection c.next_packet.new.self c.next_packet.ensures.step).0
+    (given_so c.args.now c.next_packet.result c.in-Some.guest.connection c.next_packet.new.self c.next_packet.ensures.step).1
+    c.next_packet.ensures.step.steps (subst IsNotDoneIn c.in-Some.is was)
 
 pub returns-in-None-2-clause-not_done : goal.returns-in-None-2-clause-not_done
 returns-in-None-2-clause-not_done c = λ was.
-    not_done_steps _ c.in-Some.guest.connection c.next_packet.new.self c.next_packet.ensures.told c.next_packet.ensures.closed
-    c.next_packet.ensures.steps (subst IsNotDoneIn c.in-Some.is was)
+    not_done_steps _ c.in-Some.guest.connection c.next_packet.new.self (given_so c.args.now c.next_packet.result c.in-Some.guest.connection c.next_packet.new.self c.next_packet.ensures.step).0
+    (given_so c.args.now c.next_packet.result c.in-Some.guest.connection c.next_packet.new.self c.next_packet.ensures.step).1
+    c.next_packet.ensures.step.steps (subst IsNotDoneIn c.in-Some.is was)
 
 pub returns-in_default-clause-turn : goal.returns-in_default-clause-turn
 returns-in_default-clause-turn c = nobody_in (λ (g h : Guest). GuestGives c.args.now _ g h) c.args.slot.now (search rules)

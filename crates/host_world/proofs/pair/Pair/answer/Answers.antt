@@ -4,7 +4,7 @@ use Rattle.host_world.proofs.pair.Pair.answer.Goals as goal
 
 pub returns-clause-steps : goal.returns-clause-steps
 returns-clause-steps c =
-    pair_answers c.args.self.now c.at.result.now c.answer.new.self c.args.side c.args.now c.args.kind c.args.words.now c.answer.result c.at.ensures.value c.answer.ensures.refused c.answer.ensures.step c.answer.ensures.promises
+    pair_answers c.a_step_keeps_its_promises.ensures c.args.self.now c.at.result.now c.answer.new.self c.args.side c.args.now c.args.kind c.args.words.now c.answer.result c.at.ensures.value c.answer.ensures.refused c.answer.ensures.step
 
 pub returns-clause-waits : goal.returns-clause-waits
 returns-clause-waits c =

@@ -5,7 +5,7 @@ use Rattle.host_world.proofs.pair.Pair.call.Goals as goal
 
 pub returns-clause-steps : goal.returns-clause-steps
 returns-clause-steps c =
-    pair_calls c.args.self.now c.at.result.now c.call.new.self c.args.side c.args.now (words_call c.args.program c.args.version c.args.procedure c.args.words.now) c.call.result c.at.ensures.value c.call.ensures.step c.call.ensures.promises
+    pair_calls c.a_step_keeps_its_promises.ensures c.args.self.now c.at.result.now c.call.new.self c.args.side c.args.now (words_call c.args.program c.args.version c.args.procedure c.args.words.now) c.call.result c.at.ensures.value c.call.ensures.step
 
 pub returns-clause-waits : goal.returns-clause-waits
 returns-clause-waits c =

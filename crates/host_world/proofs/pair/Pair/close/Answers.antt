@@ -1,8 +1,16 @@
-use Rattle.host_world.proofs.Paired.{pair_closes, one_waits}
+use Rattle.std.proofs.Common.{◌∙◌, ap}
+use Rattle.xns_host.specs.Deeds.{asked}
+use Rattle.xns_host.specs.declared.connection.Connection.{Connection}
+use Rattle.host_world.proofs.Paired.{one_waits, pair_closes, put}
 use Rattle.host_world.proofs.pair.Pair.close.Goals as goal
 
 pub returns-clause-steps : goal.returns-clause-steps
-returns-clause-steps c = pair_closes c.args.self.now c.at.result.now c.close.new.self c.args.side c.args.now c.at.ensures.value c.close.ensures.step c.close.ensures.promises
+returns-clause-steps c = pair_closes c.a_step_keeps_its_promises.ensures c.args.self.now c.at.result.now c.close.new.self c.args.side c.args.now c.at.ensures.value c.close.ensures.step
 
 pub returns-clause-waits : goal.returns-clause-waits
 returns-clause-waits c = one_waits c.args.self.now c.at.result.now c.close.new.self c.args.side c.args.now c.at.ensures.value c.close.ensures.step.steps
+
+pub returns-clause-asked : goal.returns-clause-asked
+returns-clause-asked c =
+    let kept = c.a_step_keeps_its_promises.ensures c.args.now asked c.at.result.now c.close.new.self c.close.ensures.step in
+    ap (λ (k : Connection). k.conversation.closing.wanted) (put c.args.self.now c.args.side c.close.new.self) ∙ kept.wanted

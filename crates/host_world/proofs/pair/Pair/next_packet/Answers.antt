@@ -1,8 +1,29 @@
-use Rattle.host_world.proofs.Paired.{pair_gives_ok, pair_gives_none}
+use Rattle.std.proofs.Common.{◌≡◌, false}
+use Rattle.xns_host.specs.Telling.{Rested}
+use Rattle.xns_host.specs.declared.connection.Connection.{Connection}
+use Rattle.host_world.proofs.Paired.{at_side, one_waits, pair_gives_none, pair_gives_ok}
 use Rattle.host_world.proofs.pair.Pair.next_packet.Goals as goal
 
 pub returns-clause-gives : goal.returns-clause-gives
-returns-clause-gives c = pair_gives_ok c.args.self.now c.at.result.now c.next_packet.new.self c.args.side c.next_packet.result c.at.ensures.value c.next_packet.ensures.gives
+returns-clause-gives c =
+    let k = c.a_connection_gives_what_it_made.ensures c.args.now c.next_packet.result c.at.result.now c.next_packet.new.self c.next_packet.ensures.step in
+    pair_gives_ok c.args.self.now c.at.result.now c.next_packet.new.self c.args.side c.next_packet.result c.at.ensures.value k.gives
 
 pub returns-clause-given_none : goal.returns-clause-given_none
-returns-clause-given_none c = pair_gives_none c.args.self.now c.at.result.now c.next_packet.new.self c.args.side c.next_packet.result c.at.ensures.value c.next_packet.ensures.given_none
+returns-clause-given_none c =
+    let k = c.a_connection_gives_what_it_made.ensures c.args.now c.next_packet.result c.at.result.now c.next_packet.new.self c.next_packet.ensures.step in
+    pair_gives_none c.args.self.now c.at.result.now c.next_packet.new.self c.args.side c.next_packet.result c.at.ensures.value k.given_none
+
+pub returns-clause-waits : goal.returns-clause-waits
+returns-clause-waits c = one_waits c.args.self.now c.at.result.now c.next_packet.new.self c.args.side c.args.now c.at.ensures.value c.next_packet.ensures.step.steps
+
+pub returns-clause-rested : goal.returns-clause-rested
+returns-clause-rested c = λ is.
+    let k = c.a_connection_gives_what_it_made.ensures c.args.now c.next_packet.result c.at.result.now c.next_packet.new.self c.next_packet.ensures.step in
+    at_side (λ (x y : Connection). Rested x.conversation y.conversation) c.args.self.now c.at.result.now c.next_packet.new.self c.args.side c.at.ensures.value (k.rested is)
+
+pub returns-clause-none : goal.returns-clause-none
+returns-clause-none c = λ is.
+    let k = c.a_connection_gives_what_it_made.ensures c.args.now c.next_packet.result c.at.result.now c.next_packet.new.self c.next_packet.ensures.step in
+    at_side (λ (x y : Connection). (y.owed.again ≡ false) × (y.owed.asks ≡ false) × (y.owed.word ≡ false)) c.args.self.now c.at.result.now c.next_packet.new.self c.args.side
+    c.at.ensures.value (let n = k.none is in (n.0, n.1, n.2))

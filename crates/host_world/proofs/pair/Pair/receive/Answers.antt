@@ -1,9 +1,22 @@
 use Rattle.std.proofs.Common.{sym}
-use Rattle.host_world.proofs.Paired.{pair_takes_in, pair_waits}
+use Rattle.xns_agenda.specs.Waiting.{HearsAt}
+use Rattle.xns_host.specs.Telling.{Hears}
+use Rattle.xns_host.specs.declared.connection.Connection.{Connection}
+use Rattle.host_world.proofs.Paired.{heard_there, pair_heard, pair_takes_in}
 use Rattle.host_world.proofs.pair.Pair.receive.Goals as goal
 
 pub returns-clause-takes_in : goal.returns-clause-takes_in
-returns-clause-takes_in c = pair_takes_in c.args.self.now c.at.result.now c.receive.new.self c.args.side c.args.bytes.now c.in-Ok.packet c.receive.result c.at.ensures.value c.receive.ensures.packets (sym c.in-Ok.ensures.value) c.receive.ensures.tells
+returns-clause-takes_in c =
+    pair_takes_in c.a_step_keeps_its_promises.ensures c.args.self.now c.at.result.now c.receive.new.self c.args.side c.args.now c.args.bytes.now c.in-Ok.packet c.receive.result
+    c.at.ensures.value (sym c.in-Ok.ensures.value) c.receive.ensures.step
+
+pub returns-clause-hears : goal.returns-clause-hears
+returns-clause-hears c =
+    pair_heard (λ (x y : Connection). Hears x.conversation y.conversation c.args.bytes.now) c.args.self.now c.at.result.now c.receive.new.self c.args.side c.args.now c.args.bytes.now
+    c.in-Ok.packet c.receive.result c.at.ensures.value (sym c.in-Ok.ensures.value)
+    (λ step. heard_there c.a_step_keeps_its_promises.ensures c.args.now c.args.bytes.now c.at.result.now c.receive.new.self step) c.receive.ensures.step
 
 pub returns-clause-waits : goal.returns-clause-waits
-returns-clause-waits c = pair_waits c.args.self.now c.at.result.now c.receive.new.self c.args.side c.args.now c.args.bytes.now c.receive.result c.at.ensures.value c.receive.ensures.steps
+returns-clause-waits c =
+    pair_heard (λ (x y : Connection). HearsAt c.args.now x.wait y.wait) c.args.self.now c.at.result.now c.receive.new.self c.args.side c.args.now c.args.bytes.now c.in-Ok.packet
+    c.receive.result c.at.ensures.value (sym c.in-Ok.ensures.value) (λ step. step.steps) c.receive.ensures.step

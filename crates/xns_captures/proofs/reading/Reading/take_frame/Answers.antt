@@ -1,7 +1,6 @@
-use Rattle.std.proofs.Common.{◌≡◌, ◌∙◌, ◌+◌, ◌∷◌, [], ◌++◌, ap, arith, sym, subst, length, length-append, refl, None}
+use Rattle.std.proofs.Common.{◌∙◌, ◌+◌, ◌∷◌, [], ap, arith, sym, subst, length-append, None}
 use Rattle.std.specs.Option.{option_or}
 use Rattle.xns_captures.specs.Captures.{packets_in}
-use Rattle.xns_captures.specs.Reading.{first_among}
 use Rattle.xns_captures.proofs.Frames.{failed_at, first-append, is_stamp, no_packet, one_packet, packets_few}
 use Rattle.xns_captures.proofs.reading.Reading.take_frame.Goals as goal
 

@@ -1,4 +1,4 @@
-use Rattle.std.proofs.Common.{◌≡◌, ◌+◌, ◌-◌, ◌≤◌, ◌++◌, arith, sym, length, length-drop, take, drop}
+use Rattle.std.proofs.Common.{◌+◌, arith, length-drop, drop}
 use Rattle.std.proofs.lemmas.List.{take_rest}
 use Rattle.std.proofs.lemmas.Result.{err_from_is_err_and}
 use Rattle.xns_captures.proofs.Frames.{part_read, stops_here}

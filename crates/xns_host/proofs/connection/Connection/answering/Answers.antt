@@ -1,4 +1,4 @@
-use Rattle.std.proofs.Common.{List, [], Some, refl, sym, subst}
+use Rattle.std.proofs.Common.{[], List, Some, refl, sym, subst}
 use Rattle.courier_messages.specs.Conversation.{opening}
 use Rattle.courier_sessions.specs.Answering.{Answering, new_answering}
 use Rattle.xns_spp.specs.State.{State, responder_state}
@@ -15,7 +15,10 @@ returns-clause-tells c =
     let s : State = responder_state c.args.own c.args.id c.args.peer c.args.peer_id c.args.settings.now.window c.args.settings.now.backlog in
     let new : ServerHas (new_story (Some programs) s) (new_answering programs) = record { phase = opening []; done = c.a_server_session_is_its_conversation.ensures.start programs; going = λ z. refl; table = refl; rejected = nothing_rejected programs } in
     let has : ServerHas (new_story (Some programs) s) c.in_ok-server.server = subst (λ (a : Answering). ServerHas (new_story (Some programs) s) a) (sym c.in_ok-server.ensures) new in
-    new_tells c.new-2.result.conversation (Some programs) s c.in_ok-endpoint.endpoint (Answers c.in_ok-server.server) c.new-2.ensures.endpoint c.new-2.ensures.side c.new-2.ensures.closing c.in_ok-endpoint.ensures has refl refl
+    new_tells c.new-2.result.conversation (Some programs) s c.in_ok-endpoint.endpoint (Answers c.in_ok-server.server) c.new-2.ensures.ends.0 c.new-2.ensures.ends.1 c.new-2.ensures.said.0 c.in_ok-endpoint.ensures has refl refl
 
 pub returns-clause-begun : goal.returns-clause-begun
 returns-clause-begun c = record { pace = c.pace.result; paced = c.pace.ensures; began = c.new-2.ensures.begun }
+
+pub new-requires-2 : goal.new-requires-2
+new-requires-2 c = ∣ (responder_state c.args.own c.args.id c.args.peer c.args.peer_id c.args.settings.now.window c.args.settings.now.backlog, c.in_ok-endpoint.ensures) ∣₁

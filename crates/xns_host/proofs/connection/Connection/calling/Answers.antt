@@ -12,7 +12,10 @@ returns-clause-tells c =
     let s : State = initiator_state c.args.own c.args.id c.args.peer c.args.settings.now.window c.args.settings.now.backlog in
     let new : CallerHas (new_story None s) new_talk = record { phase = opening []; done = c.a_session_is_its_conversation.ensures.start; going = λ z. refl; table = refl } in
     let has : CallerHas (new_story None s) c.in_ok-caller.caller = subst (λ (t : Talk). CallerHas (new_story None s) t) (sym c.in_ok-caller.ensures) new in
-    new_tells c.new-2.result.conversation None s c.in_ok-endpoint.endpoint (Calls c.in_ok-caller.caller) c.new-2.ensures.endpoint c.new-2.ensures.side c.new-2.ensures.closing c.in_ok-endpoint.ensures has refl refl
+    new_tells c.new-2.result.conversation None s c.in_ok-endpoint.endpoint (Calls c.in_ok-caller.caller) c.new-2.ensures.ends.0 c.new-2.ensures.ends.1 c.new-2.ensures.said.0 c.in_ok-endpoint.ensures has refl refl
 
 pub returns-clause-begun : goal.returns-clause-begun
 returns-clause-begun c = record { pace = c.pace.result; paced = c.pace.ensures; began = c.new-2.ensures.begun }
+
+pub new-requires-2 : goal.new-requires-2
+new-requires-2 c = ∣ (initiator_state c.args.own c.args.id c.args.peer c.args.settings.now.window c.args.settings.now.backlog, c.in_ok-endpoint.ensures) ∣₁

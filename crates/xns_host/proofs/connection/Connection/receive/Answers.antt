@@ -1,3 +1,6 @@
+use Rattle.std.proofs.Common.{subst}
+use Rattle.xns_spp.specs.Held.{Held}
+use Rattle.xns_host.specs.Closing.{drains}
 use Rattle.xns_spp.specs.Receiving.{after_receive}
 use Rattle.xns_host.proofs.Done.{hears_at}
 use Rattle.xns_host.proofs.Tellings.{still_wanted}
@@ -11,47 +14,12 @@ use Rattle.xns_spp.specs.Held.{StandsFor}
 use Rattle.xns_spp.specs.State.{State}
 use Rattle.xns_host.specs.Telling.{is_progress}
 use Rattle.xns_host.proofs.Steps.{heard_by, owed_is_heard, wait_is_heard}
+use Rattle.xns_host.proofs.Steps.{moved_history}
+use Rattle.xns_host.proofs.Steps.{heard_history, same_history}
+use Rattle.xns_spp.specs.Packet.{spp_packet_spelling}
+use Rattle.std.proofs.Common.{◌++◌, []}
+use Rattle.xns_host.specs.declared.conversation.Conversation.{Conversation}
 use Rattle.xns_host.proofs.connection.Connection.receive.Goals as goal
-
-pub returns-clause-tells : goal.returns-clause-tells
-returns-clause-tells c = λ b read. record { wanted = λ z. c.settled.ensures.goes.wanted (still_wanted c.in_ok-input.ensures.beside.1 z); on = λ h tells. c.settled.ensures.goes.on (record h { state = after_receive h.state b }) (c.in_ok-input.ensures.tells h b tells read) }
-
-pub returns-clause-steps : goal.returns-clause-steps
-returns-clause-steps c = hears_at _ _ _ _ _ _ (λ yes. (c.note.ensures.foreign yes).0) c.note.ensures.wait c.settled.ensures.steps
-
-pub returns-clause-heard : goal.returns-clause-heard
-returns-clause-heard c = λ s b stands read.
-    let v = after_receive s b in
-    let after = c.in_ok-input.ensures.stands s b stands read in
-    waits_heard _ _ _ s b c.in_ok-input.input c.is_progress-more.result c.args.now (c.in_ok-input.ensures.answer s b stands read)
-    (progress_is s v _ _ _ (c.unacknowledged-before.ensures s stands) (c.is_open-was_open.ensures s stands) (c.is_progress-more.ensures v after))
-    (λ yes. (c.note.ensures.foreign yes).0) c.note.ensures.wait c.settled.ensures.steps
-
-pub returns-clause-again : goal.returns-clause-again
-returns-clause-again c = λ s b stands read.
-    let v = after_receive s b in
-    let after = c.in_ok-input.ensures.stands s b stands read in
-    c.settled.ensures.owed.0 ∙
-    again_heard c.args.self.now.owed c.note.new.owed c.args.self.now.wait s b c.in_ok-input.input c.is_progress-more.result
-    (nat_lt 0 c.unacknowledged-left.result) (c.in_ok-input.ensures.answer s b stands read)
-    (progress_is s v _ _ _ (c.unacknowledged-before.ensures s stands) (c.is_open-was_open.ensures s stands) (c.is_progress-more.ensures v after))
-    (ap (λ (n : ℕ). nat_lt 0 n) (c.unacknowledged-left.ensures v after))
-    (λ yes. (c.note.ensures.foreign yes).1) c.note.ensures.again
-
-pub returns-clause-word : goal.returns-clause-word
-returns-clause-word c = λ s b stands read owed.
-    c.settled.ensures.word (word_heard c.args.self.now.owed c.note.new.owed c.args.self.now.wait s b c.in_ok-input.input
-    (c.in_ok-input.ensures.answer s b stands read) (λ yes. (c.note.ensures.foreign yes).1) c.note.ensures.word ∙ owed)
-
-pub returns-clause-why : goal.returns-clause-why
-returns-clause-why c = λ b read.
-    closes_from (λ (h : Story). record h { state = after_receive h.state b }) (λ h tells. c.in_ok-input.ensures.tells h b tells read) (cc) c.settled.ensures.why
-
-pub returns-clause-quiet : goal.returns-clause-quiet
-returns-clause-quiet c = λ s v b stands read none new less.
-    c.settled.ensures.quiet (word_heard c.args.self.now.owed c.note.new.owed c.args.self.now.wait s b c.in_ok-input.input
-    (c.in_ok-input.ensures.answer s b stands read) (λ yes. (c.note.ensures.foreign yes).1) c.note.ensures.word ∙ none)
-    (after_receive s b) v (c.in_ok-input.ensures.stands s b stands read) new less
 
 pub returns-clause-step : goal.returns-clause-step
 returns-clause-step c = λ b read.
@@ -63,7 +31,27 @@ returns-clause-step c = λ b read.
     heard_by c.args.now b c.args.self.now _ c.receive.new.self c.note.new.owed c.note.new.wait (λ s stands. k.stands s b stands read) k.beside.0 k.beside.1
     (λ s stands. owed_is_heard c.args.self.now.owed c.note.new.owed c.args.self.now.wait s b c.in_ok-input.input c.is_progress-more.result (nat_lt 0 c.unacknowledged-left.result)
     (k.answer s b stands read) (more_is s stands) (ap (λ (n : ℕ). nat_lt 0 n) (c.unacknowledged-left.ensures (after_receive s b) (k.stands s b stands read)))
-    (λ yes. (n.foreign yes).1) n.word n.again n.beside.0 n.beside.1 n.fresh)
+    (λ yes. (n.foreign yes).1) n.owed)
     (λ s stands. wait_is_heard c.args.self.now.wait c.note.new.wait s b c.in_ok-input.input c.is_progress-more.result c.args.now
     (k.answer s b stands read) (more_is s stands) (λ yes. (n.foreign yes).0) n.wait)
-    c.settled.ensures.moved (hears_at _ _ _ _ _ _ (λ yes. (n.foreign yes).0) n.wait c.settled.ensures.steps) (c.settled.ensures.packets ∙ k.packets) refl c.settled.ensures.closed
+    c.settled.ensures.moved (λ steps. hears_at _ _ _ _ _ _ (λ yes. (n.foreign yes).0) n.wait steps) k.packets refl
+
+pub invariant_of-self-2-clause-stands : goal.invariant_of-self-2-clause-stands
+invariant_of-self-2-clause-stands c = c.settled.ensures.stands
+
+pub settled-requires-clause-stands : goal.settled-requires-clause-stands
+settled-requires-clause-stands c =
+    let p = c.args.packet.now in
+    heard_history c.args.self.now.conversation.endpoint _ (spp_packet_spelling p ++ []) c.args.self.now.stands
+    (λ s stands. c.in_ok-input.ensures.stands s (spp_packet_spelling p ++ []) stands (c.written_packet_is_read_again.ensures.again p [] c.requires))
+
+pub invariant_of-self : goal.invariant_of-self
+invariant_of-self c =
+    let end = ap (λ (t : Conversation). t.endpoint) c.in_err-input.ensures.unchanged in
+    record {
+      timed = λ none s stands some. c.args.self.now.timed none s (subst (λ (e : Held). StandsFor e s) end stands) some;
+      open_due = c.args.self.now.open_due;
+      closed_due = c.args.self.now.closed_due;
+      deaf = λ some. ap (λ (t : Conversation). drains t.side t.closing) c.in_err-input.ensures.unchanged ∙ c.args.self.now.deaf some;
+      stands = same_history _ _ end c.args.self.now.stands;
+    }

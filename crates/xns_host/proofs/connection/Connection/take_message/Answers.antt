@@ -6,58 +6,60 @@ use Rattle.xns_host.specs.Telling.{OwesRoom}
 use Rattle.xns_host.proofs.Owing.{same_room}
 use Rattle.xns_host.proofs.Closes.{closes_calm, closes_from}
 use Rattle.xns_host.specs.Story.{Story}
-use Rattle.std.proofs.Common.{◌≡◌, ◌∙◌, ap, sym, false}
-use Rattle.std.specs.Prelude.{not, ◌&&◌}
-use Rattle.xns_host.specs.Deeds.{done, took}
+use Rattle.std.proofs.Common.{◌≡◌, ◌∙◌, ap, sym, false, None, rules}
+use Rattle.std.specs.Prelude.{not}
+use Rattle.xns_host.specs.Deeds.{took}
 use Rattle.xns_host.specs.Moving.{is_calm, scene}
+use Rattle.xns_host.specs.Step.{calmly, moving_on, none_waits, parts_of}
 use Rattle.xns_host.specs.declared.conversation.Conversation.{Conversation}
-use Rattle.xns_host.proofs.Steps.{first_no, hands_on, second_no, step_by}
+use Rattle.xns_host.proofs.Steps.{calm_then, first_no, same_connection, second_no, step_by}
 use Rattle.xns_host.proofs.connection.Connection.take_message.Goals.{else-not-self-via-then-not-self+else-is_calm, else-not-self-via-else-not-self}
+use Rattle.xns_host.proofs.Steps.{moved_history}
+use Rattle.xns_host.proofs.Steps.{same_history}
 use Rattle.xns_host.proofs.connection.Connection.take_message.Goals as goal
 
-pub returns-then-is_calm-clause-handed : goal.returns-then-is_calm-clause-handed
-returns-then-is_calm-clause-handed c = λ h m tells is.
-    let next = with_handed c.args.self.now.conversation.side h m in
-    (next, c.in_ok-message.ensures.handed h m tells is, stays next)
+pub returns-in_err-message-clause-step : goal.returns-in_err-message-clause-step
+returns-in_err-message-clause-step c =
+    let none : c.take_message.result ≡ None = search rules in
+    none_waits (sym c.take_message.ensures.message ∙ none) (same_connection _ _ (ap (λ (t : Conversation). record (parts_of c.args.self.now) { conversation = t }) (c.take_message.ensures.none none)))
 
-pub returns-then-is_calm-clause-calm : goal.returns-then-is_calm-clause-calm
-returns-then-is_calm-clause-calm c = λ m is still free.
-    calm_from (λ h tells. c.in_ok-message.ensures.handed h m tells is) (c.is_calm.ensures.calm c.if-is_calm.true)
-
-pub returns-clause-handed : goal.returns-clause-handed
-returns-clause-handed c = λ h m tells is. c.settled.ensures.goes.on (with_handed c.args.self.now.conversation.side h m) (c.in_ok-message.ensures.handed h m tells is)
-
-pub returns-clause-calm : goal.returns-clause-calm
-returns-clause-calm c = λ m is still free. calm_from (λ h tells. c.in_ok-message.ensures.handed h m tells is) (c.settled.ensures.calm still free)
-
-pub returns-clause-read : goal.returns-clause-read
-returns-clause-read c = λ m is still same h tells yes. c.settled.ensures.read still same (with_handed c.args.self.now.conversation.side h m) (c.in_ok-message.ensures.handed h m tells is) yes
-
-pub returns-clause-room : goal.returns-clause-room
-returns-clause-room c = subst (λ (e : Held). OwesRoom e c.settled.new.conversation.endpoint c.settled.new.owed.word) c.in_ok-message.ensures.endpoint c.settled.ensures.room
-
-pub returns-then-is_calm-clause-room : goal.returns-then-is_calm-clause-room
-returns-then-is_calm-clause-room c = same_room _ _ _ c.in_ok-message.ensures.endpoint
-
-pub returns-then-is_calm-clause-why : goal.returns-then-is_calm-clause-why
-returns-then-is_calm-clause-why c = λ m is. closes_calm (λ (h : Story). with_handed c.args.self.now.conversation.side h m) (c.is_calm.ensures.open c.if-is_calm.true) c.if-not-self.true refl
-
-pub returns-clause-why : goal.returns-clause-why
-returns-clause-why c = λ m is. closes_from (λ (h : Story). with_handed c.args.self.now.conversation.side h m) (λ h tells. c.in_ok-message.ensures.handed h m tells is) c.in_ok-message.ensures.drains c.settled.ensures.why
+pub returns-then-is_calm-clause-step : goal.returns-then-is_calm-clause-step
+returns-then-is_calm-clause-step c =
+    let k = c.in_ok-message.ensures in
+    let idle : c.args.self.now.owed.moving ≡ false = search rules in
+    calmly (λ z. absurd (cc))
+    (λ s stands.
+    let value = c.is_calm.ensures.value s (subst (λ (e : Held). StandsFor e s) (sym k.endpoint) stands) in
+    calm_then c.args.self.now c.take_message.new.self s idle (ap (λ (t : Conversation). scene t s) k.is) (sym value ∙ c.if-is_calm.true))
+    (ap (λ (t : Conversation). record (parts_of c.args.self.now) { conversation = t }) k.is)
 
 pub returns-clause-step : goal.returns-clause-step
 returns-clause-step c =
     let k = c.in_ok-message.ensures in
-    record {
-      none = λ z. absurd (cc);
-      some = λ waits s stands.
-          let same = ap (λ (t : Conversation). scene t s) k.is in
-          let busy : (not c.args.self.now.owed.moving && is_calm (done took (scene c.args.self.now.conversation s))) ≡ false =
-          elim c.else-not-self.branch [
-            | else-not-self-via-then-not-self+else-is_calm w ↦ second_no (not c.args.self.now.owed.moving) _ (ap is_calm (sym same) ∙ (sym (w.is_calm.ensures.value s (subst (λ (e : Held). StandsFor e s) (sym k.endpoint) stands)) ∙ w.if-is_calm.false))
-            | else-not-self-via-else-not-self w ↦ first_no (not c.args.self.now.owed.moving) _ (cc)
-          ] in
-          hands_on c.args.now c.args.self.now _ _ busy
-          (step_by c.args.now took c.args.self.now _ c.take_message.new.self k.endpoint (λ s. ap (λ (t : Conversation). scene t s) k.is) (λ s. refl) (λ s. refl)
-          c.settled.ensures.moved tt c.settled.ensures.steps (c.settled.ensures.packets ∙ k.packets) refl c.settled.ensures.closed);
-    }
+    moving_on (λ z. absurd (cc))
+    (λ s stands.
+    let same = ap (λ (t : Conversation). scene t s) k.is in
+    elim c.else-not-self.branch [
+      | else-not-self-via-then-not-self+else-is_calm w ↦ second_no (not c.args.self.now.owed.moving) _ (ap is_calm (sym same) ∙ (sym (w.is_calm.ensures.value s (subst (λ (e : Held). StandsFor e s) (sym k.endpoint) stands)) ∙ w.if-is_calm.false))
+      | else-not-self-via-else-not-self w ↦ first_no (not c.args.self.now.owed.moving) _ (cc)
+    ])
+    (step_by c.args.now took c.args.self.now _ c.take_message.new.self k.endpoint (λ s. ap (λ (t : Conversation). scene t s) k.is) (λ s. refl) (λ s. refl)
+    c.settled.ensures.moved tt (λ steps. steps) k.packets refl)
+
+pub invariant_of-self-then-is_calm-clause-stands : goal.invariant_of-self-then-is_calm-clause-stands
+invariant_of-self-then-is_calm-clause-stands c = same_history _ _ c.in_ok-message.ensures.endpoint c.args.self.now.stands
+
+pub invariant_of-self-2-clause-stands : goal.invariant_of-self-2-clause-stands
+invariant_of-self-2-clause-stands c = c.settled.ensures.stands
+
+pub settled-requires-clause-stands : goal.settled-requires-clause-stands
+settled-requires-clause-stands c = same_history _ _ c.in_ok-message.ensures.endpoint c.args.self.now.stands
+
+pub invariant_of-self : goal.invariant_of-self
+invariant_of-self c = record {
+  timed = λ none s stands some. c.args.self.now.timed none s (subst (λ (e : Held). StandsFor e s) c.take_message.ensures.endpoint stands) some;
+  open_due = c.args.self.now.open_due;
+  closed_due = c.args.self.now.closed_due;
+  deaf = λ some. c.take_message.ensures.drains ∙ c.args.self.now.deaf some;
+  stands = same_history _ _ c.take_message.ensures.endpoint c.args.self.now.stands;
+}

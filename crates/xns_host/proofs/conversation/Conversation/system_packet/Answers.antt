@@ -4,12 +4,6 @@ use Rattle.xns_host.proofs.Owing.{asked_given, no_word_given, word_given}
 use Rattle.xns_host.proofs.conversation.Conversation.system_packet.Goals.{else-not-owed-via-then-not-owed+else-not-owed-2, else-not-owed-via-else-not-owed}
 use Rattle.xns_host.proofs.conversation.Conversation.system_packet.Goals as goal
 
-pub returns-then-not-owed-2-clause-gives : goal.returns-then-not-owed-2-clause-gives
-returns-then-not-owed-2-clause-gives c = λ none. gives_none c.args.self.now c.args.self.now refl
-
-pub returns-clause-gives : goal.returns-clause-gives
-returns-clause-gives c = λ none. gives_told c.args.self.now c.in_ok-packet.packet c.args.owed.now.asks none c.in_ok-packet.ensures.answer
-
 pub returns-clause-answer : goal.returns-clause-answer
 returns-clause-answer c = λ s stands.
     let o = c.args.owed.now in

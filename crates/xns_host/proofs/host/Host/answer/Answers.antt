@@ -15,7 +15,7 @@ note-requires-clause-others c =
 pub invariant_of-self-2-clause-registered : goal.invariant_of-self-2-clause-registered
 invariant_of-self-2-clause-registered c =
     let w = in_place c.tell-now.result (gave c.args.answer c.args.words.now) c.index_mut.result.now c.in-Some.guest c.answer.new.self c.in-Some.is (c.in_ok-answer.ensures.step) in
-    slot_registered c.tell-now.result (gave c.args.answer c.args.words.now) (Ok tt) c.args.self.now.register c.args.self.now.guests.items c.args.number c.index_mut.result.now (Some c.answer.new.self)
+    slot_registered c.a_step_keeps_its_promises.ensures c.tell-now.result (gave c.args.answer c.args.words.now) (Ok tt) c.args.self.now.register c.args.self.now.guests.items c.args.number c.index_mut.result.now (Some c.answer.new.self)
     c.args.self.now.registered (gave_still c.args.answer c.args.words.now) w tt (search rules) (omega arith)
 
 pub invariant_of-self-2-clause-not_done : goal.invariant_of-self-2-clause-not_done

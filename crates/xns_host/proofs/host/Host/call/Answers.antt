@@ -16,7 +16,7 @@ note-requires-clause-others c =
 pub invariant_of-self-2-clause-registered : goal.invariant_of-self-2-clause-registered
 invariant_of-self-2-clause-registered c =
     let w = in_place c.tell-now.result (made (words_call c.args.program c.args.version c.args.procedure c.args.words.now)) c.index_mut.result.now c.in-Some.guest c.call.new.self c.in-Some.is (c.in_ok-call.ensures.step) in
-    slot_registered c.tell-now.result (made (words_call c.args.program c.args.version c.args.procedure c.args.words.now)) (Ok tt) c.args.self.now.register c.args.self.now.guests.items c.args.number c.index_mut.result.now (Some c.call.new.self)
+    slot_registered c.a_step_keeps_its_promises.ensures c.tell-now.result (made (words_call c.args.program c.args.version c.args.procedure c.args.words.now)) (Ok tt) c.args.self.now.register c.args.self.now.guests.items c.args.number c.index_mut.result.now (Some c.call.new.self)
     c.args.self.now.registered (λ side h. refl) w tt (search rules) (omega arith)
 
 pub invariant_of-self-2-clause-not_done : goal.invariant_of-self-2-clause-not_done

@@ -13,7 +13,7 @@ note-requires-clause-others c =
 pub invariant_of-self-2-clause-registered : goal.invariant_of-self-2-clause-registered
 invariant_of-self-2-clause-registered c =
     let w = in_place c.tell-now.result asked c.index_mut.result.now c.in-Some.guest c.close.new.self c.in-Some.is c.close.ensures in
-    slot_registered c.tell-now.result asked (Ok tt) c.args.self.now.register c.args.self.now.guests.items c.args.number c.index_mut.result.now (Some c.close.new.self)
+    slot_registered c.a_step_keeps_its_promises.ensures c.tell-now.result asked (Ok tt) c.args.self.now.register c.args.self.now.guests.items c.args.number c.index_mut.result.now (Some c.close.new.self)
     c.args.self.now.registered (λ side h. refl) w tt (search rules) (omega arith)
 
 pub invariant_of-self-2-clause-not_done : goal.invariant_of-self-2-clause-not_done

@@ -10,87 +10,58 @@ use Rattle.xns_host.proofs.Leading.{moves_on, all_moves, moves_all, calms_at, ca
 use Rattle.xns_host.proofs.side.Side.converse.Goals as goal
 
 pub loop-alloc-init : goal.loop-alloc-init
-loop-alloc-init c = record { rounds = λ s stands. let x = c.in_ok-pump.ensures.pumps s stands in (x.0, x.1, once x.2); moves = c.in_ok-pump.ensures.all; waits = c.waiting-waiting.ensures }
-
-pub returns-then-is_stopped-clause-moves : goal.returns-then-is_stopped-clause-moves
-returns-then-is_stopped-clause-moves c = all_moves c.loop-alloc.invariant.moves
-
-pub returns-then-is_stopped-clause-calms : goal.returns-then-is_stopped-clause-calms
-returns-then-is_stopped-clause-calms c = calms_never c.loop-alloc.invariant.moves (cc)
-
-pub returns-in_err-reject_unlisted-clause-refused : goal.returns-in_err-reject_unlisted-clause-refused
-returns-in_err-reject_unlisted-clause-refused c =
-    let is : c.from_residual-in_err-reject_unlisted.result ≡ Err NoMemory = search rules in
-    subst (λ (r : Result (Unit {0}) FeedRefusal). IfErr r (λ (e : FeedRefusal). MovesUntil c.args.self.now c.args.endpoint.now e c.reject_unlisted.new.self c.loop-alloc.endpoint)) (sym is)
-    (unrejects c.loop-alloc.invariant.moves c.in_err-reject_unlisted.ensures.unchanged c.in_err-reject_unlisted.ensures.memory)
-
-pub returns-in_err-pump-2-clause-refused : goal.returns-in_err-pump-2-clause-refused
-returns-in_err-pump-2-clause-refused c =
-    let is : c.from_residual-in_err-pump-2.result ≡ Err c.in_err-pump-2.field-0.0 = search rules in
-    subst (λ (r : Result (Unit {0}) FeedRefusal). IfErr r (λ (e : FeedRefusal). MovesUntil c.args.self.now c.args.endpoint.now e c.pump-in-loop-alloc.new.self c.pump-in-loop-alloc.new.endpoint)) (sym is) (until_then (moves_on (all_moves c.loop-alloc.invariant.moves) (c.reject_unlisted.ensures.moves c.loop-alloc.endpoint)) c.in_err-pump-2.ensures.refused)
-
-pub returns-in_err-reject_unlisted-clause-moves : goal.returns-in_err-reject_unlisted-clause-moves
-returns-in_err-reject_unlisted-clause-moves c = moves_on (all_moves c.loop-alloc.invariant.moves) (c.reject_unlisted.ensures.moves c.loop-alloc.endpoint)
-
-pub returns-then-not-branch-clause-moves : goal.returns-then-not-branch-clause-moves
-returns-then-not-branch-clause-moves c = moves_on (all_moves c.loop-alloc.invariant.moves) (c.reject_unlisted.ensures.moves c.loop-alloc.endpoint)
-
-pub returns-then-not-branch-clause-calms : goal.returns-then-not-branch-clause-calms
-returns-then-not-branch-clause-calms c =
-    let k = c.in_ok-reject_unlisted.ensures.listed (ap (λ (b : Bool). Ok b) c.if-not-branch.true) in
-    calms_at c.loop-alloc.invariant.moves k.0 k.1
-
-pub returns-in_err-pump-2-clause-moves : goal.returns-in_err-pump-2-clause-moves
-returns-in_err-pump-2-clause-moves c = moves_on (moves_on (all_moves c.loop-alloc.invariant.moves) (c.reject_unlisted.ensures.moves c.loop-alloc.endpoint)) c.pump-in-loop-alloc.ensures.moves
+loop-alloc-init c = record { rounds = λ s stands. let x = c.in_ok-pump.ensures.pumps s stands in (x.0, x.1, once x.2); waits = c.waiting-waiting.ensures }
 
 pub loop-alloc-preserved : goal.loop-alloc-preserved
-loop-alloc-preserved c = record { rounds = λ s stands. one_more (c.loop-alloc.invariant.rounds s stands) (cc) (c.in_ok-reject_unlisted.ensures.rejects (ap (λ (b : Bool). Ok b) c.if-not-branch.false)) c.in_ok-pump-2.ensures.pumps; moves = moves_all (moves_on (all_moves c.loop-alloc.invariant.moves) (c.reject_unlisted.ensures.moves c.loop-alloc.endpoint)) c.in_ok-pump-2.ensures.all; waits = c.waiting-left.ensures }
+loop-alloc-preserved c = record { rounds = λ s stands. one_more (c.loop-alloc.invariant.rounds s stands) (cc) (c.in_ok-reject_unlisted.ensures.rejects (ap (λ (b : Bool). Ok b) c.if-not-branch.false)) c.in_ok-pump-2.ensures.pumps; waits = c.waiting-left.ensures }
 
-pub returns-then-left-waiting-clause-moves : goal.returns-then-left-waiting-clause-moves
-returns-then-left-waiting-clause-moves c = moves_on (moves_on (all_moves c.loop-alloc.invariant.moves) (c.reject_unlisted.ensures.moves c.loop-alloc.endpoint)) c.pump-in-loop-alloc.ensures.moves
-
-pub returns-then-left-waiting-clause-calms : goal.returns-then-left-waiting-clause-calms
-returns-then-left-waiting-clause-calms c =
-    quiet c.loop-alloc.waiting c.waiting-left.result c.loop-alloc.invariant.moves (c.reject_unlisted.ensures.moves c.loop-alloc.endpoint) c.in_ok-pump-2.ensures.all
-    c.loop-alloc.invariant.waits c.waiting-left.ensures c.if-left-waiting.true
-    (c.in_ok-pump-2.ensures.calls (c.in_ok-reject_unlisted.ensures.gone (ap (λ (b : Bool). Ok b) c.if-not-branch.false)))
-
-pub returns-in_err-pump-clause-converses : goal.returns-in_err-pump-clause-converses
-returns-in_err-pump-clause-converses c = λ s stands.
+pub returns-in_err-pump : goal.returns-in_err-pump
+returns-in_err-pump c = record {
+  converses = λ s stands.
     let is : c.from_residual.result ≡ Err c.in_err-pump.field-0.0 = search rules in
     let x = c.in_err-pump.ensures.pumps s stands in
     subst (λ (r : Result (Unit {0}) FeedRefusal). Reached c.pump.new.endpoint (λ v. Converses c.args.self.now s r c.pump.new.self v)) (sym is)
-    (x.0, x.1, refuses c.in_err-pump.field-0.0 x.2)
+    (x.0, x.1, refuses c.in_err-pump.field-0.0 x.2);
+}
 
-pub returns-then-is_stopped-clause-converses : goal.returns-then-is_stopped-clause-converses
-returns-then-is_stopped-clause-converses c = λ s stands.
+pub returns-then-is_stopped : goal.returns-then-is_stopped
+returns-then-is_stopped c = record {
+  converses = λ s stands.
     let x = c.loop-alloc.invariant.rounds s stands in
-    (x.0, x.1, calms x.2 (λ going. absurd (cc)))
+    (x.0, x.1, calms x.2 (λ going. absurd (cc)));
+}
 
-pub returns-in_err-reject_unlisted-clause-converses : goal.returns-in_err-reject_unlisted-clause-converses
-returns-in_err-reject_unlisted-clause-converses c = λ s stands.
+pub returns-in_err-reject_unlisted : goal.returns-in_err-reject_unlisted
+returns-in_err-reject_unlisted c = record {
+  converses = λ s stands.
     let is : c.from_residual-in_err-reject_unlisted.result ≡ Err NoMemory = search rules in
     let same = c.in_err-reject_unlisted.ensures.unchanged in
     let x = c.loop-alloc.invariant.rounds s stands in
     subst (λ (r : Result (Unit {0}) FeedRefusal). Reached c.loop-alloc.endpoint (λ v. Converses c.args.self.now s r c.reject_unlisted.new.self v)) (sym is)
     (subst (λ (n : Side). Reached c.loop-alloc.endpoint (λ v. Converses c.args.self.now s (Err NoMemory) n v)) (sym same)
-    (x.0, x.1, starves x.2 c.in_err-reject_unlisted.ensures.memory))
+    (x.0, x.1, starves x.2 c.in_err-reject_unlisted.ensures.memory));
+}
 
-pub returns-then-not-branch-clause-converses : goal.returns-then-not-branch-clause-converses
-returns-then-not-branch-clause-converses c = λ s stands.
+pub returns-then-not-branch : goal.returns-then-not-branch
+returns-then-not-branch c = record {
+  converses = λ s stands.
     let k = c.in_ok-reject_unlisted.ensures.listed (ap (λ (b : Bool). Ok b) c.if-not-branch.true) in
     let x = c.loop-alloc.invariant.rounds s stands in
     subst (λ (n : Side). Reached c.loop-alloc.endpoint (λ v. Converses c.args.self.now s (Ok tt) n v)) (sym k.0)
-    (x.0, x.1, calms x.2 (λ going. k.1))
+    (x.0, x.1, calms x.2 (λ going. k.1));
+}
 
-pub returns-in_err-pump-2-clause-converses : goal.returns-in_err-pump-2-clause-converses
-returns-in_err-pump-2-clause-converses c = λ s stands.
+pub returns-in_err-pump-2 : goal.returns-in_err-pump-2
+returns-in_err-pump-2 c = record {
+  converses = λ s stands.
     let is : c.from_residual-in_err-pump-2.result ≡ Err c.in_err-pump-2.field-0.0 = search rules in
     subst (λ (r : Result (Unit {0}) FeedRefusal). Reached c.pump-in-loop-alloc.new.endpoint (λ v. Converses c.args.self.now s r c.pump-in-loop-alloc.new.self v)) (sym is)
-    (refused_on c.in_err-pump-2.field-0.0 (c.loop-alloc.invariant.rounds s stands) (cc) (c.in_ok-reject_unlisted.ensures.rejects (ap (λ (b : Bool). Ok b) c.if-not-branch.false)) c.in_err-pump-2.ensures.pumps)
+    (refused_on c.in_err-pump-2.field-0.0 (c.loop-alloc.invariant.rounds s stands) (cc) (c.in_ok-reject_unlisted.ensures.rejects (ap (λ (b : Bool). Ok b) c.if-not-branch.false)) c.in_err-pump-2.ensures.pumps);
+}
 
-pub returns-then-left-waiting-clause-converses : goal.returns-then-left-waiting-clause-converses
-returns-then-left-waiting-clause-converses c = λ s stands.
+pub returns-then-left-waiting : goal.returns-then-left-waiting
+returns-then-left-waiting c = record {
+  converses = λ s stands.
     let rejected = c.in_ok-reject_unlisted.ensures.rejects (ap (λ (b : Bool). Ok b) c.if-not-branch.false) in
     let x = c.loop-alloc.invariant.rounds s stands in
     let y = one_more x (cc) rejected c.in_ok-pump-2.ensures.pumps in
@@ -100,4 +71,5 @@ returns-then-left-waiting-clause-converses c = λ s stands.
       y.0,
       y.1,
       calms y.2 (λ going. c.in_ok-pump-2.ensures.calls (c.in_ok-reject_unlisted.ensures.gone (ap (λ (b : Bool). Ok b) c.if-not-branch.false)) x.0 y.0 x.1 y.1 (omega (arith, is, was, over))),
-    )
+    );
+}

@@ -12,44 +12,10 @@ use Rattle.xns_host.specs.Moving.{Pumps}
 use Rattle.xns_host.proofs.Rounds.{led}
 use Rattle.xns_host.proofs.side.Side.pump.Goals as goal
 
-pub returns-in-Calls-clause-moves : goal.returns-in-Calls-clause-moves
-returns-in-Calls-clause-moves c = record {
-  on = λ h flows.
-      caller_pumped c.the_next_item_is_handed_up.ensures c.a_session_is_its_conversation.ensures.give c.a_session_is_its_conversation.ensures.feed h c.in-Calls.caller c.pump.new.side c.args.endpoint.now c.pump.new.endpoint c.pump.result
-      (ap is_stopped (sym c.in-Calls.is) ∙ c.requires) (subst (λ (x : Side). Flows x c.args.endpoint.now h) c.in-Calls.is flows) (c.pump.ensures h.state flows.stands);
-}
-
-pub returns-in-Answers-clause-moves : goal.returns-in-Answers-clause-moves
-returns-in-Answers-clause-moves c = record {
-  on = λ h flows.
-      server_pumped c.the_next_item_is_handed_up.ensures c.a_server_session_is_its_conversation.ensures.give c.a_server_session_is_its_conversation.ensures.feed h c.in-Answers.server c.pump-in-Answers.new.side c.args.endpoint.now c.pump-in-Answers.new.endpoint c.pump-in-Answers.result
-      (ap is_stopped (sym c.in-Answers.is) ∙ c.requires) (subst (λ (x : Side). Flows x c.args.endpoint.now h) c.in-Answers.is flows) (c.pump-in-Answers.ensures h.state flows.stands);
-}
-
-pub returns-in-Calls-clause-all : goal.returns-in-Calls-clause-all
-returns-in-Calls-clause-all c = subst (λ (x : Side). OnOk c.pump.result (MovesAll x c.args.endpoint.now (Calls c.pump.new.side) c.pump.new.endpoint)) (sym c.in-Calls.is)
-    (caller_all c.the_next_item_is_handed_up.ensures c.a_session_is_its_conversation.ensures.give c.a_session_is_its_conversation.ensures.feed c.in-Calls.caller c.pump.new.side c.args.endpoint.now c.pump.new.endpoint c.pump.result
-    (ap is_stopped (sym c.in-Calls.is) ∙ c.requires) c.pump.ensures)
-
-pub returns-in-Answers-clause-all : goal.returns-in-Answers-clause-all
-returns-in-Answers-clause-all c = subst (λ (x : Side). OnOk c.pump-in-Answers.result (MovesAll x c.args.endpoint.now (Answers c.pump-in-Answers.new.side) c.pump-in-Answers.new.endpoint)) (sym c.in-Answers.is)
-    (server_all c.the_next_item_is_handed_up.ensures c.a_server_session_is_its_conversation.ensures.give c.a_server_session_is_its_conversation.ensures.feed c.in-Answers.server c.pump-in-Answers.new.side c.args.endpoint.now c.pump-in-Answers.new.endpoint c.pump-in-Answers.result
-    (ap is_stopped (sym c.in-Answers.is) ∙ c.requires) c.pump-in-Answers.ensures)
-
 pub returns-in-Answers-clause-calls : goal.returns-in-Answers-clause-calls
 returns-in-Answers-clause-calls c = λ free.
     no_call_comes c.the_next_item_is_handed_up.ensures c.in-Answers.server c.pump-in-Answers.new.side c.args.endpoint.now c.pump-in-Answers.new.endpoint c.pump-in-Answers.result c.pump-in-Answers.ensures
     (ap has_message (sym c.in-Answers.is) ∙ free)
-
-pub returns-in-Calls-clause-refused : goal.returns-in-Calls-clause-refused
-returns-in-Calls-clause-refused c = subst (λ (x : Side). IfErr c.pump.result (λ (e : FeedRefusal). MovesUntil x c.args.endpoint.now e (Calls c.pump.new.side) c.pump.new.endpoint)) (sym c.in-Calls.is)
-    (caller_refuses c.the_next_item_is_handed_up.ensures c.a_session_is_its_conversation.ensures.give c.a_session_is_its_conversation.ensures.feed c.in-Calls.caller c.pump.new.side c.args.endpoint.now c.pump.new.endpoint c.pump.result
-    (ap is_stopped (sym c.in-Calls.is) ∙ c.requires) c.pump.ensures)
-
-pub returns-in-Answers-clause-refused : goal.returns-in-Answers-clause-refused
-returns-in-Answers-clause-refused c = subst (λ (x : Side). IfErr c.pump-in-Answers.result (λ (e : FeedRefusal). MovesUntil x c.args.endpoint.now e (Answers c.pump-in-Answers.new.side) c.pump-in-Answers.new.endpoint)) (sym c.in-Answers.is)
-    (server_refuses c.the_next_item_is_handed_up.ensures c.a_server_session_is_its_conversation.ensures.give c.a_server_session_is_its_conversation.ensures.feed c.in-Answers.server c.pump-in-Answers.new.side c.args.endpoint.now c.pump-in-Answers.new.endpoint c.pump-in-Answers.result
-    (ap is_stopped (sym c.in-Answers.is) ∙ c.requires) c.pump-in-Answers.ensures)
 
 pub returns-in-Calls-clause-pumps : goal.returns-in-Calls-clause-pumps
 returns-in-Calls-clause-pumps c = λ s stands.

@@ -9,17 +9,6 @@ use Rattle.xns_host.specs.Moving.{Rejects}
 use Rattle.xns_host.proofs.Rounds.{rejects_one}
 use Rattle.xns_host.proofs.side.Side.reject_unlisted.Goals as goal
 
-pub returns-in-Calls-clause-moves : goal.returns-in-Calls-clause-moves
-returns-in-Calls-clause-moves c = λ e. moves_not c.args.self.now e
-
-pub returns-in-Answers-clause-moves : goal.returns-in-Answers-clause-moves
-returns-in-Answers-clause-moves c = λ e.
-    let r = c.reject_unlisted.ensures in
-    let n = c.reject_unlisted.new.self in
-    subst (λ (x : Side). Moves x e (Answers n) e) (sym c.in-Answers.is)
-    (rejected (Moves (Answers c.in-Answers.server) e (Answers n) e) c.in-Answers.server n c.reject_unlisted.result r.rejected r.listed r.none r.stays
-    (λ m u call unlisted is. reject_moves c.a_server_session_is_its_conversation.ensures.reject c.in-Answers.server n m u e call unlisted is) (λ same. nothing_moves c.in-Answers.server n e same))
-
 pub returns-in-Answers-clause-stopped : goal.returns-in-Answers-clause-stopped
 returns-in-Answers-clause-stopped c =
     let r = c.reject_unlisted.ensures in
