@@ -1,12 +1,14 @@
 #!/bin/sh
-# Compares what the program `test_programs` answers with a second account, tests/notation_account.py: over the descriptions of
-# examples/courier, over a case for each reason and limit, and over random programs, half of them with a fault. Then it refuses each
-# growth in turn of a description and a call. It builds the program first. Its last line is 'N passed, M failed', and it ends with 1
-# where one failed. A first word is the number of random cases.
+# Compares what `test_programs` answers, and what `xns programs` prints, with a second account, tests/notation_account.py: over the
+# descriptions of examples/courier, over a case for each reason and limit, and over random programs, half of them with a fault. Then it
+# refuses each growth in turn of a description and a call. It builds both programs first. Its last line is 'N passed, M failed', and it
+# ends with 1 where one failed. A first word is the number of random cases.
 set -u
 cd "$(dirname "$0")/.."
 . tests/lib.sh
 count=${1:-60}
+build_program xns -- sim
+xns=$program
 build_program test_programs
 PYTHONDONTWRITEBYTECODE=1
 export PYTHONDONTWRITEBYTECODE
@@ -22,13 +24,35 @@ answers_as() {
     fi
 }
 
+account=$PWD/tests/notation_account.py
+
+# In the folder `xns programs` prints of the files what the account prints, says on standard error what it says, and ends as it ends.
+lists_as() {
+    name=$1
+    folder=$2
+    shift 2
+    (cd "$folder" && "$xns" programs "$@") > "$work/out" 2> "$work/err"
+    ended=$?
+    (cd "$folder" && python3 "$account" --list "$@") > "$work/listed" 2> "$work/refused_at"
+    wanted=$?
+    if [ $ended -eq $wanted ] && cmp -s "$work/out" "$work/listed" && cmp -s "$work/err" "$work/refused_at"; then
+        pass
+    else
+        diff "$work/out" "$work/listed" > "$work/differs"
+        diff "$work/err" "$work/refused_at" >> "$work/differs"
+        fail "xns programs, $name: status $ended and not $wanted" "$work/differs"
+    fi
+}
+
 python3 tests/random_notation.py --directed "$work/directed" || exit 1
 for folder in "$work"/directed/*; do
     answers_as "$(basename "$folder")" "$folder"
+    lists_as "$(basename "$folder")" "$folder" a.courier b.courier
 done
 python3 tests/random_notation.py "$work/random" 0 "$count" || exit 1
 for folder in "$work"/random/*; do
     answers_as "random case $(basename "$folder")" "$folder"
+    lists_as "random case $(basename "$folder")" "$folder" a.courier b.courier
 done
 
 # ---- the descriptions that are there
@@ -53,13 +77,56 @@ set -- examples/courier/tally.courier examples/courier/time.courier examples/cou
 python3 tests/notation_account.py "$@" < "$work/lines" > "$work/account"
 "$program" "$@" < "$work/lines" > "$work/out" 2> "$work/err"
 if cmp -s "$work/out" "$work/account"; then pass; else fail 'the descriptions of examples/courier' "$work/out"; fi
+lists_as 'the descriptions of examples/courier' . "$@"
+
+# ---- `xns programs`
+
+# It ended with the status, said the line (empty: nothing), and printed the file.
+ends() {
+    if [ -n "$3" ]; then printf '%s\n' "$3"; fi > "$work/said"
+    if [ $ended -eq "$2" ] && cmp -s "$work/said" "$work/err" && cmp -s "$4" "$work/out"; then pass; else fail "$1: status $ended"; fi
+}
+
+run_programs() {
+    "$xns" programs "$@" < "$work/in" > "$work/out" 2> "$work/err"
+    ended=$?
+}
+
+tally=examples/courier/tally.courier
+: > "$work/in"
+run_programs $tally
+cp "$work/out" "$work/tally"
+cat $tally > "$work/in"
+run_programs -
+ends 'standard input' 0 '' "$work/tally"
+run_programs $tally "$work/none"
+ends 'no such file' 3 "xns: $work/none: No such file or directory (os error 2)" "$work/tally"
+run_programs $tally "$work"
+ends 'a folder' 3 "xns: $work: Is a directory (os error 21)" "$work/tally"
+run_programs $tally $tally
+ends 'a program that was read before' 2 "$tally:2:1 DoubledProgram" "$work/tally"
+run_programs
+ends 'no file' 2 "error: the following required arguments were not provided; programs reads one FILE or more, as in 'xns programs x.courier'; try 'xns --help'" /dev/null
+"$xns" programs $tally > /dev/full 2> "$work/err"
+ended=$?
+: > "$work/out"
+ends 'a full device' 3 "xns: $tally: write fault" /dev/null
+# A text of as many bytes as there may be, and one of more, which is refused though more of it were to come.
+{ cat $tally && head -c 262144 /dev/zero | tr '\0' ' '; } > "$work/padded"
+head -c 262144 "$work/padded" > "$work/most"
+run_programs "$work/most"
+ends 'a text of 262,144 bytes' 0 '' "$work/tally"
+run_programs "$work/padded"
+lines=$(grep -c '' $tally)
+ends 'a text that is too long' 2 "$work/padded:$((lines + 1)):$((262145 - $(wc -c < $tally))) TooLong" /dev/null
+run_programs /dev/zero
+ends 'a text without an end' 2 '/dev/zero:1:262145 TooLong' /dev/null
 
 # ---- each growth refused in turn
 
 # The program ends by itself. What it printed is the beginning of what it prints else, or that a file wanted memory.
 build_refusing
 printf '%s\n' 'call 7 2 1 0005' > "$work/line"
-tally=examples/courier/tally.courier
 "$program" $tally < "$work/line" > "$work/whole"
 echo "$tally: no memory" > "$work/none"
 growth=1
@@ -74,5 +141,19 @@ while [ $growth -le 2000 ]; do
     growth=$((growth + 1))
 done
 echo "a description and a call: $((growth - 1)) growths"
+
+# `xns programs` prints its lines, or ends for want of memory and prints nothing.
+growth=1
+while [ $growth -le 2000 ]; do
+    refuse_growth $growth "$xns" programs $tally
+    [ -e "$work/refused" ] || break
+    if { [ $ended -eq 3 ] && [ ! -s "$work/out" ] && grep -q 'no memory' "$work/err"; } || { [ $ended -eq 0 ] && cmp -s "$work/out" "$work/tally"; }; then
+        pass
+    else
+        fail "xns programs, growth $growth refused: status $ended"
+    fi
+    growth=$((growth + 1))
+done
+echo "xns programs: $((growth - 1)) growths"
 
 finish

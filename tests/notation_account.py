@@ -1,6 +1,7 @@
 """A second account of Courier's notation of remote programs (XSIS 038112), written from docs/NOTATION.md alone.
 
     notation_account.py FILE..  < lines      answers lines as `call 7 2 1 0005` by name, over the programs that the files declare
+    notation_account.py --list FILE..        prints the programs, each with its procedures and errors, as `xns programs` does
 
 A line is `call`, `return` or `abort`, the numbers of the program, the version and the procedure or error, and the words, or `-` for
 none. Its answer is the text by name; the line itself where nothing of these numbers is declared; and the line with ` unread PLACE REASON`
@@ -698,7 +699,38 @@ def answer(programs, line):
     return line if text is None else f"{kind} {text}"
 
 
+def names(type):
+    return ", ".join(name for name, _ in type[1])
+
+
+def listed(program):
+    """The lines of a program, its procedures and its errors."""
+    head = f"{program.name} {program.number}.{program.version}"
+    lines = [head]
+    for number, (arguments, results) in program.procedures.items():
+        name = program.procedure_names[number]
+        lines.append(f"{head} procedure {number} {name} [{names(arguments)}] returns [{names(results)}]")
+    for number, arguments in program.errors.items():
+        lines.append(f"{head} error {number} {program.error_names[number]} [{names(arguments)}]")
+    return "\n".join(lines)
+
+
+def list_programs(files):
+    programs = []
+    for file in files:
+        with open(file, "rb") as text:
+            try:
+                programs.append(Resolver(text.read(), programs).program)
+            except Refusal as refusal:
+                print(f"{file}:{refusal}", file=sys.stderr)
+                return 2
+        print(listed(programs[-1]))
+    return 0
+
+
 def main(files):
+    if files[0] == "--list":
+        return list_programs(files[1:])
     texts = [open(file, "rb").read() for file in files]
     programs = []
     for file, text in zip(files, texts):

@@ -290,13 +290,13 @@ expect 'a directory as script' 3 'xns: read fault' "$work/nothing"
 
 : > "$work/in"
 run
-expect 'no subcommand' 2 "error: 'xns' requires a subcommand but one was not provided; the subcommands are dump, calls and sim; try 'xns --help'" "$work/nothing"
+expect 'no subcommand' 2 "error: 'xns' requires a subcommand but one was not provided; the subcommands are dump, calls, sim and programs; try 'xns --help'" "$work/nothing"
 
 run Dump
-expect 'a subcommand in another case' 2 "error: unrecognized subcommand 'Dump'; the subcommands are dump, calls and sim; try 'xns --help'" "$work/nothing"
+expect 'a subcommand in another case' 2 "error: unrecognized subcommand 'Dump'; the subcommands are dump, calls, sim and programs; try 'xns --help'" "$work/nothing"
 
 run play
-expect 'another subcommand' 2 "error: unrecognized subcommand 'play'; the subcommands are dump, calls and sim; try 'xns --help'" "$work/nothing"
+expect 'another subcommand' 2 "error: unrecognized subcommand 'play'; the subcommands are dump, calls, sim and programs; try 'xns --help'" "$work/nothing"
 
 run dump one two
 expect 'a word too many' 2 "error: unexpected argument 'two' found; a command reads one FILE, as in 'xns calls x.pcap'; try 'xns --help'" "$work/nothing"
@@ -449,8 +449,8 @@ refuse_mistaken() {
 }
 
 : > "$work/in"
-refuse_mistaken "error: unrecognized subcommand 'play'; the subcommands are dump, calls and sim; try 'xns --help'" \
-    "error: the command line is wrong; the subcommands are dump, calls and sim; try 'xns --help'" play
+refuse_mistaken "error: unrecognized subcommand 'play'; the subcommands are dump, calls, sim and programs; try 'xns --help'" \
+    "error: the command line is wrong; the subcommands are dump, calls, sim and programs; try 'xns --help'" play
 refuse_mistaken "error: unexpected argument 'extra' found; a command reads one FILE, as in 'xns calls x.pcap'; try 'xns --help'" \
     "error: the command line is wrong; a command reads one FILE, as in 'xns calls x.pcap'; try 'xns --help'" dump x extra
 

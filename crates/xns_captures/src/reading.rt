@@ -127,8 +127,7 @@ impl Reading {
         };
         match part {
             Part::Begins(format) => {
-                self.format = format;
-                self.interfaces.clear();
+                self.begin(format);
                 Ok(())
             }
             Part::Interface(interface) => match self.interfaces.push(interface) {
@@ -189,6 +188,17 @@ impl Reading {
             }
             Err(fault) => Err(FileFault::Run(fault)),
         }
+    }
+
+    /// A file or a section begins, which has no interface yet.
+    fn begin(&mut self, format: Format)
+        ensures format { self.new.format ≡ format }
+        ensures count { self.new.count ≡ self.old.count }
+        ensures first { self.new.first ≡ self.old.first }
+        ensures interfaces { self.new.interfaces.items ≡ [] }
+    {
+        self.format = format;
+        self.interfaces.clear();
     }
 
     /// Notes that the frame of that stamp came.

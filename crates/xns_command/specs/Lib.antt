@@ -1,3 +1,4 @@
 pub mod Modes
 pub mod Commands
 pub mod Files
+pub mod Descriptions

@@ -70,7 +70,7 @@ fn perform_as<R: Read, W: Write>(
 }
 
 /// Reads the first bytes, fewer only at the end of the file, and says how many there are. The only error is `Read`.
-fn read_first<R: Read>(reader: &mut R, first: &mut [u8]) -> Result<usize, RunFault>
+pub(crate) fn read_first<R: Read>(reader: &mut R, first: &mut [u8]) -> Result<usize, RunFault>
     ensures few { IfOk result (λ count. count ≤ length first.new) }
     ensures room { length first.new ≡ length first.old }
     ensures read { IfOk result (λ count. Consumes (R.remaining reader.old) (R.remaining reader.new) (take count first.new)) }

@@ -3,13 +3,17 @@
 #![tactic(auto)]
 
 mod commands;
+mod description_fault;
+mod descriptions;
 mod files;
 mod mode;
 mod refusal;
 mod status;
 
 pub use commands::perform;
+pub use description_fault::DescriptionFault;
+pub use descriptions::{print_description, read_description};
 pub use files::perform_file;
 pub use mode::Mode;
 pub use refusal::Refusal;
-pub use status::{answer_status, file_status, refusal_status};
+pub use status::{answer_status, description_status, file_status, refusal_status};

@@ -1,6 +1,8 @@
 //! The statuses of the program.
 ghost use Rattle.std.specs.Prelude.{◌≡◌, ◌≢◌, MatchResult, Ok, false, true};
+ghost use Rattle.xns_command.specs.Descriptions.{status_of};
 
+use crate::description_fault::DescriptionFault;
 use crate::refusal::Refusal;
 use xns_captures::FileFault;
 use xns_lines::RunFault;
@@ -9,7 +11,7 @@ use xns_lines::RunFault;
 const FINE: u8 = 0;
 /// A line was refused.
 const LINE_REFUSED: u8 = 1;
-/// The command line is wrong.
+/// The command line is wrong, or a description of a program that it names.
 const WRONG_WORDS: u8 = 2;
 /// Reading or writing failed, a limit was passed, or there was no memory.
 const FAULT: u8 = 3;
@@ -40,6 +42,18 @@ pub fn file_status(answer: &Result<bool, FileFault>) -> u8
         Ok(false) => FINE,
         Ok(true) => LINE_REFUSED,
         Err(_) => FAULT,
+    }
+}
+
+/// The program's exit status for an answer about descriptions of programs: 0 where all was fine, 2 where a description is
+/// wrong, 3 after another fault.
+pub fn description_status(answer: &Result<(), DescriptionFault>) -> u8
+    ensures { result ≡ status_of answer.now }
+{
+    match answer {
+        Ok(()) => FINE,
+        Err(DescriptionFault::Wrong { .. }) => WRONG_WORDS,
+        Err(DescriptionFault::Run(_)) => FAULT,
     }
 }
 

@@ -14,7 +14,7 @@ use Rattle.xns_spp.specs.Held.{StandsFor}
 use Rattle.xns_spp.specs.Receiving.{StoresBytes}
 use Rattle.xns_spp.specs.State.{State}
 use Rattle.xns_host.specs.Events.{event_in}
-use Rattle.xns_host.specs.Hosting.{IsAllNoted, IsThere, facts_in, is_done}
+use Rattle.xns_host.specs.Hosting.{IsAllNoted, IsApart, IsThere, facts_in, is_done}
 use Rattle.xns_host.specs.Places.{ActsAll, ActsAt, AsksEvent, AsksInVain, AsksPacket, GivesNone, IsUnmoved, NextPacket, Places, Turns, became, nobody, noted_again, taken_by, vacated, event_passed, places_with, vacated_if, quiet, tells}
 use Rattle.xns_host.specs.Step.{GivesNext, Hands}
 use Rattle.xns_host.specs.Story.{waiting_message}
@@ -25,6 +25,7 @@ use Rattle.xns_host.specs.declared.event.Event.{Event}
 use Rattle.xns_host.specs.declared.guest.Guest.{Guest}
 use Rattle.xns_host.specs.declared.host_fault.HostFault.{HostFault}
 use Rattle.xns_host.specs.declared.outgoing.Outgoing.{Outgoing}
+use Rattle.xns_host.proofs.Apart.{apart_then, set_apart, set_there}
 
 -- ---- in its place
 
@@ -194,23 +195,18 @@ next_as t p r x y is next = subst (λ (z : Result (Option Outgoing) HostFault). 
 
 -- ---- stray replies
 
-queue_by : (q r : StrayQueue) (ws : List Outgoing) → r.most ≡ q.most → r.waiting ≡ ws → r ≡ record q { waiting = ws }
-queue_by q r ws most waiting =
-    ap (λ (m : ℕ). let x : StrayQueue = record { most = m; waiting = r.waiting } in x) most
-    ∙ ap (λ (w : List Outgoing). let x : StrayQueue = record { most = q.most; waiting = w } in x) waiting
-
-pub no_stray : (q r : StrayQueue) (x : Option Outgoing) → x ≡ None → q.waiting ≡ option_to_list x ++ r.waiting → r.most ≡ q.most → r ≡ q
-no_stray q r (Some s) none waiting most = absurd (cc)
-no_stray q r None none waiting most = queue_by q r q.waiting most (sym waiting)
+pub no_stray : (q r : StrayQueue) (x : Option Outgoing) → x ≡ None → q.waiting ≡ option_to_list x ++ r.waiting → r ≡ record q { waiting = r.waiting } → r ≡ q
+no_stray q r (Some s) none waiting rest = absurd (cc)
+no_stray q r None none waiting rest = rest ∙ ap (λ (ws : List Outgoing). let y : StrayQueue = record q { waiting = ws } in y) (sym waiting)
 
 pub stray_out : (q r : StrayQueue) (x : Option Outgoing) (s o : Outgoing) (os : List Outgoing) → x ≡ Some s → q.waiting ≡ option_to_list x ++ r.waiting
-    → r.most ≡ q.most → q.waiting ≡ o ∷ os → (s ≡ o) × (r ≡ record q { waiting = os })
-stray_out q r None s o os some waiting most is = absurd (cc)
-stray_out q r (Some t) s o os some waiting most is =
+    → r ≡ record q { waiting = r.waiting } → q.waiting ≡ o ∷ os → (s ≡ o) × (r ≡ record q { waiting = os })
+stray_out q r None s o os some waiting rest is = absurd (cc)
+stray_out q r (Some t) s o os some waiting kept is =
     let both : t ∷ r.waiting ≡ o ∷ os = sym waiting ∙ is in
     let first : s ≡ o = cc in
     let rest : r.waiting ≡ os = cc in
-    (first, queue_by q r os most rest)
+    (first, kept ∙ ap (λ (ws : List Outgoing). let y : StrayQueue = record q { waiting = ws } in y) rest)
 
 pub some_stray : (q r : StrayQueue) (x : Option Outgoing) (s : Outgoing) → x ≡ Some s → q.waiting ≡ option_to_list x ++ r.waiting → q.waiting ≡ [] → ⊥
 some_stray q r None s some waiting none = absurd (cc)
@@ -247,3 +243,26 @@ taken_as gs n g h q p here at is =
 pub is_true : (b : Bool) → (b ≡ false → ⊥) → b ≡ true
 is_true true never = refl
 is_true false never = absurd (never refl)
+
+-- ---- one that was forgotten, if it was done
+
+abbrev rows : Places → Row
+rows p = p.guests
+
+pub settled_kept : (gs ks : Row) (x d : Plan) (n : ℕ) (done : Bool) → places_with ks d ≡ vacated_if done (places_with gs x) n → done ≡ false → ks ≡ gs
+settled_kept gs ks x d n true is z = absurd (cc)
+settled_kept gs ks x d n false is z = ap rows is
+
+pub settled_gone : (gs ks : Row) (x d : Plan) (n : ℕ) (done : Bool) → places_with ks d ≡ vacated_if done (places_with gs x) n → n < length gs → done ≡ true
+    → slice_get ks n ≡ Some None
+settled_gone gs ks x d n true is less z = set_there gs ks n None less (ap rows is)
+settled_gone gs ks x d n false is less z = absurd (cc)
+
+pub settled_apart : (gs ks : Row) (x d : Plan) (n : ℕ) (done : Bool) → places_with ks d ≡ vacated_if done (places_with gs x) n → IsApart gs ks n
+settled_apart gs ks x d n true is = set_apart gs ks n None (ap rows is)
+settled_apart gs ks x d n false is = record { others = λ k other. ap (λ (xs : Row). slice_get xs k) (ap rows is) }
+
+-- one that gave way to another
+pub taken_apart : (gs ks : Row) (x d : Plan) (n : ℕ) (g : Guest) → places_with ks d ≡ taken_by (vacated (places_with gs x) n) n g → IsApart gs ks n
+taken_apart gs ks x d n g is =
+    apart_then gs (slice_set gs n None) ks n (set_apart gs (slice_set gs n None) n None refl) (set_apart (slice_set gs n None) ks n (Some g) (ap rows is))

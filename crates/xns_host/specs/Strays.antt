@@ -1,11 +1,12 @@
 -- Packets of no connection that are to go out.
-use Rattle.std.specs.Prelude.{◌≡◌, ◌⊎◌, ℕ, ◌≤◌, List, [], ◌∷◌, ◌++◌, length, nat_lt, if◌then◌else◌}
+use Rattle.std.specs.Prelude.{◌≡◌, ◌⊎◌, ℕ, ◌≤◌, Bool, true, false, List, [], ◌∷◌, ◌++◌, length, nat_lt, if◌then◌else◌}
 use Rattle.xns_host.specs.declared.outgoing.Outgoing.{Outgoing}
 
--- those that wait, the first one first, at most so many
+-- those that wait, the first one first, at most so many; and whether memory was refused for the last one
 pub record StrayQueue : Type 0 where
   pub most : ℕ
   pub waiting : List Outgoing
+  pub starved : Bool
 
 pub record HasRoom (most : ℕ) (waiting : List Outgoing) (count capacity : ℕ) : Type 0 where
   pub counted : count ≡ length waiting
@@ -13,18 +14,23 @@ pub record HasRoom (most : ℕ) (waiting : List Outgoing) (count capacity : ℕ)
   pub room : most ≤ capacity
 
 abbrev pub new_strays : ℕ → StrayQueue
-new_strays most = record { most = most; waiting = [] }
+new_strays most = record { most = most; waiting = []; starved = false }
 
 abbrev pub stray_of : ℕ → List ℕ → Outgoing
 stray_of via packet = record { via = via; packet = packet }
 
--- what is over is as if lost
+-- one that waits behind the others; what is over is as if lost
 abbrev pub with_stray : StrayQueue → Outgoing → StrayQueue
-with_stray q s = if nat_lt (length q.waiting) q.most then record q { waiting = q.waiting ++ s ∷ [] } else q
+with_stray q s =
+    record q { waiting = if nat_lt (length q.waiting) q.most then q.waiting ++ s ∷ [] else q.waiting; starved = false }
 
--- it is behind the others, where there is room; or memory was refused, and it is as if lost
+-- memory was refused for one, which is as if lost
+abbrev pub lost_stray : StrayQueue → StrayQueue
+lost_stray q = record q { starved = true }
+
+-- it is behind the others, where there is room; or memory was refused for it
 abbrev pub MayHaveStray : StrayQueue → StrayQueue → Outgoing → Type 0
-MayHaveStray old new s = (new ≡ with_stray old s) ⊎ (new ≡ old)
+MayHaveStray old new s = (new ≡ with_stray old s) ⊎ (new ≡ lost_stray old)
 
 -- where Echo requests come (XSIS 028112, Echo Protocol)
 abbrev pub echo_socket : ℕ

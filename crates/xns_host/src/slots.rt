@@ -164,10 +164,6 @@ pub fn settle_in(
     ensures sized { length agenda.new.dues ≡ length agenda.old.dues }
     ensures room { length guests.new.items ≡ length guests.old.items }
     ensures registered { IsAllRegistered register.new guests.new.items }
-    ensures apart { IsApart guests.old.items guests.new.items number }
-    ensures gone { done ≡ true → slice_get guests.new.items number ≡ Some None }
-    ensures left { done ≡ true → HasLeft register.old register.new (slice_get guests.old.items number) }
-    ensures kept { done ≡ false → (guests.new.items ≡ guests.old.items) × (register.new ≡ register.old) }
     ensures order { StaysInOrder register.old.identifiers register.new.identifiers }
     ensures places { places_with guests.new.items agenda.new ≡ vacated_if done (places_with guests.old.items agenda.old) number }
 {
@@ -191,7 +187,6 @@ pub fn put_in(
     ensures noted { IsAllNoted agenda.new guests.new.items }
     ensures sized { length agenda.new.dues ≡ length agenda.old.dues }
     ensures room { length guests.new.items ≡ length guests.old.items }
-    ensures apart { IsApart guests.old.items guests.new.items number }
     ensures there { slice_get guests.new.items number ≡ Some (Some guest) }
     ensures registered { IsAllRegistered register.new guests.new.items }
     ensures order { StaysInOrder register.old.identifiers register.new.identifiers }

@@ -4,7 +4,7 @@ ghost use Rattle.std.specs.Prelude.{◌≡◌, ◌≢◌, ◌≤◌, ◌++◌, [
 ghost use Rattle.std.specs.Option.{option_to_list};
 ghost use Rattle.xns_idp.specs.Packet.{most_data, packet_model};
 ghost use Rattle.xns_small.specs.Echo.{IsAnswered, echo_reply};
-ghost use Rattle.xns_host.specs.Strays.{new_strays, with_stray, stray_of};
+ghost use Rattle.xns_host.specs.Strays.{lost_stray, new_strays, stray_of, with_stray};
 
 use crate::outgoing::Outgoing;
 use std::alloc::{AllocError, Global};
@@ -19,6 +19,8 @@ use xns_spp::Bytes;
 pub struct Strays {
     waiting: VecDeque<Outgoing>,
     most: usize,
+    /// Whether memory was refused for the last one, which is lost.
+    starved: bool,
 }
 
 impl Model for Strays {
@@ -27,7 +29,7 @@ impl Model for Strays {
 
     ghost Value = { StrayQueue };
 
-    ghost view = { λ s. record { most = s.most; waiting = s.waiting.items } };
+    ghost view = { λ s. record { most = s.most; waiting = s.waiting.items; starved = s.starved } };
 
     ghost invariant = { λ s. HasRoom s.most s.waiting.items (deque_len s.waiting) (deque_capacity s.waiting) };
 }
@@ -38,7 +40,11 @@ impl Strays {
         ensures { IfOk result (λ s. s ≡ new_strays most) }
     {
         let waiting = VecDeque::with_capacity(alloc, most)?;
-        Ok(Strays { waiting, most })
+        Ok(Strays {
+            waiting,
+            most,
+            starved: false,
+        })
     }
 
     /// Whether there is none.
@@ -53,6 +59,7 @@ impl Strays {
     pub fn push(&mut self, stray: Outgoing)
         ensures { self.new ≡ with_stray self.old stray }
     {
+        self.starved = false;
         if self.waiting.len() < self.most {
             self.waiting.push_back_reserved(stray);
         }
@@ -62,13 +69,13 @@ impl Strays {
     pub fn take(&mut self) -> Option<Outgoing>
         ensures waiting { self.old.waiting ≡ option_to_list result ++ self.new.waiting }
         ensures none { result ≡ None → self.old.waiting ≡ [] }
-        ensures most { self.new.most ≡ self.old.most }
+        ensures rest { self.new ≡ record self.old { waiting = self.new.waiting } }
     {
         self.waiting.pop_front()
     }
 
     /// Answers a packet that is an Echo request to `own` (XSIS 028112, Echo Protocol); whether it is one. The answer goes out by the
-    /// `via` of the request. The only error is want of memory: nothing is changed then.
+    /// `via` of the request. The only error is want of memory: it is noted, and the answer is lost.
     pub fn echo(
         &mut self,
         alloc: Global,
@@ -81,10 +88,15 @@ impl Strays {
             × (self.new ≡ with_stray self.old (stray_of via (echo_reply own (packet_model packet.now))))) }
         ensures none { IfOk result (λ b. b ≡ false → (IsAnswered own (packet_model packet.now) → ⊥) × (self.new ≡ self.old)) }
         ensures memory { OnErr result (IsAnswered own (packet_model packet.now)) }
-        ensures unchanged { OnErr result (self.new ≡ self.old) }
+        ensures noted { OnErr result (self.new ≡ lost_stray self.old) }
     {
-        let Some(reply) = answer_echo(alloc, own, packet)? else {
-            return Ok(false);
+        let reply = match answer_echo(alloc, own, packet) {
+            Ok(Some(reply)) => reply,
+            Ok(None) => return Ok(false),
+            Err(error) => {
+                self.starved = true;
+                return Err(error);
+            }
         };
         self.push(Outgoing {
             via,

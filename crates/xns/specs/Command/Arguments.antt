@@ -1,15 +1,22 @@
 -- The command line of the program.
-use Rattle.std.specs.Prelude.{List, ◌∷◌, [], Option, Some, None, option_and_then, option_map, codes, map, Bool, true, false, ◌||◌, if◌then◌else◌}
+use Rattle.std.specs.Prelude.{◌≡◌, List, ◌∷◌, [], Option, Some, None, option_and_then, option_map, slice_get, unwrap_or, codes, map, Bool, true, false, ◌||◌, if◌then◌else◌}
 use Rattle.std.specs.Borrow.{Bor}
 use Rattle.std.specs.Str.{bytes_eq}
 use Rattle.clap.specs.Kinds.{or_else}
-use Rattle.clap.specs.Words.{App, Kinds, Row, Rule, Text, fault_of, first_of, new_app, new_rule, subcommand_of, with_rule, with_subcommand}
+use Rattle.clap.specs.Lexer.{usize_max}
+use Rattle.clap.specs.Words.{App, Kinds, Row, Rule, Text, all_of, fault_of, first_of, new_app, new_rule, subcommand_of, with_rule, with_subcommand}
 use Rattle.clap.specs.declared.error.kind.ErrorKind.TheVariants as kind
 use Rattle.clap.specs.declared.builder.action.ArgAction.TheVariants.{SetTrue}
 use Rattle.xns_calls.specs.declared.times.Times.{Times}
 use Rattle.xns_calls.specs.declared.times.Times.TheVariants.{Hidden, Absolute, Relative}
 use Rattle.xns_command.specs.declared.mode.Mode.{Mode}
 use Rattle.xns_command.specs.Modes.{name_of}
+use Rattle.xns.specs.declared.command.request.Request.{Request}
+use Rattle.xns.specs.declared.command.request.Request.TheVariants.{Programs, Run}
+
+-- the texts behind references
+abbrev pub texts : List (Bor Text) → List Text
+texts = map (λ word. word.now)
 
 -- an optional file
 abbrev pub file_rule : Rule
@@ -31,17 +38,30 @@ reading_app =
     calls_app.top in
     record subcommands { top = record subcommands.top { subcommand_required = true; has_version = true } }
 
--- the program's command, with `sim` behind these
+-- one file or more
+abbrev pub files_rule : Rule
+files_rule = record (new_rule (codes "file")) {
+  value_names = 1;
+  required = true;
+  range = Some (record { start_inclusive = 1; end_inclusive = usize_max });
+}
+
+-- the program's command, with `sim` and `programs` behind these
 abbrev pub program_app : App
-program_app = with_subcommand reading_app (with_rule (new_app (codes "sim")) file_rule).top
+program_app = with_subcommand (with_subcommand reading_app (with_rule (new_app (codes "sim")) file_rule).top)
+    (with_rule (new_app (codes "programs")) files_rule).top
 
 -- the subcommand that the words name, by clap's meaning
 abbrev pub named_subcommand : List Text → Option Text
 named_subcommand words = option_map (λ p. p.0) (subcommand_of program_app words)
 
--- and the file that they name, if they name one
-abbrev pub named_file : List Text → Option Text
-named_file words = option_and_then (λ p. first_of (codes "file") p.1) (subcommand_of program_app words)
+-- the files behind a subcommand
+abbrev pub files_in : Option (Text × List Row) → List Text
+files_in found = unwrap_or (option_and_then (λ p. all_of (codes "file") p.1) found) []
+
+-- those that the words name
+abbrev pub named_files : List Text → List Text
+named_files words = files_in (subcommand_of program_app words)
 
 abbrev pub is_true : Option Text → Bool
 is_true None = false
@@ -67,9 +87,21 @@ abbrev pub is_mode : Option Text → Bool
 is_mode None = false
 is_mode (Some name) = bytes_eq name (codes "dump") || bytes_eq name (codes "calls") || bytes_eq name (codes "sim")
 
--- the kinds of error with which words may be refused: those of clap's meaning, and else that no mode is named
+-- the subcommand that prints programs
+abbrev pub is_programs : Option Text → Bool
+is_programs None = false
+is_programs (Some name) = bytes_eq name (codes "programs")
+
+-- the kinds of error with which words may be refused: those of clap's meaning, and else that no subcommand is named
 abbrev pub refusals_of : List Text → Kinds
-refusals_of words = or_else (fault_of program_app words) (if is_mode (named_subcommand words) then [] else kind.MissingSubcommand ∷ [])
+refusals_of words = or_else (fault_of program_app words)
+    (if is_mode (named_subcommand words) || is_programs (named_subcommand words) then [] else kind.MissingSubcommand ∷ [])
+
+-- the words ask for that: for a mode, over the first file that they name, or for the programs of all of them
+abbrev pub Asks : Request → List Text → Type 0
+Asks (Run mode file times) words = (named_subcommand words ≡ Some (name_of mode))
+    × (option_map (λ text. text.now) file ≡ slice_get (named_files words) 0) × (times ≡ named_times words)
+Asks (Programs files) words = (named_subcommand words ≡ Some (codes "programs")) × (texts files.items ≡ named_files words)
 
 -- the words `xns` and the mode's name
 abbrev pub words_of : Mode → List Text
@@ -79,6 +111,6 @@ words_of mode = codes "xns" ∷ name_of mode ∷ []
 abbrev pub words_with_file : Mode → List Text
 words_with_file mode = codes "xns" ∷ name_of mode ∷ codes "x.pcap" ∷ []
 
--- the texts behind references
-abbrev pub texts : List (Bor Text) → List Text
-texts = map (λ word. word.now)
+-- the words that print a description
+abbrev pub words_of_programs : List Text
+words_of_programs = codes "xns" ∷ codes "programs" ∷ codes "x.courier" ∷ []

@@ -1,14 +1,15 @@
 //! The command line.
-ghost use Rattle.std.specs.Prelude.{◌≡◌, ◌≢◌, IfOk, IfErr, IfSome, IfNone, Some, codes, false, option_and_then, option_map};
-ghost use Rattle.clap.specs.Words.{FailsBy, app_of, fault_of, first_of, kind_of, new_app, subcommand_rows_of, with_rule};
+ghost use Rattle.std.specs.Prelude.{◌≡◌, ◌≢◌, IfOk, IfErr, IfSome, IfNone, Some, codes, false, option_map};
+ghost use Rattle.clap.specs.Words.{FailsBy, app_of, fault_of, kind_of, new_app, subcommand_rows_of, with_rule};
 ghost use Rattle.clap.specs.declared.builder.command.Command.TheViews.{out-Command as fields_of};
 ghost use Rattle.xns_command.specs.declared.mode.Mode.{Mode};
 ghost use Rattle.xns_command.specs.Modes.{name_of};
-ghost use Rattle.xns.specs.Command.Arguments.{calls_app, file_rule, flag_in, flag_rule, named_file, named_subcommand, named_times};
-ghost use Rattle.xns.specs.Command.Arguments.{is_true as is_true_text, plain_word as plain_word_of, program_app, reading_app, refusals_of, texts, times_by};
-ghost use Rattle.xns.specs.Command.Arguments.{words_of, words_with_file};
+ghost use Rattle.xns.specs.Command.Arguments.{Asks, calls_app, file_rule, files_in, files_rule, flag_in, flag_rule, is_programs};
+ghost use Rattle.xns.specs.Command.Arguments.{is_true as is_true_text, named_files, named_subcommand, named_times, plain_word as plain_word_of};
+ghost use Rattle.xns.specs.Command.Arguments.{program_app, reading_app, refusals_of, texts, times_by, words_of, words_of_programs};
+ghost use Rattle.xns.specs.Command.Arguments.{words_with_file};
 
-use crate::command::help::{ABOUT, CALLS_HELP, DUMP_HELP, HELP, SIM_HELP, VERSION};
+use crate::command::help::{ABOUT, CALLS_HELP, DUMP_HELP, HELP, PROGRAMS_HELP, SIM_HELP, VERSION};
 use crate::command::request::Request;
 use clap::error::ErrorKind;
 use clap::{Arg, ArgAction, ArgMatches, Command, Error};
@@ -100,6 +101,24 @@ fn sim_command<'a>(alloc: Global) -> Result<Command<'a>, AllocError>
     )
 }
 
+/// `programs`, with its files.
+fn programs_command<'a>(alloc: Global) -> Result<Command<'a>, AllocError>
+    ensures app { IfOk result (λ command. app_of command ≡ with_rule (new_app (codes "programs")) files_rule) }
+    ensures local { IfOk result (λ command. (fields_of command).has_globals ≡ false) }
+{
+    let files = Arg::new(alloc, FILE)
+        .value_name("FILE")
+        .num_args(1..)
+        .required(true)
+        .help(
+            "Descriptions in Courier's notation, each behind those it depends upon; - is standard input",
+        );
+    Command::new(alloc, "programs")
+        .about("Prints the remote programs that files in Courier's notation describe")
+        .after_help(PROGRAMS_HELP)
+        .arg(files)
+}
+
 /// A command that requires one of its subcommands, which read captures.
 fn reading_program<'a>(alloc: Global) -> Result<Command<'a>, AllocError>
     ensures { IfOk result (λ command. app_of command ≡ reading_app) }
@@ -120,7 +139,10 @@ fn program<'a>(alloc: Global) -> Result<Command<'a>, AllocError>
     ensures { IfOk result (λ command. app_of command ≡ program_app) }
 {
     let sim = sim_command(alloc)?;
-    reading_program(alloc)?.subcommand(sim)
+    let programs = programs_command(alloc)?;
+    reading_program(alloc)?
+        .subcommand(sim)?
+        .subcommand(programs)
 }
 
 /// Reads the words of the command line, the program's name first.
@@ -129,54 +151,71 @@ fn program<'a>(alloc: Global) -> Result<Command<'a>, AllocError>
 /// `clap`'s error of the kind that it gives these words, which is `DisplayHelp` where help is asked for, `DisplayVersion`
 /// where the version is, and `OutOfMemory` where a growth was refused.
 pub fn request<'a>(alloc: Global, words: &'a [&'a str]) -> Result<Request<'a>, Error>
-    ensures named { IfOk result (λ request. named_subcommand (texts words.entry.now) ≡ Some (name_of request.mode)) }
-    ensures file { IfOk result (λ request. option_map (λ text. text.now) request.file ≡ named_file (texts words.entry.now)) }
-    ensures times { IfOk result (λ request. request.times ≡ named_times (texts words.entry.now)) }
+    ensures asked { IfOk result (λ request. Asks request (texts words.entry.now)) }
     // An error is one of memory, or has a kind that clap's meaning of the words gives.
     ensures kinds { FailsBy (refusals_of (texts words.entry.now)) result }
-    // The mode's own words, and a file that is called x.pcap behind them, are refused for memory alone.
+    // The mode's own words, a file that is called x.pcap behind them, and the words that print a description, are refused for
+    // memory alone.
     ensures alone { IfErr result (λ error. (mode : Mode) → texts words.entry.now ≡ words_of mode
         → kind_of error ≡ ErrorKind.OutOfMemory) }
     ensures of_file { IfErr result (λ error. (mode : Mode) → texts words.entry.now ≡ words_with_file mode
         → kind_of error ≡ ErrorKind.OutOfMemory) }
+    ensures of_description { IfErr result (λ error. texts words.entry.now ≡ words_of_programs
+        → kind_of error ≡ ErrorKind.OutOfMemory) }
 {
-    let (name, file, times) = named_in(alloc, words)?;
+    let (name, files, times) = named_in(alloc, words)?;
+    if names_programs(name) {
+        return Ok(Request::Programs { files });
+    }
     let Some(mode) = mode_named(name) else {
         let message = "a subcommand is required";
         return Err(program(alloc)?.error(ErrorKind::MissingSubcommand, message)?);
     };
-    Ok(Request { mode, file, times })
+    let file = files.first().copied();
+    Ok(Request::Run { mode, file, times })
 }
 
-/// The name of the subcommand that the words name, its file, and the times that it prints.
+/// The name of the subcommand that the words name, its files, and the times that it prints.
 fn named_in<'a>(
     alloc: Global,
     words: &'a [&'a str],
-) -> Result<(Option<&'a str>, Option<&'a str>, Times), Error>
+) -> Result<(Option<&'a str>, Vec<&'a str>, Times), Error>
     ensures named { IfOk result (λ found. option_map (λ text. text.now) found.0 ≡ named_subcommand (texts words.entry.now)) }
-    ensures file { IfOk result (λ found. option_map (λ text. text.now) found.1 ≡ named_file (texts words.entry.now)) }
+    ensures files { IfOk result (λ found. texts found.1.items ≡ named_files (texts words.entry.now)) }
     ensures times { IfOk result (λ found. found.2 ≡ named_times (texts words.entry.now)) }
     ensures kinds { FailsBy (fault_of program_app (texts words.entry.now)) result }
     ensures alone { IfErr result (λ error. (mode : Mode) → texts words.entry.now ≡ words_of mode
         → kind_of error ≡ ErrorKind.OutOfMemory) }
     ensures of_file { IfErr result (λ error. (mode : Mode) → texts words.entry.now ≡ words_with_file mode
         → kind_of error ≡ ErrorKind.OutOfMemory) }
+    ensures of_description { IfErr result (λ error. texts words.entry.now ≡ words_of_programs
+        → kind_of error ≡ ErrorKind.OutOfMemory) }
 {
     let matches = program(alloc)?.try_get_matches_from(words)?;
-    Ok((
-        matches.subcommand_name(),
-        file_of(&matches),
-        times_of(&matches),
-    ))
+    let files = files_of(alloc, &matches)?;
+    Ok((matches.subcommand_name(), files, times_of(&matches)))
 }
 
-/// The file that a subcommand was given, if it was given one.
-fn file_of<'a>(matches: &ArgMatches<'a>) -> Option<&'a str>
-    ensures { option_map (λ text. text.now) result ≡ option_and_then (λ p. first_of (codes "file") p.1) (subcommand_rows_of matches.now) }
+/// The files that a subcommand was given.
+fn files_of<'a>(alloc: Global, matches: &ArgMatches<'a>) -> Result<Vec<&'a str>, AllocError>
+    ensures { IfOk result (λ files. texts files.items ≡ files_in (subcommand_rows_of matches.now)) }
 {
     match matches.subcommand() {
-        Some((_, found)) => found.get_str(FILE),
-        None => None,
+        Some((_, found)) => match found.get_strs(FILE) {
+            Some(files) => Vec::from_slice(alloc, files),
+            None => Ok(Vec::new(alloc)),
+        },
+        None => Ok(Vec::new(alloc)),
+    }
+}
+
+/// Whether the subcommand that prints programs is named.
+fn names_programs(name: Option<&str>) -> bool
+    ensures { result ≡ is_programs (option_map (λ text. text.now) name.entry) }
+{
+    match name {
+        Some(name) => name == "programs",
+        None => false,
     }
 }
 

@@ -15,6 +15,9 @@ Each command reads a FILE, or standard input, and writes lines to standard outpu
   calls  The Courier calls that these packets carry are printed, each once it is
          complete, and what came back.
   sim    A line is a call or an event. What came of the calls is printed.
+  programs
+         Descriptions of remote programs, in Courier's notation, are read. A line is
+         printed for each program, each procedure and each error.
 
 A capture is pcap or pcapng, and is known by its first bytes; any other FILE has
 lines. Without a FILE, standard input has lines; a FILE called - is standard input,
@@ -26,7 +29,7 @@ A line has at most 4,096 bytes. An input of dump or sim has at most 65,536 lines
 Exit status:
   0    all is fine
   1    a packet or a line was refused; the output says which
-  2    the command line is wrong
+  2    the command line is wrong, or a description of a program
   3    reading or writing failed, a capture can't be read on, a limit was passed, or
        there was no memory
   127  the processor is older than x86-64-v2
@@ -35,11 +38,12 @@ Examples:
   xns calls x.pcap
   echo 532300220002000000010000aa0001020002000000010000aa000304040000014869 | xns dump
   printf '%s\\n' 'call add 5' 'tick a' rest rest rest rest rest | xns sim
+  xns programs tally.courier
 
-`xns dump --help`, `xns calls --help` and `xns sim --help` say more, and so does the
-manual page, `man xns`. CAPTURES.md says what is read of a capture, FORMATS.md has
-every line that is read and printed: both are in docs/ of the source, and in
-share/doc/xns where xns is installed.";
+`xns dump --help`, and so of each command, says more, and so does the manual page,
+`man xns`. CAPTURES.md says what is read of a capture, NOTATION.md of a description,
+FORMATS.md has every line that is read and printed: they are in docs/ of the source,
+and in share/doc/xns where xns is installed.";
 
 /// What `xns dump --help` says at its end.
 pub const DUMP_HELP: &str = "\
@@ -122,4 +126,23 @@ Example:
   printf '%s\\n' 'call add 5' 'tick a' rest rest rest rest rest | xns sim
 
 FORMATS.md has each line, WORLD.md says what happens in a play: both are in
+share/doc/xns where xns is installed.";
+
+/// What `xns programs --help` says at its end.
+pub const PROGRAMS_HELP: &str = "\
+Each FILE describes a remote program in Courier's notation. A program that depends
+upon another one stands behind it. A FILE called - is standard input.
+A line is printed of each program, with its number and version, and one of each of its
+procedures and errors, with its number and the names of its arguments and results.
+The first fault of a description ends the run. Standard error has its place, where
+lines and columns count from 1, and a word for what is wrong: `x.courier:3:7 NoSemicolon`.
+The programs before it are printed.
+
+Exit status: 0 all is fine, 2 the command line or a description is wrong, 3 reading or
+writing failed, or there was no memory.
+
+Example:
+  xns programs tally.courier
+
+NOTATION.md has the notation, and each word that says what is wrong: it is in
 share/doc/xns where xns is installed.";

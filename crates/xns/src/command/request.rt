@@ -3,12 +3,19 @@ use xns_calls::Times;
 use xns_command::Mode;
 
 /// What the words of the command line ask for.
-#[derive(Clone, Copy, Debug)]
-pub struct Request<'a> {
-    /// The command.
-    pub mode: Mode,
-    /// The name of the file that it reads, if one is named; `-` stands for standard input.
-    pub file: Option<&'a str>,
-    /// Which times it prints of a capture.
-    pub times: Times,
+#[derive(Debug, Drop)]
+pub enum Request<'a> {
+    /// To run a mode.
+    Run {
+        mode: Mode,
+        /// The name of the file that it reads, if one is named; `-` stands for standard input.
+        file: Option<&'a str>,
+        /// Which times it prints of a capture.
+        times: Times,
+    },
+    /// To print the programs that files describe.
+    Programs {
+        /// The names of the files, in order; `-` stands for standard input.
+        files: Vec<&'a str>,
+    },
 }

@@ -1,15 +1,9 @@
 use Rattle.std.proofs.Common.{◌≡◌, ◌<◌, ◌∙◌, ap, subst, sym, ℕ, List, Option, length, Some, None}
 use Rattle.std.proofs.lemmas.List.{length-set}
 use Rattle.xns_host.specs.declared.guest.Guest.{Guest}
-use Rattle.xns_host.proofs.Apart.{apart_then, set_apart, set_there}
+use Rattle.xns_host.proofs.Apart.{set_there}
 use Rattle.xns_host.proofs.Registered.{seated}
 use Rattle.xns_host.proofs.slots.put_in.Goals as goal
-
-pub returns-clause-apart : goal.returns-clause-apart
-returns-clause-apart c =
-    apart_then c.args.guests.now.items c.forget_in.new.guests.items c.fill.new.guests.items c.args.number
-    (set_apart c.args.guests.now.items c.forget_in.new.guests.items c.args.number None c.forget_in.ensures.gone)
-    (set_apart c.forget_in.new.guests.items c.fill.new.guests.items c.args.number (Some c.args.guest) c.fill.ensures.there)
 
 pub returns-clause-there : goal.returns-clause-there
 returns-clause-there c =

@@ -1,7 +1,6 @@
 use Rattle.std.proofs.Common.{◌∙◌, ap, List, Option, None, length}
 use Rattle.std.proofs.lemmas.List.{length-set}
 use Rattle.xns_host.specs.declared.guest.Guest.{Guest}
-use Rattle.xns_host.proofs.Apart.{set_apart, set_there}
 use Rattle.xns_host.proofs.Registered.{forgotten}
 use Rattle.xns_host.proofs.slots.settle_in.Goals as goal
 
@@ -9,14 +8,6 @@ pub returns-then-done-clause-registered : goal.returns-then-done-clause-register
 returns-then-done-clause-registered c =
     forgotten c.args.register.now c.forget_in.new.register c.args.guests.now.items c.forget_in.new.guests.items c.args.number c.requires.registered
     c.requires.within c.forget_in.ensures.gone c.forget_in.ensures.left
-
-pub returns-then-done-clause-apart : goal.returns-then-done-clause-apart
-returns-then-done-clause-apart c =
-    set_apart c.args.guests.now.items c.forget_in.new.guests.items c.args.number None c.forget_in.ensures.gone
-
-pub returns-then-done-clause-gone : goal.returns-then-done-clause-gone
-returns-then-done-clause-gone c = λ yes.
-    set_there c.args.guests.now.items c.forget_in.new.guests.items c.args.number None c.requires.within c.forget_in.ensures.gone
 
 pub returns-then-done-clause-room : goal.returns-then-done-clause-room
 returns-then-done-clause-room c =

@@ -1,12 +1,11 @@
-use Rattle.std.proofs.Common.{◌≡◌, ◌∙◌, ap, ap₂, sym, refl, true}
-use Rattle.std.specs.Prelude.{codes, option_and_then}
+use Rattle.std.proofs.Common.{◌≡◌, ◌∙◌, ap, ap₂, sym, refl, true, codes}
 use Rattle.std.proofs.lemmas.Result.{err_from_is_err_and}
 use Rattle.clap.proofs.OnLiterals.{clap_on_literals}
-use Rattle.clap.specs.Words.{fault_of, first_of, is_simple, is_simple_and_free, subcommand_of, takes}
+use Rattle.clap.specs.Words.{fault_of, is_simple, is_simple_and_free, subcommand_of, takes}
 use Rattle.xns.proofs.Refusals.{is_free}
 use Rattle.xns_command.specs.declared.mode.Mode.{Mode}
 use Rattle.xns_command.specs.declared.mode.Mode.TheVariants.{Calls, Dump, Sim}
-use Rattle.xns.specs.Command.Arguments.{program_app, texts, words_of, words_with_file}
+use Rattle.xns.specs.Command.Arguments.{files_in, flag_in, program_app, texts, times_by, words_of, words_of_programs, words_with_file}
 use Rattle.xns.proofs.command.arguments.named_in.Goals as goal
 
 is_taken : (mode : Mode) → takes program_app (words_of mode) ≡ true
@@ -20,6 +19,10 @@ unfolding clap_on_literals
 is_file_taken Dump = refl
 is_file_taken Calls = refl
 is_file_taken Sim = refl
+
+is_description_taken : takes program_app words_of_programs ≡ true
+unfolding clap_on_literals
+is_description_taken = refl
 
 is_plain : is_simple program_app ≡ true
 unfolding clap_on_literals
@@ -35,11 +38,23 @@ returns-in_err-matches-clause-of_file c =
     let p = err_from_is_err_and c.from_residual-in_err-matches.result c.from_residual-in_err-matches.ensures.1 in
     rw (p.1, p.2) (λ mode h. c.in_err-matches.ensures.passes (ap₂ takes c.in_ok-program.ensures h ∙ is_file_taken mode))
 
-pub returns-clause-file : goal.returns-clause-file
-returns-clause-file c =
+pub returns-in_err-matches-clause-of_description : goal.returns-in_err-matches-clause-of_description
+returns-in_err-matches-clause-of_description c =
+    let p = err_from_is_err_and c.from_residual-in_err-matches.result c.from_residual-in_err-matches.ensures.1 in
+    rw (p.1, p.2) (λ h. c.in_err-matches.ensures.passes (ap₂ takes c.in_ok-program.ensures h ∙ is_description_taken))
+
+pub returns-clause-files : goal.returns-clause-files
+returns-clause-files c =
     let app = c.in_ok-program.ensures in
     let rows = c.in_ok-matches.ensures.matches (ap is_simple app ∙ is_plain) in
-    c.file_of.ensures ∙ ap (option_and_then (λ p. first_of (codes "file") p.1)) (rows.1 ∙ ap (λ command. subcommand_of command (texts c.args.words.now)) app)
+    c.in_ok-files.ensures ∙ ap files_in (rows.1 ∙ ap (λ command. subcommand_of command (texts c.args.words.now)) app)
+
+pub returns-clause-times : goal.returns-clause-times
+returns-clause-times c =
+    let app = c.in_ok-program.ensures in
+    let rows = c.in_ok-matches.ensures.matches (ap is_simple app ∙ is_plain) in
+    c.times_of.ensures ∙ ap (λ found. times_by (flag_in (codes "relative") found) (flag_in (codes "times") found))
+    (rows.1 ∙ ap (λ command. subcommand_of command (texts c.args.words.now)) app)
 
 pub returns-clause-kinds : goal.returns-clause-kinds
 returns-clause-kinds c =

@@ -1,11 +1,11 @@
-use Rattle.std.proofs.Common.{◌≡◌, ◌∙◌, ap, refl, Some}
+use Rattle.std.proofs.Common.{◌≡◌, ◌∙◌, ap, sym, refl, Some, codes, false}
 use Rattle.std.proofs.lemmas.Result.{err_from_is_err_and}
 use Rattle.clap.proofs.OnLiterals.{clap_on_literals}
 use Rattle.xns.proofs.Refusals.{by_clap, by_name}
 use Rattle.xns_command.specs.declared.mode.Mode.{Mode}
 use Rattle.xns_command.specs.declared.mode.Mode.TheVariants.{Calls, Dump, Sim}
 use Rattle.xns_command.specs.Modes.{name_of}
-use Rattle.xns.specs.Command.Arguments.{named_subcommand, texts, words_of, words_with_file}
+use Rattle.xns.specs.Command.Arguments.{is_programs, named_subcommand, texts, words_of, words_of_programs, words_with_file}
 use Rattle.xns.proofs.command.arguments.request.Goals as goal
 
 is_named : (mode : Mode) → named_subcommand (words_of mode) ≡ Some (name_of mode)
@@ -45,4 +45,17 @@ returns-in_err-name-clause-kinds c =
 
 pub returns-in_default-clause-kinds : goal.returns-in_default-clause-kinds
 returns-in_default-clause-kinds c =
-    by_name (texts c.args.words.now) _ c.in_ok-error.field-0 c.in_ok-name.ensures.kinds c.in_ok-name.ensures.named c.in_default.ensures.none c.in_ok-error.ensures.kind
+    by_name (texts c.args.words.now) _ c.in_ok-error.field-0 c.in_ok-name.ensures.kinds c.in_ok-name.ensures.named c.in_default.ensures.none
+    (sym c.names_programs.ensures ∙ c.if-names_programs.false) c.in_ok-error.ensures.kind
+
+named_programs : named_subcommand words_of_programs ≡ Some (codes "programs")
+unfolding clap_on_literals
+named_programs = refl
+
+is_other : is_programs (Some (codes "programs")) ≡ false → ⊥
+is_other e = (cc)
+
+pub returns-in_default-clause-of_description : goal.returns-in_default-clause-of_description
+returns-in_default-clause-of_description c = λ h.
+    let named = c.in_ok-name.ensures.named ∙ ap named_subcommand h ∙ named_programs in
+    absurd (is_other (ap is_programs (sym named) ∙ sym c.names_programs.ensures ∙ c.if-names_programs.false))

@@ -1,4 +1,4 @@
-use Rattle.std.proofs.Common.{◌+◌, ◌-◌, ◌++◌, ap, sym, ◌∙◌, take, drop, refl, Err}
+use Rattle.std.proofs.Common.{[], ◌+◌, ◌-◌, ◌++◌, ap, sym, ◌∙◌, take, drop, refl, Err}
 use Rattle.xns_captures.specs.Captures.{contents, with_frame}
 use Rattle.xns_captures.proofs.Consumed.{if_err_1, on_ok_1}
 use Rattle.xns_captures.proofs.Steps.{at_part_as}
@@ -15,9 +15,9 @@ returns-in-Err-clause-err g c = λ read tail before h.
 pub returns-in-Begins-clause-ok : goal.returns-in-Begins-clause-ok
 returns-in-Begins-clause-ok g c = λ read tail before h.
     let is_part = rw (c.as_slice.ensures.value, c.in-Begins.is) at c.in-Ok.ensures.value in
-    moves c.args.self.now _ read c.args.bytes.now tail _ refl refl
+    moves c.args.self.now c.begin.new.self read c.args.bytes.now tail _ c.begin.ensures.count c.begin.ensures.first
     (λ rest. at_part_as c.args.self.now.format c.args.self.now.interfaces.items c.args.bytes.now rest _ c.requires.head c.requires.size (sym is_part)
-    ∙ ap (λ interfaces. contents c.in-Begins.format interfaces rest) (sym c.clear.ensures.items)) h
+    ∙ same_rest c.begin.new.self c.in-Begins.format [] rest c.begin.ensures.format c.begin.ensures.interfaces) h
 
 pub returns-in-Ok-push-clause-ok : goal.returns-in-Ok-push-clause-ok
 returns-in-Ok-push-clause-ok g c = λ read tail before h.

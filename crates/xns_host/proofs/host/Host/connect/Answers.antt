@@ -9,7 +9,7 @@ use Rattle.xns_host.specs.Telling.{Tells}
 use Rattle.xns_host.proofs.Waking.{all_in_use, gets_place, no_room, not_both}
 use Rattle.xns_host.proofs.Registered.{all_joined, joined, opened_by_none, turned_over}
 use Rattle.xns_host.proofs.Undone.{came_not_done, not_done_new}
-use Rattle.xns_host.proofs.Placed.{taken_as}
+use Rattle.xns_host.proofs.Placed.{taken_apart, taken_as}
 use Rattle.xns_host.proofs.host.Host.connect.Goals as goal
 
 pub put_in-requires-clause-registered : goal.put_in-requires-clause-registered
@@ -51,7 +51,7 @@ returns-clause-full c = λ none.
 
 pub invariant_of-self-2-clause-not_done : goal.invariant_of-self-2-clause-not_done
 invariant_of-self-2-clause-not_done c =
-    came_not_done c.args.self.now.guests.items c.put_in.new.guests.items c.in-Some.number _ c.args.self.now.not_done c.put_in.ensures.apart c.put_in.ensures.there
+    came_not_done c.args.self.now.guests.items c.put_in.new.guests.items c.in-Some.number _ c.args.self.now.not_done (taken_apart c.args.self.now.guests.items c.put_in.new.guests.items c.args.self.now.agenda c.put_in.new.agenda c.in-Some.number _ c.put_in.ensures.places) c.put_in.ensures.there
     (not_done_new c.in-Ok.connection c.in-Ok.ensures.fresh.0)
 
 pub returns-clause-connects : goal.returns-clause-connects

@@ -1,3 +1,6 @@
+use Rattle.std.proofs.Common.{Option}
+use Rattle.xns_host.specs.declared.guest.Guest.{Guest}
+use Rattle.std.proofs.Common.{List}
 use Rattle.std.proofs.Common.{◌≡◌, ◌∙◌, ◌<◌, ap, refl, subst, sym, rules, ℕ, length, get_or, slice_get, None, Some, arith}
 use Rattle.std.specs.Prelude.{slice_set}
 use Rattle.std.proofs.lemmas.List.{length-set}
@@ -11,7 +14,7 @@ use Rattle.xns_host.proofs.Undone.{settled_not_done, still_not_done}
 use Rattle.xns_agenda.specs.Agenda.{noted}
 use Rattle.xns_host.specs.Hosting.{facts_in}
 use Rattle.xns_host.specs.Places.{AsksEvent, places_with}
-use Rattle.xns_host.proofs.Placed.{asked_quiet, asked_tells}
+use Rattle.xns_host.proofs.Placed.{asked_quiet, asked_tells, settled_apart, settled_gone, settled_kept}
 use Rattle.xns_host.proofs.host.Host.event.Goals as goal
 
 pub invariant_of-self : goal.invariant_of-self
@@ -42,10 +45,15 @@ note-requires-clause-others c =
 
 pub invariant_of-self-2-clause-not_done : goal.invariant_of-self-2-clause-not_done
 invariant_of-self-2-clause-not_done c =
-    let items : c.as_slice.result.now ≡ slice_set c.args.self.now.guests.items c.args.number c.event_in-event.new.slot = search rules in
-    settled_not_done c.args.self.now.guests.items c.as_slice.result.now c.settle_in.new.guests.items c.args.number c.index_mut.result.now
-    c.event_in-event.new.slot c.is_done_in-done.result c.args.self.now.not_done c.event_in-event.ensures.not_done (search rules) c.requires items
-    (search rules) (search rules) (search rules) (search rules)
+    let less : c.args.number < length c.args.self.now.guests.items = c.requires in
+    let mid : List (Option Guest) = slice_set c.args.self.now.guests.items c.args.number c.event_in-event.new.slot in
+    let size : c.args.number < length mid
+    = subst (λ (m : ℕ). c.args.number < m) (sym (length-set c.args.self.now.guests.items c.args.number c.event_in-event.new.slot)) less in
+    settled_not_done c.args.self.now.guests.items mid c.settle_in.new.guests.items c.args.number c.index_mut.result.now c.event_in-event.new.slot
+    c.is_done_in-done.result c.args.self.now.not_done c.event_in-event.ensures.not_done (search rules) c.requires refl (search rules)
+    (settled_apart mid c.settle_in.new.guests.items c.note.new.agenda c.settle_in.new.agenda c.args.number c.is_done_in-done.result c.settle_in.ensures.places)
+    (settled_gone mid c.settle_in.new.guests.items c.note.new.agenda c.settle_in.new.agenda c.args.number c.is_done_in-done.result c.settle_in.ensures.places size)
+    (settled_kept mid c.settle_in.new.guests.items c.note.new.agenda c.settle_in.new.agenda c.args.number c.is_done_in-done.result c.settle_in.ensures.places)
 
 pub returns-in_err-event-clause-asks : goal.returns-in_err-event-clause-asks
 returns-in_err-event-clause-asks c =

@@ -15,7 +15,7 @@ loop-number-init c = (
   search rules,
   c.act_all.ensures.order,
   no_stray c.args.self.now.strays c.take.new.self c.take.result (search rules) (ap (λ (q : StrayQueue). q.waiting) (sym c.act_all.ensures.strays) ∙ c.take.ensures.waiting)
-      (c.take.ensures.most ∙ ap (λ (q : StrayQueue). q.most) c.act_all.ensures.strays),
+      (c.take.ensures.rest ∙ ap (λ (q : StrayQueue). let y : StrayQueue = record q { waiting = c.take.new.self.waiting } in y) c.act_all.ensures.strays),
   record {
     mid = places_with c.act_all.new.self.guests.items c.act_all.new.self.agenda;
     acts = record { one_by_one = c.act_all.ensures.one_by_one; all = c.act_all.ensures.acts };
@@ -56,7 +56,7 @@ returns-in-Some c = record {
         acts = acts_all_at c.tell-now.result _ _ _ c.tell-now.ensures.result (record { one_by_one = c.act_all.ensures.one_by_one; all = c.act_all.ensures.acts });
         stray = λ o os is.
             let out = stray_out c.args.self.now.strays c.take.new.self c.take.result c.in-Some.stray o os c.in-Some.is waiting
-            (c.take.ensures.most ∙ ap (λ (q : StrayQueue). q.most) c.act_all.ensures.strays) is in
+            (c.take.ensures.rest ∙ ap (λ (q : StrayQueue). let y : StrayQueue = record q { waiting = c.take.new.self.waiting } in y) c.act_all.ensures.strays) is in
             (ap (λ (x : Outgoing). Ok (Some x)) out.0, refl, out.1);
         next = λ none. absurd (some_stray c.args.self.now.strays c.take.new.self c.take.result c.in-Some.stray c.in-Some.is waiting none);
         order = c.act_all.ensures.order;

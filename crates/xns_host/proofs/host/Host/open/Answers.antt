@@ -1,3 +1,4 @@
+use Rattle.xns_host.proofs.Placed.{taken_apart}
 use Rattle.std.proofs.Common.{◌≡◌, ◌∙◌, ap, refl, rules, subst, sym, ℕ, Some, false}
 use Rattle.std.specs.BTreeMap.{BTreeMap, IsUnchanged, Updates, get}
 use Rattle.xns_idp.specs.declared.address.Address.{Address}
@@ -53,7 +54,7 @@ put_in-requires-clause-registered c =
 
 pub invariant_of-self-2-clause-not_done : goal.invariant_of-self-2-clause-not_done
 invariant_of-self-2-clause-not_done c =
-    came_not_done c.args.self.now.guests.items c.put_in.new.guests.items c.in_ok-number.number _ c.args.self.now.not_done c.put_in.ensures.apart c.put_in.ensures.there
+    came_not_done c.args.self.now.guests.items c.put_in.new.guests.items c.in_ok-number.number _ c.args.self.now.not_done (taken_apart c.args.self.now.guests.items c.put_in.new.guests.items c.args.self.now.agenda c.put_in.new.agenda c.in_ok-number.number _ c.put_in.ensures.places) c.put_in.ensures.there
     (not_done_new c.in-Ok.connection c.in-Ok.ensures.fresh.0)
 
 pub returns-clause-opened : goal.returns-clause-opened

@@ -1,0 +1,76 @@
+//! `xns programs`: the programs that files describe.
+ghost use Rattle.std.specs.Prelude.{◌≤◌};
+
+use crate::STANDARD_INPUT;
+use crate::watched::{WatchedReader, WatchedWriter};
+use courier_programs::Program;
+use std::fs::File;
+use std::io::{self, Read};
+use xns_command::{DescriptionFault, description_status, print_description};
+use xns_lines::RunFault;
+
+/// Prints the programs that the files describe, in order, up to the first fault, and says in one line what that is.
+pub fn run_programs(rt: &HostRuntime, files: &[&str]) -> u8
+    ensures { result ≤ 3 }
+{
+    let mut programs = Vec::new(rt.alloc());
+    for path in files {
+        let answer = run_description(rt, *path, &mut programs);
+        if answer.is_err() {
+            return description_status(&answer);
+        }
+    }
+    description_status(&Ok(()))
+}
+
+/// Prints the program that the file of that name describes, or standard input where it is `-`.
+fn run_description(
+    rt: &HostRuntime,
+    path: &str,
+    programs: &mut Vec<Program>,
+) -> Result<(), DescriptionFault> {
+    if path == STANDARD_INPUT {
+        return describe(rt, path, rt.reader(), programs);
+    }
+    match File::open(rt, path) {
+        Ok(file) => describe(rt, path, file, programs),
+        Err(error) => {
+            let _ = eprintln!(rt; "xns: {path}: {error}");
+            Err(DescriptionFault::Run(RunFault::Read))
+        }
+    }
+}
+
+/// Prints the program that a file of that name describes.
+fn describe<R: Read + Drop>(
+    rt: &HostRuntime,
+    path: &str,
+    file: R,
+    programs: &mut Vec<Program>,
+) -> Result<(), DescriptionFault> {
+    let mut reader = WatchedReader::new(file);
+    let mut writer = WatchedWriter::new(io::writer(rt));
+    let answer = print_description(rt.alloc(), &mut reader, &mut writer, programs);
+    if let Err(fault) = &answer {
+        explain_fault(rt, path, *fault, reader.error(), writer.is_closed());
+    }
+    answer
+}
+
+/// Says in one line what is wrong; nothing where nobody reads what is written any more.
+fn explain_fault(
+    rt: &HostRuntime,
+    path: &str,
+    fault: DescriptionFault,
+    error: Option<&io::Error>,
+    is_closed: bool,
+) {
+    let _ = match (fault, error) {
+        (DescriptionFault::Run(RunFault::Write), _) if is_closed => Ok(()),
+        (DescriptionFault::Run(RunFault::Read), Some(error)) => {
+            eprintln!(rt; "xns: {path}: {error}")
+        }
+        (DescriptionFault::Run(fault), _) => eprintln!(rt; "xns: {path}: {fault}"),
+        (fault, _) => eprintln!(rt; "{path}:{fault}"),
+    };
+}
