@@ -54,8 +54,12 @@ SUBJECTS = [
     ("`calls`", "xns_calls", "calling.rt", "calls", None, NOTHING),
 ]
 
-# the definitions that docs/PROOF.md shows whole
-MACHINES = ["item_world/specs/Channel.antt", "xns_world/specs/Ledger.antt", "host_world/specs/Dialogue.antt"]
+# the machines that docs/PROOF.md shows: the file of each, and the line before which the page stops (None: it shows all)
+MACHINES = {
+    "item_world/specs/Channel.antt": None,
+    "xns_world/specs/Ledger.antt": None,
+    "host_world/specs/Dialogue.antt": "-- a number that is free gets a connection",
+}
 
 WORD = re.compile(r"[^\s(){}\[\],;]+")
 HEAD = re.compile(r"^(?:(?:abbrev|unfoldable|mutual|pub|data|record|ruleset)\s+)*([^\s(){}:]+)(?=[\s(){:]|$)")
@@ -286,9 +290,11 @@ def table():
 def page_now(page):
     """The page with the table and the machines as they are."""
     page = re.sub(r"\| What is read \|.*\n(?:\|.*\n)+", lambda _: table() + "\n", page)
-    for path in map(CRATES.joinpath, MACHINES):
-        text = path.read_text()
+    for path, stop in MACHINES.items():
+        text = (CRATES / path).read_text()
         text = text[text.index("pub record"):]
+        if stop is not None:
+            text = text[:text.index("\n" + stop + "\n")]
         head = text[:text.index("\n")]
         page = re.sub(r"```\n" + re.escape(head) + r".*?```", lambda _: "```\n" + text + "```", page, flags=re.S)
     return page
