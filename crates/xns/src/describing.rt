@@ -3,7 +3,7 @@ ghost use Rattle.std.specs.Prelude.{◌≤◌};
 
 use crate::STANDARD_INPUT;
 use crate::watched::{WatchedReader, WatchedWriter};
-use courier_programs::Program;
+use courier_programs::{Program, ProgramReason};
 use std::fs::File;
 use std::io::{self, Read};
 use xns_command::{DescriptionFault, description_status, print_description};
@@ -57,7 +57,7 @@ fn describe<R: Read + Drop>(
     answer
 }
 
-/// Says in one line what is wrong; nothing where nobody reads what is written any more.
+/// Says in one line what is wrong, of a text the place and the name of the reason; nothing where nobody reads what is written any more.
 fn explain_fault(
     rt: &HostRuntime,
     path: &str,
@@ -71,6 +71,16 @@ fn explain_fault(
             eprintln!(rt; "xns: {path}: {error}")
         }
         (DescriptionFault::Run(fault), _) => eprintln!(rt; "xns: {path}: {fault}"),
-        (fault, _) => eprintln!(rt; "{path}:{fault}"),
+        (
+            DescriptionFault::Wrong {
+                line,
+                column,
+                reason,
+            },
+            _,
+        ) => match reason {
+            ProgramReason::Notation(reason) => eprintln!(rt; "{path}:{line}:{column} {reason:?}"),
+            ProgramReason::Name(reason) => eprintln!(rt; "{path}:{line}:{column} {reason:?}"),
+        },
     };
 }

@@ -370,4 +370,3 @@ short_at side t (Some x) (Fault f) n r short = absurd (cc)
 
 pub calm_then : {s t u : Conversation} → Goes s t → Calm t u → Calm s u
 calm_then p q = record { on = λ h f. let x = p.on h f in let y = q.on x.0 x.1 in (y.0, y.1, goes_on h x.0 y.0 x.2 y.2, y.3, y.4) }
-

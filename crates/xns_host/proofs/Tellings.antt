@@ -370,4 +370,3 @@ never_false true z = cc
 never_false false z = cc
 
 -- ---- what was read is read on
-
