@@ -26,7 +26,7 @@ ENDS = frozenset("""initiator_state responder_state after_send send_answer after
 # and what its sessions make of items: the contracts of `Caller` and `Server` cite them
 STEPS = ENDS | frozenset("caller_items server_items server_state answers decided_calls decision after_decision Serving Service IsFitting".split())
 
-# and what the calls of a host do: the contracts of `Host` cite them
+# and what the functions of a host do: the contracts of `Host` cite them
 TURNS = frozenset("IsNewHost ConnectsTo Turn TellsNext TakesIn GivesOut ServesAt Host Guest".split())
 
 NOTHING = frozenset()
@@ -45,11 +45,13 @@ SUBJECTS = [
     ("the same, with what ends and sessions do", "xns_world", "laws/calls.rt", "no_play_is_stuck", None, NOTHING),
     ("`play_calls`: `once`", "xns_world", "call_play.rt", "play_calls", "once", NOTHING),
     ("`a_number_keeps_its_order`, the dialogue alone", "host_world", "laws.rt", "a_number_keeps_its_order", None, NOTHING),
-    ("`each_number_of_a_host_has_a_history`, with the calls of a host", "host_world", "laws.rt", "each_number_of_a_host_has_a_history",
+    ("`each_number_of_a_host_has_a_history`, with the functions of a host", "host_world", "laws.rt", "each_number_of_a_host_has_a_history",
      None, TURNS),
-    ("the same, with what its calls do", "host_world", "laws.rt", "each_number_of_a_host_has_a_history", None, NOTHING),
+    ("the same, with what its functions do", "host_world", "laws.rt", "each_number_of_a_host_has_a_history", None, NOTHING),
     ("`decode`", "xns_idp", "decoding.rt", "decode", None, NOTHING),
     ("`Endpoint::receive`", "xns_spp", "endpoint.rt", "Endpoint::receive", None, NOTHING),
+    ("`Host::call`", "xns_host", "host.rt", "Host::call", None, NOTHING),
+    ("`Host::receive`", "xns_host", "host/receiving.rt", "Host::receive", None, NOTHING),
     ("`dump`", "xns_dump", "dumping.rt", "dump", None, NOTHING),
     ("`calls`", "xns_calls", "calling.rt", "calls", None, NOTHING),
 ]
