@@ -34,6 +34,10 @@ ends_with fault = record { frames = []; fault = fault }
 abbrev pub with_frame : FrameBytes → Contents → Contents
 with_frame frame contents = record { frames = frame ∷ contents.frames; fault = contents.fault }
 
+-- a frame of no bytes, of link type 0, which carries no packet
+abbrev pub empty_frame : FrameBytes
+empty_frame = (0, [], None)
+
 -- what the rest of a capture holds, in a file of that format, in a section with these interfaces
 abbrev pub More : Type 0
 More = Format → List Interface → List ℕ → Contents
@@ -43,7 +47,8 @@ abbrev pub behind_part : More → Format → List Interface → List ℕ → Lis
 behind_part more format interfaces bytes rest (part.Begins next) = more next [] rest
 behind_part more format interfaces bytes rest (part.Interface interface) = more format (interfaces ++ interface ∷ []) rest
 behind_part more format interfaces bytes rest (part.Frame frame) = with_frame (frame_in frame bytes) (more format interfaces rest)
-behind_part more format interfaces bytes rest part.Other = more format interfaces rest
+behind_part more format interfaces bytes rest (part.Continues next) = more next interfaces rest
+behind_part more format interfaces bytes rest (part.Counted next) = with_frame empty_frame (more next interfaces rest)
 
 abbrev pub behind_whole : More → Format → List Interface → List ℕ → List ℕ → Holds → Contents
 behind_whole more format interfaces bytes rest (Ok part) = behind_part more format interfaces bytes rest part

@@ -144,7 +144,17 @@ impl Reading {
                     writer,
                 )
             }
-            Part::Other => Ok(()),
+            Part::Continues(format) => {
+                self.format = format;
+                Ok(())
+            }
+            Part::Counted(format) => match self.take_frame(0, &[], None, taker, writer) {
+                Ok(()) => {
+                    self.format = format;
+                    Ok(())
+                }
+                Err(fault) => Err(fault),
+            },
         }
     }
 
