@@ -3,7 +3,7 @@ use Rattle.std.proofs.Common.{◌≡◌, refl, ap, arith, ℕ, zero, suc, ◌+�
 use Rattle.std.proofs.Math.Nat.{le-max_left}
 use Rattle.std.proofs.lemmas.Bool.{cond_both, ltb-false, or_parts}
 use Rattle.xns_captures.specs.Places.{long_at}
-use Rattle.xns_captures.specs.Captures.{More, behind_head, behind_part, behind_size, behind_whole, contents, contents_in, empty_frame, ends_with, frame_in, with_frame}
+use Rattle.xns_captures.specs.Captures.{More, behind_head, behind_part, behind_size, behind_whole, contents, contents_in, empty_frame, end_of, ends_with, frame_in, with_frame}
 use Rattle.xns_captures.specs.Parts.{Holds, Size, head_count, part_of, size_of, block_size, block_size_in, size_in_order, classic_size, is_read, long_size, most_passed_bytes, section_order, classic_order, section_type, most_block_bytes, most_frame_bytes}
 use Rattle.xns_captures.specs.declared.byte_order.ByteOrder.{ByteOrder}
 use Rattle.xns_captures.specs.declared.byte_order.ByteOrder.TheVariants.{Big}
@@ -114,6 +114,6 @@ contents-head f is (b ∷ bytes) h =
     same_head (contents_in (length bytes)) contents (length bytes) (λ g is' rest short. fuel (length bytes) (length rest) g is' rest short (omega arith)) f is (b ∷ bytes)
     (part_has_bytes f (take (head_count f) (b ∷ bytes))) (omega arith)
 
-pub contents-none : (f : Format) (is : List Interface) → contents f is [] ≡ ends_with None
+pub contents-none : (f : Format) (is : List Interface) → contents f is [] ≡ ends_with (end_of f)
 unfolding contents contents_in
 contents-none f is = refl

@@ -7,7 +7,7 @@ use Rattle.xns_captures.specs.Parts.{Holds, Size, head_count, part_of, size_of}
 use Rattle.xns_captures.specs.declared.fault.CaptureFault.{CaptureFault}
 use Rattle.xns_captures.specs.declared.fault.CaptureFault.TheVariants as fault
 use Rattle.xns_captures.specs.declared.format.Format.{Format}
-use Rattle.xns_captures.specs.declared.format.Format.TheVariants.{Unread}
+use Rattle.xns_captures.specs.declared.format.Format.TheVariants.{Unread, Passing}
 use Rattle.xns_captures.specs.declared.frame.Frame.{Frame}
 use Rattle.xns_captures.specs.declared.frame_time.FrameTime.{FrameTime}
 use Rattle.xns_captures.specs.declared.interface.Interface.{Interface}
@@ -65,9 +65,14 @@ behind_head more format interfaces bytes =
     if nat_lt (length bytes) (head_count format) then ends_with (Some fault.Cut)
     else behind_size more format interfaces bytes (size_of format (take (head_count format) bytes))
 
+-- a file may end behind each part, but not within a long block
+abbrev pub end_of : Format → Option CaptureFault
+end_of (Passing order left total) = Some fault.Cut
+end_of _ = None
+
 -- what a capture holds from here on, within so many parts
 unfoldable pub contents_in : ℕ → More
-contents_in parts format interfaces [] = ends_with None
+contents_in parts format interfaces [] = ends_with (end_of format)
 contents_in zero format interfaces (byte ∷ bytes) = ends_with None
 contents_in (suc parts) format interfaces (byte ∷ bytes) = behind_head (contents_in parts) format interfaces (byte ∷ bytes)
 

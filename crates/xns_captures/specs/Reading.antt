@@ -3,7 +3,7 @@ use Rattle.std.specs.Prelude.{◌≡◌, ◌≤◌, ℕ, List, [], ◌∷◌, �
 use Rattle.xns_lines.specs.declared.fault.RunFault.{RunFault}
 use Rattle.xns_lines.specs.declared.fault.RunFault.TheVariants as run
 use Rattle.std.specs.Option.{option_or}
-use Rattle.xns_captures.specs.Captures.{Contents, FrameBytes, NumberedPacket, contents, contents_of, ends_with, packets_in, packets_of, with_frame}
+use Rattle.xns_captures.specs.Captures.{Contents, FrameBytes, NumberedPacket, contents, contents_of, end_of, ends_with, packets_in, packets_of, with_frame}
 use Rattle.xns_captures.specs.Captures.{fault_of}
 use Rattle.xns_captures.specs.declared.fault.CaptureFault.{CaptureFault}
 use Rattle.xns_captures.specs.declared.fault.CaptureFault.TheVariants.{Cut}
@@ -40,10 +40,10 @@ abbrev pub StandsAfter : FileFault → Says → Says → List NumberedPacket →
 StandsAfter (Run run.Write) stands fails packets = fails packets
 StandsAfter _ stands fails packets = stands packets
 
--- a file that ends in some bytes of a part is cut
-abbrev pub cut_unless_empty : List ℕ → Option CaptureFault
-cut_unless_empty [] = None
-cut_unless_empty (byte ∷ bytes) = Some Cut
+-- why a file that ends in these bytes, of no whole part, is not whole: one that ends in some bytes of a part is cut
+abbrev pub end_in : Format → List ℕ → Option CaptureFault
+end_in format [] = end_of format
+end_in format (byte ∷ bytes) = Some Cut
 
 -- a part with so many bytes stands first in these
 pub record IsWholePart (format : Format) (bytes : List ℕ) (size : ℕ) : Type 0 where
