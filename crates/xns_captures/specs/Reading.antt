@@ -28,6 +28,11 @@ StandsAfterPacket run.NoMemory stands fails packets packet = stands packets
 StandsAfterPacket run.Write stands fails packets packet = fails (packets ++ packet ∷ [])
 StandsAfterPacket _ stands fails packets packet = ⊥
 
+-- where it is a want of memory, this is so
+abbrev pub IfWants : RunFault → Type 0 → Type 0
+IfWants run.NoMemory wants = wants
+IfWants _ wants = Unit {0}
+
 -- a fault at a frame: after a failed write its packet is taken, and else it is not
 abbrev pub StopsAtFrame : FileFault → Says → Says → List NumberedPacket → List NumberedPacket → Type 0
 StopsAtFrame (Run run.Write) stands fails packets more = fails more
