@@ -125,9 +125,9 @@ END
 for long in "$work"/*.long; do
     python3 tests/capture_account.py "$long" > "$work/packets" 2> "$work/fault"
     case $(cat "$work/fault") in
-        Cut) said='xns: -: the capture is cut' ;;
-        TooLong) said='xns: -: a record of the capture is too long' ;;
-        Lengths) said='xns: -: the lengths of a block disagree' ;;
+        'fault Cut') said='xns: -: the capture is cut' ;;
+        'fault TooLong') said='xns: -: a record of the capture is too long' ;;
+        'fault Lengths') said='xns: -: the lengths of a block disagree' ;;
         *) said= ;;
     esac
     cat "$long" | (ulimit -v 16384 && exec "$program" dump -) > "$work/out" 2> "$work/err"
