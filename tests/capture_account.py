@@ -15,6 +15,9 @@ MOST_FRAME = 262144
 MOST_BLOCK = 16777216
 MOST_INTERFACES = 65536
 
+# The types of blocks that are read: section headers, interfaces, and packets. Longer ones than MOST_BLOCK are refused.
+READ = (0x0A0D0D0A, 1, 2, 3, 6)
+
 # Blocks that are no packets, and have numbers as frames in Wireshark: a systemd journal entry, a system call, and custom blocks.
 COUNTED = (9, 0x204, 0xBAD, 0x40000BAD)
 
@@ -113,7 +116,7 @@ def frames_of_blocks(source):
         total = number(head, 4, 4)
         if total < 12 or total % 4:
             raise Fault("Lengths")
-        if total > MOST_BLOCK:
+        if total > MOST_BLOCK and number(head, 0, 4) in READ:
             raise Fault("TooLong")
         block = source.take(total)
         kind = number(block, 0, 4)

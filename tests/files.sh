@@ -101,6 +101,44 @@ head -c -1 "$work/x.pcapng" > "$work/cut.pcapng"
 run dump "$work/cut.pcapng"
 ends 'a capture that is cut' 3 "xns: $work/cut.pcapng: the capture is cut" -
 
+# A block of 17 MiB behind the packets of that file, and the packets again: one that is counted, and one that is not. It comes through a
+# pipe to a program that may not have 16 MiB. The same is cut within the block, behind each part of it, and has other lengths at its end.
+python3 - "$work/x.pcapng" "$work" << 'END'
+import struct
+import sys
+
+file, folder = sys.argv[1:]
+with open(file, "rb") as source:
+    capture = source.read()
+for name, kind in ("passed", 4), ("counted", 0xBAD), ("packet", 6):
+    total = 17 << 20
+    block = struct.pack("<II", kind, total) + bytes(total - 12) + struct.pack("<I", total)
+    made = {name: block + capture}
+    if name == "counted":
+        made |= {"end_differs": block[:-4] + struct.pack("<I", total - 4) + capture}
+        for count in 12, 65536, 12 + 65536, 12 + 65536 * 3 + 1, total - 4, total - 1:
+            made[f"cut_{count}"] = block[:count]
+    for name, rest in made.items():
+        with open(f"{folder}/{name}.long", "wb") as made_file:
+            made_file.write(capture + rest)
+END
+for long in "$work"/*.long; do
+    python3 tests/capture_account.py "$long" > "$work/packets" 2> "$work/fault"
+    case $(cat "$work/fault") in
+        'fault Cut') said='xns: -: the capture is cut' ;;
+        'fault TooLong') said='xns: -: a record of the capture is too long' ;;
+        'fault Lengths') said='xns: -: the lengths of a block disagree' ;;
+        *) said= ;;
+    esac
+    cat "$long" | (ulimit -v 16384 && exec "$program" dump -) > "$work/out" 2> "$work/err"
+    ended=$?
+    cut -d ' ' -f 1 "$work/out" | uniq > "$work/frames"
+    cut -d ' ' -f 1 "$work/packets" > "$work/wanted"
+    if [ -z "$said" ]; then status=0; else status=3; fi
+    if cmp -s "$work/frames" "$work/wanted"; then pass; else fail "the frames of ${long##*/}"; fi
+    ends "the end of ${long##*/}" $status "$said" -
+done
+
 # Each growth is refused in turn: the whole text, or a front of it and 3.
 if has gcc; then
     build_refusing

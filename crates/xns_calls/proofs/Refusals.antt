@@ -1,5 +1,6 @@
 -- The flag is set exactly where the text has the word `refused`.
 use Rattle.std.proofs.Common.{◌≡◌, ◌∙◌, ap, sym, refl, ℕ, zero, suc, length, ◌+◌, ◌-◌, ◌*◌, ◌/◌, ◌%◌, ◌==◌, ◌||◌, Bool, true, false, cond, List, [], ◌∷◌, ◌++◌, codes, Option, Some, None, Result, Ok, Err}
+use Rattle.std.proofs.Math.Bool.{or-false, or_assoc}
 use Rattle.std.specs.Prelude.{nat_lt, slice_get}
 use Rattle.hex.specs.Hex.{decode_of}
 use Rattle.hex.specs.declared.error.FromHexError.{FromHexError}
@@ -19,6 +20,7 @@ use Rattle.xns_lines.specs.Lines.{lines_of}
 use Rattle.xns_dump.specs.Dump.Line.{digits_of}
 use Rattle.xns_dump.specs.Flows.{flow_of}
 use Rattle.xns_dump.specs.Laws.{IsLoud, IsQuiet, JoinedTextsSayRefused, OnlyRefusalsSayRefused, says_refused}
+use Rattle.xns_captures.specs.Captures.{NumberedPacket, packets_of}
 use Rattle.xns_calls.specs.Numbers.{most_early}
 use Rattle.xns_calls.specs.Calls.{after_body, after_bytes, after_digits, after_found, after_header, after_line, calls_text, end_count, has_refusal, has_refused, known_from, known_with_end, line_taken, nothing_known, text_from, text_with_end}
 use Rattle.xns_calls.specs.Capture.{Known, after_at, after_end, after_in, after_places, after_sequenced, ended_at, ended_flow, ended_in, flow_behind, heading_at, place_of, scene_in, with_new}
@@ -36,7 +38,9 @@ use Rattle.xns_calls.specs.declared.heard.Heard.{Heard}
 use Rattle.xns_calls.specs.declared.heard.Heard.TheVariants as heard
 use Rattle.xns_calls.specs.declared.track.Track.{Track}
 use Rattle.xns_calls.specs.declared.origin.Origin.{Origin}
-use Rattle.xns_calls.specs.Origins.{line_origin}
+use Rattle.xns_calls.specs.Origins.{frame_origin, line_origin}
+use Rattle.xns_calls.specs.Files.{calls_capture_text, has_file_refusal, known_behind, last_frame, packet_end_count, packet_taken, packets_known_with_end, packets_refused, packets_text_with_end, text_behind}
+use Rattle.xns_calls.specs.declared.times.Times.{Times}
 use Rattle.xns_calls.specs.TimeTexts.{digits_text, fraction_text, from_to_text, seconds_text, time_text, took, took_since, took_text}
 use Rattle.xns_calls.specs.declared.origin.ShownTime.{ShownTime}
 use Rattle.xns_calls.specs.declared.origin.ShownTime.TheVariants as shown
@@ -156,14 +160,6 @@ module _ (joined : JoinedTextsSayRefused) (only : OnlyRefusalsSayRefused) where
     flag_is : flag ≡ (b || new)
     tells : Tells new text
 
-  or_assoc : (a b c : Bool) → ((a || b) || c) ≡ (a || (b || c))
-  or_assoc true b c = refl
-  or_assoc false b c = refl
-
-  or_false : (b : Bool) → (b || false) ≡ b
-  or_false true = refl
-  or_false false = refl
-
   or_true : (b : Bool) → true ≡ (b || true)
   or_true true = refl
   or_true false = refl
@@ -179,7 +175,7 @@ module _ (joined : JoinedTextsSayRefused) (only : OnlyRefusalsSayRefused) where
   unfolding Tells
   says_quiet b text more flag s q = record {
     new = s.new || false;
-    flag_is = s.flag_is ∙ ap (λ c. b || c) (sym (or_false s.new));
+    flag_is = s.flag_is ∙ ap (λ c. b || c) (sym (or-false s.new));
     tells = tells_both s.new false text more s.tells q;
   }
 
@@ -189,6 +185,14 @@ module _ (joined : JoinedTextsSayRefused) (only : OnlyRefusalsSayRefused) where
     new = s.new || true;
     flag_is = or_true b ∙ ap (λ c. b || c) (or_true s.new);
     tells = tells_both s.new true text more s.tells l;
+  }
+
+  -- two texts, of which the second begins with the first one's flag
+  says_on : {b flag last : Bool} {xs ys : List ℕ} → Says b xs flag → Says flag ys last → Says b (xs ++ ys) last
+  says_on {b} {flag} {last} {xs} {ys} s t = record {
+    new = s.new || t.new;
+    flag_is = t.flag_is ∙ ap (λ f. f || t.new) s.flag_is ∙ or_assoc b s.new t.new;
+    tells = tells_both s.new t.new xs ys s.tells t.tells;
   }
 
   -- ---- a flow
@@ -357,35 +361,39 @@ module _ (joined : JoinedTextsSayRefused) (only : OnlyRefusalsSayRefused) where
 
   none_said : (b : Bool) → Says b [] b
   unfolding Tells
-  none_said b = record { new = false; flag_is = sym (or_false b); tells = record { skips = λ ys. refl } }
+  none_said b = record { new = false; flag_is = sym (or-false b); tells = record { skips = λ ys. refl } }
 
   lines_say : (n : ℕ) (k : Known) (lines : List (List ℕ)) → Says k.is_refused (text_from n k lines) (known_from n k lines).is_refused
   lines_say n k [] = none_said k.is_refused
-  lines_say n k (line ∷ lines) =
-      let k1 = line_taken n line k in
-      let first = line_says k.is_refused n line (record k { text = [] }) (none_said k.is_refused) in
-      let rest = lines_say (n + 1) k1 lines in record {
-        new = first.new || rest.new;
-        flag_is = rest.flag_is ∙ ap (λ f. f || rest.new) first.flag_is ∙ or_assoc k.is_refused first.new rest.new;
-        tells = tells_both first.new rest.new k1.text (text_from (n + 1) k1 lines) first.tells rest.tells;
-      }
+  lines_say n k (line ∷ lines) = says_on (line_says k.is_refused n line (record k { text = [] }) (none_said k.is_refused)) (lines_say (n + 1) (line_taken n line k) lines)
 
   ends_say : (lines : List (List ℕ)) (part : ℕ) → Says false (text_with_end lines part) (has_refused lines part)
   ends_say lines zero = lines_say 1 nothing_known lines
   ends_say lines (suc part) =
       let k = known_with_end lines part in
-      let first = ends_say lines part in
-      let last = end_says k.is_refused (line_origin (length lines)) part (record k { text = [] }) (none_said k.is_refused) in record {
-        new = first.new || last.new;
-        flag_is = last.flag_is ∙ ap (λ f. f || last.new) first.flag_is ∙ or_assoc false first.new last.new;
-        tells = tells_both first.new last.new (text_with_end lines part) (known_with_end lines (suc part)).text first.tells last.tells;
-      }
+      says_on (ends_say lines part) (end_says k.is_refused (line_origin (length lines)) part (record k { text = [] }) (none_said k.is_refused))
+
+  packets_say : (times : Times) (k : Known) (packets : List NumberedPacket) → Says k.is_refused (text_behind times k packets) (known_behind times k packets).is_refused
+  packets_say times k [] = none_said k.is_refused
+  packets_say times k (packet ∷ packets) =
+      says_on (bytes_say k.is_refused (frame_origin times packet.0) packet.1 (record k { text = [] }) (none_said k.is_refused)) (packets_say times (packet_taken times packet k) packets)
+
+  file_ends_say : (times : Times) (packets : List NumberedPacket) (part : ℕ) → Says false (packets_text_with_end times packets part) (packets_refused times packets part)
+  file_ends_say times packets zero = packets_say times nothing_known packets
+  file_ends_say times packets (suc part) =
+      let k = packets_known_with_end times packets part in
+      says_on (file_ends_say times packets part) (end_says k.is_refused (last_frame times packets) part (record k { text = [] }) (none_said k.is_refused))
 
   tells_is : (c : Bool) (xs : List ℕ) → Tells c xs → says_refused xs ≡ c
   unfolding Tells
   tells_is true xs h = joined.said xs h
   tells_is false xs h = joined.silent xs h
 
+  says_it : {xs : List ℕ} {flag : Bool} → Says false xs flag → says_refused xs ≡ flag
+  says_it {xs} s = tells_is s.new xs s.tells ∙ sym s.flag_is
+
   pub text_says : (input : List ℕ) → says_refused (calls_text input) ≡ has_refusal input
-  text_says input =
-      let s = ends_say (lines_of input) (end_count (lines_of input)) in tells_is s.new (calls_text input) s.tells ∙ sym s.flag_is
+  text_says input = says_it (ends_say (lines_of input) (end_count (lines_of input)))
+
+  pub capture_says : (times : Times) (file : List ℕ) → says_refused (calls_capture_text times file) ≡ has_file_refusal times file
+  capture_says times file = says_it (file_ends_say times (packets_of file) (packet_end_count times (packets_of file)))

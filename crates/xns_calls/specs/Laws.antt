@@ -32,6 +32,7 @@ use Rattle.xns_calls.specs.declared.heading.Heading.{Heading}
 use Rattle.xns_calls.specs.declared.origin.Origin.{Origin}
 use Rattle.xns_calls.specs.declared.speech.Speech.{Speech}
 use Rattle.xns_calls.specs.declared.speech.Speech.TheVariants.{Hearing}
+use Rattle.xns_calls.specs.declared.times.Times.{Times}
 use Rattle.xns_calls.specs.declared.times.Times.TheVariants.{Hidden}
 use Rattle.xns_calls.specs.declared.track.Track.{Track}
 
@@ -47,9 +48,10 @@ pub record HeardMessagesArePrinted : Type 0 where
   pub messages : (items : List (Heading × Item)) (speech : Speech)
       → map (λ x. x.1) (heard_at_lines speech items) ≡ messages_heard speech (map (λ x. x.1) items)
 
--- the answer of `calls` is true exactly where its text has the word `refused`
-abbrev pub TheAnswerSaysRefused : Type 0
-TheAnswerSaysRefused = (input : List ℕ) → has_word (codes "refused") (calls_text input) ≡ has_refusal input
+-- the answer of `calls` is true exactly where its text has the word `refused`: of lines, and of a capture, with times or without
+pub record TheAnswerSaysRefused : Type 0 where
+  pub lines : (input : List ℕ) → has_word (codes "refused") (calls_text input) ≡ has_refusal input
+  pub capture : (times : Times) (file : List ℕ) → has_word (codes "refused") (calls_capture_text times file) ≡ has_file_refusal times file
 
 -- what a data packet does to its flow is the event of its item, with the number that its field stands for
 abbrev pub AnItemIsAnEvent : Type 0

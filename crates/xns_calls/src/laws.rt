@@ -27,7 +27,8 @@ pub fn heard_messages_are_printed()
     ensures { HeardMessagesArePrinted }
 {}
 
-/// The answer of `calls` is true exactly where its text has the word `refused`.
+/// The answer of `calls` is true exactly where its text has the word `refused`: of lines, and of a capture, with times or
+/// without.
 pub fn the_answer_says_refused()
     ensures { TheAnswerSaysRefused }
 {

@@ -1,5 +1,7 @@
 //! What `calls` makes of the packets of a capture.
-ghost use Rattle.std.specs.Prelude.{◌≡◌, [], IfOk};
+ghost use Rattle.std.specs.Prelude.{◌≡◌, [], true, IfOk};
+ghost use Rattle.xns_calls.specs.Calls.{wants_bytes};
+ghost use Rattle.xns_calls.specs.Capture.{IsPlaced, known};
 ghost use Rattle.xns_calls.specs.Files.{HasPrintedPackets, packet_end_count, packets_refused, packets_text_with_end};
 
 use crate::origin::Origin;
@@ -37,6 +39,9 @@ impl<S: TimeStyle> PacketPrinter for CapturePrinter<S> {
     ghost refuses = { packets_refused S.style };
 
     ghost packet_ends = { packet_end_count S.style };
+
+    ghost packet_wants = { λ printer page packet. IsPlaced printer.printer.capture
+        → wants_bytes packet.1 (known printer.printer.capture.connections.items printer.printer.capture.flows.items page) ≡ true };
 
     fn print_packet(
         &mut self,

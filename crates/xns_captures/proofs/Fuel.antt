@@ -1,14 +1,15 @@
 -- What a capture holds does not depend on the bound on its parts.
-use Rattle.std.proofs.Common.{◌≡◌, refl, ap, arith, ℕ, zero, suc, ◌+◌, ◌≤◌, Bool, cond, nat_lt, ◌||◌, ◌==◌, ◌%◌, not, lit≤, List, [], ◌∷◌, ◌++◌, length, take, drop, length-drop, Ok, Err, Option, Some, None}
+use Rattle.std.proofs.Common.{◌≡◌, refl, ap, arith, ℕ, zero, suc, ◌+◌, ◌≤◌, min, Bool, cond, nat_lt, ◌||◌, ◌==◌, ◌%◌, not, lit≤, List, [], ◌∷◌, ◌++◌, length, take, drop, length-drop, Ok, Err, Option, Some, None}
+use Rattle.std.proofs.Math.Nat.{le-max_left}
 use Rattle.std.proofs.lemmas.Bool.{cond_both, ltb-false, or_parts}
 use Rattle.xns_captures.specs.Places.{long_at}
-use Rattle.xns_captures.specs.Captures.{More, behind_head, behind_part, behind_size, behind_whole, contents, contents_in, ends_with, frame_in, with_frame}
-use Rattle.xns_captures.specs.Parts.{Holds, Size, head_count, part_of, size_of, block_size, block_size_in, size_in_order, classic_size, section_order, classic_order, section_type, most_block_bytes, most_frame_bytes}
+use Rattle.xns_captures.specs.Captures.{More, behind_head, behind_part, behind_size, behind_whole, contents, contents_in, empty_frame, end_of, ends_with, frame_in, with_frame}
+use Rattle.xns_captures.specs.Parts.{Holds, Size, head_count, part_of, size_of, block_size, block_size_in, size_in_order, classic_size, is_read, long_size, most_passed_bytes, section_order, classic_order, section_type, most_block_bytes, most_frame_bytes}
 use Rattle.xns_captures.specs.declared.byte_order.ByteOrder.{ByteOrder}
 use Rattle.xns_captures.specs.declared.byte_order.ByteOrder.TheVariants.{Big}
 use Rattle.xns_captures.specs.declared.fault.CaptureFault.TheVariants as fault
 use Rattle.xns_captures.specs.declared.format.Format.{Format}
-use Rattle.xns_captures.specs.declared.format.Format.TheVariants.{Unread, Records, Blocks}
+use Rattle.xns_captures.specs.declared.format.Format.TheVariants.{Unread, Records, Blocks, Passing}
 use Rattle.xns_captures.specs.declared.interface.Interface.{Interface}
 use Rattle.xns_captures.specs.declared.part.Part.{Part}
 use Rattle.xns_captures.specs.declared.part.Part.TheVariants as part
@@ -20,14 +21,18 @@ abbrev pub HasBytes : ℕ → Size → Type 0
 HasBytes least (Ok size) = least ≤ size
 HasBytes least (Err fault) = Unit {0}
 
-sized : (total : ℕ) (t u : Bool) → HasBytes 12 (cond (nat_lt total 12 || t) (Err fault.Lengths) (cond u (Err fault.TooLong) (Ok total)))
-sized total t u =
-    cond_both (nat_lt total 12 || t) (Err fault.Lengths) (cond u (Err fault.TooLong) (Ok total)) (HasBytes 12) (λ e. tt)
-    (λ e. cond_both u (Err fault.TooLong) (Ok total) (HasBytes 12) (λ _. tt)
+long_has_bytes : (kind : ℕ) → HasBytes 12 (long_size kind)
+long_has_bytes kind = cond_both (is_read kind) (Err fault.TooLong) (Ok 12) (HasBytes 12) (λ _. tt) (λ _. lit≤ tt)
+
+sized : (kind total : ℕ) (t u : Bool) → HasBytes 12 (cond (nat_lt total 12 || t) (Err fault.Lengths) (cond u (long_size kind) (Ok total)))
+sized kind total t u =
+    cond_both (nat_lt total 12 || t) (Err fault.Lengths) (cond u (long_size kind) (Ok total)) (HasBytes 12) (λ e. tt)
+    (λ e. cond_both u (long_size kind) (Ok total) (HasBytes 12) (λ _. long_has_bytes kind)
     (λ _. let h = or_parts (nat_lt total 12) t e in omega (arith, ltb-false total 12 h.0)))
 
 block_has_bytes : (order : ByteOrder) (head : List ℕ) → HasBytes 12 (block_size_in order head)
-block_has_bytes order head = sized (long_at order head 4) (not (long_at order head 4 % 4 == 0)) (nat_lt most_block_bytes (long_at order head 4))
+block_has_bytes order head =
+    sized (long_at order head 0) (long_at order head 4) (not (long_at order head 4 % 4 == 0)) (nat_lt most_block_bytes (long_at order head 4))
 
 section_has_bytes : (order : Option ByteOrder) (head : List ℕ) → HasBytes 12 (size_in_order order head)
 section_has_bytes None head = tt
@@ -52,11 +57,13 @@ part_has_bytes (Records order link is_nano) head =
     cond_both (nat_lt most_frame_bytes (long_at order head 8)) (Err fault.TooLong) (Ok (16 + long_at order head 8)) (HasBytes 16)
     (λ _. tt) (λ _. omega arith)
 part_has_bytes (Blocks order) head = any_block_has_bytes order head
+part_has_bytes (Passing order left total) head = le-max_left 4 (min left most_passed_bytes)
 
 pub head_has_bytes : (f : Format) → 1 ≤ head_count f
 head_has_bytes Unread = lit≤ tt
 head_has_bytes (Records order link is_nano) = lit≤ tt
 head_has_bytes (Blocks order) = lit≤ tt
+head_has_bytes (Passing order left total) = lit≤ tt
 
 -- what a part holds, with what is said of the rest in two ways
 module _ (more more' : More) (n : ℕ) (same : (f : Format) (is : List Interface) (rest : List ℕ) → length rest ≤ n → more f is rest ≡ more' f is rest) where
@@ -65,7 +72,8 @@ module _ (more more' : More) (n : ℕ) (same : (f : Format) (is : List Interface
   same_part f is bytes rest (part.Begins next) h = same next [] rest h
   same_part f is bytes rest (part.Interface i) h = same f (is ++ i ∷ []) rest h
   same_part f is bytes rest (part.Frame frame) h = ap (with_frame (frame_in frame bytes)) (same f is rest h)
-  same_part f is bytes rest part.Other h = same f is rest h
+  same_part f is bytes rest (part.Continues next) h = same next is rest h
+  same_part f is bytes rest (part.Counted next) h = ap (with_frame empty_frame) (same next is rest h)
 
   same_whole : (f : Format) (is : List Interface) (bytes rest : List ℕ) (p : Holds) → length rest ≤ n
       → behind_whole more f is bytes rest p ≡ behind_whole more' f is bytes rest p
@@ -106,6 +114,6 @@ contents-head f is (b ∷ bytes) h =
     same_head (contents_in (length bytes)) contents (length bytes) (λ g is' rest short. fuel (length bytes) (length rest) g is' rest short (omega arith)) f is (b ∷ bytes)
     (part_has_bytes f (take (head_count f) (b ∷ bytes))) (omega arith)
 
-pub contents-none : (f : Format) (is : List Interface) → contents f is [] ≡ ends_with None
+pub contents-none : (f : Format) (is : List Interface) → contents f is [] ≡ ends_with (end_of f)
 unfolding contents contents_in
 contents-none f is = refl

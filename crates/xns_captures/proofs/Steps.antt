@@ -3,7 +3,7 @@ use Rattle.std.proofs.Common.{◌≡◌, refl, ap, subst, ◌∙◌, arith, ℕ,
 use Rattle.std.proofs.lemmas.List.{take-append-le, take_at, drop_at}
 use Rattle.std.proofs.lemmas.Bool.{cond-true, cond-false, lt-ltb, le-ltb}
 use Rattle.xns_captures.specs.Captures.{behind_size, behind_whole, contents, ends_with}
-use Rattle.xns_captures.specs.Reading.{cut_unless_empty}
+use Rattle.xns_captures.specs.Reading.{end_in}
 use Rattle.xns_captures.specs.Parts.{Holds, head_count, part_of, size_of}
 use Rattle.xns_captures.specs.declared.fault.CaptureFault.{CaptureFault}
 use Rattle.xns_captures.specs.declared.fault.CaptureFault.TheVariants as fault
@@ -32,7 +32,7 @@ at_more f is bytes rest h =
 
 -- the file ends within the head of a part
 pub short_head : (f : Format) (is : List Interface) (bytes : List ℕ) → length bytes < head_count f
-    → contents f is bytes ≡ ends_with (cut_unless_empty bytes)
+    → contents f is bytes ≡ ends_with (end_in f bytes)
 short_head f is [] h = contents-none f is
 short_head f is (b ∷ bytes) h =
     contents-head f is (b ∷ bytes) (omega arith)
@@ -42,7 +42,7 @@ short_head f is (b ∷ bytes) h =
 -- or behind it
 pub short_part : (f : Format) (is : List Interface) (bytes : List ℕ) (size : ℕ) → head_count f ≤ length bytes
     → size_of f (take (head_count f) bytes) ≡ Ok size → length bytes < size
-    → contents f is bytes ≡ ends_with (cut_unless_empty bytes)
+    → contents f is bytes ≡ ends_with (end_in f bytes)
 short_part f is [] size h e short = contents-none f is
 short_part f is (b ∷ bytes) size h e short =
     at_head f is (b ∷ bytes) h

@@ -6,13 +6,14 @@ use Rattle.std.proofs.lemmas.Bool.{eqb-false, eqb-true}
 use Rattle.std.specs.Option.{option_or}
 use Rattle.xns_captures.specs.Captures.{Contents, FrameBytes, NumberedPacket, contents, contents_of, ends_with, fault_of, packets_in, packets_of, stamp_of, with_packet}
 use Rattle.xns_captures.specs.Links.{packet_of_frame}
-use Rattle.xns_captures.specs.Reading.{HasRead, HasStopped, Says, StandsAfter, StopsBy, behind_frames, cut_unless_empty, first_among}
+use Rattle.xns_captures.specs.Reading.{HasRead, HasStopped, Says, StandsAfter, StopsBy, behind_frames, end_in, first_among}
 use Rattle.xns_captures.specs.declared.fault.CaptureFault.{CaptureFault}
 use Rattle.xns_captures.specs.declared.fault.CaptureFault.TheVariants.{Cut}
 use Rattle.xns_lines.specs.declared.fault.RunFault.TheVariants as run
 use Rattle.xns_captures.specs.declared.file_fault.FileFault.{FileFault}
 use Rattle.xns_captures.specs.declared.file_fault.FileFault.TheVariants.{Run, Capture, TooManyFrames}
 use Rattle.xns_lines.specs.declared.fault.RunFault.{RunFault}
+use Rattle.xns_captures.specs.declared.format.Format.{Format}
 use Rattle.xns_captures.specs.declared.format.Format.TheVariants.{Unread}
 use Rattle.xns_captures.specs.declared.frame_time.FrameTime.{FrameTime}
 use Rattle.xns_captures.specs.declared.reading.Reading.{Reading}
@@ -94,15 +95,15 @@ whole_file (Some file) (Some xs) read P h end p =
 
 -- the file ends behind its last part
 pub ended : (left after : Option (List ℕ)) (reading : Reading) (read kept : List ℕ) (first stands : Option (List ℕ) → Says)
-    → Consumes left after read → IsAtEnd after → kept ≡ []
-    → rest_of reading kept ≡ ends_with (cut_unless_empty kept)
+    → Consumes left after read → IsAtEnd after
+    → rest_of reading kept ≡ ends_with None
     → ((before : Option (List ℕ)) → first before [] → HasRead reading read kept (stands before))
     → IfSome left (λ file. (before : Option (List ℕ)) → first before [] → (fault_of file ≡ None) × stands before (packets_of file))
-ended left after reading read kept first stands consumed end none rest has =
+ended left after reading read kept first stands consumed end rest has =
     whole_file left after read (λ file. (before : Option (List ℕ)) → first before [] → (fault_of file ≡ None) × stands before (packets_of file)) consumed end
     (λ before said.
     let h = has before said in
-    let e = at_end reading read kept (stands before) None (rest ∙ ap (λ bytes. ends_with (cut_unless_empty bytes)) none) h in
+    let e = at_end reading read kept (stands before) None rest h in
     (fault-of read h.frames (ends_with None) e, subst (stands before) (sym (packets-end read h.frames None e)) h.taken))
 
 -- the file ends within a part
@@ -144,9 +145,9 @@ pub no_items : (xs : List ℕ) → (length xs == 0) ≡ true → xs ≡ []
 no_items [] e = refl
 no_items (x ∷ xs) e = absurd (omega (arith, eqb-true (length (x ∷ xs)) 0 e))
 
-pub some_items : (xs : List ℕ) → (length xs == 0) ≡ false → cut_unless_empty xs ≡ Some Cut
-some_items [] e = absurd (eqb-false 0 0 e refl)
-some_items (x ∷ xs) e = refl
+pub some_items : (format : Format) (xs : List ℕ) → (length xs == 0) ≡ false → end_in format xs ≡ Some Cut
+some_items format [] e = absurd (eqb-false 0 0 e refl)
+some_items format (x ∷ xs) e = refl
 
 -- the taker stands for the same packets, and the same is kept
 pub anew : (reading : Reading) (read kept kept' : List ℕ) (stands stands' : Says) → kept' ≡ kept → (h : HasRead reading read kept stands)

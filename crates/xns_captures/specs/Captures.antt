@@ -7,7 +7,7 @@ use Rattle.xns_captures.specs.Parts.{Holds, Size, head_count, part_of, size_of}
 use Rattle.xns_captures.specs.declared.fault.CaptureFault.{CaptureFault}
 use Rattle.xns_captures.specs.declared.fault.CaptureFault.TheVariants as fault
 use Rattle.xns_captures.specs.declared.format.Format.{Format}
-use Rattle.xns_captures.specs.declared.format.Format.TheVariants.{Unread}
+use Rattle.xns_captures.specs.declared.format.Format.TheVariants.{Unread, Passing}
 use Rattle.xns_captures.specs.declared.frame.Frame.{Frame}
 use Rattle.xns_captures.specs.declared.frame_time.FrameTime.{FrameTime}
 use Rattle.xns_captures.specs.declared.interface.Interface.{Interface}
@@ -34,6 +34,10 @@ ends_with fault = record { frames = []; fault = fault }
 abbrev pub with_frame : FrameBytes → Contents → Contents
 with_frame frame contents = record { frames = frame ∷ contents.frames; fault = contents.fault }
 
+-- a frame of no bytes, of link type 0, which carries no packet
+abbrev pub empty_frame : FrameBytes
+empty_frame = (0, [], None)
+
 -- what the rest of a capture holds, in a file of that format, in a section with these interfaces
 abbrev pub More : Type 0
 More = Format → List Interface → List ℕ → Contents
@@ -43,7 +47,8 @@ abbrev pub behind_part : More → Format → List Interface → List ℕ → Lis
 behind_part more format interfaces bytes rest (part.Begins next) = more next [] rest
 behind_part more format interfaces bytes rest (part.Interface interface) = more format (interfaces ++ interface ∷ []) rest
 behind_part more format interfaces bytes rest (part.Frame frame) = with_frame (frame_in frame bytes) (more format interfaces rest)
-behind_part more format interfaces bytes rest part.Other = more format interfaces rest
+behind_part more format interfaces bytes rest (part.Continues next) = more next interfaces rest
+behind_part more format interfaces bytes rest (part.Counted next) = with_frame empty_frame (more next interfaces rest)
 
 abbrev pub behind_whole : More → Format → List Interface → List ℕ → List ℕ → Holds → Contents
 behind_whole more format interfaces bytes rest (Ok part) = behind_part more format interfaces bytes rest part
@@ -60,9 +65,14 @@ behind_head more format interfaces bytes =
     if nat_lt (length bytes) (head_count format) then ends_with (Some fault.Cut)
     else behind_size more format interfaces bytes (size_of format (take (head_count format) bytes))
 
+-- a file may end behind each part, but not within a long block
+abbrev pub end_of : Format → Option CaptureFault
+end_of (Passing order left total) = Some fault.Cut
+end_of _ = None
+
 -- what a capture holds from here on, within so many parts
 unfoldable pub contents_in : ℕ → More
-contents_in parts format interfaces [] = ends_with None
+contents_in parts format interfaces [] = ends_with (end_of format)
 contents_in zero format interfaces (byte ∷ bytes) = ends_with None
 contents_in (suc parts) format interfaces (byte ∷ bytes) = behind_head (contents_in parts) format interfaces (byte ∷ bytes)
 

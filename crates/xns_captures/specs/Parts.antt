@@ -1,5 +1,5 @@
 -- The parts of a capture: how many bytes the next one has, by its head, and what it holds.
-use Rattle.std.specs.Prelude.{ℕ, ◌+◌, ◌-◌, ◌*◌, ◌%◌, ◌≤◌, ◌==◌, ◌||◌, ◌&&◌, min, nat_lt, Bool, true, false, not, if◌then◌else◌, List, length, slice_get, take, drop}
+use Rattle.std.specs.Prelude.{ℕ, ◌+◌, ◌-◌, ◌*◌, ◌%◌, ◌≤◌, ◌==◌, ◌||◌, ◌&&◌, min, max, nat_lt, Bool, true, false, not, if◌then◌else◌, List, length, slice_get, take, drop}
 use Rattle.std.specs.Prelude.{Option, Some, None, is_some, option_map, Result, Ok, Err}
 use Rattle.xns_captures.specs.Places.{count_at, long_at, word_at}
 use Rattle.xns_captures.specs.Times.{resolution_of}
@@ -9,7 +9,7 @@ use Rattle.xns_captures.specs.declared.fault.CaptureFault.{CaptureFault}
 use Rattle.xns_captures.specs.declared.fault.CaptureFault.TheVariants as fault
 use Rattle.xns_captures.specs.declared.format.Format.{Format}
 use Rattle.xns_captures.specs.declared.frame_time.FrameTime.{FrameTime}
-use Rattle.xns_captures.specs.declared.format.Format.TheVariants.{Unread, Records, Blocks}
+use Rattle.xns_captures.specs.declared.format.Format.TheVariants.{Unread, Records, Blocks, Passing}
 use Rattle.xns_captures.specs.declared.interface.Interface.{Interface}
 use Rattle.xns_captures.specs.declared.part.Part.{Part}
 use Rattle.xns_captures.specs.declared.part.Part.TheVariants as part
@@ -22,12 +22,16 @@ Size = Result ℕ CaptureFault
 abbrev pub Holds : Type 0
 Holds = Result Part CaptureFault
 
--- a frame has at most so many captured bytes, and a block so many in all
+-- a frame has at most so many captured bytes, and a block that is read whole so many in all
 abbrev pub most_frame_bytes : ℕ
 most_frame_bytes = 262144
 
 abbrev pub most_block_bytes : ℕ
 most_block_bytes = 16777216
+
+-- a longer block is passed over in parts of at most so many bytes
+abbrev pub most_passed_bytes : ℕ
+most_passed_bytes = 65536
 
 -- a section describes at most so many interfaces
 abbrev pub most_interfaces : ℕ
@@ -82,11 +86,19 @@ section_order bytes =
     else if long_at Little bytes 8 == 0x1a2b3c4d then Some Little
     else None
 
+-- the blocks that are read: section headers, interface descriptions, and the three kinds of packets
+abbrev pub is_read : ℕ → Bool
+is_read kind = kind == section_type || kind == 1 || kind == 2 || kind == 3 || kind == 6
+
+-- of a block that is too long to be read whole the head is a part, and what stands behind it is passed over
+abbrev pub long_size : ℕ → Size
+long_size kind = if is_read kind then Err fault.TooLong else Ok 12
+
 -- a block: its type, its length, which is a multiple of four, what it holds, and its length again
 abbrev pub block_size_in : ByteOrder → List ℕ → Size
 block_size_in order head =
     if nat_lt (long_at order head 4) 12 || not (long_at order head 4 % 4 == 0) then Err fault.Lengths
-    else if nat_lt most_block_bytes (long_at order head 4) then Err fault.TooLong
+    else if nat_lt most_block_bytes (long_at order head 4) then long_size (long_at order head 0)
     else Ok (long_at order head 4)
 
 abbrev pub size_in_order : Option ByteOrder → List ℕ → Size
@@ -163,12 +175,26 @@ simple_in order interfaces bytes =
 abbrev pub is_counted : ℕ → Bool
 is_counted kind = kind == 9 || kind == 0x204 || kind == 0xbad || kind == 0x40000bad
 
--- any other block is passed over; one that is counted is a frame of no bytes, of link type 0, which carries no packet
+-- any other block is passed over, and one that is counted is a frame; behind these bytes of it comes what the format says
+abbrev pub passed_over : ℕ → Format → Part
+passed_over kind next = if is_counted kind then part.Counted next else part.Continues next
+
 abbrev pub other_in : ℕ → ByteOrder → List ℕ → Holds
 other_in kind order bytes =
-    if not (has_lengths order 12 bytes) then Err fault.Lengths
-    else if is_counted kind then Ok (part.Frame (record { link = 0; start = 0; count = 0; time = None }))
-    else Ok part.Other
+    if nat_lt most_block_bytes (long_at order bytes 4)
+    then Ok (passed_over kind (Passing order (long_at order bytes 4 - 12) (long_at order bytes 4)))
+    else if not (has_lengths order 12 bytes) then Err fault.Lengths
+    else Ok (passed_over kind (Blocks order))
+
+-- a part of a long block of which so many bytes are left: the last part has its length at the end
+abbrev pub rest_size : ℕ → Size
+rest_size left = Ok (max 4 (min left most_passed_bytes))
+
+abbrev pub rest_in : ByteOrder → ℕ → ℕ → List ℕ → Holds
+rest_in order left total bytes =
+    if nat_lt (length bytes) left then Ok (part.Continues (Passing order (left - length bytes) total))
+    else if long_at order bytes (length bytes - 4) == total then Ok (part.Continues (Blocks order))
+    else Err fault.Lengths
 
 -- a block that is no section header, by its type
 unfoldable pub block_of_type : ℕ → ByteOrder → List Interface → List ℕ → Holds
@@ -209,6 +235,7 @@ file_in interfaces bytes =
 -- the head of a part has so many bytes
 abbrev pub head_count : Format → ℕ
 head_count (Records order link is_nano) = 16
+head_count (Passing order left total) = 4
 head_count _ = 12
 
 -- how many bytes the part with this head has
@@ -216,12 +243,14 @@ unfoldable pub size_of : Format → List ℕ → Size
 size_of Unread head = file_size head
 size_of (Records order link is_nano) head = record_size order head
 size_of (Blocks order) head = block_size order head
+size_of (Passing order left total) head = rest_size left
 
 -- what a part with these bytes holds, in a section with these interfaces
 unfoldable pub part_of : Format → List Interface → List ℕ → Holds
 part_of Unread interfaces bytes = file_in interfaces bytes
 part_of (Records order link is_nano) interfaces bytes = record_in order link is_nano bytes
 part_of (Blocks order) interfaces bytes = block_in order interfaces bytes
+part_of (Passing order left total) interfaces bytes = rest_in order left total bytes
 
 -- the frame stands within so many bytes
 abbrev pub IsWithin : ℕ → Part → Type 0

@@ -1,11 +1,20 @@
 -- What is printed of the packets of a capture and of its end, after a fault.
-use Rattle.std.specs.Prelude.{◌≡◌, ℕ, ◌≤◌, ◌⊎◌, ◌++◌, List, [], Option, Some}
+use Rattle.std.specs.Prelude.{◌≡◌, ℕ, ◌≤◌, ◌⊎◌, ◌++◌, Bool, true, List, [], Option, Some}
 use Rattle.std.specs.Io.KnownBytes.{Appends}
 use Rattle.xns_lines.specs.Faults.{HasWritten}
 use Rattle.xns_lines.specs.Printing.{EndCount, TextWithEnd}
+use Rattle.xns_lines.specs.Report.{whole}
+use Rattle.xns_lines.specs.declared.page.Page.{Page}
 use Rattle.xns_captures.specs.Captures.{NumberedPacket, fault_of, packets_of}
 use Rattle.xns_captures.specs.declared.file_fault.FileFault.{FileFault}
 use Rattle.xns_captures.specs.declared.file_fault.FileFault.TheVariants.{Run, Capture}
+
+-- ---- a packet
+
+-- memory may be refused for a packet: it was refused before, or the printer wants some for it, on a page whose next line begins
+abbrev pub WantsAtLine : (Page → Type 0) → Page → Bool → Type 0
+WantsAtLine wants page is_lost = (is_lost ≡ true)
+    ⊎ ((begun : Page) × (whole begun.text ≡ whole page.text) × (begun.text.line ≡ []) × (begun.is_refused ≡ page.is_refused) × wants begun)
 
 -- ---- what was taken of a file
 

@@ -3,7 +3,7 @@ use Rattle.std.specs.Prelude.{◌≡◌, ◌≤◌, ℕ, List, [], ◌∷◌, �
 use Rattle.xns_lines.specs.declared.fault.RunFault.{RunFault}
 use Rattle.xns_lines.specs.declared.fault.RunFault.TheVariants as run
 use Rattle.std.specs.Option.{option_or}
-use Rattle.xns_captures.specs.Captures.{Contents, FrameBytes, NumberedPacket, contents, contents_of, ends_with, packets_in, packets_of, with_frame}
+use Rattle.xns_captures.specs.Captures.{Contents, FrameBytes, NumberedPacket, contents, contents_of, end_of, ends_with, packets_in, packets_of, with_frame}
 use Rattle.xns_captures.specs.Captures.{fault_of}
 use Rattle.xns_captures.specs.declared.fault.CaptureFault.{CaptureFault}
 use Rattle.xns_captures.specs.declared.fault.CaptureFault.TheVariants.{Cut}
@@ -28,6 +28,11 @@ StandsAfterPacket run.NoMemory stands fails packets packet = stands packets
 StandsAfterPacket run.Write stands fails packets packet = fails (packets ++ packet ∷ [])
 StandsAfterPacket _ stands fails packets packet = ⊥
 
+-- where it is a want of memory, this is so
+abbrev pub IfWants : RunFault → Type 0 → Type 0
+IfWants run.NoMemory wants = wants
+IfWants _ wants = Unit {0}
+
 -- a fault at a frame: after a failed write its packet is taken, and else it is not
 abbrev pub StopsAtFrame : FileFault → Says → Says → List NumberedPacket → List NumberedPacket → Type 0
 StopsAtFrame (Run run.Write) stands fails packets more = fails more
@@ -40,10 +45,10 @@ abbrev pub StandsAfter : FileFault → Says → Says → List NumberedPacket →
 StandsAfter (Run run.Write) stands fails packets = fails packets
 StandsAfter _ stands fails packets = stands packets
 
--- a file that ends in some bytes of a part is cut
-abbrev pub cut_unless_empty : List ℕ → Option CaptureFault
-cut_unless_empty [] = None
-cut_unless_empty (byte ∷ bytes) = Some Cut
+-- why a file that ends in these bytes, of no whole part, is not whole: one that ends in some bytes of a part is cut
+abbrev pub end_in : Format → List ℕ → Option CaptureFault
+end_in format [] = end_of format
+end_in format (byte ∷ bytes) = Some Cut
 
 -- a part with so many bytes stands first in these
 pub record IsWholePart (format : Format) (bytes : List ℕ) (size : ℕ) : Type 0 where

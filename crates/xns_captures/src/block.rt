@@ -1,9 +1,10 @@
 //! The blocks of a pcapng file.
-ghost use Rattle.std.specs.Prelude.{◌≡◌, ◌≤◌, ◌-◌, true, IfOk, drop, length, slice_get, take};
+ghost use Rattle.std.specs.Prelude.{◌≡◌, ◌≤◌, ◌-◌, ℕ, true, IfOk, drop, length, slice_get, take};
 ghost use Rattle.xns_captures.specs.Times.{resolution_of};
 ghost use Rattle.xns_captures.specs.Parts.{block_in, block_of_type, block_size as block_size_of, block_size_in, enhanced_in};
 ghost use Rattle.xns_captures.specs.Parts.{IsWithin, frame_of as frame_of_block, has_lengths as has_lengths_in, interface_in};
-ghost use Rattle.xns_captures.specs.Parts.{is_counted as is_counted_kind, kept_count as kept_count_of, old_in, other_in, section_in_order, simple_in};
+ghost use Rattle.xns_captures.specs.Parts.{is_counted as is_counted_kind, is_read as is_read_kind, kept_count as kept_count_of, long_size as long_size_of};
+ghost use Rattle.xns_captures.specs.Parts.{old_in, other_in, passed_over as passed_over_of, section_in_order, simple_in};
 ghost use Rattle.xns_captures.specs.Parts.{time_by as time_of_interface};
 ghost use Rattle.xns_captures.specs.Parts.{section_order as section_order_of, size_in_order};
 
@@ -66,9 +67,30 @@ fn size_in(order: ByteOrder, head: &[u8]) -> Result<usize, CaptureFault>
         return Err(CaptureFault::Lengths);
     }
     if total > MOST_BLOCK_BYTES {
-        return Err(CaptureFault::TooLong);
+        return long_size(read_long(order, head, 0));
     }
     Ok(total as usize)
+}
+
+/// How many bytes are a part of a block that is too long to be read whole: its head, where it is of no type that is read.
+fn long_size(kind: u32) -> Result<usize, CaptureFault>
+    ensures { result ≡ long_size_of kind }
+{
+    if is_read(kind) {
+        return Err(CaptureFault::TooLong);
+    }
+    Ok(BLOCK_HEAD_BYTES)
+}
+
+/// Whether blocks of that type are read.
+fn is_read(kind: u32) -> bool
+    ensures { result ≡ is_read_kind kind }
+{
+    kind == SECTION
+        || kind == INTERFACE
+        || kind == OLD_PACKET
+        || kind == SIMPLE_PACKET
+        || kind == ENHANCED_PACKET
 }
 
 /// The order of bytes by the magic number of a section header.
@@ -250,24 +272,33 @@ fn read_simple(
     frame_of(interface, 12, count, None, bytes.len())
 }
 
-/// A block of any other type. One that is counted is a frame of no bytes, of a link type that carries no packet.
+/// A block of any other type, or the head of a long one.
 fn pass_over(kind: u32, order: ByteOrder, bytes: &[u8]) -> Result<Part, CaptureFault>
     requires { 12 ≤ length bytes.now }
     ensures value { result ≡ other_in kind order bytes.now }
     ensures fits { IfOk result (IsWithin (length bytes.now)) }
 {
+    let total = read_long(order, bytes, 4);
+    if total > MOST_BLOCK_BYTES {
+        let total = total as usize;
+        let left = total - BLOCK_HEAD_BYTES;
+        return Ok(passed_over(kind, Format::Passing { order, left, total }));
+    }
     if !has_lengths(order, 12, bytes) {
         return Err(CaptureFault::Lengths);
     }
+    Ok(passed_over(kind, Format::Blocks { order }))
+}
+
+/// A block that is passed over, with what comes behind these bytes of it.
+fn passed_over(kind: u32, next: Format) -> Part
+    ensures value { result ≡ passed_over_of kind next }
+    ensures fits { (count : ℕ) → IsWithin count result }
+{
     if is_counted(kind) {
-        return Ok(Part::Frame(Frame {
-            link: 0,
-            start: 0,
-            count: 0,
-            time: None,
-        }));
+        return Part::Counted(next);
     }
-    Ok(Part::Other)
+    Part::Continues(next)
 }
 
 /// Whether a block that is no packet has a number as a frame.

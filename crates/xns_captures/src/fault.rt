@@ -10,7 +10,7 @@ pub enum CaptureFault {
     /// The file ends within a header, a record or a block.
     #[error("the capture is cut")]
     Cut,
-    /// A frame has over [`crate::MOST_FRAME_BYTES`], or a block over [`crate::MOST_BLOCK_BYTES`].
+    /// A frame has over [`crate::MOST_FRAME_BYTES`], or a block that is read over [`crate::MOST_BLOCK_BYTES`].
     #[error("a record of the capture is too long")]
     TooLong,
     /// The two lengths of a block differ, its length is no multiple of four, or what it holds is longer.

@@ -16,4 +16,10 @@ pub enum Format {
     Blocks {
         order: ByteOrder,
     },
+    /// Blocks of a section, behind a long one that is passed over: it has so many bytes in all, of which some are left.
+    Passing {
+        order: ByteOrder,
+        left: usize,
+        total: usize,
+    },
 }

@@ -16,6 +16,7 @@ mod options;
 mod packet_pages;
 mod packet_printer;
 mod part;
+mod passing;
 mod places;
 mod printing;
 mod reading;

@@ -2,7 +2,9 @@
 ghost use Rattle.std.specs.Prelude.{◌≡◌, ◌≤◌, ◌<◌, ◌+◌, ◌++◌, ◌∷◌, [], ℕ, true, List, Option, IfErr, OnErr, OnOk, length};
 ghost use Rattle.xns_captures.specs.Captures.{NumberedPacket};
 ghost use Rattle.xns_lines.specs.Printing.{HasFailed, StandsBehind, StopsInEnd};
+ghost use Rattle.xns_captures.specs.Printing.{WantsAtLine};
 ghost use Rattle.xns_captures.specs.Reading.{most_frames};
+ghost use Rattle.xns_lines.specs.Report.{whole};
 
 use crate::packet_printer::PacketPrinter;
 use crate::stamp::Stamp;
@@ -33,6 +35,7 @@ impl<P: PacketPrinter> PacketPages<P> {
         ensures err { OnErr result ((before after : Option (List ℕ)) (packets : List NumberedPacket)
             → StandsBehind (P.prints self.old.printer) P.packets_text P.refuses 0 self.old.page self.old.is_lost before after packets
             → StandsBehind (P.prints self.new.printer) P.packets_text P.refuses 0 self.new.page self.new.is_lost before after packets) }
+        ensures memory { OnErr result (WantsAtLine (λ page. P.packet_wants self.old.printer page (stamp, packet.now)) self.old.page self.old.is_lost) }
     {
         if self.is_lost {
             return Err(AllocError);
@@ -136,6 +139,10 @@ impl<P: PacketPrinter> PacketTaker for PacketPages<P> {
         taker.page taker.is_lost before after packets };
 
     ghost fails = { λ taker before after packets. HasFailed (λ xs. P.packets_text xs 0) taker.page before after packets };
+
+    ghost wants = { λ taker packet. WantsAtLine (λ page. P.packet_wants taker.printer page packet) taker.page taker.is_lost };
+
+    ghost rests = { λ taker. whole taker.page.text ≡ [] };
 
     fn take_packet<W: Write>(
         &mut self,

@@ -6,13 +6,14 @@ use xns_lines::Page;
 /// Says what each packet of a capture says, one after the other, as `print_packets` hands them on, and then what is to be
 /// said at the end of the file, part by part: as `xns_lines::LinePrinter` does of lines.
 ///
-/// An `impl` names what holds of it once it has printed some packets and so many parts of the end, what their text is, and
-/// whether one of them is refused.
+/// An `impl` names what holds of it once it has printed some packets and so many parts of the end, what their text is,
+/// whether one of them is refused, and when memory may be refused for a packet.
 pub trait PacketPrinter {
-    ghost use Rattle.std.specs.Prelude.{◌≡◌, ◌≤◌, ◌<◌, length, ℕ, Bool, List, [], false, OnOk};
+    ghost use Rattle.std.specs.Prelude.{◌≡◌, ◌≤◌, ◌<◌, length, ℕ, Bool, List, [], false, OnErr, OnOk};
     ghost use Rattle.xns_lines.specs.Printing.{IsBegun, IsEndPrinted, IsPrinted};
     ghost use Rattle.xns_captures.specs.Captures.{NumberedPacket};
     ghost use Rattle.xns_captures.specs.Reading.{most_frames};
+    ghost use Rattle.xns_lines.specs.declared.page.Page.{Page};
 
     // The printer has printed these packets, and so many parts of the end of the file behind them.
     ghost prints: { Self → List NumberedPacket → ℕ → Type 0 };
@@ -25,6 +26,9 @@ pub trait PacketPrinter {
 
     // How many parts the end of the file has behind these packets.
     ghost packet_ends: { List NumberedPacket → ℕ };
+
+    // Memory may be refused for this packet, whose text goes to that page.
+    ghost packet_wants: { Self → Page → NumberedPacket → Type 0 };
 
     /// Appends what the packet in the frame of that stamp says to the page's latest line, and sets `is_refused` where it is
     /// refused.
@@ -40,7 +44,8 @@ pub trait PacketPrinter {
         ensures front { page.new.text.front ≡ page.old.text.front }
         ensures ok { OnOk result ((packets : List NumberedPacket) → length packets < stamp.number → IsBegun (λ xs. refuses xs 0) page.old packets
             → prints self.old packets 0
-            → IsPrinted (λ xs. prints self.new xs 0) (λ xs. packets_text xs 0) (λ xs. refuses xs 0) page.new packets (stamp, packet.now)) };
+            → IsPrinted (λ xs. prints self.new xs 0) (λ xs. packets_text xs 0) (λ xs. refuses xs 0) page.new packets (stamp, packet.now)) }
+        ensures memory { OnErr result (packet_wants self.old page.old (stamp, packet.now)) };
 
     /// How many parts the end of the file has, behind the packets that were printed.
     fn count_packet_ends(&self) -> usize

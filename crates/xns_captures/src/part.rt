@@ -12,6 +12,8 @@ pub enum Part {
     Interface(Interface),
     /// A frame.
     Frame(Frame),
-    /// Nothing that is read.
-    Other,
+    /// Nothing that is read: this comes behind it.
+    Continues(Format),
+    /// A block that is no packet, and has a number as a frame in Wireshark: this comes behind it.
+    Counted(Format),
 }

@@ -32,7 +32,7 @@ pub(crate) struct Reading {
 }
 
 impl Reading {
-    ghost use Rattle.xns_captures.specs.Reading.{HasRead, HasStopped, IsWholePart, StandsAfter, StopsAtFrame, cut_unless_empty, first_among};
+    ghost use Rattle.xns_captures.specs.Reading.{HasRead, HasStopped, IsWholePart, StandsAfter, StopsAtFrame, end_in, first_among};
 
     /// Nothing was read yet.
     pub(crate) fn new(alloc: Global) -> Self
@@ -53,7 +53,7 @@ impl Reading {
     fn whole_part(&self, bytes: &[u8]) -> Result<Option<usize>, CaptureFault>
         ensures some { IfOk result (λ found. IfSome found (IsWholePart self.now.format bytes.now)) }
         ensures none { result ≡ Ok None
-            → contents self.now.format self.now.interfaces.items bytes.now ≡ ends_with (cut_unless_empty bytes.now) }
+            → contents self.now.format self.now.interfaces.items bytes.now ≡ ends_with (end_in self.now.format bytes.now) }
         ensures err { IfErr result (λ fault. (rest : List ℕ)
             → contents self.now.format self.now.interfaces.items (bytes.now ++ rest) ≡ ends_with (Some fault)) }
     {
@@ -71,6 +71,19 @@ impl Reading {
         Ok(Some(size))
     }
 
+    /// Why a file that ends in these bytes, of no whole part, is not whole.
+    pub(crate) fn end_fault(&self, bytes: &[u8]) -> Option<CaptureFault>
+        ensures { result ≡ end_in self.now.format bytes.now }
+    {
+        if !bytes.is_empty() {
+            return Some(CaptureFault::Cut);
+        }
+        match self.format {
+            Format::Passing { .. } => Some(CaptureFault::Cut),
+            _ => None,
+        }
+    }
+
     /// Takes all parts that are there whole, and says how many bytes they have.
     pub(crate) fn take_parts<T: PacketTaker, W: Write>(
         &mut self,
@@ -83,7 +96,7 @@ impl Reading {
             → HasRead self.old read bytes.now (T.stands taker.old before (W.contents writer.old))
             → HasRead self.new read (drop taken bytes.now) (T.stands taker.new before (W.contents writer.new))) }
         ensures rest { IfOk result (λ taken. contents self.new.format self.new.interfaces.items (drop taken bytes.now)
-            ≡ ends_with (cut_unless_empty (drop taken bytes.now))) }
+            ≡ ends_with (end_in self.new.format (drop taken bytes.now))) }
         ensures err { IfErr result (λ fault. (read : List ℕ) (before : Option (List ℕ))
             → HasRead self.old read bytes.now (T.stands taker.old before (W.contents writer.old))
             → HasStopped fault read
@@ -144,7 +157,17 @@ impl Reading {
                     writer,
                 )
             }
-            Part::Other => Ok(()),
+            Part::Continues(format) => {
+                self.format = format;
+                Ok(())
+            }
+            Part::Counted(format) => match self.take_frame(0, &[], None, taker, writer) {
+                Ok(()) => {
+                    self.format = format;
+                    Ok(())
+                }
+                Err(fault) => Err(fault),
+            },
         }
     }
 

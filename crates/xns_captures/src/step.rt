@@ -9,6 +9,7 @@ use crate::format::Format;
 use crate::interface::Interface;
 use crate::magic::{SECTION, classic_order};
 use crate::part::Part;
+use crate::passing::{LENGTH_BYTES, read_rest, rest_bytes};
 use crate::places::read_long;
 use crate::record::{HEADER_BYTES, RECORD_HEAD_BYTES, read_header, read_record, record_size};
 
@@ -18,6 +19,7 @@ pub fn head_bytes(format: Format) -> usize
 {
     match format {
         Format::Records { .. } => RECORD_HEAD_BYTES,
+        Format::Passing { .. } => LENGTH_BYTES,
         _ => BLOCK_HEAD_BYTES,
     }
 }
@@ -32,6 +34,7 @@ pub fn part_bytes(format: Format, head: &[u8]) -> Result<usize, CaptureFault>
         Format::Unread => file_size(head),
         Format::Records { order, .. } => record_size(order, head),
         Format::Blocks { order } => block_size(order, head),
+        Format::Passing { left, .. } => Ok(rest_bytes(left)),
     }
 }
 
@@ -54,6 +57,7 @@ pub fn read_part(
             is_nano,
         } => Ok(read_record(order, link, is_nano, bytes)),
         Format::Blocks { order } => read_block(order, interfaces, bytes),
+        Format::Passing { order, left, total } => read_rest(order, left, total, bytes),
     }
 }
 

@@ -4,7 +4,6 @@ ghost use Rattle.std.specs.Io.KnownBytes.{Consumes};
 ghost use Rattle.xns_captures.specs.Captures.{fault_of, packets_of};
 ghost use Rattle.xns_captures.specs.Reading.{StandsAfter, StopsBy};
 
-use crate::fault::CaptureFault;
 use crate::file_fault::FileFault;
 use crate::reading::Reading;
 use crate::taker::PacketTaker;
@@ -47,10 +46,10 @@ pub fn take_packets<R: Read, T: PacketTaker, W: Write>(
             return Err(FileFault::Run(RunFault::Read));
         };
         if count == 0 {
-            if kept.as_slice().is_empty() {
-                return Ok(());
+            if let Some(fault) = reading.end_fault(kept.as_slice()) {
+                return Err(FileFault::Capture(fault));
             }
-            return Err(FileFault::Capture(CaptureFault::Cut));
+            return Ok(());
         }
         let Ok(()) = kept.extend_from_slice(&piece[..count]) else {
             return Err(FileFault::Run(RunFault::NoMemory));

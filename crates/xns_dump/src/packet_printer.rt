@@ -17,6 +17,9 @@ impl PacketPrinter for DumpPrinter {
 
     ghost packet_ends = { packet_end_count };
 
+    // Each packet has text, which takes memory.
+    ghost packet_wants = { λ printer page packet. Unit {0} };
+
     fn print_packet(
         &mut self,
         page: &mut Page,

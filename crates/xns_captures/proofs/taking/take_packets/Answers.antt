@@ -2,13 +2,12 @@ use Rattle.std.proofs.Common.{rules, ◌≡◌, ◌∙◌, ◌++◌, ap, sym, su
 use Rattle.std.proofs.lemmas.Result.{err_from_is_err_and}
 use Rattle.xns_captures.specs.Captures.{ends_with, packets_in}
 use Rattle.xns_captures.specs.Reading.{HasRead, StandsAfter}
-use Rattle.xns_captures.specs.declared.fault.CaptureFault.TheVariants.{Cut}
 use Rattle.xns_captures.specs.declared.file_fault.FileFault.TheVariants.{Run}
 use Rattle.xns_lines.specs.declared.fault.RunFault.TheVariants as run
 use Rattle.xns_captures.proofs.Consumed.{consumes_kept, consumes_none, consumes_nothing, consumes_trans}
 use Rattle.xns_captures.proofs.Frames.{stops_in_run}
 use Rattle.xns_captures.proofs.Fuel.{contents-none}
-use Rattle.xns_captures.proofs.Whole.{anew, begun, ended, ended_short, grown, no_items, paused, some_items, stops_by}
+use Rattle.xns_captures.proofs.Whole.{anew, begun, ended, ended_short, grown, paused, stops_by}
 use Rattle.xns_captures.proofs.taking.take_packets.Goals as goal
 
 pub file-init : goal.file-init
@@ -30,28 +29,30 @@ returns-in_default-clause-err g c =
     (consumes_kept _ _ _ so_far.0 so_far.1 c.in_default.ensures.bytes)
     (λ before said. let h = so_far.2 before said in stops_in_run c.file.reading run.Read so_far.0 c.file.kept.items _ _ h h.taken)
 
-pub returns-then-is_empty-clause-ok : goal.returns-then-is_empty-clause-ok
-returns-then-is_empty-clause-ok g c =
+pub returns-then-count-eq0-clause-ok : goal.returns-then-count-eq0-clause-ok
+returns-then-count-eq0-clause-ok g c =
     let so_far = c.file.invariant in
     let none : take c.in-Ok.count c.read.new.buf ≡ [] = ap (λ (n : ℕ). take n c.read.new.buf) c.if-count-eq0.true in
+    let whole = rw (c.as_slice.ensures.value, c.in_default-end_fault.is) at c.end_fault.ensures in
     ended (g.R.Read.remaining c.args.reader.now) (g.R.Read.remaining c.read.new.self) c.file.reading so_far.0 c.file.kept.items
     (λ before. g.T.PacketTaker.stands c.args.taker.now before (g.W.Write.contents c.args.writer.now))
     (λ before. g.T.PacketTaker.stands c.file.taker before (g.W.Write.contents c.file.writer))
     (consumes_none _ _ _ so_far.0 _ none so_far.1 c.in-Ok.ensures.bytes.0)
     (c.in-Ok.ensures.bytes.1 c.if-count-eq0.true (search rules))
-    (no_items c.file.kept.items (sym (rw c.as_slice.ensures.value at c.is_empty.ensures) ∙ c.if-is_empty.true))
-    so_far.3 so_far.2
+    (so_far.3 ∙ ap ends_with (sym whole))
+    so_far.2
 
-pub returns-then-count-eq0-clause-err : goal.returns-then-count-eq0-clause-err
-returns-then-count-eq0-clause-err g c =
+pub returns-in-Some-clause-err : goal.returns-in-Some-clause-err
+returns-in-Some-clause-err g c =
     let so_far = c.file.invariant in
     let none : take c.in-Ok.count c.read.new.buf ≡ [] = ap (λ (n : ℕ). take n c.read.new.buf) c.if-count-eq0.true in
-    ended_short (g.R.Read.remaining c.args.reader.now) (g.R.Read.remaining c.read.new.self) c.file.reading so_far.0 c.file.kept.items Cut
+    let cut = rw (c.as_slice.ensures.value, c.in-Some.is) at c.end_fault.ensures in
+    ended_short (g.R.Read.remaining c.args.reader.now) (g.R.Read.remaining c.read.new.self) c.file.reading so_far.0 c.file.kept.items c.in-Some.fault
     (λ before. g.T.PacketTaker.stands c.args.taker.now before (g.W.Write.contents c.args.writer.now))
     (λ before. g.T.PacketTaker.stands c.file.taker before (g.W.Write.contents c.file.writer))
     (consumes_none _ _ _ so_far.0 _ none so_far.1 c.in-Ok.ensures.bytes.0)
     (c.in-Ok.ensures.bytes.1 c.if-count-eq0.true (search rules))
-    (so_far.3 ∙ ap ends_with (some_items c.file.kept.items (sym (rw c.as_slice.ensures.value at c.is_empty.ensures) ∙ c.if-is_empty.false)))
+    (so_far.3 ∙ ap ends_with (sym cut))
     so_far.2
 
 pub returns-in_default-extend_from_slice-clause-err : goal.returns-in_default-extend_from_slice-clause-err

@@ -1,7 +1,7 @@
 use Rattle.std.proofs.Common.{◌≡◌, [], List, ℕ, Option}
 use Rattle.std.specs.Io.KnownBytes.{Consumes}
 use Rattle.xns_captures.specs.Captures.{contents, ends_with}
-use Rattle.xns_captures.specs.Reading.{HasRead, cut_unless_empty}
+use Rattle.xns_captures.specs.Reading.{HasRead, end_in}
 use Rattle.xns_captures.proofs.taking.take_packets.Given as goal
 
 -- the parts that are whole were taken of what was read
@@ -12,4 +12,4 @@ invariant-file g l =
     let holds = g.W.Write.contents in
     (read : List ℕ) × Consumes (remaining l.fn.reader) (remaining l.reader) read
     × ((before : Option (List ℕ)) → stands l.fn.taker before (holds l.fn.writer) [] → HasRead l.reading read l.kept.items (stands l.taker before (holds l.writer)))
-    × (contents l.reading.format l.reading.interfaces.items l.kept.items ≡ ends_with (cut_unless_empty l.kept.items))
+    × (contents l.reading.format l.reading.interfaces.items l.kept.items ≡ ends_with (end_in l.reading.format l.kept.items))

@@ -10,3 +10,6 @@ pub returns-clause-err : goal.returns-clause-err
 returns-clause-err g c =
     if_err_1 _ _ c.flush.result c.flush.ensures.fault (λ fault failed.
     (failed.0, λ before packets h. (c.flush.ensures.text, part_left _ _ _ c.args.self.now.page _ _ _ before packets failed.1 h)))
+
+pub returns-clause-rests : goal.returns-clause-rests
+returns-clause-rests g c = on_ok_1 _ _ c.flush.result c.flush.ensures.ok (λ ok. c.flush.ensures.text)

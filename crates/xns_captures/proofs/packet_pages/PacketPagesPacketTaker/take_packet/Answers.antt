@@ -19,3 +19,7 @@ returns-then-is_full-clause-err g c =
 
 pub returns-clause-ok : goal.returns-clause-ok
 returns-clause-ok g c = λ before packets number h. c.in-Ok.ensures.ok before _ packets number h
+
+pub returns-then-is_full-clause-memory : goal.returns-then-is_full-clause-memory
+returns-then-is_full-clause-memory g c =
+    if_err_1 _ _ c.flush.result c.flush.ensures.fault (λ fault failed. rw failed.0 tt)

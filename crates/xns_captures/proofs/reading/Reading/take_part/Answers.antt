@@ -1,5 +1,5 @@
 use Rattle.std.proofs.Common.{[], ◌+◌, ◌-◌, ◌++◌, ap, sym, ◌∙◌, take, drop, refl, Err}
-use Rattle.xns_captures.specs.Captures.{contents, with_frame}
+use Rattle.xns_captures.specs.Captures.{contents, empty_frame, with_frame}
 use Rattle.xns_captures.proofs.Consumed.{if_err_1, on_ok_1}
 use Rattle.xns_captures.proofs.Steps.{at_part_as}
 use Rattle.xns_captures.proofs.Frames.{moves, same_frame, same_rest, stops_at_frame, stops_at_part, stops_in_run, takes_frame}
@@ -51,8 +51,24 @@ returns-in-Frame-clause-err g c =
     (λ rest. at_part_as c.args.self.now.format c.args.self.now.interfaces.items c.args.bytes.now rest _ c.requires.head c.requires.size (sym is_part)
     ∙ same_frame c.in-Frame.frame c.args.bytes.now (contents c.args.self.now.format c.args.self.now.interfaces.items rest)) h (stopped h.frames before h.count h.first h.taken))
 
-pub returns-in-Other-clause-ok : goal.returns-in-Other-clause-ok
-returns-in-Other-clause-ok g c = λ read tail before h.
-    let is_part = rw (c.as_slice.ensures.value, c.in-Other.is) at c.in-Ok.ensures.value in
+pub returns-in-Continues-clause-ok : goal.returns-in-Continues-clause-ok
+returns-in-Continues-clause-ok g c = λ read tail before h.
+    let is_part = rw (c.as_slice.ensures.value, c.in-Continues.is) at c.in-Ok.ensures.value in
     moves c.args.self.now _ read c.args.bytes.now tail _ refl refl
     (λ rest. at_part_as c.args.self.now.format c.args.self.now.interfaces.items c.args.bytes.now rest _ c.requires.head c.requires.size (sym is_part)) h
+
+pub returns-in-Ok-take_frame-clause-ok : goal.returns-in-Ok-take_frame-clause-ok
+returns-in-Ok-take_frame-clause-ok g c = λ read tail before h.
+    let is_part = rw (c.as_slice.ensures.value, c.in-Counted.is) at c.in-Ok.ensures.value in
+    let t = c.in-Ok-take_frame.ensures.ok h.frames before h.count h.first h.taken in
+    takes_frame c.args.self.now _ read c.args.bytes.now tail _ _ empty_frame
+    (λ rest. at_part_as c.args.self.now.format c.args.self.now.interfaces.items c.args.bytes.now rest _ c.requires.head c.requires.size (sym is_part)
+    ∙ ap (λ interfaces. with_frame empty_frame (contents c.in-Counted.format interfaces rest)) (sym c.take_frame-in-Counted.ensures.interfaces)) h t.0 t.1 t.2
+
+pub returns-in-Err-take_frame-clause-err : goal.returns-in-Err-take_frame-clause-err
+returns-in-Err-take_frame-clause-err g c = λ read tail before h.
+    let is_part = rw (c.as_slice.ensures.value, c.in-Counted.is) at c.in-Ok.ensures.value in
+    stops_at_frame c.in-Err-take_frame.fault c.args.self.now read c.args.bytes.now tail _ _ _ empty_frame
+    (λ rest. contents c.in-Counted.format c.args.self.now.interfaces.items rest)
+    (λ rest. at_part_as c.args.self.now.format c.args.self.now.interfaces.items c.args.bytes.now rest _ c.requires.head c.requires.size (sym is_part))
+    h (c.in-Err-take_frame.ensures.err h.frames before h.count h.first h.taken)
