@@ -101,8 +101,9 @@ head -c -1 "$work/x.pcapng" > "$work/cut.pcapng"
 run dump "$work/cut.pcapng"
 ends 'a capture that is cut' 3 "xns: $work/cut.pcapng: the capture is cut" -
 
-# A block of 17 MiB behind the packets of that file, and the packets again: one that is counted, and one that is not. It comes through a
-# pipe to a program that may not have 16 MiB. The same is cut within the block, behind each part of it, and has other lengths at its end.
+# A block of 17 MiB between that file and the same file again: a block that is passed over, one that has a number as a frame, and a packet,
+# which is too long. Each comes through a pipe to a program that may have 16 MiB in all. Other files end within the block, also behind its
+# head and behind a part of it, or have another length at the end of the block.
 python3 - "$work/x.pcapng" "$work" << 'END'
 import struct
 import sys
@@ -115,7 +116,7 @@ for name, kind in ("passed", 4), ("counted", 0xBAD), ("packet", 6):
     block = struct.pack("<II", kind, total) + bytes(total - 12) + struct.pack("<I", total)
     made = {name: block + capture}
     if name == "counted":
-        made |= {"end_differs": block[:-4] + struct.pack("<I", total - 4) + capture}
+        made["end_differs"] = block[:-4] + struct.pack("<I", total - 4) + capture
         for count in 12, 65536, 12 + 65536, 12 + 65536 * 3 + 1, total - 4, total - 1:
             made[f"cut_{count}"] = block[:count]
     for name, rest in made.items():
